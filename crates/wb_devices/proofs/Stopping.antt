@@ -1,9 +1,9 @@
 -- What stops a reading fits its step.
-use Rattle.std.proofs.Common.{◌≡◌, ◌∙◌, ℕ, List, Option, Some, None, sym, subst, inl}
+use Rattle.std.proofs.Common.{◌≡◌, ◌∙◌, ℕ, List, Option, Some, None, refl, sym, subst, inl, inr}
 use Rattle.wb_types.specs.declared.mode.Dev.TheVariants.{Metadata, Cache, Origin}
 use Rattle.wb_types.specs.declared.refusal.Refusal.{Refusal}
 use Rattle.wb_types.specs.declared.refusal.Refusal.TheVariants.{Io, Memory, NotFormatted, Mismatch, Damaged}
-use Rattle.wb_meta.specs.States.{IsOfReading}
+use Rattle.wb_meta.specs.States.{IsOfReading, CountsFault, FailsIf}
 use Rattle.wb_tasks.specs.Plan.{Fits}
 use Rattle.wb_tasks.specs.declared.step.DeviceStep.TheVariants.{ReadMetadata}
 use Rattle.wb_tasks.specs.declared.step.Want.TheVariants.{Device}
@@ -11,7 +11,7 @@ use Rattle.wb_tasks.specs.declared.step.Got.{Got}
 use Rattle.wb_types.specs.declared.geometry.Geometry.{Geometry}
 use Rattle.wb_disk.specs.Device.{History}
 use Rattle.wb_format.specs.declared.root.Root.{Root}
-use Rattle.wb_meta.specs.Reads.{AreStepsOn, IsDone, ReadingGoesOn, ReadOneMore, known_root}
+use Rattle.wb_meta.specs.Reads.{AreStepsOn, IsDone, ReadingGoesOn, ReadOneMore, StopsBy, known_root}
 use Rattle.wb_meta.specs.declared.read_steps.ReadSteps.TheVariants.{Begun, FirstSlotRead, RootFound, Done as AllRead}
 use Rattle.wb_tasks.specs.declared.step.Got.TheVariants.{More}
 use Rattle.wb_meta.specs.declared.read_steps.ReadSteps.{ReadSteps}
@@ -53,3 +53,15 @@ did_tell geometry sectors left was now device commit commit' got after goes on c
 pub did_open : {A : Type 0} (tells : Type 0) (geometry : Geometry) (left : ℕ) (before : Option (ReadSteps A)) (was now : ReadSteps A) (device : List History) (faults faults' : ℕ) (commit commit' : Option RunningCommit) (got : Got) (after : Option (ReadSteps A)) → before ≡ Some was → (tells → ReadingGoesOn was device now) → (tells → faults' ≡ faults) → HasCome geometry left now commit got after commit' → ReadOneMore was now → (HasGeneration commit → HasGeneration commit') → DidOpen tells geometry left before device faults commit got after faults' commit'
 did_open {A} tells geometry left before was now device faults faults' commit commit' got after is on same come one spells =
     subst (λ (b : Option (ReadSteps A)). DidOpen tells geometry left b device faults commit got after faults' commit') (sym is) (inl (now, on, same, come, one, spells))
+
+-- what stops a reading on a device that cannot fail is no fault
+pub never_counts : (refusal : Refusal) (May : Type 0) → FailsIf refusal May → (May → ⊥) → (faults : ℕ) → CountsFault refusal faults faults
+never_counts (Io device) May may never faults = absurd (never may)
+never_counts Memory May may never faults = refl
+never_counts NotFormatted May may never faults = refl
+never_counts Mismatch May may never faults = refl
+never_counts (Damaged place) May may never faults = refl
+never_counts refusal May may never faults = refl
+
+pub never_stops : {A : Type 0} (geometry : Geometry) (sectors left : ℕ) (was : ReadSteps A) (device : List History) (commit commit' : Option RunningCommit) (got : Got) (after : Option (ReadSteps A)) (refusal : Refusal) (May : Type 0) → StopsBy was device refusal → IsOfReading refusal → FailsIf refusal May → (May → ⊥) → got ≡ got_of_refusal refusal → after ≡ None → commit' ≡ commit → DidTell geometry sectors left was device commit got after commit'
+never_stops geometry sectors left was device commit commit' got after refusal May stops kind may never is none same = inr (refusal, stops, kind, never_counts refusal May may never, is, none, same)

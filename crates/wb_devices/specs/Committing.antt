@@ -5,10 +5,11 @@ use Rattle.wb_disk.specs.Device.{History, OneMore}
 use Rattle.wb_tree.specs.declared.image.Image.{Image}
 use Rattle.wb_meta.specs.declared.commit_steps.CommitSteps.{CommitSteps}
 use Rattle.wb_meta.specs.declared.commit_steps.CommitSteps.TheVariants.{NodesWritten, NodesSynced, RootWritten, Done as Committed}
-use Rattle.wb_meta.specs.Steps.{DoesStep, FailsStep, steps_after}
+use Rattle.wb_meta.specs.Steps.{DoesStep, FailsStep, FailsStepSo, steps_after}
 use Rattle.wb_tasks.specs.declared.step.DeviceStep.{DeviceStep}
 use Rattle.wb_tasks.specs.declared.step.DeviceStep.TheVariants.{Sync, WriteNode, WriteRoot}
 use Rattle.wb_tasks.specs.declared.step.Got.{Got}
+use Rattle.wb_devices.specs.Moving.{Ways}
 use Rattle.wb_tasks.specs.declared.step.Got.TheVariants.{Done, Fault}
 
 -- The step of a table is the one that comes next of the commit: this node, a sync behind the last node, the root, a sync.
@@ -33,6 +34,11 @@ abbrev pub DidCommit : Image → CommitSteps → Got → List History → ℕ �
 DidCommit image steps Done old faults new faults' = DoesStep image steps old new × (faults' ≡ faults)
 DidCommit image steps Fault old faults new faults' = FailsStep image steps old new × OneMore faults faults'
 DidCommit image steps got old faults new faults' = ⊥
+
+-- a step that comes next of a commit failed as its device may
+abbrev pub CommitFails : Ways → Image → CommitSteps → Got → List History → List History → Type 0
+CommitFails may image steps Fault old new = FailsStepSo may image steps old new
+CommitFails may image steps got old new = Unit {0}
 
 -- all of the commit was done
 abbrev pub is_committed : CommitSteps → Bool

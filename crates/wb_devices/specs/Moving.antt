@@ -1,10 +1,11 @@
 -- What a step that moves sectors, or syncs, does to its device.
-use Rattle.std.specs.Prelude.{◌≡◌, ◌≤◌, ◌+◌, ℕ, List, length, take}
+use Rattle.std.specs.Prelude.{◌≡◌, ◌≤◌, ◌+◌, ℕ, Bool, List, length, take}
 use Rattle.wb_types.specs.declared.extent.Extent.{Extent}
 use Rattle.wb_types.specs.declared.mode.Dev.{Dev}
 use Rattle.wb_types.specs.declared.mode.Dev.TheVariants.{Metadata, Cache, Origin}
 use Rattle.wb_disk.specs.Device.{History, Content as Bytes, OneMore, synced, PartlySynced}
-use Rattle.wb_disk.specs.Extents.{GivesEach, written_each, PartlyWritten}
+use Rattle.wb_disk.specs.Extents.{Call, Reading, Writing, Syncing, MayLand, GivesEach, written_each, PartlyWritten, WrittenSo}
+use Rattle.wb_disk.specs.Failing.{SyncedSo}
 use Rattle.wb_tasks.specs.declared.step.Got.{Got}
 use Rattle.wb_tasks.specs.declared.step.Got.TheVariants.{Done, Fault}
 use Rattle.wb_devices.specs.declared.devices.Devices.{Devices}
@@ -41,6 +42,25 @@ abbrev pub DidSync : Got → List History → ℕ → List History → ℕ → T
 DidSync Done old faults new faults' = (new ≡ synced old) × (faults' ≡ faults)
 DidSync Fault old faults new faults' = PartlySynced old new × OneMore faults faults'
 DidSync got old faults new faults' = ⊥
+
+-- ---- where a device that fails says how it lands
+
+-- how a device may fail: a call on it, and on which sectors it lands
+abbrev pub Ways : Type 1
+Ways = Call → (ℕ → Bool) → Type 0
+
+-- a read that the device was asked for failed as it may
+abbrev pub ReadFails : Ways → Extent → Got → ℕ → List Bytes → Type 0
+ReadFails may e Fault size buffer = CanMove size (length buffer) e → MayLand (may Reading)
+ReadFails may e got size buffer = Unit {0}
+
+abbrev pub WriteFails : Ways → Extent → Got → ℕ → List Bytes → List History → List History → Type 0
+WriteFails may e Fault size buffer old new = CanMove size (length buffer) e → WrittenSo (may (Writing e.first e.count)) old e.first (take e.count buffer) new
+WriteFails may e got size buffer old new = Unit {0}
+
+abbrev pub SyncFails : Ways → Got → List History → List History → Type 0
+SyncFails may Fault old new = SyncedSo (may Syncing) old new
+SyncFails may got old new = Unit {0}
 
 -- ---- which of three devices
 

@@ -7,8 +7,8 @@ use Rattle.wb_tasks.specs.declared.step.DeviceStep.TheVariants.{Read, Write, Syn
 use Rattle.wb_tasks.specs.declared.step.Got.{Got}
 use Rattle.wb_tasks.specs.declared.step.Got.TheVariants.{Fault}
 use Rattle.wb_devices.specs.declared.running.RunningCommit.{RunningCommit}
-use Rattle.wb_devices.specs.Moving.{DidRead, DidWrite, DidSync}
-use Rattle.wb_devices.specs.Committing.{DidCommit, goes_on, steps_then}
+use Rattle.wb_devices.specs.Moving.{DidRead, DidWrite, DidSync, Ways, ReadFails, WriteFails, SyncFails}
+use Rattle.wb_devices.specs.Committing.{DidCommit, CommitFails, goes_on, steps_then}
 
 -- the running commit after a step on the metadata device: its image stays, and where the step is its next one, it goes on
 abbrev pub Goes : ℕ → Option RunningCommit → DeviceStep → Got → Option RunningCommit → Type 0
@@ -43,3 +43,19 @@ DidStep commit WriteRoot got size old faults buffer buffer' new faults' = DidPut
 abbrev pub BufferStays : DeviceStep → List Bytes → List Bytes → Type 0
 BufferStays (Read device e) buffer buffer' = length buffer' ≡ length buffer
 BufferStays step buffer buffer' = buffer' ≡ buffer
+
+-- ---- where a device that fails says how it lands
+
+-- a node or root that comes next of the running commit was written as the device may fail
+abbrev pub PutFails : Ways → ℕ → Option RunningCommit → DeviceStep → Got → List History → List History → Type 0
+PutFails may size None step got old new = Unit {0}
+PutFails may size (Some commit) step got old new = goes_on size commit.image commit.steps step ≡ true → CommitFails may commit.image commit.steps got old new
+
+-- What a step that fails leaves of its device.
+abbrev pub StepFails : Ways → Option RunningCommit → DeviceStep → Got → ℕ → List History → List Bytes → List History → Type 0
+StepFails may commit (Read device e) got size old buffer new = ReadFails may e got size buffer
+StepFails may commit (Write device e) got size old buffer new = WriteFails may e got size buffer old new
+StepFails may commit (Sync device) got size old buffer new = SyncFails may got old new
+StepFails may commit (ReadMetadata left) got size old buffer new = Unit {0}
+StepFails may commit (WriteNode number) got size old buffer new = PutFails may size commit (WriteNode number) got old new
+StepFails may commit WriteRoot got size old buffer new = PutFails may size commit WriteRoot got old new

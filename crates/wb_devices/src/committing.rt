@@ -3,8 +3,9 @@
 ghost use Rattle.std.specs.Prelude.{◌≡◌};
 ghost use Rattle.wb_types.specs.declared.mode.Dev.TheVariants.{Metadata};
 ghost use Rattle.wb_tasks.specs.declared.step.DeviceStep.TheVariants.{Sync};
-ghost use Rattle.wb_devices.specs.Moving.{IsOutcome, DidSync};
-ghost use Rattle.wb_devices.specs.Stepping.{Goes, DidPut};
+ghost use Rattle.wb_tasks.specs.declared.step.Got.TheVariants.{Fault};
+ghost use Rattle.wb_devices.specs.Moving.{IsOutcome, DidSync, SyncFails};
+ghost use Rattle.wb_devices.specs.Stepping.{Goes, DidPut, PutFails};
 
 use crate::moving::sync;
 use crate::running::RunningCommit;
@@ -20,6 +21,8 @@ pub fn put<D: Disk>(commit: &mut Option<RunningCommit>, disk: &mut D, step: Devi
     ensures size { D.size disk.new ≡ D.size disk.old }
     ensures goes { Goes (D.size disk.old) commit.old step result commit.new }
     ensures did { D.tells → DidPut (D.size disk.old) commit.old step result (D.contents disk.old) (D.faults disk.old) (D.contents disk.new) (D.faults disk.new) }
+    ensures fails { D.fails disk.old → result ≡ Fault }
+    ensures how { D.tells → PutFails (D.falters disk.old) (D.size disk.old) commit.old step result (D.contents disk.old) (D.contents disk.new) }
 {
     let Some(running) = commit else {
         return Got::Fault;
@@ -37,6 +40,8 @@ pub fn sync_metadata<D: Disk>(commit: &mut Option<RunningCommit>, disk: &mut D) 
     ensures size { D.size disk.new ≡ D.size disk.old }
     ensures goes { Goes (D.size disk.old) commit.old (Sync Metadata) result commit.new }
     ensures did { D.tells → DidSync result (D.contents disk.old) (D.faults disk.old) (D.contents disk.new) (D.faults disk.new) }
+    ensures fails { D.fails disk.old → result ≡ Fault }
+    ensures how { D.tells → SyncFails (D.falters disk.old) result (D.contents disk.old) (D.contents disk.new) }
 {
     let step = DeviceStep::Sync(Dev::Metadata);
     let Some(running) = commit else {

@@ -1,11 +1,16 @@
 //! The three devices of a cache.
 
 ghost use Rattle.std.specs.Prelude.{◌≡◌, length};
-ghost use Rattle.wb_devices.specs.Moving.{IsOutcome, DidRead, DidWrite, DidSync, OthersStay, device_in};
+ghost use Rattle.wb_devices.specs.Moving.{IsOutcome, DidRead, DidWrite, DidSync, ReadFails, WriteFails, SyncFails, OthersStay, device_in};
+ghost use Rattle.wb_tasks.specs.Plan.{device_of};
+ghost use Rattle.wb_tasks.specs.declared.step.Got.TheVariants.{Fault};
+ghost use Rattle.wb_devices.specs.Stepping.{CommitGoes, DidStep, BufferStays, StepFails};
 
+use crate::committing::{put, sync_metadata};
 use crate::moving::{read_extent, sync, write_extent};
+use crate::running::RunningCommit;
 use wb_disk::Disk;
-use wb_tasks::Got;
+use wb_tasks::{DeviceStep, Got};
 use wb_types::{Content, Dev, Extent};
 
 /// The three devices of a cache. A step is on one of them, and the others stay as they are.
@@ -24,6 +29,8 @@ impl<D: Disk> Devices<D> {
         ensures others { OthersStay device self.old self.new }
         ensures size { D.size (device_in device self.new) ≡ D.size (device_in device self.old) }
         ensures did { D.tells → DidRead extent result (D.size (device_in device self.old)) (D.contents (device_in device self.old)) (D.faults (device_in device self.old)) into.new (D.contents (device_in device self.new)) (D.faults (device_in device self.new)) }
+        ensures fails { D.fails (device_in device self.old) → result ≡ Fault }
+        ensures how { D.tells → ReadFails (D.falters (device_in device self.old)) extent result (D.size (device_in device self.old)) into.old }
     {
         match device {
             Dev::Metadata => read_extent(&mut self.metadata, extent, into),
@@ -38,6 +45,8 @@ impl<D: Disk> Devices<D> {
         ensures others { OthersStay device self.old self.new }
         ensures size { D.size (device_in device self.new) ≡ D.size (device_in device self.old) }
         ensures did { D.tells → DidWrite extent result (D.size (device_in device self.old)) from.now (D.contents (device_in device self.old)) (D.faults (device_in device self.old)) (D.contents (device_in device self.new)) (D.faults (device_in device self.new)) }
+        ensures fails { D.fails (device_in device self.old) → result ≡ Fault }
+        ensures how { D.tells → WriteFails (D.falters (device_in device self.old)) extent result (D.size (device_in device self.old)) from.now (D.contents (device_in device self.old)) (D.contents (device_in device self.new)) }
     {
         match device {
             Dev::Metadata => write_extent(&mut self.metadata, extent, from),
@@ -52,11 +61,42 @@ impl<D: Disk> Devices<D> {
         ensures others { OthersStay device self.old self.new }
         ensures size { D.size (device_in device self.new) ≡ D.size (device_in device self.old) }
         ensures did { D.tells → DidSync result (D.contents (device_in device self.old)) (D.faults (device_in device self.old)) (D.contents (device_in device self.new)) (D.faults (device_in device self.new)) }
+        ensures fails { D.fails (device_in device self.old) → result ≡ Fault }
+        ensures how { D.tells → SyncFails (D.falters (device_in device self.old)) result (D.contents (device_in device self.old)) (D.contents (device_in device self.new)) }
     {
         match device {
             Dev::Metadata => sync(&mut self.metadata),
             Dev::Cache => sync(&mut self.cache),
             Dev::Origin => sync(&mut self.origin),
+        }
+    }
+
+    /// Performs a step of a table, by what the buffer holds and the commit that runs; what is read stands in the buffer then.
+    pub fn perform(
+        &mut self,
+        commit: &mut Option<RunningCommit>,
+        step: DeviceStep,
+        buffer: &mut [Content],
+    ) -> Got
+        ensures kind { IsOutcome result }
+        ensures others { OthersStay (device_of step) self.old self.new }
+        ensures size { D.size (device_in (device_of step) self.new) ≡ D.size (device_in (device_of step) self.old) }
+        ensures buffer { BufferStays step buffer.old buffer.new }
+        ensures did { D.tells → DidStep commit.old step result (D.size (device_in (device_of step) self.old)) (D.contents (device_in (device_of step) self.old)) (D.faults (device_in (device_of step) self.old)) buffer.old buffer.new (D.contents (device_in (device_of step) self.new)) (D.faults (device_in (device_of step) self.new)) }
+        ensures goes { CommitGoes (D.size self.old.metadata) commit.old step result commit.new }
+        ensures fails { D.fails (device_in (device_of step) self.old) → result ≡ Fault }
+        ensures how { D.tells → StepFails (D.falters (device_in (device_of step) self.old)) commit.old step result (D.size (device_in (device_of step) self.old)) (D.contents (device_in (device_of step) self.old)) buffer.old (D.contents (device_in (device_of step) self.new)) }
+    {
+        match step {
+            DeviceStep::Read(device, extent) => self.read(device, extent, buffer),
+            DeviceStep::Write(device, extent) => self.write(device, extent, buffer),
+            DeviceStep::Sync(Dev::Metadata) => sync_metadata(commit, &mut self.metadata),
+            DeviceStep::Sync(Dev::Cache) => self.sync(Dev::Cache),
+            DeviceStep::Sync(Dev::Origin) => self.sync(Dev::Origin),
+            DeviceStep::ReadMetadata(_) => Got::Fault,
+            DeviceStep::WriteNode(_) | DeviceStep::WriteRoot => {
+                put(commit, &mut self.metadata, step)
+            }
         }
     }
 }

@@ -1,9 +1,11 @@
 //! Sectors that move between a device and a buffer, and syncs.
 
-ghost use Rattle.std.specs.Prelude.{◌≡◌, ◌≤◌, ◌<◌, ◌+◌, ◌^◌, ◌↔◌, length, take, IsTrue, OnOk, OnErr};
+ghost use Rattle.std.specs.Prelude.{◌≡◌, ◌≤◌, ◌<◌, ◌+◌, ◌^◌, ◌↔◌, length, take, IsTrue, OnOk, OnErr, IsErr};
 ghost use Rattle.wb_disk.specs.Device.{OneMore};
 ghost use Rattle.wb_disk.specs.Extents.{GivesEach};
-ghost use Rattle.wb_devices.specs.Moving.{IsOutcome, CanMove, DidRead, DidWrite, DidSync};
+ghost use Rattle.wb_disk.specs.Extents.{Reading, MayLand};
+ghost use Rattle.wb_tasks.specs.declared.step.Got.TheVariants.{Fault};
+ghost use Rattle.wb_devices.specs.Moving.{IsOutcome, CanMove, DidRead, DidWrite, DidSync, ReadFails, WriteFails, SyncFails};
 
 use wb_disk::{Disk, DiskFault};
 use wb_tasks::Got;
@@ -16,6 +18,8 @@ pub fn read_extent<D: Disk>(disk: &mut D, extent: Extent, into: &mut [Content]) 
     ensures many { length into.new ≡ length into.old }
     ensures size { D.size disk.new ≡ D.size disk.old }
     ensures did { D.tells → DidRead extent result (D.size disk.old) (D.contents disk.old) (D.faults disk.old) into.new (D.contents disk.new) (D.faults disk.new) }
+    ensures how { D.tells → ReadFails (D.falters disk.old) extent result (D.size disk.old) into.old }
+    ensures fails { D.fails disk.old → result ≡ Fault }
 {
     if !can_move(disk, extent, into.len()) {
         return Got::Fault;
@@ -33,6 +37,8 @@ pub fn write_extent<D: Disk>(disk: &mut D, extent: Extent, from: &[Content]) -> 
     ensures kind { IsOutcome result }
     ensures size { D.size disk.new ≡ D.size disk.old }
     ensures did { D.tells → DidWrite extent result (D.size disk.old) from.now (D.contents disk.old) (D.faults disk.old) (D.contents disk.new) (D.faults disk.new) }
+    ensures how { D.tells → WriteFails (D.falters disk.old) extent result (D.size disk.old) from.now (D.contents disk.old) (D.contents disk.new) }
+    ensures fails { D.fails disk.old → result ≡ Fault }
 {
     if !can_move(disk, extent, from.len()) {
         return Got::Fault;
@@ -49,6 +55,8 @@ pub fn sync<D: Disk>(disk: &mut D) -> Got
     ensures kind { IsOutcome result }
     ensures size { D.size disk.new ≡ D.size disk.old }
     ensures did { D.tells → DidSync result (D.contents disk.old) (D.faults disk.old) (D.contents disk.new) (D.faults disk.new) }
+    ensures how { D.tells → SyncFails (D.falters disk.old) result (D.contents disk.old) (D.contents disk.new) }
+    ensures fails { D.fails disk.old → result ≡ Fault }
 {
     match disk.sync() {
         Ok(()) => Got::Done,
@@ -74,6 +82,8 @@ fn read_front<D: Disk>(disk: &mut D, extent: Extent, read: &mut [Content]) -> Re
     ensures kept { D.tells → D.contents disk.new ≡ D.contents disk.old }
     ensures no_fault { D.tells → OnOk result (D.faults disk.new ≡ D.faults disk.old) }
     ensures cause { D.tells → OnErr result (OneMore (D.faults disk.old) (D.faults disk.new)) }
+    ensures how { D.tells → OnErr result (MayLand (D.falters disk.old Reading)) }
+    ensures fails { D.fails disk.old → IsErr result }
 {
     let (into, _) = read.split_at_mut(extent.count as usize);
     disk.read_extent(extent.first, into)

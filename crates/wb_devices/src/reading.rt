@@ -7,6 +7,7 @@ ghost use Rattle.wb_tasks.specs.Plan.{Fits};
 ghost use Rattle.wb_tasks.specs.declared.step.Want.TheVariants.{Device};
 ghost use Rattle.wb_tasks.specs.declared.step.DeviceStep.TheVariants.{ReadMetadata};
 ghost use Rattle.wb_disk.specs.Device.{History};
+ghost use Rattle.wb_disk.specs.Extents.{Reading, MayLand};
 ghost use Rattle.wb_meta.specs.Reads.{AreStepsOn, IsDone, IsToldOf, known_root};
 ghost use Rattle.wb_meta.specs.declared.read_steps.ReadSteps.{ReadSteps as Steps};
 ghost use Rattle.wb_meta.specs.States.{IsOfReading};
@@ -31,7 +32,7 @@ impl Opening {
     /// `NotFormatted`, `Mismatch`, `Damaged` and `Memory` as wb_meta says, `Mismatch` also where the newest root is of another
     /// geometry, `GenerationEnd` where there is no next generation. A fault where the device failed, the opening was over, or no
     /// further sector was allowed.
-    #[tactic(auto, using(crate::proofs::Stopping::did_open))]
+    #[tactic(auto, using(crate::proofs::Stopping::did_open, crate::proofs::Stopping::did_tell, crate::proofs::Stopping::never_stops))]
     pub fn read<D: Disk>(&mut self, disk: &mut D, left: u32) -> Got
         requires goes_on { MayGoOn (D.size disk.old) self.old }
         ensures goes_on { MayGoOn (D.size disk.old) self.new }
@@ -40,6 +41,9 @@ impl Opening {
         ensures same { D.tells → D.contents disk.new ≡ D.contents disk.old }
         ensures geometry { self.new.geometry ≡ self.old.geometry }
         ensures did { DidOpen D.tells self.old.geometry left self.old.reading (D.contents disk.old) (D.faults disk.old) self.old.commit result self.new.reading (D.faults disk.new) self.new.commit }
+
+        // Where the disk cannot fail to read, what stands there is told.
+        ensures told { (was : Steps GlobalValue) → D.tells → (MayLand (D.falters disk.old Reading) → ⊥) → self.old.reading ≡ Some was → DidTell self.old.geometry (D.size disk.old) left was (D.contents disk.old) self.old.commit result self.new.reading self.new.commit }
     {
         let Some(steps) = self.reading.take() else {
             return Got::Fault;

@@ -5,3 +5,4 @@ pub mod Crashes
 pub mod FailedSyncs
 pub mod Leaving
 pub mod Noting
+pub mod Falters

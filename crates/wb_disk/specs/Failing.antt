@@ -1,5 +1,5 @@
 -- How a failing step leaves the sectors that it writes or syncs: which of them have landed.
-use Rattle.std.specs.Prelude.{◌<◌, ◌≤◌, ◌==◌, ℕ, suc, Bool, List, [], ◌∷◌, All, if◌then◌else◌}
+use Rattle.std.specs.Prelude.{◌≡◌, ◌<◌, ◌≤◌, ◌==◌, ℕ, suc, Bool, List, [], ◌∷◌, All, if◌then◌else◌}
 use Rattle.wb_types.specs.declared.mode.Dev.{Dev}
 use Rattle.wb_disk.specs.Device.{History, newest, only}
 use Rattle.wb_disk.specs.Crash.{Choice, NamesOnly, named_position}
@@ -34,3 +34,7 @@ synced_from lands at (h ∷ hs) = sync_landed (lands at) h ∷ synced_from lands
 -- a device after a sync that landed on these of its sectors alone
 abbrev pub synced_where : (ℕ → Bool) → List History → List History
 synced_where lands device = synced_from lands 0 device
+
+-- a sync that failed has landed on the sectors on which it may, and on no other
+abbrev pub SyncedSo : ((ℕ → Bool) → Type 0) → List History → List History → Type 0
+SyncedSo may old new = (landed : ℕ → Bool) × may landed × (new ≡ synced_where landed old)

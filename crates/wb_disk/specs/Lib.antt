@@ -5,3 +5,4 @@ pub mod Crash
 pub mod Failing
 pub mod Stored
 pub mod Crashes
+pub mod Faltering

@@ -1,7 +1,7 @@
 -- A disk in memory, as its callers see it.
-use Rattle.std.specs.Prelude.{◌≡◌, ◌<◌, ◌+◌, ℕ, List, [], map, length, replicate, take, slice_index, slice_set}
+use Rattle.std.specs.Prelude.{◌≡◌, ◌<◌, ◌+◌, ℕ, Bool, List, [], map, length, replicate, take, slice_index, slice_set}
 use Rattle.wb_disk.specs.Device.{Content, History}
-use Rattle.wb_disk.specs.Extents.{written_each}
+use Rattle.wb_disk.specs.Extents.{Call, Reading, Writing, Syncing, written_each}
 
 -- what it holds, how often it has failed (modulo 2^64), and of each sector how many writes since the last sync there is memory for
 pub record Memory : Type 0 where
@@ -36,3 +36,9 @@ FrontWritten old first contents new = (n : ℕ) × (n < length contents) × (new
 -- two lists of numbers differ at this place alone, if at all
 abbrev pub DiffersOnlyAt : ℕ → List ℕ → List ℕ → Type 0
 DiffersOnlyAt at old new = new ≡ slice_set old at (slice_index new at)
+
+-- a disk in memory fails where a write has not all its room, and then lands as it may: on any sectors
+abbrev pub memory_falters : Memory → Call → (ℕ → Bool) → Type 0
+memory_falters disk Reading lands = ⊥
+memory_falters disk (Writing first count) lands = ¬ HasRoomFor disk first count
+memory_falters disk Syncing lands = ⊥

@@ -1,8 +1,9 @@
 //! What a disk is.
 
-ghost use Rattle.std.specs.Prelude.{◌≡◌, ◌<◌, ◌≤◌, ◌+◌, ◌⊎◌, ℕ, List, OnOk, OnErr, length};
+ghost use Rattle.std.specs.Prelude.{◌≡◌, ◌<◌, ◌≤◌, ◌+◌, ◌⊎◌, ℕ, Bool, [], ◌∷◌, List, OnOk, OnErr, IsErr, length};
 ghost use Rattle.wb_disk.specs.Device.{History, Gives, written, synced, PartlySynced, OneMore};
-ghost use Rattle.wb_disk.specs.Extents.{GivesEach, written_each, PartlyWritten};
+ghost use Rattle.wb_disk.specs.Extents.{Call, Reading, Writing, Syncing, MayLand, GivesEach, written_each, PartlyWritten, WrittenSo};
+ghost use Rattle.wb_disk.specs.Failing.{SyncedSo};
 
 use wb_types::Content;
 
@@ -28,6 +29,12 @@ pub trait Disk {
     /// How often the disk has failed, modulo 2^64.
     ghost faults: { Self → ℕ };
 
+    /// How a call may fail: on which sectors it may land then. There is no such way where it cannot fail.
+    ghost falters: { Self → Call → (ℕ → Bool) → Type 0 };
+
+    /// Whether each call fails.
+    ghost fails: { Self → Type 0 };
+
     /// The number of sectors.
     fn sectors(&self) -> u64
         ensures { result ≡ size self.now };
@@ -39,7 +46,9 @@ pub trait Disk {
         ensures given { tells → OnOk result (Gives (contents self.old) at out.new) }
         ensures kept { tells → contents self.new ≡ contents self.old }
         ensures no_fault { tells → OnOk result (faults self.new ≡ faults self.old) }
-        ensures cause { tells → OnErr result (OneMore (faults self.old) (faults self.new)) };
+        ensures cause { tells → OnErr result (OneMore (faults self.old) (faults self.new)) }
+        ensures how { tells → OnErr result (MayLand (falters self.old Reading)) }
+        ensures fails { fails self.old → IsErr result };
 
     /// Writes a sector, which is below `sectors()`. Until the next sync, a crash may leave an older content of it.
     fn write(&mut self, at: u64, from: &Content) -> Result<(), DiskFault>
@@ -49,7 +58,9 @@ pub trait Disk {
         ensures err { tells → OnErr result ((contents self.new ≡ contents self.old)
             ⊎ (contents self.new ≡ written (contents self.old) at from.now)) }
         ensures no_fault { tells → OnOk result (faults self.new ≡ faults self.old) }
-        ensures cause { tells → OnErr result (OneMore (faults self.old) (faults self.new)) };
+        ensures cause { tells → OnErr result (OneMore (faults self.old) (faults self.new)) }
+        ensures how { tells → OnErr result (WrittenSo (falters self.old (Writing at 1)) (contents self.old) at (from.now ∷ []) (contents self.new)) }
+        ensures fails { fails self.old → IsErr result };
 
     /// Reads the newest contents of the sectors from `first` on, as many as `out` has; all are below `sectors()`.
     fn read_extent(&mut self, first: u64, out: &mut [Content]) -> Result<(), DiskFault>
@@ -59,7 +70,9 @@ pub trait Disk {
         ensures given { tells → OnOk result (GivesEach (contents self.old) first out.new) }
         ensures kept { tells → contents self.new ≡ contents self.old }
         ensures no_fault { tells → OnOk result (faults self.new ≡ faults self.old) }
-        ensures cause { tells → OnErr result (OneMore (faults self.old) (faults self.new)) };
+        ensures cause { tells → OnErr result (OneMore (faults self.old) (faults self.new)) }
+        ensures how { tells → OnErr result (MayLand (falters self.old Reading)) }
+        ensures fails { fails self.old → IsErr result };
 
     /// Writes the sectors from `first` on, as many as `from` has; all are below `sectors()`. The extent is not
     /// atomic: until the next sync, a crash may leave an older content of each sector by itself, and after a
@@ -70,7 +83,9 @@ pub trait Disk {
         ensures ok { tells → OnOk result (contents self.new ≡ written_each (contents self.old) first from.now) }
         ensures err { tells → OnErr result (PartlyWritten (contents self.old) first from.now (contents self.new)) }
         ensures no_fault { tells → OnOk result (faults self.new ≡ faults self.old) }
-        ensures cause { tells → OnErr result (OneMore (faults self.old) (faults self.new)) };
+        ensures cause { tells → OnErr result (OneMore (faults self.old) (faults self.new)) }
+        ensures how { tells → OnErr result (WrittenSo (falters self.old (Writing first (length from.now))) (contents self.old) first from.now (contents self.new)) }
+        ensures fails { fails self.old → IsErr result };
 
     /// Makes the newest content of every sector durable.
     fn sync(&mut self) -> Result<(), DiskFault>
@@ -78,7 +93,9 @@ pub trait Disk {
         ensures ok { tells → OnOk result (contents self.new ≡ synced (contents self.old)) }
         ensures err { tells → OnErr result (PartlySynced (contents self.old) (contents self.new)) }
         ensures no_fault { tells → OnOk result (faults self.new ≡ faults self.old) }
-        ensures cause { tells → OnErr result (OneMore (faults self.old) (faults self.new)) };
+        ensures cause { tells → OnErr result (OneMore (faults self.old) (faults self.new)) }
+        ensures how { tells → OnErr result (SyncedSo (falters self.old Syncing) (contents self.old) (contents self.new)) }
+        ensures fails { fails self.old → IsErr result };
 
     /// A disk that tells what it holds has a list for each sector.
     ghost whole: { (disk : Self) → tells → length (contents disk) ≡ size disk };

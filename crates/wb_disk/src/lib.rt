@@ -9,11 +9,13 @@ mod crash;
 mod crash_choice;
 mod disk;
 mod failing;
+mod faltering;
 mod file;
 mod memory;
 mod pending;
 
 pub use crash_choice::{Base, CrashChoice, NamedContent};
 pub use disk::{Disk, DiskFault};
+pub use faltering::{Faltering, make_room};
 pub use file::FileDisk;
 pub use memory::MemDisk;

@@ -124,6 +124,30 @@ impl MemDisk {
         mark_chosen(&mut self.sectors, device, choice)
     }
 
+    /// A call that fails and does nothing is a fault that counts.
+    pub(crate) fn fail_read(&mut self)
+        ensures contents { self.new.contents ≡ self.old.contents }
+        ensures capacity { self.new.capacity ≡ self.old.capacity }
+        ensures faults { OneMore self.old.faults self.new.faults }
+    {
+        self.faults = self.faults.wrapping_add(1);
+    }
+
+    /// A sync that fails and lands where the choice says so, whatever it names.
+    pub(crate) fn sync_where(&mut self, device: Dev, choice: &CrashChoice)
+        ensures contents { self.new.contents ≡ synced_where (lands device choice.now) self.old.contents }
+        ensures outcome { PartlySynced self.old.contents self.new.contents }
+        ensures faults { OneMore self.old.faults self.new.faults }
+        ensures capacity { self.new.capacity ≡ self.old.capacity }
+    {
+        self.faults = self.faults.wrapping_add(1);
+        settle_where(
+            &mut self.sectors,
+            &self.unsynced,
+            Landing::As(device, choice),
+        );
+    }
+
     /// A sync that fails, of the disk as this device: a sector on which the choice lets it land has its newest content
     /// alone, another its whole list. It is a fault that counts. It takes no memory, and goes over the sectors that were
     /// written since the last sync, and for each over the names.
@@ -142,18 +166,15 @@ impl MemDisk {
         if !choice.may_fail(device, self.sectors()) {
             return false;
         }
-        self.faults = self.faults.wrapping_add(1);
-        settle_where(
-            &mut self.sectors,
-            &self.unsynced,
-            Landing::As(device, choice),
-        );
+        self.sync_where(device, choice);
         true
     }
 }
 
 impl Disk for MemDisk {
     ghost use Rattle.std.specs.Prelude.{length, refl};
+
+    ghost use Rattle.wb_disk.specs.Memory.{memory_falters};
 
     ghost tells = { Unit {0} };
 
@@ -162,6 +183,10 @@ impl Disk for MemDisk {
     ghost contents = { λ d. d.contents };
 
     ghost faults = { λ d. d.faults };
+
+    ghost falters = { memory_falters };
+
+    ghost fails = { λ _. ⊥ };
 
     fn sectors(&self) -> u64 {
         self.sectors.len() as u64

@@ -67,6 +67,10 @@ impl<D: Disk> Disk for FaultDisk<D> {
 
     ghost faults = { λ d. faults_with (D.faults d.inside) d.faults };
 
+    ghost falters = { λ _ _ _. Unit {0} };
+
+    ghost fails = { λ _. ⊥ };
+
     fn sectors(&self) -> u64 {
         self.inside.sectors()
     }

@@ -45,11 +45,11 @@ opened_at (Some entry ∷ tree) zero = inl refl
 opened_at (None ∷ tree) (suc k) = opened_at tree k
 opened_at (Some entry ∷ tree) (suc k) = opened_at tree k
 
-pub free_or_mapped : (tree : List (Option Entry)) (k : ℕ) → (block_there (opened_state tree k) None ≡ MappedThere) ⊎ ((block_there (opened_state tree k) None ≡ FreeThere) × IsUnnamed (located tree) k)
+pub free_or_mapped : (tree : List (Option Entry)) (k : ℕ) → (block_there (opened_state tree k) ≡ MappedThere) ⊎ ((block_there (opened_state tree k) ≡ FreeThere) × IsUnnamed (located tree) k)
 free_or_mapped tree k = elim (opened_at tree k) [
-  | inl m ↦ inl (ap (λ (b : Block). block_there b None) m)
+  | inl m ↦ inl (ap (λ (b : Block). block_there b) m)
   | inr f ↦ inr (
-    ap (λ (b : Block). block_there b None) f.0,
+    ap (λ (b : Block). block_there b) f.0,
     λ b e.
         let at = found_at tree b 0 k e in
         let same : at.0 ≡ k = (let is = at.2 in omega (arith, is)) in
@@ -57,34 +57,27 @@ free_or_mapped tree k = elim (opened_at tree k) [
   )
 ]
 
--- whatever order is there
-pub opened_there : (tree : List (Option Entry)) (k : ℕ) (slot : Option Order) → block_there (opened_state tree k) None ≡ block_there (opened_state tree k) slot
-opened_there tree k slot = elim (opened_at tree k) [
-  | inl m ↦ ap (λ (b : Block). block_there b None) m ∙ sym (ap (λ (b : Block). block_there b slot) m)
-  | inr f ↦ ap (λ (b : Block). block_there b None) f.0 ∙ sym (ap (λ (b : Block). block_there b slot) f.0)
-]
-
 -- the abstract opening's answer, which makes the opened desk's blocks and shows what is newest
 abbrev pub view_of : Site → Learnt → ℕ → ℕ → Bytes
 view_of v i b o = newest (at_location v.world.shared.origin v.world.shared.cache (i.locations b) b o)
 
 abbrev pub answer_of : Site → Learnt → List (Option Entry) → Event
-answer_of v i tree = Advances (Shown (λ k. block_there (opened_state tree k) None) (view_of v i))
+answer_of v i tree = Advances (Shown (λ k. block_there (opened_state tree k)) (view_of v i))
 
 pub answer_may : (sectors : ℕ) (v : Site) (i : Learnt) (tree : List (Option Entry)) → v.phase ≡ OpensThere Writeback (Answering i) → i.locations ≡ located tree → MayHappen sectors v (answer_of v i tree)
 answer_may sectors v i tree ph same = (
   Writeback,
   Answering i,
   ph,
-  ((λ k. subst (λ l. (block_there (opened_state tree k) None ≡ MappedThere) ⊎ ((block_there (opened_state tree k) None ≡ FreeThere) × IsUnnamed l k)) (sym same) (free_or_mapped tree k)), λ b o. refl),
+  ((λ k. subst (λ l. (block_there (opened_state tree k) ≡ MappedThere) ⊎ ((block_there (opened_state tree k) ≡ FreeThere) × IsUnnamed l k)) (sym same) (free_or_mapped tree k)), λ b o. refl),
 )
 
 -- the site of the target that it makes
 abbrev pub opened_site : Site → Learnt → List (Option Entry) → Site
-opened_site v i tree = record { world = emptied v.world (opened_on v.world.shared Writeback i (λ k. block_there (opened_state tree k) None)); phase = StandsThere }
+opened_site v i tree = record { world = emptied v.world (opened_on v.world.shared Writeback i (λ k. block_there (opened_state tree k))); phase = StandsThere }
 
 pub answer_leads : (v : Site) (i : Learnt) (tree : List (Option Entry)) → v.phase ≡ OpensThere Writeback (Answering i) → after_event v (answer_of v i tree) ≡ opened_site v i tree
-answer_leads v i tree ph = ap (λ (p : PhaseThere). advance v.world p (Shown (λ k. block_there (opened_state tree k) None) (view_of v i))) ph
+answer_leads v i tree ph = ap (λ (p : PhaseThere). advance v.world p (Shown (λ k. block_there (opened_state tree k)) (view_of v i))) ph
 
 -- ---- what it shows
 

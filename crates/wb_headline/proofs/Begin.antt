@@ -88,7 +88,6 @@ module _ (P A : Type 0) (shape : Shape) (metadata : List History) (f : IsFormatt
           as_many = length-replicate (sector_count shape) 0 ∙ sym (length-replicate (sector_count shape) (only zeros));
           floors_as_many = length-replicate (sector_count shape) 0 ∙ sym (length-replicate (sector_count shape) (only zeros));
           each = λ a y less e. subst (λ (t : Option Script). IsNotedSo (size P A shape) (length (formatted shape).histories) t (slice_get (formatted shape).doings a) a (opened (λ b o. zeros))) (sym (idle_there a y e)) tt;
-          behind = λ a less. tt;
         };
         sized = record { actors_many = length-replicate shape.actors resting; doings_many = length-replicate shape.actors None; sectors = length-replicate (sector_count shape) (only zeros) };
         phase = record {

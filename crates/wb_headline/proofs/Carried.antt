@@ -1,7 +1,6 @@
 -- Where a migration of the run is carried in the abstract world: whoever is past its look at the fail word, and has not only to answer.
-use Rattle.std.proofs.Common.{◌≡◌, ◌≢◌, ◌∙◌, ◌<◌, ◌≤◌, ◌+◌, ◌*◌, inl, inr, ℕ, Bool, List, [], ◌∷◌, Option, Some, sym, ap, subst, arith, length, slice_get}
-use Rattle.std.proofs.Math.Nat.{mul-le-mul_right}
-use Rattle.std.proofs.lemmas.Option.{slice_get_within, some_pair_parts}
+use Rattle.std.proofs.Common.{◌≡◌, ◌≢◌, ◌∙◌, ◌<◌, inl, inr, ℕ, Bool, List, [], ◌∷◌, Option, Some, sym, ap, subst, slice_get}
+use Rattle.std.proofs.lemmas.Option.{slice_get_within}
 use Rattle.wb_types.specs.declared.number.OBlock.{OBlock}
 use Rattle.wb_disk.specs.Device.{History}
 use Rattle.wb_words.specs.SharedWords.{Words}
@@ -20,17 +19,13 @@ use Rattle.wb_tasks.specs.declared.step.Want.{Want}
 use Rattle.wb_tasks.specs.declared.step.Want.TheVariants.{Cell, End}
 use Rattle.wb_devices.specs.declared.devices.Devices.{Devices}
 use Rattle.wb_link.specs.World.{World}
-use Rattle.wb_runs.specs.declared.job.Job.{Job}
 use Rattle.wb_runs.specs.declared.job.Job.TheVariants.{Migrate}
 use Rattle.wb_runs.specs.States.{Actor}
-use Rattle.wb_simulation.specs.Behind.{behind}
+use Rattle.wb_tasks.specs.Plan.{table}
 use Rattle.wb_simulation.specs.Steps.{AreOfBlock, IsOutside}
 use Rattle.wb_simulation.specs.Worlds.{Agrees}
 use Rattle.wb_simulation.proofs.Followed.{begins_by}
 use Rattle.wb_headline.proofs.Allowed.{there}
-
-behind_within : (actors caches a c : ℕ) → a < actors → c < caches → behind actors caches a c < actors + actors * caches
-behind_within actors caches a c l m = let rows : (a + 1) * caches ≤ actors * caches = mul-le-mul_right caches (omega (arith, l)) in omega (arith, rows, m)
 
 module _ (size most blocks : ℕ) (words : Words) (committing : Bool) (orders : List (Option Order)) (devices : Devices (List History)) (actors : List Actor) (s : World) (g : Agrees size most words committing orders devices actors s)
     (a : ℕ) (x : Actor) (migration : Migration) (block : OBlock) (plan : Plan) (ex : slice_get actors a ≡ Some x) (xt : x.task ≡ Some (Migrate migration block, plan)) (suits : Suits blocks plan x.card) where
@@ -46,31 +41,21 @@ module _ (size most blocks : ℕ) (words : Words) (committing : Bool) (orders : 
     abbrev first : (ws : List Want) × (plan.steps ≡ next ∷ ws)
     first = begins_by plan next (sym e) not
 
-    at : (c : ℕ) × (g.at a ≡ Some c)
-    at = elim (g.carried a x migration block plan ex xt) [
-      | inl u ↦ absurd (elim u.0 [
-        | inl none ↦ (let bad : [] ≡ next ∷ first.0 = sym none ∙ first.1 in cc)
-        | inr o ↦ out first.0 (subst (λ (ws : List Want). IsOutside ws) first.1 o.1)
-      ])
-      | inr c ↦ c
-    ]
-
     pub carried : Carried
     carried =
-        let c = at.0 in
-        let within = g.within a c at.1 in
-        let order = there orders c within in
         let less = slice_get_within actors a x ex in
-        let y = there s.actors (behind (length actors) (length orders) a c) (subst (λ (k : ℕ). behind (length actors) (length orders) a c < k) (sym g.many) (behind_within (length actors) (length orders) a c less within)) in
-        let is = (g.behind_each a c x order.0 y.0 ex order.1 y.1).carried at.1 in
-        by is.migration is.block is.plan is.part (sym xt ∙ is.task) is.job is.block_is is.of_block
-      where
-        by : (m : Migration) (b : OBlock) (p : Plan) (part : BlockRange) → ◌≡◌ {A = Option (Job × Plan)} (Some (Migrate migration block, plan)) (Some (Migrate m b, p)) → p.job ≡ OnBlock (Migrating m part) → part.block ≡ b → AreOfBlock size part.block.0 p.steps → Carried
-        by m b p part same job block_is of_block =
-            let parts = some_pair_parts (Migrate migration block) (Migrate m b) plan p same in
-            let jobs : Migrate migration block ≡ Migrate m b = parts.0 in
-            let blocks : block ≡ b = cc in
-            record { kind = m; part = part; job = ap (λ (q : Plan). q.job) parts.1 ∙ job; block_is = block_is ∙ sym blocks; of_block = subst (λ (q : Plan). AreOfBlock size part.block.0 q.steps) (sym parts.1) of_block }
+        let y = there s.actors a (subst (λ (k : ℕ). a < k) (sym g.many) less) in
+        let d = g.orders_agree.carried a x y.0 migration block plan ex y.1 xt in
+        elim d.at [
+          | inl k ↦ record { kind = migration; part = d.part; job = d.job; block_is = k.block_is; of_block = k.of_block }
+          | inr o ↦ elim o [
+            | inl h ↦ absurd (let bad : [] ≡ next ∷ first.0 = sym h.is.over ∙ first.1 in cc)
+            | inr l ↦ elim l.at [
+              | inl t ↦ absurd (out [] (subst (λ (v : Want). IsOutside (v ∷ [])) (sym (e ∙ ap (λ (p : Plan). want p) (t ∙ ap (λ j. table j) d.job))) tt))
+              | inr n ↦ absurd (let bad : [] ≡ next ∷ first.0 = sym n.0 ∙ first.1 in cc)
+            ]
+          ]
+        ]
 
     -- so the step is one of its own
     pub own : (m : Migration) × (part : BlockRange) × IsOwnStep (OnBlock (Migrating m part)) next

@@ -1,5 +1,5 @@
 -- Each step of a migration that leaves the desk is followed, done, refused or failing.
-use Rattle.std.proofs.Common.{◌≡◌, ◌∙◌, ◌<◌, ◌≤◌, ◌+◌, ℕ, Bool, List, [], Option, Some, None, refl, sym, ap, subst, arith, length, slice_get, slice_set, Contains}
+use Rattle.std.proofs.Common.{◌≡◌, ◌∙◌, ◌<◌, ◌≤◌, ◌+◌, ℕ, Bool, List, [], Option, Some, None, refl, sym, subst, length, slice_get, slice_set}
 use Rattle.std.proofs.lemmas.List.{length-set}
 use Rattle.wb_types.specs.declared.extent.Extent.{Extent}
 use Rattle.wb_types.specs.declared.mode.Dev.{Dev}
@@ -10,7 +10,6 @@ use Rattle.wb_types.specs.declared.refusal.Refusal.{Refusal}
 use Rattle.wb_disk.specs.Device.{Content as Bytes, History}
 use Rattle.wb_disk.specs.Extents.{written_each, written_where}
 use Rattle.wb_words.specs.Rule.{LockRule}
-use Rattle.wb_words.specs.declared.card.Card.{Card}
 use Rattle.wb_words.specs.SharedWords.{Words}
 use Rattle.wb_words.specs.Effects.{result_of, words_after}
 use Rattle.wb_words.specs.declared.step.CellStep.{CellStep}
@@ -40,18 +39,14 @@ use Rattle.wb_runs.proofs.Metadata.{MetadataKept}
 use Rattle.wb_link.specs.World.{after_all}
 use Rattle.wb_simulation.specs.Noting.{NotesAgree}
 use Rattle.wb_simulation.specs.Noted.{told}
-use Rattle.wb_simulation.specs.Telling.{Carries}
+use Rattle.wb_simulation.specs.Telling.{Carries, Rests}
 use Rattle.wb_simulation.specs.Worlds.{Turn, Stays, FollowsBy, Follows}
 use Rattle.wb_simulation.specs.Laws.{went, after_step}
 use Rattle.wb_simulation.specs.Migrating.{SeesWhere}
 use Rattle.wb_simulation.proofs.Noted.{notes_followed}
 use Rattle.wb_simulation.proofs.Migrations.{migrations_followed}
 use Rattle.wb_headline.specs.Desks.{live_orders}
-use Rattle.wb_headline.specs.Seen.{slots_seen, task_seen, actor_seen, actors_seen}
-use Rattle.wb_headline.proofs.Allowed.{there}
 use Rattle.wb_headline.proofs.Following.{size, most, Sized, Followed, Goes}
-use Rattle.wb_headline.proofs.Plans.{suited_seen}
-use Rattle.wb_headline.proofs.Seen.{cards_seen, get_seen, seen_many}
 use Rattle.wb_headline.proofs.Targets.{standing, actor_is, beside, noted_within, stays_on}
 
 failing_same : (doing : Doing) (step : DeviceStep) (got : Got) → ((failing doing step got).entered ≡ doing.entered) × ((failing doing step got).then_finished ≡ doing.then_finished)
@@ -70,32 +65,18 @@ metadata_same Metadata devices list h = absurd h
 
 module _ (P A : Type 0) (shape : Shape) (images : Images) (t : Target P) (commit : Option RunningCommit) (devices : Devices (List History)) (actors : List Actor) (n : Notes) (known : MetadataKept {P = P} {A = A} shape.geometry images (Stands t) commit devices.metadata)
     (f : Followed P A shape images (standing P A shape images t commit devices actors n) n) (a : ℕ) (x : Actor) (ex : slice_get actors a ≡ Some x) where
-  -- what is seen of orders and actors
   abbrev slots : List (Option Order)
-  slots = slots_seen f.phase.stages (live_orders t.desk)
-
-  abbrev seen : List Actor
-  seen = actors_seen f.phase.stages actors
-
-  abbrev x_seen : Actor
-  x_seen = actor_seen f.phase.stages x
-
-  there_seen : slice_get seen a ≡ Some x_seen
-  there_seen = get_seen f.phase.stages actors a x ex
-
-  rule_seen : LockRule shape.geometry.origin_blocks t.words (cards_of actors) → LockRule shape.geometry.origin_blocks t.words (cards_of seen)
-  rule_seen rule = subst (λ (cs : List Card). LockRule shape.geometry.origin_blocks t.words cs) (sym (cards_seen f.phase.stages actors)) rule
+  slots = live_orders t.desk
 
   noted_less : a < length n.doings
   noted_less = noted_within P A shape images t commit devices actors n known f a x ex
 
-  -- what is told of those behind is not noted
-  pub carried_notes : (turn : Turn) (words' : Words) (committing' : Bool) (orders' : List (Option Order)) (devices' : Devices (List History)) (actors' : List Actor) (g : FollowsBy turn (Carries (length (actors_seen f.phase.stages actors))) (size P A shape) (most P A shape) a f.site.world words' committing' orders' devices' actors') →
+  -- a migration's steps are not noted
+  pub carried_notes : (turn : Turn) (words' : Words) (committing' : Bool) (orders' : List (Option Order)) (devices' : Devices (List History)) (actors' : List Actor) (g : FollowsBy turn Carries (size P A shape) (most P A shape) a f.site.world words' committing' orders' devices' actors') →
       NotesAgree (size P A shape) n (after_all f.site.world g.records) (told f.notes g.records)
   carried_notes turn words' committing' orders' devices' actors' g =
       let b = beside P A shape images t commit devices actors n known f a x ex in
-      notes_followed.carries (length seen) turn (size P A shape) (most P A shape) a f.site.world words' committing' orders' devices' actors' g b.0 n f.notes b.1 noted_less f.notes_agree
-      (let d = f.sized.doings_many in let m = f.sized.actors_many in let k = seen_many f.phase.stages actors in omega (arith, d, m, k))
+      notes_followed.carries turn (size P A shape) (most P A shape) a f.site.world words' committing' orders' devices' actors' g b.0 n f.notes b.1 noted_less f.notes_agree
 
   sized_put : (d : Option Doing) (y : Actor) → Sized P A shape (slice_set actors a y) (put n a d)
   sized_put d y = record { actors_many = length-set actors a y ∙ f.sized.actors_many; doings_many = length-set n.doings a d ∙ f.sized.doings_many; sectors = f.sized.sectors }
@@ -108,52 +89,52 @@ module _ (P A : Type 0) (shape : Shape) (images : Images) (t : Target P) (commit
     job = Migrate migration block
 
     -- on the shared words
-    pub cells : LockRule shape.geometry.origin_blocks t.words (cards_of actors) → (step : CellStep) → Cell step ≡ want plan → SeesWhere t.words slots migration block step →
+    pub cells : LockRule shape.geometry.origin_blocks t.words (cards_of actors) → (step : CellStep) → Cell step ≡ want plan → SeesWhere t.words slots f.site.world.shared.mapping migration block step →
         Goes P A shape (record { devices = devices; commit = commit; phase = Stands (record { words = words_after t.words step; desk = t.desk }); actors = slice_set actors a (actor_then {P = P} {A = A} shape (Stands t) devices x (Cell step) (got_of (result_of t.words step))) }) n
     cells rule step next sees =
         let y = went t.words job plan step x in
-        let g = migrations_followed.cells (size P A shape) (most P A shape) shape.geometry.origin_blocks t.words t.desk.space.committing slots devices seen a x_seen migration block plan step f.site.world (rule_seen rule) there_seen (ap task_seen xt) suits (sym next) sees f.phase.agrees in
+        let g = migrations_followed.cells (size P A shape) (most P A shape) shape.geometry.origin_blocks t.words t.desk.space.committing slots devices actors a x migration block plan step f.site.world rule ex xt suits (sym next) sees f.phase.agrees in
         subst (λ (y : Actor). Goes P A shape (record { devices = devices; commit = commit; phase = Stands (record { words = words_after t.words step; desk = t.desk }); actors = slice_set actors a y }) n) (sym (actor_is P A shape (Stands t) devices x job plan (Cell step) (got_of (result_of t.words step)) xt))
-        (stays_on P A shape images t commit devices actors n known f a x ex (Carries (length seen)) (words_after t.words step) devices y (went t.words job plan step x_seen) n refl g tt
-        (carried_notes Stays (words_after t.words step) t.desk.space.committing slots devices (slice_set seen a (went t.words job plan step x_seen)) g) (sized_plain y) (λ o h. h) refl)
+        (stays_on P A shape images t commit devices actors n known f a x ex Carries (words_after t.words step) devices y n g tt
+        (carried_notes Stays (words_after t.words step) t.desk.space.committing slots devices (slice_set actors a (went t.words job plan step x)) g) (sized_plain y) refl)
 
     -- on a device
-    module _ (step : DeviceStep) (got : Got) (contents : List Bytes) (devices' : Devices (List History)) (y y_seen : Actor) (is : actor_then {P = P} {A = A} shape (Stands t) devices x (Device step) got ≡ y) (same_seen : y_seen ≡ actor_seen f.phase.stages y) (within : (order : Order) → Contains y.awaiting order → Contains x.awaiting order)
-        (g : Follows (Carries (length seen)) (size P A shape) (most P A shape) a f.site.world t.words t.desk.space.committing slots devices' (slice_set seen a y_seen)) where
+    module _ (step : DeviceStep) (got : Got) (contents : List Bytes) (devices' : Devices (List History)) (y : Actor) (is : actor_then {P = P} {A = A} shape (Stands t) devices x (Device step) got ≡ y)
+        (g : Follows Carries (size P A shape) (most P A shape) a f.site.world t.words t.desk.space.committing slots devices' (slice_set actors a y)) where
       on_device : devices'.metadata ≡ devices.metadata → Goes P A shape (record { devices = devices'; commit = commit; phase = Stands t; actors = slice_set actors a (actor_then {P = P} {A = A} shape (Stands t) devices x (Device step) got) }) (noted_step shape [] n a (Some (Some doing)) (Device step) got contents)
       on_device same =
           let mid = failing doing step got in
           let e = failing_same doing step got in
-          let notes = notes_followed.redone (size P A shape) n (after_all f.site.world g.records) (told f.notes g.records) a doing mid (carried_notes Stays t.words t.desk.space.committing slots devices' (slice_set seen a y_seen) g) noted e.0 e.1 in
+          let notes = notes_followed.redone (size P A shape) n (after_all f.site.world g.records) (told f.notes g.records) a doing mid (carried_notes Stays t.words t.desk.space.committing slots devices' (slice_set actors a y) g) noted e.0 e.1 in
           subst (λ (q : Job). Goes P A shape (record { devices = devices'; commit = commit; phase = Stands t; actors = slice_set actors a (actor_then {P = P} {A = A} shape (Stands t) devices x (Device step) got) }) (device_note shape (put n a (Some mid)) a mid q step got contents)) (sym job_is)
           (subst (λ (v : Actor). Goes P A shape (record { devices = devices'; commit = commit; phase = Stands t; actors = slice_set actors a v }) (put n a (Some mid))) (sym is)
-          (stays_on P A shape images t commit devices actors n known f a x ex (Carries (length seen)) t.words devices' y y_seen (put n a (Some mid)) same_seen g tt notes (sized_put (Some mid) y) within same))
+          (stays_on P A shape images t commit devices actors n known f a x ex Carries t.words devices' y (put n a (Some mid)) g tt notes (sized_put (Some mid) y) same))
 
     pub read_done : (device : Dev) (e : Extent) (contents : List Bytes) → Device (ReadExtent device e) ≡ want plan → e.first + e.count ≤ length (device_in device devices) →
         Goes P A shape (record { devices = devices; commit = commit; phase = Stands t; actors = slice_set actors a (actor_then {P = P} {A = A} shape (Stands t) devices x (Device (ReadExtent device e)) Done) }) (noted_step shape [] n a (Some (Some doing)) (Device (ReadExtent device e)) Done contents)
     read_done device e contents next inside =
         let y : Actor = record x { task = Some (job, after plan Done); buffer = contents_at (device_in device devices) e } in
-        on_device (ReadExtent device e) Done contents devices y (record x_seen { task = Some (job, after plan Done); buffer = contents_at (device_in device devices) e }) (actor_is P A shape (Stands t) devices x job plan (Device (ReadExtent device e)) Done xt) refl (λ o h. h)
-        (migrations_followed.read_done (size P A shape) (most P A shape) shape.geometry.origin_blocks t.words t.desk.space.committing slots devices seen a x_seen migration block plan device e f.site.world there_seen (ap task_seen xt) suits (sym next) inside f.phase.agrees) refl
+        on_device (ReadExtent device e) Done contents devices y (actor_is P A shape (Stands t) devices x job plan (Device (ReadExtent device e)) Done xt)
+        (migrations_followed.read_done (size P A shape) (most P A shape) shape.geometry.origin_blocks t.words t.desk.space.committing slots devices actors a x migration block plan device e f.site.world ex xt suits (sym next) inside f.phase.agrees) refl
 
     pub read_fails : (device : Dev) (e : Extent) (contents : List Bytes) → Device (ReadExtent device e) ≡ want plan →
         Goes P A shape (record { devices = devices; commit = commit; phase = Stands t; actors = slice_set actors a (actor_then {P = P} {A = A} shape (Stands t) devices x (Device (ReadExtent device e)) Fault) }) (noted_step shape [] n a (Some (Some doing)) (Device (ReadExtent device e)) Fault contents)
     read_fails device e contents next =
-        on_device (ReadExtent device e) Fault contents devices (after_step job plan Fault x) (after_step job plan Fault x_seen) (actor_is P A shape (Stands t) devices x job plan (Device (ReadExtent device e)) Fault xt) refl (λ o h. h)
-        (migrations_followed.read_fails (size P A shape) (most P A shape) shape.geometry.origin_blocks t.words t.desk.space.committing slots devices seen a x_seen migration block plan device e f.site.world there_seen (ap task_seen xt) suits (sym next) f.phase.agrees) refl
+        on_device (ReadExtent device e) Fault contents devices (after_step job plan Fault x) (actor_is P A shape (Stands t) devices x job plan (Device (ReadExtent device e)) Fault xt)
+        (migrations_followed.read_fails (size P A shape) (most P A shape) shape.geometry.origin_blocks t.words t.desk.space.committing slots devices actors a x migration block plan device e f.site.world ex xt suits (sym next) f.phase.agrees) refl
 
     pub write_done : LockRule shape.geometry.origin_blocks t.words (cards_of actors) → AllSuited shape.geometry.origin_blocks actors → (device : Dev) (e : Extent) (contents : List Bytes) → HoldsBlocks device → Device (WriteExtent device e) ≡ want plan → e.first + e.count ≤ length (device_in device devices) →
         Goes P A shape (record { devices = with_device device devices (written_each (device_in device devices) e.first x.buffer); commit = commit; phase = Stands t; actors = slice_set actors a (actor_then {P = P} {A = A} shape (Stands t) devices x (Device (WriteExtent device e)) Done) }) (noted_step shape [] n a (Some (Some doing)) (Device (WriteExtent device e)) Done contents)
     write_done rule all_suited device e contents holds next inside =
-        on_device (WriteExtent device e) Done contents (with_device device devices (written_each (device_in device devices) e.first x.buffer)) (after_step job plan Done x) (after_step job plan Done x_seen) (actor_is P A shape (Stands t) devices x job plan (Device (WriteExtent device e)) Done xt) refl (λ o h. h)
-        (migrations_followed.write_done (size P A shape) (most P A shape) shape.geometry.origin_blocks t.words t.desk.space.committing slots devices seen a x_seen migration block plan device e f.site.world (rule_seen rule) (suited_seen shape.geometry.origin_blocks f.phase.stages actors all_suited) there_seen (ap task_seen xt) suits (sym next) inside f.phase.agrees)
+        on_device (WriteExtent device e) Done contents (with_device device devices (written_each (device_in device devices) e.first x.buffer)) (after_step job plan Done x) (actor_is P A shape (Stands t) devices x job plan (Device (WriteExtent device e)) Done xt)
+        (migrations_followed.write_done (size P A shape) (most P A shape) shape.geometry.origin_blocks t.words t.desk.space.committing slots devices actors a x migration block plan device e f.site.world rule all_suited ex xt suits (sym next) inside f.phase.agrees)
         (metadata_same device devices (written_each (device_in device devices) e.first x.buffer) holds)
 
     pub write_fails : LockRule shape.geometry.origin_blocks t.words (cards_of actors) → AllSuited shape.geometry.origin_blocks actors → (device : Dev) (e : Extent) (contents : List Bytes) (lands : ℕ → Bool) → HoldsBlocks device → Device (WriteExtent device e) ≡ want plan → e.first + e.count ≤ length (device_in device devices) →
         Goes P A shape (record { devices = with_device device devices (written_where lands (device_in device devices) e.first x.buffer); commit = commit; phase = Stands t; actors = slice_set actors a (actor_then {P = P} {A = A} shape (Stands t) devices x (Device (WriteExtent device e)) Fault) }) (noted_step shape [] n a (Some (Some doing)) (Device (WriteExtent device e)) Fault contents)
     write_fails rule all_suited device e contents lands holds next inside =
-        on_device (WriteExtent device e) Fault contents (with_device device devices (written_where lands (device_in device devices) e.first x.buffer)) (after_step job plan Fault x) (after_step job plan Fault x_seen) (actor_is P A shape (Stands t) devices x job plan (Device (WriteExtent device e)) Fault xt) refl (λ o h. h)
-        (migrations_followed.write_fails (size P A shape) (most P A shape) shape.geometry.origin_blocks t.words t.desk.space.committing slots devices seen a x_seen migration block plan device e lands f.site.world (rule_seen rule) (suited_seen shape.geometry.origin_blocks f.phase.stages actors all_suited) there_seen (ap task_seen xt) suits (sym next) inside f.phase.agrees)
+        on_device (WriteExtent device e) Fault contents (with_device device devices (written_where lands (device_in device devices) e.first x.buffer)) (after_step job plan Fault x) (actor_is P A shape (Stands t) devices x job plan (Device (WriteExtent device e)) Fault xt)
+        (migrations_followed.write_fails (size P A shape) (most P A shape) shape.geometry.origin_blocks t.words t.desk.space.committing slots devices actors a x migration block plan device e lands f.site.world rule all_suited ex xt suits (sym next) inside f.phase.agrees)
         (metadata_same device devices (written_where lands (device_in device devices) e.first x.buffer) holds)
 
     -- the desk has no memory for its entry
@@ -161,10 +142,10 @@ module _ (P A : Type 0) (shape : Shape) (images : Images) (t : Target P) (commit
         Goes P A shape (record { devices = devices; commit = commit; phase = Stands t; actors = slice_set actors a (actor_then {P = P} {A = A} shape (Stands t) devices x (Desk (Map b c)) (GotRefused refusal)) }) n
     map_refused b c refusal next =
         let y = after_step job plan (GotRefused refusal) x in
-        let g = migrations_followed.is_refused (size P A shape) (most P A shape) shape.geometry.origin_blocks t.words t.desk.space.committing slots devices seen a x_seen migration block b c plan refusal f.site.world there_seen (ap task_seen xt) suits (sym next) f.phase.agrees in
+        let g = migrations_followed.is_refused (size P A shape) (most P A shape) shape.geometry.origin_blocks t.words t.desk.space.committing slots devices actors a x migration block b c plan refusal f.site.world ex xt suits (sym next) f.phase.agrees in
         subst (λ (y : Actor). Goes P A shape (record { devices = devices; commit = commit; phase = Stands t; actors = slice_set actors a y }) n) (sym (actor_is P A shape (Stands t) devices x job plan (Desk (Map b c)) (GotRefused refusal) xt))
-        (stays_on P A shape images t commit devices actors n known f a x ex (Carries (length seen)) t.words devices y (after_step job plan (GotRefused refusal) x_seen) n refl g tt
-        (carried_notes Stays t.words t.desk.space.committing slots devices (slice_set seen a (after_step job plan (GotRefused refusal) x_seen)) g) (sized_plain y) (λ o h. h) refl)
+        (stays_on P A shape images t commit devices actors n known f a x ex Carries t.words devices y n g tt
+        (carried_notes Stays t.words t.desk.space.committing slots devices (slice_set actors a (after_step job plan (GotRefused refusal) x)) g) (sized_plain y) refl)
 
     -- it is answered
     pub answers : (answer : Answer) (shown contents : List Bytes) → End answer ≡ want plan →
@@ -176,14 +157,11 @@ module _ (P A : Type 0) (shape : Shape) (images : Images) (t : Target P) (commit
 
         rested : (v : Answer) → End v ≡ want plan → Goes P A shape (record { devices = devices; commit = commit; phase = Stands t; actors = slice_set actors a (actor_then {P = P} {A = A} shape (Stands t) devices x (End v) Done) }) (put n a None)
         rested v e =
-            let g = migrations_followed.answers (size P A shape) (most P A shape) shape.geometry.origin_blocks t.words t.desk.space.committing slots devices seen a x_seen migration block plan v f.site.world there_seen (ap task_seen xt) suits (sym e) f.phase.agrees in
-            let s' = after_all f.site.world g.records in
-            let is_there = Rattle.wb_runs.proofs.Lists.set_there seen a x_seen (record x_seen { task = None }) there_seen in
-            let z = there s'.actors a (let m = g.agrees.many in let l = Rattle.std.proofs.lemmas.Option.slice_get_within (slice_set seen a (record x_seen { task = None })) a (record x_seen { task = None }) is_there in omega (arith, m, l)) in
-            let none = (g.agrees.each a (record x_seen { task = None }) z.0 is_there z.1).at.0 in
+            let g = migrations_followed.answers (size P A shape) (most P A shape) shape.geometry.origin_blocks t.words t.desk.space.committing slots devices actors a x migration block plan v f.site.world ex xt suits (sym e) f.phase.agrees in
+            let b = beside P A shape images t commit devices actors n known f a x ex in
             subst (λ (v' : Actor). Goes P A shape (record { devices = devices; commit = commit; phase = Stands t; actors = slice_set actors a v' }) (put n a None)) (sym (actor_is P A shape (Stands t) devices x job plan (End v) Done xt ∙ (λ i. record { task = None; card = x.card; orders = (answered_still x.orders x.awaiting migration block v).0 i; awaiting = (answered_still x.orders x.awaiting migration block v).1 i; buffer = x.buffer })))
-            (stays_on P A shape images t commit devices actors n known f a x ex (Carries (length seen)) t.words devices (record x { task = None }) (record x_seen { task = None }) (put n a None) refl g tt
-            (notes_followed.aside (size P A shape) n s' (told f.notes g.records) a z.0 None (carried_notes Stays t.words t.desk.space.committing slots devices (slice_set seen a (record x_seen { task = None })) g) z.1 none) (sized_put None (record x { task = None })) (λ o h. h) refl)
+            (stays_on P A shape images t commit devices actors n known f a x ex Rests t.words devices (record x { task = None }) (put n a None) g tt
+            (notes_followed.rests Stays (size P A shape) (most P A shape) a f.site.world t.words t.desk.space.committing slots devices (slice_set actors a (record x { task = None })) g b.0 n f.notes b.1 noted_less f.notes_agree) (sized_put None (record x { task = None })) refl)
 
         by_answer : (v : Answer) → End v ≡ want plan → Goes P A shape (record { devices = devices; commit = commit; phase = Stands t; actors = slice_set actors a (actor_then {P = P} {A = A} shape (Stands t) devices x (End v) Done) }) (noted_step shape shown n a (Some (Some doing)) (End v) Done contents)
         by_answer (Refuses refusal) e = rested (Refuses refusal) e

@@ -13,7 +13,6 @@ use Rattle.wb_space.specs.declared.block.Block.{Block}
 use Rattle.wb_space.specs.declared.block.Block.TheVariants.{Free, Mapped, Reserved, Quarantined}
 use Rattle.wb_space.specs.Blocks.{state, released as block_released, commit_begun as block_begun, commit_ended as block_ended}
 use Rattle.wb_orders.specs.Orders.{order_at}
-use Rattle.wb_policy.specs.declared.order.Order.{Order}
 use Rattle.wb_policy.specs.declared.order.Order.TheVariants.{Promote}
 use Rattle.wb_desk.specs.Desks.{DeskState}
 use Rattle.wb_desk.specs.Calls.{reserved, released}
@@ -21,42 +20,34 @@ use Rattle.wb_desk.specs.Commits.{commit_begun, commit_ended}
 use Rattle.wb_desk.specs.Entries.{entry_of, keeps, mapped, unmapped}
 use Rattle.wb_runs.specs.Headline.{cached_from, place_of}
 use Rattle.wb_runs.proofs.Located.{StandsAlone, alone_later, none_from}
-use Rattle.wb_link.specs.World.{Shared, Block as AbstractBlock, Mapped as MappedThere, Reserved as ReservedThere, Quarantined as QuarantinedThere, begun, ended, given_back}
+use Rattle.wb_link.specs.World.{Shared, Block as AbstractBlock, Mapped as MappedThere, Reserved as ReservedThere, begun, ended, given_back, removed}
 use Rattle.wb_simulation.specs.Opened.{located}
-use Rattle.wb_headline.specs.Desks.{block_there, reserved_there, slot_at, DeskAgrees}
+use Rattle.wb_headline.specs.Desks.{block_there, DeskAgrees}
 
 -- ---- states of cache blocks
 
-begun_there : (b : Block) (slot : Option Order) → block_there (block_begun b) slot ≡ begun (block_there b slot)
-begun_there Free slot = refl
-begun_there Mapped slot = refl
-begun_there Reserved None = refl
-begun_there Reserved (Some order) = refl
-begun_there (Quarantined claimed early) slot = refl
+begun_there : (b : Block) → block_there (block_begun b) ≡ begun (block_there b)
+begun_there Free = refl
+begun_there Mapped = refl
+begun_there Reserved = refl
+begun_there (Quarantined true early) = refl
+begun_there (Quarantined false early) = refl
 
--- where a claimed one was removed before the commit began, its order is not seen
-ended_there : (b : Block) (slot : Option Order) → (b ≡ Quarantined true true → slot ≡ None) → block_there (block_ended b) slot ≡ ended (block_there b slot)
-ended_there Free slot n = refl
-ended_there Mapped slot n = refl
-ended_there Reserved None n = refl
-ended_there Reserved (Some order) n = refl
-ended_there (Quarantined true true) slot n = ap reserved_there (n refl)
-ended_there (Quarantined true false) slot n = refl
-ended_there (Quarantined false true) slot n = refl
-ended_there (Quarantined false false) slot n = refl
+ended_there : (b : Block) → block_there (block_ended b) ≡ ended (block_there b)
+ended_there Free = refl
+ended_there Mapped = refl
+ended_there Reserved = refl
+ended_there (Quarantined true true) = refl
+ended_there (Quarantined true false) = refl
+ended_there (Quarantined false true) = refl
+ended_there (Quarantined false false) = refl
 
-released_there : (b : Block) (order : Order) → block_there (block_released b) None ≡ given_back (block_there b (Some order))
-released_there Free order = refl
-released_there Mapped order = refl
-released_there Reserved order = refl
-released_there (Quarantined claimed early) order = refl
-
--- where no order is seen, nothing is given back
-pub unseen_released : (b : Block) → block_there (block_released b) None ≡ block_there b None
-unseen_released Free = refl
-unseen_released Mapped = refl
-unseen_released Reserved = refl
-unseen_released (Quarantined claimed early) = refl
+released_there : (b : Block) → block_there (block_released b) ≡ given_back (block_there b)
+released_there Free = refl
+released_there Mapped = refl
+released_there Reserved = refl
+released_there (Quarantined true early) = refl
+released_there (Quarantined false early) = refl
 
 -- what becomes of each block, a free one staying so, becomes of one of the list
 pub state_map : (f : Block → Block) → f Free ≡ Free → (blocks : List Block) (c : ℕ) → state (map f blocks) c ≡ f (state blocks c)
@@ -65,30 +56,16 @@ state_map f e [] (suc c) = sym e
 state_map f e (b ∷ blocks) zero = refl
 state_map f e (b ∷ blocks) (suc c) = state_map f e blocks c
 
--- one block is in another state, or under another order
-one_turned : (blocks blocks' : List Block) (slots slots' : List (Option Order)) (there : ℕ → AbstractBlock) (at : ℕ) (now : AbstractBlock) → now ≡ block_there (state blocks' at) (slot_at slots' at) → ((c : ℕ) → c ≢ at → state blocks' c ≡ state blocks c) → ((c : ℕ) → c ≢ at → slot_at slots' c ≡ slot_at slots c) →
-    ((c : ℕ) → there c ≡ block_there (state blocks c) (slot_at slots c)) → (c : ℕ) → changed there at now c ≡ block_there (state blocks' c) (slot_at slots' c)
-one_turned blocks blocks' slots slots' there at now is same_blocks same_slots agrees c = elim (cases_eq c at) [
-  | inl e ↦ ap (changed there at now) e ∙ changed_same there at now ∙ is ∙ ap (λ (k : ℕ). block_there (state blocks' k) (slot_at slots' k)) (sym e)
-  | inr n ↦ changed_other there at c now n ∙ agrees c ∙ sym (λ i. block_there (same_blocks c n i) (same_slots c n i))
-]
-
--- it is the same there
-one_still : (blocks blocks' : List Block) (slots slots' : List (Option Order)) (there : ℕ → AbstractBlock) (at : ℕ) → there at ≡ block_there (state blocks' at) (slot_at slots' at) → ((c : ℕ) → c ≢ at → state blocks' c ≡ state blocks c) → ((c : ℕ) → c ≢ at → slot_at slots' c ≡ slot_at slots c) →
-    ((c : ℕ) → there c ≡ block_there (state blocks c) (slot_at slots c)) → (c : ℕ) → there c ≡ block_there (state blocks' c) (slot_at slots' c)
-one_still blocks blocks' slots slots' there at is same_blocks same_slots agrees c = elim (cases_eq c at) [
-  | inl e ↦ ap there e ∙ is ∙ ap (λ (k : ℕ). block_there (state blocks' k) (slot_at slots' k)) (sym e)
-  | inr n ↦ agrees c ∙ sym (λ i. block_there (same_blocks c n i) (same_slots c n i))
+-- one block is in another state
+one_turned : (blocks blocks' : List Block) (there : ℕ → AbstractBlock) (at : ℕ) (now : AbstractBlock) → now ≡ block_there (state blocks' at) → ((c : ℕ) → c ≢ at → state blocks' c ≡ state blocks c) →
+    ((c : ℕ) → there c ≡ block_there (state blocks c)) → (c : ℕ) → changed there at now c ≡ block_there (state blocks' c)
+one_turned blocks blocks' there at now is same agrees c = elim (cases_eq c at) [
+  | inl e ↦ ap (changed there at now) e ∙ changed_same there at now ∙ is ∙ ap (λ (k : ℕ). block_there (state blocks' k)) (sym e)
+  | inr n ↦ changed_other there at c now n ∙ agrees c ∙ ap (λ (v : Block). block_there v) (sym (same c n))
 ]
 
 pub other_block : (blocks : List Block) (at : ℕ) (now : Block) (c : ℕ) → c ≢ at → state (slice_set blocks at now) c ≡ state blocks c
 other_block blocks at now c n = get_or-set_other blocks at c now Free n
-
-pub other_slot : (slots : List (Option Order)) (at : ℕ) (now : Option Order) (c : ℕ) → c ≢ at → slot_at (slice_set slots at now) c ≡ slot_at slots c
-other_slot slots at now c n = get_or-set_other slots at c now None n
-
-pub slot_now : (slots : List (Option Order)) (at : ℕ) (now : Option Order) → at < length slots → slot_at (slice_set slots at now) at ≡ now
-slot_now slots at now l = get_or-set_same slots at now None l
 
 -- ---- where blocks are mapped
 
@@ -172,95 +149,61 @@ located_left entries at entry block s b = elim (cases_eq b block) [
 
 -- ---- the desk's calls
 
-module _ (P : Type 0) (desk : DeskState P) (slots : List (Option Order)) (s t : Shared) (g : DeskAgrees desk slots s) where
+module _ (P : Type 0) (desk : DeskState P) (s t : Shared) (g : DeskAgrees desk s) where
   -- nothing comes of desk and mapping
-  pub desk_stays : (desk' : DeskState P) → desk'.tree.entries ≡ desk.tree.entries → desk'.space.blocks ≡ desk.space.blocks → t.mapping ≡ s.mapping → t.blocks ≡ s.blocks → DeskAgrees desk' slots t
+  pub desk_stays : (desk' : DeskState P) → desk'.tree.entries ≡ desk.tree.entries → desk'.space.blocks ≡ desk.space.blocks → t.mapping ≡ s.mapping → t.blocks ≡ s.blocks → DeskAgrees desk' t
   desk_stays desk' e b m k = record {
     mapping = m ∙ g.mapping ∙ ap (λ es. located es) (sym e);
-    blocks = λ c. ap (λ (f : ℕ → AbstractBlock). f c) k ∙ g.blocks c ∙ ap (λ bs. block_there (state bs c) (slot_at slots c)) (sym b);
+    blocks = λ c. ap (λ (f : ℕ → AbstractBlock). f c) k ∙ g.blocks c ∙ ap (λ bs. block_there (state bs c)) (sym b);
   }
 
-  -- an order is given on a block that is mapped
-  pub desk_orders : (c : ℕ) (order : Order) (desk' : DeskState P) → state desk.space.blocks c ≡ Mapped → desk'.tree.entries ≡ desk.tree.entries → desk'.space.blocks ≡ desk.space.blocks → t.mapping ≡ s.mapping → t.blocks ≡ s.blocks → DeskAgrees desk' (slice_set slots c (Some order)) t
-  desk_orders c order desk' at e b m k = record {
-    mapping = m ∙ g.mapping ∙ ap (λ es. located es) (sym e);
-    blocks = λ i. ap (λ (f : ℕ → AbstractBlock). f i) k ∙ one_still desk.space.blocks desk.space.blocks slots (slice_set slots c (Some order)) s.blocks c
-        (g.blocks c ∙ ap (λ (v : Block). block_there v (slot_at slots c)) at ∙ ap (λ (v : Block). block_there v (slot_at (slice_set slots c (Some order)) c)) (sym at)) (λ d n. refl) (other_slot slots c (Some order)) g.blocks i
-        ∙ ap (λ bs. block_there (state bs i) (slot_at (slice_set slots c (Some order)) i)) (sym b);
-  }
-
-  pub desk_begins : (tree : Mapping) → tree.entries ≡ desk.tree.entries → t.mapping ≡ s.mapping → t.blocks ≡ (λ c. begun (s.blocks c)) → DeskAgrees (commit_begun desk tree) slots t
+  pub desk_begins : (tree : Mapping) → tree.entries ≡ desk.tree.entries → t.mapping ≡ s.mapping → t.blocks ≡ (λ c. begun (s.blocks c)) → DeskAgrees (commit_begun desk tree) t
   desk_begins tree e m k = record {
     mapping = m ∙ g.mapping ∙ ap (λ es. located es) (sym e);
-    blocks = λ c. ap (λ (f : ℕ → AbstractBlock). f c) k ∙ ap begun (g.blocks c) ∙ sym (begun_there (state desk.space.blocks c) (slot_at slots c)) ∙ ap (λ (v : Block). block_there v (slot_at slots c)) (sym (state_map block_begun refl desk.space.blocks c));
+    blocks = λ c. ap (λ (f : ℕ → AbstractBlock). f c) k ∙ ap begun (g.blocks c) ∙ sym (begun_there (state desk.space.blocks c)) ∙ ap (λ (v : Block). block_there v) (sym (state_map block_begun refl desk.space.blocks c));
   }
 
-  pub desk_ends : ((c : ℕ) → state desk.space.blocks c ≡ Quarantined true true → slot_at slots c ≡ None) → t.mapping ≡ s.mapping → t.blocks ≡ (λ c. ended (s.blocks c)) → DeskAgrees (commit_ended desk) slots t
-  desk_ends unseen m k = record {
+  pub desk_ends : t.mapping ≡ s.mapping → t.blocks ≡ (λ c. ended (s.blocks c)) → DeskAgrees (commit_ended desk) t
+  desk_ends m k = record {
     mapping = m ∙ g.mapping;
-    blocks = λ c. ap (λ (f : ℕ → AbstractBlock). f c) k ∙ ap ended (g.blocks c) ∙ sym (ended_there (state desk.space.blocks c) (slot_at slots c) (unseen c)) ∙ ap (λ (v : Block). block_there v (slot_at slots c)) (sym (state_map block_ended refl desk.space.blocks c));
+    blocks = λ c. ap (λ (f : ℕ → AbstractBlock). f c) k ∙ ap ended (g.blocks c) ∙ sym (ended_there (state desk.space.blocks c)) ∙ ap (λ (v : Block). block_there v) (sym (state_map block_ended refl desk.space.blocks c));
   }
 
   -- a promotion's order is given
-  pub desk_reserves : (b : OBlock) (c : CBlock) → c.0 < length desk.space.blocks → c.0 < length slots → t.mapping ≡ s.mapping → t.blocks ≡ changed s.blocks c.0 ReservedThere → DeskAgrees (reserved desk c (Promote b c) false) (slice_set slots c.0 (Some (Promote b c))) t
-  desk_reserves b c l ls m k = record {
+  pub desk_reserves : (b : OBlock) (c : CBlock) → c.0 < length desk.space.blocks → t.mapping ≡ s.mapping → t.blocks ≡ changed s.blocks c.0 ReservedThere → DeskAgrees (reserved desk c (Promote b c) false) t
+  desk_reserves b c l m k = record {
     mapping = m ∙ g.mapping;
-    blocks = λ i. ap (λ (f : ℕ → AbstractBlock). f i) k ∙ one_turned desk.space.blocks (slice_set desk.space.blocks c.0 Reserved) slots (slice_set slots c.0 (Some (Promote b c))) s.blocks c.0 ReservedThere
-        (sym (ap (λ (v : Block). block_there v (slot_at (slice_set slots c.0 (Some (Promote b c))) c.0)) (get_or-set_same desk.space.blocks c.0 Reserved Free l) ∙ ap reserved_there (slot_now slots c.0 (Some (Promote b c)) ls)))
-        (other_block desk.space.blocks c.0 Reserved) (other_slot slots c.0 (Some (Promote b c))) g.blocks i;
-  }
-
-  -- a promotion is started there, for which a cache block is reserved here already
-  pub desk_follows : (b : OBlock) (c : CBlock) → state desk.space.blocks c.0 ≡ Reserved → c.0 < length slots → t.mapping ≡ s.mapping → t.blocks ≡ changed s.blocks c.0 ReservedThere → DeskAgrees desk (slice_set slots c.0 (Some (Promote b c))) t
-  desk_follows b c at ls m k = record {
-    mapping = m ∙ g.mapping;
-    blocks = λ i. ap (λ (f : ℕ → AbstractBlock). f i) k ∙ one_turned desk.space.blocks desk.space.blocks slots (slice_set slots c.0 (Some (Promote b c))) s.blocks c.0 ReservedThere
-        (sym (ap (λ (v : Block). block_there v (slot_at (slice_set slots c.0 (Some (Promote b c))) c.0)) at ∙ ap reserved_there (slot_now slots c.0 (Some (Promote b c)) ls)))
-        (λ d n. refl) (other_slot slots c.0 (Some (Promote b c))) g.blocks i;
+    blocks = λ i. ap (λ (f : ℕ → AbstractBlock). f i) k ∙ one_turned desk.space.blocks (slice_set desk.space.blocks c.0 Reserved) s.blocks c.0 ReservedThere
+        (sym (ap (λ (v : Block). block_there v) (get_or-set_same desk.space.blocks c.0 Reserved Free l))) (other_block desk.space.blocks c.0 Reserved) g.blocks i;
   }
 
   -- it ends by its entry
   pub desk_maps : (b : OBlock) (c : CBlock) (tree : Mapping) (policy : P) → c.0 < length desk.space.blocks → c.0 < length desk.tree.entries → place_of desk.tree.entries b.0 ≡ None → slice_index_or desk.tree.entries c.0 None ≡ None →
-      IsChangedAt desk.tree tree c.0 (Some (entry_of b)) → t.mapping ≡ changed s.mapping b.0 (Some c.0) → t.blocks ≡ changed s.blocks c.0 MappedThere → DeskAgrees (mapped desk c tree policy) (slice_set slots c.0 None) t
+      IsChangedAt desk.tree tree c.0 (Some (entry_of b)) → t.mapping ≡ changed s.mapping b.0 (Some c.0) → t.blocks ≡ changed s.blocks c.0 MappedThere → DeskAgrees (mapped desk c tree policy) t
   desk_maps b c tree policy l le none free is m k = record {
     mapping = m ∙ ap (λ (f : Locations). changed f b.0 (Some c.0)) g.mapping ∙ (λ i block. located_entered desk.tree.entries c.0 (entry_of b) le none free block i) ∙ ap (λ es. located es) (sym is.entries);
-    blocks = λ i. ap (λ (f : ℕ → AbstractBlock). f i) k ∙ one_turned desk.space.blocks (slice_set desk.space.blocks c.0 Mapped) slots (slice_set slots c.0 None) s.blocks c.0 MappedThere
-        (sym (ap (λ (v : Block). block_there v (slot_at (slice_set slots c.0 None) c.0)) (get_or-set_same desk.space.blocks c.0 Mapped Free l)))
-        (other_block desk.space.blocks c.0 Mapped) (other_slot slots c.0 None) g.blocks i;
+    blocks = λ i. ap (λ (f : ℕ → AbstractBlock). f i) k ∙ one_turned desk.space.blocks (slice_set desk.space.blocks c.0 Mapped) s.blocks c.0 MappedThere
+        (sym (ap (λ (v : Block). block_there v) (get_or-set_same desk.space.blocks c.0 Mapped Free l))) (other_block desk.space.blocks c.0 Mapped) g.blocks i;
   }
 
   -- or by an entry that goes, whether its order keeps the cache block or not
-  pub desk_unmaps : (block : ℕ) (c : CBlock) (entry : Entry) (tree : Mapping) (policy : P) → c.0 < length desk.space.blocks → StandsAlone desk.tree.entries c.0 entry block →
-      IsChangedAt desk.tree tree c.0 None → t.mapping ≡ changed s.mapping block None → t.blocks ≡ changed s.blocks c.0 (QuarantinedThere false) → DeskAgrees (unmapped desk c tree policy) (slice_set slots c.0 None) t
-  desk_unmaps block c entry tree policy l there is m k =
+  pub desk_unmaps : (block : ℕ) (c : CBlock) (entry : Entry) (tree : Mapping) (policy : P) (next : Option ℕ) → block_there (Quarantined (keeps (order_at desk.orders.slots c.0)) false) ≡ removed next → c.0 < length desk.space.blocks → StandsAlone desk.tree.entries c.0 entry block →
+      IsChangedAt desk.tree tree c.0 None → t.mapping ≡ changed s.mapping block None → t.blocks ≡ changed s.blocks c.0 (removed next) → DeskAgrees (unmapped desk c tree policy) t
+  desk_unmaps block c entry tree policy next keeps_it l there is m k =
       let now : Block = Quarantined (keeps (order_at desk.orders.slots c.0)) false in
       record {
         mapping = m ∙ ap (λ (f : Locations). changed f block None) g.mapping ∙ (λ i b. located_left desk.tree.entries c.0 entry block there b i) ∙ ap (λ es. located es) (sym is.entries);
-        blocks = λ i. ap (λ (f : ℕ → AbstractBlock). f i) k ∙ one_turned desk.space.blocks (slice_set desk.space.blocks c.0 now) slots (slice_set slots c.0 None) s.blocks c.0 (QuarantinedThere false)
-            (sym (ap (λ (v : Block). block_there v (slot_at (slice_set slots c.0 None) c.0)) (get_or-set_same desk.space.blocks c.0 now Free l)))
-            (other_block desk.space.blocks c.0 now) (other_slot slots c.0 None) g.blocks i;
+        blocks = λ i. ap (λ (f : ℕ → AbstractBlock). f i) k ∙ one_turned desk.space.blocks (slice_set desk.space.blocks c.0 now) s.blocks c.0 (removed next)
+            (sym (ap (λ (v : Block). block_there v) (get_or-set_same desk.space.blocks c.0 now Free l) ∙ keeps_it)) (other_block desk.space.blocks c.0 now) g.blocks i;
       }
 
   -- or it is given up
-  pub desk_releases : (c : CBlock) (order : Order) → c.0 < length desk.space.blocks → c.0 < length slots → slot_at slots c.0 ≡ Some order → t.mapping ≡ s.mapping → t.blocks ≡ changed s.blocks c.0 (given_back (s.blocks c.0)) → DeskAgrees (released desk c) (slice_set slots c.0 None) t
-  desk_releases c order l ls at m k =
+  pub desk_releases : (c : CBlock) → c.0 < length desk.space.blocks → t.mapping ≡ s.mapping → t.blocks ≡ changed s.blocks c.0 (given_back (s.blocks c.0)) → DeskAgrees (released desk c) t
+  desk_releases c l m k =
       let now = block_released (state desk.space.blocks c.0) in
       record {
         mapping = m ∙ g.mapping;
-        blocks = λ i. ap (λ (f : ℕ → AbstractBlock). f i) k ∙ one_turned desk.space.blocks (slice_set desk.space.blocks c.0 now) slots (slice_set slots c.0 None) s.blocks c.0 (given_back (s.blocks c.0))
-            (ap given_back (g.blocks c.0 ∙ ap (λ (o : Option Order). block_there (state desk.space.blocks c.0) o) at) ∙ sym (released_there (state desk.space.blocks c.0) order)
-            ∙ sym (ap (λ (v : Block). block_there v (slot_at (slice_set slots c.0 None) c.0)) (get_or-set_same desk.space.blocks c.0 now Free l) ∙ ap (λ (o : Option Order). block_there now o) (slot_now slots c.0 None ls)))
-            (other_block desk.space.blocks c.0 now) (other_slot slots c.0 None) g.blocks i;
-      }
-
-  -- one that is not seen is given up
-  pub desk_lets_go : (c : CBlock) → c.0 < length desk.space.blocks → slot_at slots c.0 ≡ None → t.mapping ≡ s.mapping → t.blocks ≡ s.blocks → DeskAgrees (released desk c) slots t
-  desk_lets_go c l at m k =
-      let now = block_released (state desk.space.blocks c.0) in
-      record {
-        mapping = m ∙ g.mapping;
-        blocks = λ i. ap (λ (f : ℕ → AbstractBlock). f i) k ∙ one_still desk.space.blocks (slice_set desk.space.blocks c.0 now) slots slots s.blocks c.0
-            (g.blocks c.0 ∙ ap (λ (o : Option Order). block_there (state desk.space.blocks c.0) o) at ∙ sym (unseen_released (state desk.space.blocks c.0))
-            ∙ sym (ap (λ (v : Block). block_there v (slot_at slots c.0)) (get_or-set_same desk.space.blocks c.0 now Free l) ∙ ap (λ (o : Option Order). block_there now o) at))
-            (other_block desk.space.blocks c.0 now) (λ d n. refl) g.blocks i;
+        blocks = λ i. ap (λ (f : ℕ → AbstractBlock). f i) k ∙ one_turned desk.space.blocks (slice_set desk.space.blocks c.0 now) s.blocks c.0 (given_back (s.blocks c.0))
+            (ap given_back (g.blocks c.0) ∙ sym (released_there (state desk.space.blocks c.0)) ∙ sym (ap (λ (v : Block). block_there v) (get_or-set_same desk.space.blocks c.0 now Free l)))
+            (other_block desk.space.blocks c.0 now) g.blocks i;
       }

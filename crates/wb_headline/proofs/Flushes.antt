@@ -1,8 +1,7 @@
 -- Each step of a flush, with each result that it may have, is followed.
 use Rattle.std.proofs.Common.{◌≡◌, ◌≢◌, ◌∙◌, ◌≤◌, ◌&&◌, ◌==◌, ◌⊎◌, inl, inr, ℕ, Bool, true, false, if◌then◌else◌, List, [], ◌∷◌, ◌++◌, Option, Some, None, refl, sym, ap, subst, arith, length, slice_get, slice_set, Contains}
 use Rattle.std.proofs.lemmas.List.{length-set}
-use Rattle.std.proofs.lemmas.List.Elements.{Contains-append_right}
-use Rattle.std.proofs.lemmas.Option.{get_or_from_slice_get}
+use Rattle.std.proofs.lemmas.List.Elements.{Contains-append_cases, Contains-append_left, Contains-append_right}
 use Rattle.wb_types.specs.declared.number.OBlock.{OBlock}
 use Rattle.wb_types.specs.declared.geometry.Geometry.{Geometry}
 use Rattle.wb_types.specs.declared.number.Place.{Place}
@@ -14,8 +13,7 @@ use Rattle.wb_disk.specs.Device.{Content as Bytes, History, synced}
 use Rattle.wb_disk.specs.Failing.{synced_where}
 use Rattle.wb_words.specs.Rule.{LockRule}
 use Rattle.wb_words.specs.SharedWords.{Words}
-use Rattle.wb_words.specs.Effects.{card_after, result_of, words_after}
-use Rattle.wb_words.specs.declared.card.Card.{Card}
+use Rattle.wb_words.specs.Effects.{result_of, words_after}
 use Rattle.wb_words.specs.declared.step.CellStep.{CellStep}
 use Rattle.wb_words.specs.declared.step.CellStep.TheVariants.{Look, SetFailed}
 use Rattle.wb_words.specs.declared.word.Word.TheVariants.{Fail}
@@ -58,12 +56,12 @@ use Rattle.wb_runs.specs.Effects.{actor_then, awaiting_then, dropped, orders_the
 use Rattle.wb_runs.specs.Holding.{cards_of}
 use Rattle.wb_runs.specs.Clerk.{Notes, Doing, noted_step, device_note, failing, put, finished_note, greater_of}
 use Rattle.wb_runs.proofs.Desks.{given_up_stands}
-use Rattle.wb_runs.proofs.Owning.{Owned, dropped_is}
+use Rattle.wb_runs.proofs.Owning.{Owned}
+use Rattle.wb_runs.proofs.Ordering.{held_of}
 use Rattle.wb_runs.proofs.Images.{Images, later_of, one_image}
 use Rattle.wb_runs.proofs.Underway.{Underway, Readable, images_of, is_written, led_on}
 use Rattle.wb_runs.proofs.Metadata.{MetadataKept, AtDesk, Leading, Quiet, begins_over, ends_over, kept_readable}
 use Rattle.wb_link.specs.Tables.{Script, Flushing as FlushingFor}
-use Rattle.wb_refines.specs.Going.{records}
 use Rattle.wb_link.specs.World.{World, Shared, after_all}
 use Rattle.wb_refines.specs.Flushes.{IsNoBegin, IsWrittenAfter}
 use Rattle.wb_simulation.specs.Actors.{IsFlushAt}
@@ -71,22 +69,19 @@ use Rattle.wb_simulation.proofs.Followed.{doing_of}
 use Rattle.wb_simulation.specs.Noting.{NotesAgree}
 use Rattle.wb_simulation.specs.Noted.{told}
 use Rattle.wb_simulation.specs.Sites.{ImagesAgree, IsRunning, locations}
-use Rattle.wb_simulation.specs.Telling.{AreUnnoted, Quietly, Answers}
-use Rattle.wb_simulation.specs.Worlds.{Agrees, Turn, Stays, Begins, Puts, Ends, FollowsBy, Follows}
+use Rattle.wb_simulation.specs.Telling.{AreUnnoted, Quietly, Releases, Answers}
+use Rattle.wb_simulation.specs.Worlds.{Agrees, Turn, Stays, Begins, Puts, Ends, GivesUp, FollowsBy, Follows}
 use Rattle.wb_simulation.specs.Laws.{went, after_step}
 use Rattle.wb_simulation.proofs.Flushes.{flush_steps_followed}
 use Rattle.wb_simulation.proofs.Noted.{notes_followed}
 use Rattle.wb_simulation.proofs.Opening.{images_followed}
-use Rattle.wb_headline.specs.Desks.{AllHaveCome, DeskAgrees, live_orders}
-use Rattle.wb_headline.specs.Seen.{order_seen, slots_seen, plan_seen, task_seen, actor_seen, actors_seen}
-use Rattle.wb_headline.proofs.Come.{come_begun, come_ended, come_released, unseen_claimed}
-use Rattle.wb_headline.proofs.Desking.{desk_stays, desk_begins, desk_ends, desk_lets_go}
+use Rattle.wb_headline.specs.Desks.{DeskAgrees, live_orders}
+use Rattle.wb_headline.proofs.Desking.{desk_stays, desk_begins, desk_ends, desk_releases}
 use Rattle.wb_headline.proofs.Following.{size, most, Sized, Followed, Goes}
 use Rattle.wb_headline.proofs.Rooted.{same_one}
-use Rattle.wb_headline.proofs.Plans.{FlushGives, IsNoRelease, flush_after, flush_releases, flush_want, flushing_is}
 use Rattle.wb_headline.proofs.Seeing.{orders_set, slot_there, slot_within}
-use Rattle.wb_headline.proofs.Seen.{found_of, get_seen, set_as_is, set_seen, slot_get, slots_turned, unseen_before}
-use Rattle.wb_headline.proofs.Targets.{standing, actor_is, beside, noted_within, stays_on, leads_on, leads_same, unseen_turned}
+use Rattle.wb_headline.proofs.Finding.{found_of, none_dropped}
+use Rattle.wb_headline.proofs.Targets.{standing, actor_is, beside, noted_within, leads_on, stays_on}
 
 -- ---- the commit, by itself
 
@@ -161,38 +156,18 @@ failing_entered doing step got = (refl, refl)
 module _ (P A : Type 0) (shape : Shape) (images : Images) (t : Target P) (commit : Option RunningCommit) (devices : Devices (List History)) (actors : List Actor) (n : Notes) (known : MetadataKept {P = P} {A = A} shape.geometry images (Stands t) commit devices.metadata)
     (f : Followed P A shape images (standing P A shape images t commit devices actors n) n) (rule : LockRule shape.geometry.origin_blocks t.words (cards_of actors)) (a : ℕ) (x : Actor) (ex : slice_get actors a ≡ Some x) (plan : Plan) (xt : x.task ≡ Some (Flush, plan))
     (shown : List Bytes) (doing : Doing) (noted : slice_get n.doings a ≡ Some (Some doing)) (job_is : doing.job ≡ Flush) where
-  -- what is seen of orders, of actors and of what is left of it
   abbrev slots : List (Option Order)
-  slots = slots_seen f.phase.stages (live_orders t.desk)
-
-  abbrev seen : List Actor
-  seen = actors_seen f.phase.stages actors
-
-  abbrev x_seen : Actor
-  x_seen = actor_seen f.phase.stages x
-
-  abbrev plan_there : Plan
-  plan_there = plan_seen Flush plan
-
-  there : slice_get seen a ≡ Some x_seen
-  there = get_seen f.phase.stages actors a x ex
-
-  task_there : x_seen.task ≡ Some (Flush, plan_there)
-  task_there = ap task_seen xt
+  slots = live_orders t.desk
 
   -- it serves these blocks
   pub serving : (serves : List OBlock) × (plan.job ≡ Flushing serves (most P A shape))
   serving =
       let b = beside P A shape images t commit devices actors n known f a x ex in
-      let r : IsFlushAt (size P A shape) (most P A shape) t.words plan_there b.0 = doing_of (size P A shape) (most P A shape) t.words x_seen b.0 Flush plan_there (f.phase.agrees.each a x_seen b.0 there b.1) task_there in
-      flushing_is plan.job (most P A shape) r.job
+      let r : IsFlushAt (size P A shape) (most P A shape) t.words plan b.0 = doing_of (size P A shape) (most P A shape) t.words x b.0 Flush plan (f.phase.agrees.each a x b.0 ex b.1) xt in
+      (r.serves, r.job)
 
-  asks : (next : Want) → next ≡ want plan → IsNoRelease next → want plan_there ≡ next
-  asks next e n' = sym (flush_want plan serving.0 (most P A shape) next serving.1 e n')
-
-  -- it is seen to go on
-  step_seen : (next : Want) (got : Got) (card : Card) → next ≡ want plan → FlushGives next got → record x_seen { task = Some (Flush, after plan_there got); card = card } ≡ actor_seen f.phase.stages (record x { task = Some (Flush, after plan got); card = card })
-  step_seen next got card e g = λ i. record x_seen { task = Some (Flush, flush_after plan serving.0 (most P A shape) next got serving.1 e g i); card = card }
+  asks : (next : Want) → next ≡ want plan → want plan ≡ next
+  asks next e = sym e
 
   abbrev s : Shared
   s = f.site.world.shared
@@ -214,25 +189,25 @@ module _ (P A : Type 0) (shape : Shape) (images : Images) (t : Target P) (commit
   noted_less : Rattle.std.proofs.Common.◌<◌ a (length n.doings)
   noted_less = noted_within P A shape images t commit devices actors n known f a x ex
 
-  quiet_notes : (turn : Turn) (words' : Words) (committing' : Bool) (orders' : List (Option Order)) (devices' : Devices (List History)) (y : Actor) (g : FollowsBy turn Quietly (size P A shape) (most P A shape) a f.site.world words' committing' orders' devices' (slice_set seen a y)) →
+  quiet_notes : (turn : Turn) (words' : Words) (committing' : Bool) (orders' : List (Option Order)) (devices' : Devices (List History)) (y : Actor) (g : FollowsBy turn Quietly (size P A shape) (most P A shape) a f.site.world words' committing' orders' devices' (slice_set actors a y)) →
       NotesAgree (size P A shape) n (after_all f.site.world g.records) (told f.notes g.records)
   quiet_notes turn words' committing' orders' devices' y g =
       let b = beside P A shape images t commit devices actors n known f a x ex in
-      notes_followed.quiet turn (size P A shape) (most P A shape) a f.site.world words' committing' orders' devices' (slice_set seen a y) g b.0 n f.notes b.1 noted_less f.notes_agree
+      notes_followed.quiet turn (size P A shape) (most P A shape) a f.site.world words' committing' orders' devices' (slice_set actors a y) g b.0 n f.notes b.1 noted_less f.notes_agree
 
   -- ---- steps on devices
 
-  module _ (turn : Turn) (step : DeviceStep) (got : Got) (contents : List Bytes) (t' : Target P) (commit' : Option RunningCommit) (devices' : Devices (List History)) (images' : Images) (plain : Rattle.wb_runs.specs.Effects.buffer_then devices x.buffer (Device step) got Flush ≡ x.buffer) (next : Device step ≡ want plan) (gives : FlushGives (Device step) got)
-      (g : FollowsBy turn Quietly (size P A shape) (most P A shape) a f.site.world t'.words t'.desk.space.committing (slots_seen f.phase.stages (live_orders t'.desk)) devices' (slice_set seen a (after_step Flush plan_there got x_seen))) where
+  module _ (turn : Turn) (step : DeviceStep) (got : Got) (contents : List Bytes) (t' : Target P) (commit' : Option RunningCommit) (devices' : Devices (List History)) (images' : Images) (plain : Rattle.wb_runs.specs.Effects.buffer_then devices x.buffer (Device step) got Flush ≡ x.buffer) (next : Device step ≡ want plan)
+      (g : FollowsBy turn Quietly (size P A shape) (most P A shape) a f.site.world t'.words t'.desk.space.committing (live_orders t'.desk) devices' (slice_set actors a (after_step Flush plan got x))) where
     device_notes : NotesAgree (size P A shape) (device_n step got) (after_all f.site.world g.records) (told f.notes g.records)
-    device_notes = let e = failing_entered doing step got in notes_followed.redone (size P A shape) n (after_all f.site.world g.records) (told f.notes g.records) a doing (failing doing step got) (quiet_notes turn t'.words t'.desk.space.committing (slots_seen f.phase.stages (live_orders t'.desk)) devices' (after_step Flush plan_there got x_seen) g) noted e.0 e.1
+    device_notes = let e = failing_entered doing step got in notes_followed.redone (size P A shape) n (after_all f.site.world g.records) (told f.notes g.records) a doing (failing doing step got) (quiet_notes turn t'.words t'.desk.space.committing (live_orders t'.desk) devices' (after_step Flush plan got x) g) noted e.0 e.1
 
-    on_device : AtDesk shape.geometry images' t'.desk commit' devices'.metadata → DeskAgrees t'.desk (slots_seen f.phase.stages (live_orders t'.desk)) (after_all f.site.world g.records).shared → AllHaveCome t'.desk f.phase.stages → ImagesAgree shape.geometry images'.committed (later_of images') devices'.metadata (after_all f.site.world g.records).shared →
+    on_device : AtDesk shape.geometry images' t'.desk commit' devices'.metadata → DeskAgrees t'.desk (after_all f.site.world g.records).shared → ImagesAgree shape.geometry images'.committed (later_of images') devices'.metadata (after_all f.site.world g.records).shared →
         ((state : Stored) → images'.running ≡ Some state → (after_all f.site.world g.records).shared.running ≡ locations state) → Goes P A shape (then_is t' commit' devices' (Device step) got) (noted_step shape shown n a (Some (Some doing)) (Device step) got contents)
-    on_device known' desk come images_agree running =
+    on_device known' desk images_agree running =
         subst (λ (q : Job). Goes P A shape (then_is t' commit' devices' (Device step) got) (device_note shape (device_n step got) a (failing doing step got) q step got contents)) (sym job_is)
         (subst (λ (y : Actor). Goes P A shape (record { devices = devices'; commit = commit'; phase = Stands t'; actors = slice_set actors a y }) (device_n step got)) (sym (actor_is P A shape (Stands t) devices x Flush plan (Device step) got xt ∙ (λ i. record (after_step Flush plan got x) { buffer = plain i })))
-        (leads_same P A shape images t commit devices actors n known f a x ex turn Quietly t' commit' devices' (after_step Flush plan got x) (after_step Flush plan_there got x_seen) (device_n step got) images' (step_seen (Device step) got x.card next gives) g tt device_notes (sized_device step got (after_step Flush plan got x)) known' desk come (λ o h. h) images_agree running))
+        (leads_on P A shape images t commit devices actors n known f a x ex turn Quietly t' commit' devices' (slice_set actors a (after_step Flush plan got x)) (device_n step got) images' (live_orders t'.desk) g tt device_notes (sized_device step got (after_step Flush plan got x)) known' refl desk images_agree running))
 
   -- cache and origin are synced, or fail to be
   module _ (device : Dev) (holds : HoldsBlocks device) (next : Device (Sync device) ≡ want plan) (contents : List Bytes) where
@@ -244,20 +219,20 @@ module _ (P A : Type 0) (shape : Shape) (images : Images) (t : Target P) (commit
         by Origin h = refl
         by Metadata h = absurd h
 
-    synced_so : (got : Got) → FlushGives (Device (Sync device)) got → (list : List History) → Follows Quietly (size P A shape) (most P A shape) a f.site.world t.words t.desk.space.committing slots (with_device device devices list) (slice_set seen a (after_step Flush plan_there got x_seen)) →
+    synced_so : (got : Got) → (list : List History) → Follows Quietly (size P A shape) (most P A shape) a f.site.world t.words t.desk.space.committing slots (with_device device devices list) (slice_set actors a (after_step Flush plan got x)) →
         Goes P A shape (then_is t commit (with_device device devices list) (Device (Sync device)) got) (noted_step shape shown n a (Some (Some doing)) (Device (Sync device)) got contents)
-    synced_so got gives list g =
+    synced_so got list g =
         let known' = subst (λ (m : List History). AtDesk shape.geometry images t.desk commit m) (sym (metadata_same list)) known in
         let s' = (after_all f.site.world g.records).shared in
         let readable = kept_readable shape.geometry images (with_device device devices list).metadata P A (Stands t) commit known' in
-        on_device Stays (Sync device) got contents t commit (with_device device devices list) images refl next gives g known' (desk_stays P t.desk slots s s' f.phase.desk t.desk refl refl g.desk.0 g.desk.1) f.phase.come
+        on_device Stays (Sync device) got contents t commit (with_device device devices list) images refl next g known' (desk_stays P t.desk s s' f.phase.desk t.desk refl refl g.desk.0 g.desk.1)
         (images_followed.stay shape.geometry images.committed (later_of images) devices.metadata (with_device device devices list).metadata s s' f.phase.images_agree g.turned readable.read) (λ state e. g.turned.1 ∙ f.phase.running state e)
 
     pub syncs : Goes P A shape (then_is t commit (with_device device devices (synced (device_in device devices))) (Device (Sync device)) Done) (noted_step shape shown n a (Some (Some doing)) (Device (Sync device)) Done contents)
-    syncs = synced_so Done tt (synced (device_in device devices)) (flush_steps_followed.syncs (size P A shape) (most P A shape) device t.words t.desk.space.committing slots devices seen a x_seen plan_there f.site.world holds there task_there (asks _ next tt) f.phase.agrees)
+    syncs = synced_so Done (synced (device_in device devices)) (flush_steps_followed.syncs (size P A shape) (most P A shape) device t.words t.desk.space.committing slots devices actors a x plan f.site.world holds ex xt (asks _ next) f.phase.agrees)
 
     pub sync_fails : (lands : ℕ → Bool) → Goes P A shape (then_is t commit (with_device device devices (synced_where lands (device_in device devices))) (Device (Sync device)) Fault) (noted_step shape shown n a (Some (Some doing)) (Device (Sync device)) Fault contents)
-    sync_fails lands = synced_so Fault tt (synced_where lands (device_in device devices)) (flush_steps_followed.sync_fails (size P A shape) (most P A shape) device lands t.words t.desk.space.committing slots devices seen a x_seen plan_there f.site.world holds there task_there (asks _ next tt) f.phase.agrees)
+    sync_fails lands = synced_so Fault (synced_where lands (device_in device devices)) (flush_steps_followed.sync_fails (size P A shape) (most P A shape) device lands t.words t.desk.space.committing slots devices actors a x plan f.site.world holds ex xt (asks _ next) f.phase.agrees)
 
   -- ---- steps of the commit on the metadata
 
@@ -285,7 +260,7 @@ module _ (P A : Type 0) (shape : Shape) (images : Images) (t : Target P) (commit
     c' = record c { steps = steps_after c.image c.steps }
 
     module _ (turn : Turn) (plain : Rattle.wb_runs.specs.Effects.buffer_then devices x.buffer (Device step) Done Flush ≡ x.buffer)
-        (g : FollowsBy turn Quietly (size P A shape) (most P A shape) a f.site.world t.words t.desk.space.committing slots devices' (slice_set seen a (after_step Flush plan_there Done x_seen))) where
+        (g : FollowsBy turn Quietly (size P A shape) (most P A shape) a f.site.world t.words t.desk.space.committing slots devices' (slice_set actors a (after_step Flush plan Done x))) where
       abbrev s' : Shared
       s' = (after_all f.site.world g.records).shared
 
@@ -297,7 +272,7 @@ module _ (P A : Type 0) (shape : Shape) (images : Images) (t : Target P) (commit
           let known' : AtDesk shape.geometry u.now t.desk (Some c') new = record { is = k.is; stands = record { of = l.of; under = u.kept; edited = l.edited; entries = l.entries; places = l.places; generation = l.generation; busy = l.busy } } in
           let readable = kept_readable shape.geometry u.now new P A (Stands t) (Some c') known' in
           let there : s'.running ≡ locations l.of.new = r ∙ f.phase.running l.of.new running_now in
-          on_device turn step Done contents t (Some c') devices' u.now plain next tt g known' (desk_stays P t.desk slots s s' f.phase.desk t.desk refl refl m b) f.phase.come
+          on_device turn step Done contents t (Some c') devices' u.now plain next g known' (desk_stays P t.desk s s' f.phase.desk t.desk refl refl m b)
           (record {
             read = readable.read;
             committed_is = cm ∙ f.phase.images_agree.committed_is ∙ ap locations (sym same);
@@ -306,14 +281,14 @@ module _ (P A : Type 0) (shape : Shape) (images : Images) (t : Target P) (commit
           (λ state e. there ∙ ap locations (some_is l.of.new state (sym (ap (λ (i : Images). i.running) u.kept.are) ∙ e)))
 
     module _ (written : Bool) (plain : Rattle.wb_runs.specs.Effects.buffer_then devices x.buffer (Device step) Fault Flush ≡ x.buffer) (after_is : IsWrittenAfter step s.root_written written)
-        (g : FollowsBy (Puts written) Quietly (size P A shape) (most P A shape) a f.site.world t.words t.desk.space.committing slots devices' (slice_set seen a (after_step Flush plan_there Fault x_seen))) where
+        (g : FollowsBy (Puts written) Quietly (size P A shape) (most P A shape) a f.site.world t.words t.desk.space.committing slots devices' (slice_set actors a (after_step Flush plan Fault x))) where
       failed_on : FailsStep c.image c.steps devices.metadata new → Goes P A shape (then_is t None devices' (Device step) Fault) (noted_step shape shown n a (Some (Some doing)) (Device step) Fault contents)
       failed_on bad =
           let images' = images_of l.of (failed_written c.steps) in
           let s'' = (after_all f.site.world g.records).shared in
           let readable = failed_read shape.geometry images c l.of devices.metadata new l.under bad in
           let there : s''.running ≡ locations l.of.new = g.turned.1 ∙ f.phase.running l.of.new running_now in
-          on_device (Puts written) step Fault contents t None devices' images' plain next tt g (record { is = k.is; stands = inr (record { readable = readable; busy = l.busy }) }) (desk_stays P t.desk slots s s'' f.phase.desk t.desk refl refl g.desk.0 g.desk.1) f.phase.come
+          on_device (Puts written) step Fault contents t None devices' images' plain next g (record { is = k.is; stands = inr (record { readable = readable; busy = l.busy }) }) (desk_stays P t.desk s s'' f.phase.desk t.desk refl refl g.desk.0 g.desk.1)
           (record {
             read = readable.read;
             committed_is = g.turned.0 ∙ f.phase.images_agree.committed_is ∙ ap locations (sym committed_now);
@@ -332,39 +307,39 @@ module _ (P A : Type 0) (shape : Shape) (images : Images) (t : Target P) (commit
     pub node_done : (number : ℕ) → Device (WriteNode number) ≡ want plan → is_coming c.image c.steps (WriteNode number) ≡ true → DoesStep c.image c.steps devices.metadata new →
         Goes P A shape (then_is t (Some next_commit) put_devices (Device (WriteNode number)) Done) (noted_step shape shown n a (Some (Some doing)) (Device (WriteNode number)) Done contents)
     node_done number next coming does =
-        let g = flush_steps_followed.on_metadata (size P A shape) (most P A shape) (WriteNode number) new t.words t.desk.space.committing slots devices seen a x_seen plan_there f.site.world refl there task_there (asks _ next tt) f.phase.agrees in
+        let g = flush_steps_followed.on_metadata (size P A shape) (most P A shape) (WriteNode number) new t.words t.desk.space.committing slots devices actors a x plan f.site.world refl ex xt (asks _ next) f.phase.agrees in
         done_on (WriteNode number) refl next contents c runs coming new Stays refl g g.desk.0 g.desk.1 g.turned.0 g.turned.1
         (λ w. g.turned.2 ∙ written_now (WriteNode number) refl next contents c runs coming new (written_before c.image c.steps (WriteNode number) coming (λ e. absurd (cc)) w)) does
 
     pub sync_done : Device (Sync Metadata) ≡ want plan → is_coming c.image c.steps (Sync Metadata) ≡ true → DoesStep c.image c.steps devices.metadata new →
         Goes P A shape (then_is t (Some next_commit) put_devices (Device (Sync Metadata)) Done) (noted_step shape shown n a (Some (Some doing)) (Device (Sync Metadata)) Done contents)
     sync_done next coming does =
-        let g = flush_steps_followed.on_metadata (size P A shape) (most P A shape) (Sync Metadata) new t.words t.desk.space.committing slots devices seen a x_seen plan_there f.site.world refl there task_there (asks _ next tt) f.phase.agrees in
+        let g = flush_steps_followed.on_metadata (size P A shape) (most P A shape) (Sync Metadata) new t.words t.desk.space.committing slots devices actors a x plan f.site.world refl ex xt (asks _ next) f.phase.agrees in
         done_on (Sync Metadata) refl next contents c runs coming new Stays refl g g.desk.0 g.desk.1 g.turned.0 g.turned.1
         (λ w. g.turned.2 ∙ written_now (Sync Metadata) refl next contents c runs coming new (written_before c.image c.steps (Sync Metadata) coming (λ e. absurd (cc)) w)) does
 
     pub root_done : Device WriteRoot ≡ want plan → is_coming c.image c.steps WriteRoot ≡ true → DoesStep c.image c.steps devices.metadata new →
         Goes P A shape (then_is t (Some next_commit) put_devices (Device WriteRoot) Done) (noted_step shape shown n a (Some (Some doing)) (Device WriteRoot) Done contents)
     root_done next coming does =
-        let g = flush_steps_followed.on_metadata (size P A shape) (most P A shape) WriteRoot new t.words t.desk.space.committing slots devices seen a x_seen plan_there f.site.world refl there task_there (asks _ next tt) f.phase.agrees in
+        let g = flush_steps_followed.on_metadata (size P A shape) (most P A shape) WriteRoot new t.words t.desk.space.committing slots devices actors a x plan f.site.world refl ex xt (asks _ next) f.phase.agrees in
         done_on WriteRoot refl next contents c runs coming new (Puts true) refl g g.desk.0 g.desk.1 g.turned.0 g.turned.1 (λ w. g.turned.2) does
 
     pub node_fails : (number : ℕ) → Device (WriteNode number) ≡ want plan → is_coming c.image c.steps (WriteNode number) ≡ true → FailsStep c.image c.steps devices.metadata new →
         Goes P A shape (then_is t None put_devices (Device (WriteNode number)) Fault) (noted_step shape shown n a (Some (Some doing)) (Device (WriteNode number)) Fault contents)
     node_fails number next coming bad =
-        let g = flush_steps_followed.metadata_fails (size P A shape) (most P A shape) (WriteNode number) new t.words t.desk.space.committing slots devices seen a x_seen plan_there f.site.world refl there task_there (asks _ next tt) f.phase.agrees in
+        let g = flush_steps_followed.metadata_fails (size P A shape) (most P A shape) (WriteNode number) new t.words t.desk.space.committing slots devices actors a x plan f.site.world refl ex xt (asks _ next) f.phase.agrees in
         failed_on (WriteNode number) refl next contents c runs coming new g.0 refl g.1 g.2 bad
 
     pub metadata_sync_fails : Device (Sync Metadata) ≡ want plan → is_coming c.image c.steps (Sync Metadata) ≡ true → FailsStep c.image c.steps devices.metadata new →
         Goes P A shape (then_is t None put_devices (Device (Sync Metadata)) Fault) (noted_step shape shown n a (Some (Some doing)) (Device (Sync Metadata)) Fault contents)
     metadata_sync_fails next coming bad =
-        let g = flush_steps_followed.metadata_fails (size P A shape) (most P A shape) (Sync Metadata) new t.words t.desk.space.committing slots devices seen a x_seen plan_there f.site.world refl there task_there (asks _ next tt) f.phase.agrees in
+        let g = flush_steps_followed.metadata_fails (size P A shape) (most P A shape) (Sync Metadata) new t.words t.desk.space.committing slots devices actors a x plan f.site.world refl ex xt (asks _ next) f.phase.agrees in
         failed_on (Sync Metadata) refl next contents c runs coming new g.0 refl g.1 g.2 bad
 
     pub root_fails : Device WriteRoot ≡ want plan → is_coming c.image c.steps WriteRoot ≡ true → FailsStep c.image c.steps devices.metadata new →
         Goes P A shape (then_is t None put_devices (Device WriteRoot) Fault) (noted_step shape shown n a (Some (Some doing)) (Device WriteRoot) Fault contents)
     root_fails next coming bad =
-        let g = flush_steps_followed.metadata_fails (size P A shape) (most P A shape) WriteRoot new t.words t.desk.space.committing slots devices seen a x_seen plan_there f.site.world refl there task_there (asks _ next tt) f.phase.agrees in
+        let g = flush_steps_followed.metadata_fails (size P A shape) (most P A shape) WriteRoot new t.words t.desk.space.committing slots devices actors a x plan f.site.world refl ex xt (asks _ next) f.phase.agrees in
         failed_on WriteRoot refl next contents c runs coming new g.0 refl g.1 g.2 bad
 
   -- ---- the desk
@@ -386,8 +361,8 @@ module _ (P A : Type 0) (shape : Shape) (images : Images) (t : Target P) (commit
       quiet : Quiet shape.geometry images t.desk devices.metadata → AtDesk shape.geometry images t.desk None devices.metadata → Goes P A shape (then_is (record { words = t.words; desk = commit_begun t.desk tree }) (Some c) devices (Desk (BeginCommit clean allowed)) (Began nodes)) n
       quiet q k =
           let b = begins_over P shape.geometry images t.desk devices.metadata c tree k.is q steps begun in
-          let agrees = subst (λ (v : Bool). Agrees (size P A shape) (most P A shape) t.words v slots devices seen f.site.world) idle f.phase.agrees in
-          let g = flush_steps_followed.begins (size P A shape) (most P A shape) nodes allowed clean t.words slots devices seen a x_seen plan_there f.site.world there task_there (asks _ next tt) agrees in
+          let agrees = subst (λ (v : Bool). Agrees (size P A shape) (most P A shape) t.words v slots devices actors f.site.world) idle f.phase.agrees in
+          let g = flush_steps_followed.begins (size P A shape) (most P A shape) nodes allowed clean t.words slots devices actors a x plan f.site.world ex xt (asks _ next) agrees in
           let s' = (after_all f.site.world g.records).shared in
           let t' : Target P = record { words = t.words; desk = commit_begun t.desk tree } in
           let y = after_step Flush plan (Began nodes) x in
@@ -398,10 +373,7 @@ module _ (P A : Type 0) (shape : Shape) (images : Images) (t : Target P) (commit
           let same : b.now.committed ≡ images.committed = same_one b.turn images b.now (ap (λ (i : Images). i.running) q.are) b.turned in
           let later : later_of b.now ≡ None = ap later_of l.under.are ∙ ap (λ (v : CommitSteps). if is_written v then Some l.of.new else None) steps in
           subst (λ (y : Actor). Goes P A shape (record { devices = devices; commit = Some c; phase = Stands t'; actors = slice_set actors a y }) n) (sym (actor_is P A shape (Stands t) devices x Flush plan (Desk (BeginCommit clean allowed)) (Began nodes) xt))
-          (leads_same P A shape images t commit devices actors n known f a x ex Begins Quietly t' (Some c) devices y (after_step Flush plan_there (Began nodes) x_seen) n b.now (step_seen (Desk (BeginCommit clean allowed)) (Began nodes) x.card next tt) g tt (quiet_notes Begins t.words true slots devices (after_step Flush plan_there (Began nodes) x_seen) g) (sized_plain y) b.kept.0
-          (desk_begins P t.desk slots s s' f.phase.desk tree begun.image_is.same_entries g.desk.0 g.desk.1) (come_begun P t.desk f.phase.stages f.phase.come tree) (λ o h. h)
-          (subst (λ (o : Option Stored). ImagesAgree shape.geometry b.now.committed o devices.metadata s') (sym later) (subst (λ (v : Stored). ImagesAgree shape.geometry v None devices.metadata s') (sym same) begun_there.0))
-          (λ state e. begun_there.1 ∙ f.phase.desk.mapping ∙ ap (λ es. Rattle.wb_simulation.specs.Opened.located es) (sym b.kept.1.2) ∙ ap locations (some_is b.kept.1.0 state (sym b.kept.1.1 ∙ e))))
+          (leads_on P A shape images t commit devices actors n known f a x ex Begins Quietly t' (Some c) devices (slice_set actors a y) n b.now (live_orders t'.desk) g tt (quiet_notes Begins t.words true slots devices (after_step Flush plan (Began nodes) x) g) (sized_plain y) b.kept.0 refl (desk_begins P t.desk s s' f.phase.desk tree begun.image_is.same_entries g.desk.0 g.desk.1) (subst (λ (o : Option Stored). ImagesAgree shape.geometry b.now.committed o devices.metadata s') (sym later) (subst (λ (v : Stored). ImagesAgree shape.geometry v None devices.metadata s') (sym same) begun_there.0)) (λ state e. begun_there.1 ∙ f.phase.desk.mapping ∙ ap (λ es. Rattle.wb_simulation.specs.Opened.located es) (sym b.kept.1.2) ∙ ap locations (some_is b.kept.1.0 state (sym b.kept.1.1 ∙ e))))
 
       by_commit : (o : Option RunningCommit) → commit ≡ o → AtDesk shape.geometry images t.desk commit devices.metadata → Goes P A shape (then_is (record { words = t.words; desk = commit_begun t.desk tree }) (Some c) devices (Desk (BeginCommit clean allowed)) (Began nodes)) n
       by_commit (Some d) e k = absurd (let k' = subst (λ (m : Option RunningCommit). AtDesk shape.geometry images t.desk m devices.metadata) e k in let busy = k'.stands.busy in let bad : false ≡ true = sym idle ∙ busy in cc)
@@ -412,17 +384,17 @@ module _ (P A : Type 0) (shape : Shape) (images : Images) (t : Target P) (commit
   -- or none begins
   pub begin_refused : (refusal : Refusal) (allowed : ℕ) (clean : Bool) → Desk (BeginCommit clean allowed) ≡ want plan → IsBeginRefused t.desk refusal → Goes P A shape (then_is t commit devices (Desk (BeginCommit clean allowed)) (GotRefused refusal)) n
   begin_refused refusal allowed clean next r =
-      let g = flush_steps_followed.is_refused (size P A shape) (most P A shape) allowed clean refusal t.words t.desk.space.committing slots devices seen a x_seen plan_there f.site.world (no_begin refusal r) there task_there (asks _ next tt) f.phase.agrees in
+      let g = flush_steps_followed.is_refused (size P A shape) (most P A shape) allowed clean refusal t.words t.desk.space.committing slots devices actors a x plan f.site.world (no_begin refusal r) ex xt (asks _ next) f.phase.agrees in
       let y = after_step Flush plan (GotRefused refusal) x in
       subst (λ (y : Actor). Goes P A shape (record { devices = devices; commit = commit; phase = Stands t; actors = slice_set actors a y }) n) (sym (actor_is P A shape (Stands t) devices x Flush plan (Desk (BeginCommit clean allowed)) (GotRefused refusal) xt))
-      (stays_on P A shape images t commit devices actors n known f a x ex Quietly t.words devices y (after_step Flush plan_there (GotRefused refusal) x_seen) n (step_seen (Desk (BeginCommit clean allowed)) (GotRefused refusal) x.card next tt) g tt (quiet_notes Stays t.words t.desk.space.committing slots devices (after_step Flush plan_there (GotRefused refusal) x_seen) g) (sized_plain y) (λ o h. h) refl)
+      (stays_on P A shape images t commit devices actors n known f a x ex Quietly t.words devices y n g tt (quiet_notes Stays t.words t.desk.space.committing slots devices (after_step Flush plan (GotRefused refusal) x) g) (sized_plain y) refl)
 
   -- the commit ends
   pub ends : (c : RunningCommit) → commit ≡ Some c → Desk EndCommit ≡ want plan → is_committed c.steps ≡ true → Goes P A shape (then_is (record { words = t.words; desk = ended t.desk }) None devices (Desk EndCommit) Done) n
   ends c runs next done =
       let k = subst (λ (m : Option RunningCommit). AtDesk shape.geometry images t.desk m devices.metadata) runs known in
       let e = ends_over P shape.geometry images t.desk devices.metadata c k done in
-      let g = flush_steps_followed.ends (size P A shape) (most P A shape) t.words t.desk.space.committing slots devices seen a x_seen plan_there f.site.world there task_there (asks _ next tt) f.phase.agrees in
+      let g = flush_steps_followed.ends (size P A shape) (most P A shape) t.words t.desk.space.committing slots devices actors a x plan f.site.world ex xt (asks _ next) f.phase.agrees in
       let s' = (after_all f.site.world g.records).shared in
       let y = after_step Flush plan Done x in
       let after = commit_ended t.desk in
@@ -435,113 +407,92 @@ module _ (P A : Type 0) (shape : Shape) (images : Images) (t : Target P) (commit
       let agree = images_followed.end shape.geometry e.kept.1.0 devices.metadata s s' g.turned (f.phase.running e.kept.1.0 e.kept.1.1) read in
       subst (λ (d : DeskState P). Goes P A shape (then_is (record { words = t.words; desk = d }) None devices (Desk EndCommit) Done) n) (sym is)
       (subst (λ (y : Actor). Goes P A shape (record { devices = devices; commit = None; phase = Stands t'; actors = slice_set actors a y }) n) (sym (actor_is P A shape (Stands t) devices x Flush plan (Desk EndCommit) Done xt))
-      (leads_same P A shape images t commit devices actors n known f a x ex Ends Quietly t' None devices y (after_step Flush plan_there Done x_seen) n e.now (step_seen (Desk EndCommit) Done x.card next tt) g tt (quiet_notes Ends t.words false slots devices (after_step Flush plan_there Done x_seen) g) (sized_plain y) known'
-      (desk_ends P t.desk slots s s' f.phase.desk (unseen_claimed P t.desk f.phase.stages f.phase.come known.is.kept) g.desk.0 g.desk.1) (come_ended P t.desk f.phase.stages f.phase.come) (λ o h. h)
-      (subst (λ (i : Images). ImagesAgree shape.geometry i.committed (later_of i) devices.metadata s') (sym one) agree)
-      (λ state r. absurd (let bad : None ≡ Some state = sym (ap (λ (i : Images). i.running) one) ∙ r in cc))))
+      (leads_on P A shape images t commit devices actors n known f a x ex Ends Quietly t' None devices (slice_set actors a y) n e.now (live_orders t'.desk) g tt (quiet_notes Ends t.words false slots devices (after_step Flush plan Done x) g) (sized_plain y) known' refl (desk_ends P t.desk s s' f.phase.desk g.desk.0 g.desk.1) (subst (λ (i : Images). ImagesAgree shape.geometry i.committed (later_of i) devices.metadata s') (sym one) agree) (λ state r. absurd (let bad : None ≡ Some state = sym (ap (λ (i : Images). i.running) one) ∙ r in cc))))
 
   -- ---- the shared words, and the answer
 
-  told_so : (step : CellStep) → FlushGives (Cell step) (got_of (result_of t.words step)) → Cell step ≡ want plan → Follows Quietly (size P A shape) (most P A shape) a f.site.world (words_after t.words step) t.desk.space.committing slots devices (slice_set seen a (went t.words Flush plan_there step x_seen)) →
+  told_so : (step : CellStep) → Cell step ≡ want plan → Follows Quietly (size P A shape) (most P A shape) a f.site.world (words_after t.words step) t.desk.space.committing slots devices (slice_set actors a (went t.words Flush plan step x)) →
       Goes P A shape (then_is (record { words = words_after t.words step; desk = t.desk }) commit devices (Cell step) (got_of (result_of t.words step))) n
-  told_so step gives next g =
+  told_so step next g =
       let y = went t.words Flush plan step x in
       subst (λ (y : Actor). Goes P A shape (record { devices = devices; commit = commit; phase = Stands (record { words = words_after t.words step; desk = t.desk }); actors = slice_set actors a y }) n) (sym (actor_is P A shape (Stands t) devices x Flush plan (Cell step) (got_of (result_of t.words step)) xt))
-      (stays_on P A shape images t commit devices actors n known f a x ex Quietly (words_after t.words step) devices y (went t.words Flush plan_there step x_seen) n (step_seen (Cell step) (got_of (result_of t.words step)) (card_after t.words step x.card) next gives) g tt
-      (quiet_notes Stays (words_after t.words step) t.desk.space.committing slots devices (went t.words Flush plan_there step x_seen) g) (sized_plain y) (λ o h. h) refl)
+      (stays_on P A shape images t commit devices actors n known f a x ex Quietly (words_after t.words step) devices y n g tt
+      (quiet_notes Stays (words_after t.words step) t.desk.space.committing slots devices (went t.words Flush plan step x) g) (sized_plain y) refl)
 
   pub on_words : (step : CellStep) → (step ≡ Look Fail) ⊎ (step ≡ SetFailed) → Cell step ≡ want plan → Goes P A shape (then_is (record { words = words_after t.words step; desk = t.desk }) commit devices (Cell step) (got_of (result_of t.words step))) n
   on_words step (inl is) next = subst (λ (v : CellStep). Goes P A shape (then_is (record { words = words_after t.words v; desk = t.desk }) commit devices (Cell v) (got_of (result_of t.words v))) n) (sym is)
-      (told_so (Look Fail) tt (ap (λ (v : CellStep). Cell v) (sym is) ∙ next)
-      (flush_steps_followed.looks (size P A shape) (most P A shape) t.words t.desk.space.committing slots devices seen a x_seen plan_there f.site.world there task_there (asks _ (ap (λ (v : CellStep). Cell v) (sym is) ∙ next) tt) f.phase.agrees))
+      (told_so (Look Fail) (ap (λ (v : CellStep). Cell v) (sym is) ∙ next)
+      (flush_steps_followed.looks (size P A shape) (most P A shape) t.words t.desk.space.committing slots devices actors a x plan f.site.world ex xt (asks _ (ap (λ (v : CellStep). Cell v) (sym is) ∙ next)) f.phase.agrees))
   on_words step (inr is) next = subst (λ (v : CellStep). Goes P A shape (then_is (record { words = words_after t.words v; desk = t.desk }) commit devices (Cell v) (got_of (result_of t.words v))) n) (sym is)
-      (told_so SetFailed tt (ap (λ (v : CellStep). Cell v) (sym is) ∙ next)
-      (flush_steps_followed.fails (size P A shape) (most P A shape) _ _ t.words t.desk.space.committing slots devices seen a x_seen plan_there f.site.world rule.logs.fail there task_there (asks _ (ap (λ (v : CellStep). Cell v) (sym is) ∙ next) tt) f.phase.agrees))
+      (told_so SetFailed (ap (λ (v : CellStep). Cell v) (sym is) ∙ next)
+      (flush_steps_followed.fails (size P A shape) (most P A shape) _ _ t.words t.desk.space.committing slots devices actors a x plan f.site.world rule.logs.fail ex xt (asks _ (ap (λ (v : CellStep). Cell v) (sym is) ∙ next)) f.phase.agrees))
 
   pub answers : (answer : Answer) (contents : List Bytes) → End answer ≡ want plan → length doing.then_finished ≡ length n.floors → Goes P A shape (then_is t commit devices (End answer) Done) (noted_step shape shown n a (Some (Some doing)) (End answer) Done contents)
   answers answer contents next asked = by_answer answer next
     where
-      given : (v : Answer) → End v ≡ want plan → Follows (Answers (FlushingFor None) v) (size P A shape) (most P A shape) a f.site.world t.words t.desk.space.committing slots devices (slice_set seen a (record x_seen { task = None }))
-      given v e = flush_steps_followed.answers (size P A shape) (most P A shape) v t.words t.desk.space.committing slots devices seen a x_seen plan_there f.site.world there task_there (asks _ e tt) f.phase.agrees
-
-      finish : (v : Answer) (y : Actor) → record x_seen { task = None } ≡ actor_seen f.phase.stages y → ((order : Order) → Contains y.awaiting order → Contains x.awaiting order) →
-          record { task = None; card = x.card; orders = orders_then x.orders x.awaiting Flush (End v) Done; awaiting = awaiting_then x.orders x.awaiting Flush (End v) Done; buffer = x.buffer } ≡ y →
-          (n' : Notes) (g : Follows (Answers (FlushingFor None) v) (size P A shape) (most P A shape) a f.site.world t.words t.desk.space.committing slots devices (slice_set seen a (record x_seen { task = None }))) →
-          NotesAgree (size P A shape) n' (after_all f.site.world g.records) (told f.notes g.records) → length n'.doings ≡ length n.doings → length n'.histories ≡ length n.histories → Goes P A shape (then_is t commit devices (End v) Done) n'
-      finish v y is within same n' g notes d h =
-          subst (λ (y : Actor). Goes P A shape (record { devices = devices; commit = commit; phase = Stands t; actors = slice_set actors a y }) n') (sym (actor_is P A shape (Stands t) devices x Flush plan (End v) Done xt ∙ same))
-          (stays_on P A shape images t commit devices actors n known f a x ex (Answers (FlushingFor None) v) t.words devices y (record x_seen { task = None }) n' is g tt notes
-          (record { actors_many = length-set actors a y ∙ f.sized.actors_many; doings_many = d ∙ f.sized.doings_many; sectors = h ∙ f.sized.sectors }) within refl)
-
       b : (y : Rattle.wb_link.specs.World.Actor) × (slice_get f.site.world.actors a ≡ Some y)
       b = beside P A shape images t commit devices actors n known f a x ex
 
-      -- the orders that it has served were not seen, and are not now
-      served_so : record x_seen { task = None } ≡ actor_seen f.phase.stages (record x { task = None; orders = x.awaiting ++ x.orders; awaiting = [] })
-      served_so = λ i. record x_seen { task = None; orders = sym (unseen_before f.phase.stages x.awaiting x.orders (λ o h. f.phase.unseen a x ex o h)) i }
+      given : (v : Answer) (orders' awaiting' : List Order) → ((o : Order) → Contains (held_of x) o → Contains (orders' ++ awaiting') o) → End v ≡ want plan →
+          Follows (Answers (FlushingFor None) v) (size P A shape) (most P A shape) a f.site.world t.words t.desk.space.committing slots devices (slice_set actors a (record x { task = None; orders = orders'; awaiting = awaiting' }))
+      given v orders' awaiting' on e = flush_steps_followed.answers (size P A shape) (most P A shape) v t.words t.desk.space.committing slots devices actors a x plan orders' awaiting' f.site.world ex xt (asks _ e) on f.phase.agrees
+
+      finish : (v : Answer) (y : Actor) → record { task = None; card = x.card; orders = orders_then x.orders x.awaiting Flush (End v) Done; awaiting = awaiting_then x.orders x.awaiting Flush (End v) Done; buffer = x.buffer } ≡ y →
+          (n' : Notes) (g : Follows (Answers (FlushingFor None) v) (size P A shape) (most P A shape) a f.site.world t.words t.desk.space.committing slots devices (slice_set actors a y)) →
+          NotesAgree (size P A shape) n' (after_all f.site.world g.records) (told f.notes g.records) → length n'.doings ≡ length n.doings → length n'.histories ≡ length n.histories → Goes P A shape (then_is t commit devices (End v) Done) n'
+      finish v y same n' g notes d h =
+          subst (λ (y : Actor). Goes P A shape (record { devices = devices; commit = commit; phase = Stands t; actors = slice_set actors a y }) n') (sym (actor_is P A shape (Stands t) devices x Flush plan (End v) Done xt ∙ same))
+          (stays_on P A shape images t commit devices actors n known f a x ex (Answers (FlushingFor None) v) t.words devices y n' g tt notes
+          (record { actors_many = length-set actors a y ∙ f.sized.actors_many; doings_many = d ∙ f.sized.doings_many; sectors = h ∙ f.sized.sectors }) refl)
+
+      served : (o : Order) → Contains (held_of x) o → Contains ((x.awaiting ++ x.orders) ++ []) o
+      served o h = Contains-append_left (x.awaiting ++ x.orders) [] o (elim (Contains-append_cases x.orders x.awaiting o h) [ inl i ↦ Contains-append_right x.awaiting x.orders o i | inr i ↦ Contains-append_left x.awaiting x.orders o i ])
 
       by_answer : (v : Answer) → End v ≡ want plan → Goes P A shape (then_is t commit devices (End v) Done) (noted_step shape shown n a (Some (Some doing)) (End v) Done contents)
       by_answer (Refuses refusal) e =
-          let g = given (Refuses refusal) e in
-          finish (Refuses refusal) (record x { task = None }) refl (λ o h. h) refl (put n a None) g (notes_followed.refused (FlushingFor None) refusal Stays (size P A shape) (most P A shape) a f.site.world t.words t.desk.space.committing slots devices (slice_set seen a (record x_seen { task = None })) g b.0 n f.notes b.1 noted_less f.notes_agree)
+          let g = given (Refuses refusal) x.orders x.awaiting (λ o h. h) e in
+          finish (Refuses refusal) (record x { task = None }) refl (put n a None) g (notes_followed.refused (FlushingFor None) refusal Stays (size P A shape) (most P A shape) a f.site.world t.words t.desk.space.committing slots devices (slice_set actors a (record x { task = None })) g b.0 n f.notes b.1 noted_less f.notes_agree)
           (length-set n.doings a None) refl
       by_answer Finished e =
-          let g = given Finished e in
+          let y : Actor = record x { task = None; orders = x.awaiting ++ x.orders; awaiting = [] } in
+          let g = given Finished (x.awaiting ++ x.orders) [] served e in
           subst (λ (q : Job). Goes P A shape (then_is t commit devices (End Finished) Done) (finished_note n a doing q shown)) (sym job_is)
-          (finish Finished (record x { task = None; orders = x.awaiting ++ x.orders; awaiting = [] }) served_so (λ o h. absurd (omega (arith, h.1))) refl (record n { floors = greater_of n.floors doing.then_finished; doings = slice_set n.doings a None }) g
-          (notes_followed.flush_answered Stays (size P A shape) (most P A shape) a f.site.world t.words t.desk.space.committing slots devices (slice_set seen a (record x_seen { task = None })) g b.0 n f.notes b.1 noted_less f.notes_agree doing noted asked)
+          (finish Finished y refl (record n { floors = greater_of n.floors doing.then_finished; doings = slice_set n.doings a None }) g
+          (notes_followed.flush_answered Stays (size P A shape) (most P A shape) a f.site.world t.words t.desk.space.committing slots devices (slice_set actors a y) g b.0 n f.notes b.1 noted_less f.notes_agree doing noted asked)
           (length-set n.doings a None) refl)
 
   -- ---- orders that it gives up
-
-  -- nothing is done there
-  module _ (new : DeskState P) (y : Actor) (same_actor : actor_seen f.phase.stages y ≡ x_seen) (same_slots : slots_seen f.phase.stages (live_orders new) ≡ slots) where
-    none_told : (task : Option Script) → [] ≡ records a task []
-    none_told None = refl
-    none_told (Some script) = refl
-
-    pub let_go : new.space.committing ≡ t.desk.space.committing → AtDesk shape.geometry images new commit devices.metadata → DeskAgrees new slots f.site.world.shared → AllHaveCome new f.phase.stages → ((order : Order) → Contains y.awaiting order → Contains x.awaiting order) →
-        Goes P A shape (record { devices = devices; commit = commit; phase = Stands (record { words = t.words; desk = new }); actors = slice_set actors a y }) n
-    let_go committing known' desk come within =
-        let actors_are : seen ≡ actors_seen f.phase.stages (slice_set actors a y) = sym (set_seen f.phase.stages actors a y ∙ ap (λ (v : Actor). slice_set seen a v) same_actor ∙ set_as_is seen a x_seen there) in
-        let agrees = subst (λ (v : Bool). Agrees (size P A shape) (most P A shape) t.words v slots devices seen f.site.world) (sym committing) f.phase.agrees in
-        leads_on P A shape images t commit devices actors n known f a x ex Stays Quietly (record { words = t.words; desk = new }) commit devices (slice_set actors a y) n images f.phase.stages slots seen
-        (record { records = []; run = tt; agrees = agrees; turned = (refl, refl, refl); desk = (refl, refl); told = λ v e. ([], unnoted_none v.task, none_told v.task) }) tt f.notes_agree (sized_plain y) known'
-        (subst (λ (os : List (Option Order)). Agrees (size P A shape) (most P A shape) t.words new.space.committing os devices (actors_seen f.phase.stages (slice_set actors a y)) f.site.world) (sym same_slots)
-        (subst (λ (those : List Actor). Agrees (size P A shape) (most P A shape) t.words new.space.committing slots devices those f.site.world) actors_are agrees))
-        (subst (λ (os : List (Option Order)). DeskAgrees new os f.site.world.shared) (sym same_slots) desk) come
-        (unseen_turned f.phase.stages actors a y (λ o h. f.phase.unseen a x ex o (within o h)) (λ b z m e o h. f.phase.unseen b z e o h)) f.phase.images_agree f.phase.running
 
   pub gives_up : (block : OBlock) (new : DeskState P) → Owned t.desk actors → Desk (ReleaseOrder block) ≡ want plan → DidRelease x.awaiting block t.desk new → Goes P A shape (then_is (record { words = t.words; desk = new }) commit devices (Desk (ReleaseOrder block)) Done) n
   gives_up block new owned next did =
       subst (λ (v : Actor). Goes P A shape (record { devices = devices; commit = commit; phase = Stands (record { words = t.words; desk = new }); actors = slice_set actors a v }) n) (sym (actor_is P A shape (Stands t) devices x Flush plan (Desk (ReleaseOrder block)) Done xt))
       (by_order (Rattle.wb_stage.specs.Asking.order_of block x.awaiting) refl did)
     where
-      y_seen : actor_seen f.phase.stages (record x { task = Some (Flush, after plan Done); awaiting = dropped block x.awaiting }) ≡ x_seen
-      y_seen = λ i. record x_seen { task = (ap (λ (p : Plan). Some (Flush, p)) (flush_releases plan serving.0 (most P A shape) block serving.1 next) ∙ sym task_there) i }
-
-      within : (order : Order) → Contains (dropped block x.awaiting) order → Contains x.awaiting order
-      within order h = (dropped_is block x.awaiting order h).0
-
       To : DeskState P → Type 0
       To d = Goes P A shape (record { devices = devices; commit = commit; phase = Stands (record { words = t.words; desk = d }); actors = slice_set actors a (record x { task = Some (Flush, after plan Done); awaiting = dropped block x.awaiting }) }) n
 
       by_order : (o : Option Order) → Rattle.wb_stage.specs.Asking.order_of block x.awaiting ≡ o → IsGivenUp o t.desk new → To new
-      by_order None e d = subst To (sym d) (let_go t.desk (record x { task = Some (Flush, after plan Done); awaiting = dropped block x.awaiting }) y_seen refl refl known f.phase.desk f.phase.come within)
+      by_order None e d =
+          let g = flush_steps_followed.releases (size P A shape) (most P A shape) block t.words t.desk.space.committing slots devices actors a x plan f.site.world ex xt (sym next) f.phase.agrees in
+          subst To (sym d) (subst (λ (os : List Order). Goes P A shape (record { devices = devices; commit = commit; phase = Stands t; actors = slice_set actors a (record x { task = Some (Flush, after plan Done); awaiting = os }) }) n) (sym (none_dropped block x.awaiting e))
+          (stays_on P A shape images t commit devices actors n known f a x ex Quietly t.words devices (after_step Flush plan Done x) n g tt (quiet_notes Stays t.words t.desk.space.committing slots devices (after_step Flush plan Done x) g) (sized_plain (after_step Flush plan Done x)) refl))
       by_order (Some order) e d =
+          let y : Actor = record x { task = Some (Flush, after plan Done); awaiting = dropped block x.awaiting } in
           let mine = found_of block x.awaiting order e in
-          let l = owned.live a x order ex (Contains-append_right x.orders x.awaiting order mine.0) in
+          let had = Contains-append_right x.orders x.awaiting order mine.0 in
+          let l = owned.live a x order ex had in
           let is : new ≡ released t.desk l.cache = d.0 l in
-          let here : slice_get (live_orders t.desk) l.cache.0 ≡ Some (Some l.live.order) = slot_there t.desk.orders.slots l.cache.0 l.live l.there in
-          let hidden : order_seen f.phase.stages l.live.order ≡ None = ap (order_seen f.phase.stages) l.same ∙ f.phase.unseen a x ex order mine.0 in
-          let slot : slice_get slots l.cache.0 ≡ Some None = slot_get f.phase.stages (live_orders t.desk) l.cache.0 (Some l.live.order) here ∙ ap (λ (q : Option Order). Some q) hidden in
-          let same : slots_seen f.phase.stages (live_orders (released t.desk l.cache)) ≡ slots = ap (λ (os : List (Option Order)). slots_seen f.phase.stages os) (orders_set t.desk.orders.slots l.cache.0 None)
-          ∙ slots_turned f.phase.stages f.phase.stages (live_orders t.desk) l.cache.0 None (λ i o m g. refl) ∙ set_as_is slots l.cache.0 None slot in
+          let here : slice_get (live_orders t.desk) l.cache.0 ≡ Some (Some order) = slot_there t.desk.orders.slots l.cache.0 l.live l.there ∙ ap (λ (q : Order). Some (Some q)) l.same in
           let inside = slot_within t.desk.orders.slots l.cache.0 l.live l.there in
           let many_slots = known.is.kept.slots in
           let many_blocks = known.is.kept.blocks in
-          subst To (sym is) (let_go (released t.desk l.cache) (record x { task = Some (Flush, after plan Done); awaiting = dropped block x.awaiting }) y_seen same refl
-          (subst (λ (v : DeskState P). AtDesk shape.geometry images v commit devices.metadata) is (given_up_stands P shape.geometry images t.desk commit devices.metadata new order known d))
-          (desk_lets_go P t.desk slots s s f.phase.desk l.cache (omega (arith, inside, many_slots, many_blocks)) (get_or_from_slice_get slots l.cache.0 None None slot) refl refl)
-          (come_released P t.desk f.phase.stages f.phase.come l.cache)
-          within)
+          let b = beside P A shape images t commit devices actors n known f a x ex in
+          let g = flush_steps_followed.gives_up (size P A shape) (most P A shape) block t.words t.desk.space.committing slots devices actors a x plan l.cache.0 order (dropped block x.awaiting) f.site.world ex xt (sym next) here
+          (λ c z ez h. owned.one c a z x order ez ex h had) f.phase.agrees in
+          let s' = (after_all f.site.world g.records).shared in
+          let readable = kept_readable shape.geometry images devices.metadata P A (Stands t) commit known in
+          subst To (sym is) (leads_on P A shape images t commit devices actors n known f a x ex (GivesUp l.cache.0) Releases (record { words = t.words; desk = released t.desk l.cache }) commit devices (slice_set actors a y) n images (slice_set (live_orders t.desk) l.cache.0 None) g tt
+          (notes_followed.released (GivesUp l.cache.0) (size P A shape) (most P A shape) a f.site.world t.words t.desk.space.committing (slice_set (live_orders t.desk) l.cache.0 None) devices (slice_set actors a y) g b.0 n f.notes b.1 noted_less f.notes_agree)
+          (sized_plain y) (subst (λ (v : DeskState P). AtDesk shape.geometry images v commit devices.metadata) is (given_up_stands P shape.geometry images t.desk commit devices.metadata new order known d))
+          (sym (orders_set t.desk.orders.slots l.cache.0 None)) (desk_releases P t.desk s s' f.phase.desk l.cache (omega (arith, inside, many_slots, many_blocks)) g.desk.0 g.desk.1)
+          (images_followed.stay shape.geometry images.committed (later_of images) devices.metadata devices.metadata s s' f.phase.images_agree g.turned readable.read) (λ state e. g.turned.1 ∙ f.phase.running state e))

@@ -1,5 +1,5 @@
 -- A state of a run, with its clerk's notes, and the site of the abstract world that follows it.
-use Rattle.std.proofs.Common.{◌≡◌, ◌≢◌, ◌+◌, ◌*◌, ◌⊎◌, ℕ, true, false, List, [], ◌∷◌, Option, Some, None, length, slice_get, Contains}
+use Rattle.std.proofs.Common.{◌≡◌, ◌≢◌, ◌⊎◌, ℕ, true, false, List, [], ◌∷◌, Option, Some, None, length, slice_get}
 use Rattle.wb_types.specs.Limits.{node_count}
 use Rattle.wb_types.specs.declared.mode.Mode.{Mode}
 use Rattle.wb_types.specs.declared.mode.Mode.TheVariants.{Writeback}
@@ -9,7 +9,6 @@ use Rattle.wb_meta.specs.Representing.{Stored}
 use Rattle.wb_meta.specs.declared.read_steps.ReadSteps.{ReadSteps}
 use Rattle.wb_meta.specs.declared.read_steps.ReadSteps.TheVariants.{Done as AllRead}
 use Rattle.wb_meta.specs.declared.read_steps.State.{State as StoredThere}
-use Rattle.wb_policy.specs.declared.order.Order.{Order}
 use Rattle.wb_tasks.specs.Tables.{Opening}
 use Rattle.wb_tasks.specs.Plan.{Plan}
 use Rattle.wb_tasks.specs.declared.step.Answer.TheVariants.{Done as Finished}
@@ -30,8 +29,7 @@ use Rattle.wb_simulation.specs.Opened.{located}
 use Rattle.wb_simulation.specs.Noting.{NotesAgree}
 use Rattle.wb_simulation.specs.Sites.{ImagesAgree, DevicesAgree, locations}
 use Rattle.wb_simulation.specs.Worlds.{Agrees}
-use Rattle.wb_headline.specs.Desks.{AllHaveCome, DeskAgrees, live_orders}
-use Rattle.wb_headline.specs.Seen.{Replacing, actors_seen, order_seen, slots_seen}
+use Rattle.wb_headline.specs.Desks.{DeskAgrees, live_orders}
 use Rattle.wb_headline.proofs.Events.{Reached}
 use Rattle.wb_headline.proofs.Unclean.{NeverClean}
 
@@ -89,14 +87,10 @@ pub record IsOver (plan : Plan) (phase : PhaseThere) : Type 0 where
 
 -- ---- a state
 
--- no order that waits for a flush is seen
-abbrev pub NoneIsSeen : (ℕ → Replacing) → List Actor → Type 0
-NoneIsSeen stages actors = (a : ℕ) (x : Actor) → slice_get actors a ≡ Some x → (order : Order) → Contains x.awaiting order → order_seen stages order ≡ None
-
 module _ (P A : Type 0) (shape : Shape) where
-  -- how many abstract actors there are: the run's own, and for each of them one for each cache block
+  -- how many abstract actors there are
   abbrev pub many : ℕ
-  many = shape.actors + shape.actors * shape.geometry.cache_blocks
+  many = shape.actors
 
   abbrev pub size : ℕ
   size = block_size shape
@@ -113,12 +107,8 @@ module _ (P A : Type 0) (shape : Shape) where
 
   pub record TargetFollows (images : Images) (t : Target P) (devices : Devices (List History)) (actors : List Actor) (v : Site) : Type 0 where
     pub phase_is : v.phase ≡ StandsThere
-    -- how far the replacement of each cache block has come, and what is seen of orders and actors then
-    pub stages : ℕ → Replacing
-    pub agrees : Agrees size most t.words t.desk.space.committing (slots_seen stages (live_orders t.desk)) devices (actors_seen stages actors) v.world
-    pub desk : DeskAgrees t.desk (slots_seen stages (live_orders t.desk)) v.world.shared
-    pub come : AllHaveCome t.desk stages
-    pub unseen : NoneIsSeen stages actors
+    pub agrees : Agrees size most t.words t.desk.space.committing (live_orders t.desk) devices actors v.world
+    pub desk : DeskAgrees t.desk v.world.shared
     pub images_agree : ImagesAgree shape.geometry images.committed (later_of images) devices.metadata v.world.shared
     -- the running image is that of the commit that runs, or was broken
     pub running : (state : Stored) → images.running ≡ Some state → v.world.shared.running ≡ locations state

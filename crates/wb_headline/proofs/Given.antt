@@ -37,8 +37,6 @@ use Rattle.wb_simulation.specs.Worlds.{zeros, Stays}
 use Rattle.wb_simulation.proofs.Followed.{doing_of}
 use Rattle.wb_simulation.proofs.Noted.{notes_followed}
 use Rattle.wb_headline.specs.Desks.{live_orders}
-use Rattle.wb_headline.specs.Seen.{slots_seen, task_seen, actor_seen}
-use Rattle.wb_headline.proofs.Seen.{get_seen}
 use Rattle.wb_headline.proofs.Events.{records_happen, is_right}
 use Rattle.wb_headline.proofs.Following.{many, size, most, Followed}
 use Rattle.wb_headline.proofs.Targets.{standing, beside, noted_within}
@@ -80,8 +78,8 @@ module _ (P A : Type 0) (shape : Shape) (images : Images) (t : Target P) (commit
       let less = noted_within P A shape images t commit devices actors n known f a x ex in
       let part = block_range shape extent claim.cut in
       let right = is_right (size P A shape) (many P A shape) f.site f.notes f.reached _ (records_happen (size P A shape) f.site g.records f.phase.phase_is g.run) in
-      let newest = notes_followed.newest_read Stays (size P A shape) (most P A shape) a part.block.0 (e.first % size P A shape) contents f.site.world t.words t.desk.space.committing (slots_seen f.phase.stages (live_orders t.desk)) devices _ g b.0 n f.notes b.1 less f.notes_agree right in
-      let r : IsRequestAt (size P A shape) [] t.words ReadingPart plan x.card b.0 = doing_of (size P A shape) (most P A shape) t.words (actor_seen f.phase.stages x) b.0 (Read extent) plan (f.phase.agrees.each a (actor_seen f.phase.stages x) b.0 (get_seen f.phase.stages actors a x ex) b.1) (ap task_seen xt) in
+      let newest = notes_followed.newest_read Stays (size P A shape) (most P A shape) a part.block.0 (e.first % size P A shape) contents f.site.world t.words t.desk.space.committing (live_orders t.desk) devices _ g b.0 n f.notes b.1 less f.notes_agree right in
+      let r : IsRequestAt (size P A shape) [] t.words ReadingPart plan x.card b.0 = doing_of (size P A shape) (most P A shape) t.words x b.0 (Read extent) plan (f.phase.agrees.each a x b.0 ex b.1) xt in
       let first = begins_by plan (ReadExtent device e) (sym next) in
       let room = (subst (λ (ws : List Want). AreOfBlock (size P A shape) r.part.block.0 ws) first.1 r.of_block).0.room in
       let m = may_start shape extent claim.inside in

@@ -27,7 +27,7 @@ use Rattle.wb_words.specs.Rule.{LockRule}
 use Rattle.wb_tree.specs.Edits.{IsChangedAt}
 use Rattle.wb_policy.specs.Law.{IsMappedAt}
 use Rattle.wb_policy.specs.declared.order.Order.{Order}
-use Rattle.wb_policy.specs.declared.order.Order.TheVariants.{Promote as PromoteOrder, Demote as DemoteOrder}
+use Rattle.wb_policy.specs.declared.order.Order.TheVariants.{Demote as DemoteOrder}
 use Rattle.wb_orders.specs.Orders.{AreOrders}
 use Rattle.wb_desk.specs.Desks.{DeskState, IsLive, holdings}
 use Rattle.wb_desk.specs.Calls.{released}
@@ -56,7 +56,6 @@ use Rattle.wb_devices.specs.declared.running.RunningCommit.{RunningCommit}
 use Rattle.wb_runs.specs.declared.job.Job.{Job}
 use Rattle.wb_runs.specs.declared.job.Job.TheVariants.{Read, Write, Flush, Open, Migrate, Replace}
 use Rattle.wb_runs.specs.States.{Shape, Actor, Target, Phase, Stands, Gone, Opens}
-use Rattle.wb_runs.specs.Happenings.{order_for}
 use Rattle.wb_runs.specs.Effects.{actor_then, awaiting_answered, awaiting_released, awaiting_then, dropped, job_of, orders_answered, orders_released, orders_then, replacing}
 use Rattle.wb_runs.specs.Clerk.{Notes}
 use Rattle.wb_runs.specs.Headline.{place_of}
@@ -77,11 +76,15 @@ use Rattle.wb_headline.proofs.Allowed.{there}
 use Rattle.wb_headline.proofs.Carried.{carried}
 use Rattle.wb_headline.proofs.Desking.{located_entered, located_left}
 use Rattle.wb_headline.proofs.Following.{size, most, Followed}
-use Rattle.wb_headline.proofs.Owned.{AreParted, are_owned, for_block, held_there, one_of_block, only_held, over}
-use Rattle.wb_headline.proofs.Plans.{flushing_is}
-use Rattle.wb_headline.proofs.Seen.{found_of, get_seen, only_of, replacing_is, seen_of, true_not}
-use Rattle.wb_headline.proofs.Staging.{left, owned_then, stood}
-use Rattle.wb_headline.specs.Seen.{slots_seen, plan_seen, task_seen, actor_seen, actors_seen}
+use Rattle.wb_desk.specs.Entries.{Removes, is_replacement, unmapped}
+use Rattle.wb_policy.specs.declared.order.Order.TheVariants.{Replace as ReplaceOrder}
+use Rattle.wb_simulation.specs.Carried.{IsOrderFor}
+use Rattle.wb_simulation.specs.Migrating.{EndsOrder}
+use Rattle.wb_simulation.specs.Worlds.{GivesUp}
+use Rattle.wb_headline.proofs.Leaving.{leaves_from, left, of_order, owned_then, stands_so}
+use Rattle.wb_headline.proofs.Owned.{at_there, live_at}
+use Rattle.wb_headline.proofs.Owned.{AreParted, for_block, one_of_block, only_held, over}
+use Rattle.wb_headline.proofs.Finding.{found_of, only_of, replacing_is, true_not}
 use Rattle.wb_runs.proofs.Located.{stands_alone, unmapped_there}
 use Rattle.wb_headline.proofs.Targets.{standing, beside}
 use Rattle.wb_headline.proofs.Telling.{IsSealed, SealsRight, RightWhere, lets_go_right, on_words, owned_alone}
@@ -168,18 +171,8 @@ seals_same words SetSuspended n = refl
 
 module _ (P A : Type 0) (shape : Shape) (images : Images) (t : Target P) (commit : Option RunningCommit) (devices : Devices (List History)) (actors : List Actor) (n : Notes) (known : MetadataKept {P = P} {A = A} shape.geometry images (Stands t) commit devices.metadata)
     (f : Followed P A shape images (standing P A shape images t commit devices actors n) n) (rule : LockRule shape.geometry.origin_blocks t.words (cards_of actors)) (all_suited : AllSuited shape.geometry.origin_blocks actors) (k : KeepingAt t actors) (a : ℕ) (x : Actor) (ex : slice_get actors a ≡ Some x) where
-  -- what is seen of orders and actors
   abbrev slots : List (Option Order)
-  slots = slots_seen f.phase.stages (live_orders t.desk)
-
-  abbrev seen : List Actor
-  seen = actors_seen f.phase.stages actors
-
-  abbrev x_seen : Actor
-  x_seen = actor_seen f.phase.stages x
-
-  there_seen : slice_get seen a ≡ Some x_seen
-  there_seen = get_seen f.phase.stages actors a x ex
+  slots = live_orders t.desk
 
   -- whoever is to seal a block owns it
   pub sealing_owns : (c : ℕ) (z : Actor) → slice_get actors c ≡ Some z → (b : OBlock) (place : Option CBlock) → SealsNext b place z.task → (b.0 < shape.geometry.origin_blocks) × (z.card.hold ≡ Held Own b)
@@ -305,8 +298,8 @@ module _ (P A : Type 0) (shape : Shape) (images : Images) (t : Target P) (commit
           z : (v : Rattle.wb_link.specs.World.Actor) × (slice_get f.site.world.actors a ≡ Some v)
           z = beside P A shape images t commit devices actors n known f a x ex
 
-          doing : (j : Job) → x.task ≡ Some (j, plan) → IsDoing (size P A shape) (most P A shape) t.words j (plan_seen j plan) x.card z.0
-          doing j jt = doing_of (size P A shape) (most P A shape) t.words x_seen z.0 j (plan_seen j plan) (f.phase.agrees.each a x_seen z.0 there_seen z.1) (ap task_seen jt)
+          doing : (j : Job) → x.task ≡ Some (j, plan) → IsDoing (size P A shape) (most P A shape) t.words j plan x.card z.0
+          doing j jt = doing_of (size P A shape) (most P A shape) t.words x z.0 j plan (f.phase.agrees.each a x z.0 ex z.1) jt
 
           is_seal : Cell (Seal b place dirty) ≡ want plan
           is_seal = ap (λ (s : CellStep). Cell s) (sym is) ∙ e
@@ -314,10 +307,10 @@ module _ (P A : Type 0) (shape : Shape) (images : Images) (t : Target P) (commit
           by_job : (j : Job) → x.task ≡ Some (j, plan) → place_in (seal_word place dirty) ≡ place
           by_job (Read extent) jt = of_it (doing (Read extent) jt).part.block.0 (doing (Read extent) jt).of_block
           by_job (Write extent content) jt = of_it (doing (Write extent content) jt).part.block.0 (doing (Write extent content) jt).of_block
-          by_job Flush jt = (let serves = flushing_is plan.job (most P A shape) (doing Flush jt).job in absurd (own (Flushing serves.0 (most P A shape)) (Cell (Seal b place dirty)) serves.1 is_seal))
+          by_job Flush jt = (let r = doing Flush jt in absurd (own (Flushing r.serves (most P A shape)) (Cell (Seal b place dirty)) r.job is_seal))
           by_job (Open mode) jt = absurd (doing (Open mode) jt)
           by_job (Migrate m block) jt =
-              let c = carried (size P A shape) (most P A shape) shape.geometry.origin_blocks t.words t.desk.space.committing slots devices seen f.site.world f.phase.agrees a x_seen m block plan there_seen (ap task_seen jt) suits (Cell (Seal b place dirty)) is_seal (λ v q. absurd (cc)) (λ ws o. o) in
+              let c = carried (size P A shape) (most P A shape) shape.geometry.origin_blocks t.words t.desk.space.committing slots devices actors f.site.world f.phase.agrees a x m block plan ex jt suits (Cell (Seal b place dirty)) is_seal (λ v q. absurd (cc)) (λ ws o. o) in
               of_it c.part.block.0 c.of_block
           by_job (Replace old new) jt = absurd (doing (Replace old new) jt)
 
@@ -456,8 +449,11 @@ module _ (P A : Type 0) (shape : Shape) (images : Images) (t : Target P) (commit
 
     pub map_keeps : (bl : OBlock) (c : CBlock) (new : DeskState P) → Desk (Map bl c) ≡ want plan → MayMap t.desk bl c → IsChangedAt t.desk.tree new.tree c.0 (Some (entry_of bl)) → new ≡ mapped t.desk c new.tree new.policy → KeepingAt (record { words = t.words; desk = new }) (slice_set actors a (y job plan xt (Desk (Map bl c)) Done))
     map_keeps bl c new e may changed is =
-        let law = migrations_followed.maps (size P A shape) (most P A shape) shape.geometry.origin_blocks t.words t.desk.space.committing slots devices seen a x_seen m block bl c plan f.site.world (are_owned P t.desk actors are k.owned f.phase.stages) there_seen (ap task_seen xt) its (sym e) f.phase.agrees in
         let en = entrance unknowing t.desk bl c known.is.kept may in
+        let free = ap (λ (m : ℕ → Option ℕ). m bl.0) f.phase.desk.mapping ∙ unmapped_there P t.desk known.is.kept bl.0 en.unmapped in
+        let law = migrations_followed.maps (size P A shape) (most P A shape) shape.geometry.origin_blocks t.words t.desk.space.committing slots devices actors a x m block bl c plan f.site.world ex xt its (sym e) free f.phase.agrees in
+        let order = law.2 in
+        let is_its : is_of bl order.0 ≡ true = ap (λ (o : OBlock). is_of o order.0) law.1 ∙ of_order (Promote c) block None order.0 order.1 in
         let holds : x.card.hold ≡ Held Own bl = ready job plan xt (Desk (Map bl c)) e in
         let less = en.inside in
         let size_is = known.is.kept.mapping.size in
@@ -470,49 +466,56 @@ module _ (P A : Type 0) (shape : Shape) (images : Images) (t : Target P) (commit
         (λ i not. ap (λ (es : List (Option Entry)). place_of es i) changed.entries ∙ sym (entered i) ∙ changed_other (located t.desk.tree.entries) bl.0 i (Some c.0) not)
         (λ answer. subst (λ (us : List Want). (dirty : Bool) × (first_step (later_steps us) answer ≡ Cell (Seal bl (Some c) dirty))) (sym first.1) (sealed_next bl (Some c) first.0 answer r.0))
         (subst (λ (o : Option ℕ). SealsRight o (after plan Done).steps) here (subst (λ (us : List Want). SealsRight (Some c.0) (later_steps us)) (sym first.1) r.1))
-        (over P t.desk actors are k.owned f.phase.stages a x ex (PromoteOrder block c) block (for_block (Promote c) block block refl) c.0 law.2.live law.2.mine
-        (held_there P t.desk actors are k.owned f.phase.stages a x ex (PromoteOrder block c) block (for_block (Promote c) block block refl) c.0 law.2.live law.2.mine) (k.parted a x ex) bl law.1 new (ap (λ (d : DeskState P). d.orders.slots) is) (y job plan xt (Desk (Map bl c)) Done) refl refl)
+        (over P t.desk actors are k.owned a x ex order.0 c.0 order.2.live (Contains-append_left x.orders x.awaiting order.0 order.2.mine) bl is_its (k.parted a x ex) order.2.mine new (ap (λ (d : DeskState P). d.orders.slots) is) (y job plan xt (Desk (Map bl c)) Done) refl refl)
+
+    module _ (bl : OBlock) (new : DeskState P) (e : Desk (Unmap bl) ≡ want plan) (did : DidUnmap (λ policy o. new.policy) bl t.desk new) where
+      leaves_keeps : (c : ℕ) (o : Order) → slice_get slots c ≡ Some (Some o) → Contains x.orders o → Removes o → IsMappedAt (holdings t.desk) bl.0 c → is_of bl o ≡ true → (v : Bool) → is_replacement o ≡ v → KeepingAt (record { words = t.words; desk = new }) (slice_set actors a (y job plan xt (Desk (Unmap bl)) Done))
+      leaves_keeps c o live mine removes at of v r =
+          let parted = k.parted a x ex in
+          let gone = left P t.desk known.is.kept actors are k.owned a x ex parted bl c o live mine removes at of new did in
+          let alone = stands_alone P t.desk known.is.kept bl.0 c at in
+          let holds : x.card.hold ≡ Held Own bl = ready job plan xt (Desk (Unmap bl)) e in
+          let left = located_left t.desk.tree.entries c alone.0 bl.0 alone.1 in
+          let here : None ≡ place_of new.tree.entries bl.0 = sym (changed_same (located t.desk.tree.entries) bl.0 None) ∙ left bl.0 ∙ ap (λ (es : List (Option Entry)). place_of es bl.0) (sym gone.0.entries) in
+          let first = begins_by plan (Desk (Unmap bl)) (sym e) (λ v q. absurd (cc)) in
+          let r' : IsSealed bl None first.0 × SealsRight None first.0 = subst (λ (us : List Want). SealsRight (place_of t.desk.tree.entries bl.0) us) first.1 (right job plan xt Own bl holds) in
+          let inside = (mapped_within unknowing t.desk bl.0 c known.is.kept at).1 in
+          moved job plan xt (Unmap bl) e bl None new (subst (λ (g : Geometry). bl.0 < g.origin_blocks) known.is.geometry inside) holds here
+          (λ i not. ap (λ (es : List (Option Entry)). place_of es i) gone.0.entries ∙ sym (left i) ∙ changed_other (located t.desk.tree.entries) bl.0 i None not)
+          (λ answer. subst (λ (us : List Want). (dirty : Bool) × (first_step (later_steps us) answer ≡ Cell (Seal bl None dirty))) (sym first.1) (sealed_next bl None first.0 answer r'.0))
+          (subst (λ (o : Option ℕ). SealsRight o (after plan Done).steps) here (subst (λ (us : List Want). SealsRight None (later_steps us)) (sym first.1) r'.1))
+          (subst (λ (d : DeskState P). Owned d (slice_set actors a (y job plan xt (Desk (Unmap bl)) Done))) (sym gone.1)
+          (owned_then P t.desk known.is.kept actors are k.owned a x ex parted bl c o live mine removes at of v r (unmapped t.desk (record { 0 = c }) new.tree new.policy) refl (y job plan xt (Desk (Unmap bl)) Done) refl refl))
 
     pub unmap_keeps : (bl : OBlock) (new : DeskState P) → Desk (Unmap bl) ≡ want plan → DidUnmap (λ policy o. new.policy) bl t.desk new → KeepingAt (record { words = t.words; desk = new }) (slice_set actors a (y job plan xt (Desk (Unmap bl)) Done))
     unmap_keeps bl new e did =
-        let law = migrations_followed.unmaps (size P A shape) (most P A shape) shape.geometry.origin_blocks t.words t.desk.space.committing slots devices seen a x_seen m block bl plan f.site.world (are_owned P t.desk actors are k.owned f.phase.stages) there_seen (ap task_seen xt) its (sym e) f.phase.agrees in
+        let s = f.site.world.shared in
+        let leaving = leaves_from P t.desk known.is.kept s f.phase.desk in
+        let law = migrations_followed.unmaps (size P A shape) (most P A shape) shape.geometry.origin_blocks t.words t.desk.space.committing slots devices actors a x m block bl plan f.site.world ex xt its (sym e) (leaving bl) f.phase.agrees in
+        let same : bl ≡ block = law.1 in
         let c = law.2.0 in
-        let live = law.2.1.live in
-        let mine = law.2.1.mine in
-        let parted = k.parted a x ex in
-        let held = held_there P t.desk actors are k.owned f.phase.stages a x ex (DemoteOrder block) block (for_block Demote block block refl) c live mine in
-        let at = stood P t.desk known.is.kept f.phase.stages f.phase.come actors are k.owned a x ex parted block c live mine held in
-        let at_bl : IsMappedAt (holdings t.desk) bl.0 c = subst (λ (o : OBlock). IsMappedAt (holdings t.desk) o.0 c) (sym law.1) at in
-        let gone = left P t.desk known.is.kept f.phase.stages f.phase.come actors are k.owned a x ex parted block c live mine held new (subst (λ (o : OBlock). DidUnmap (λ policy o. new.policy) o t.desk new) law.1 did) in
-        let alone = stands_alone P t.desk known.is.kept bl.0 c at_bl in
-        let holds : x.card.hold ≡ Held Own bl = ready job plan xt (Desk (Unmap bl)) e in
-        let left = located_left t.desk.tree.entries c alone.0 bl.0 alone.1 in
-        let here : None ≡ place_of new.tree.entries bl.0 = sym (changed_same (located t.desk.tree.entries) bl.0 None) ∙ left bl.0 ∙ ap (λ (es : List (Option Entry)). place_of es bl.0) (sym gone.0.entries) in
-        let first = begins_by plan (Desk (Unmap bl)) (sym e) (λ v q. absurd (cc)) in
-        let r : IsSealed bl None first.0 × SealsRight None first.0 = subst (λ (us : List Want). SealsRight (place_of t.desk.tree.entries bl.0) us) first.1 (right job plan xt Own bl holds) in
-        let inside = (mapped_within unknowing t.desk bl.0 c known.is.kept at_bl).1 in
-        moved job plan xt (Unmap bl) e bl None new (subst (λ (g : Geometry). bl.0 < g.origin_blocks) known.is.geometry inside) holds here
-        (λ i not. ap (λ (es : List (Option Entry)). place_of es i) gone.0.entries ∙ sym (left i) ∙ changed_other (located t.desk.tree.entries) bl.0 i None not)
-        (λ answer. subst (λ (us : List Want). (dirty : Bool) × (first_step (later_steps us) answer ≡ Cell (Seal bl None dirty))) (sym first.1) (sealed_next bl None first.0 answer r.0))
-        (subst (λ (o : Option ℕ). SealsRight o (after plan Done).steps) here (subst (λ (us : List Want). SealsRight None (later_steps us)) (sym first.1) r.1))
-        (subst (λ (d : DeskState P). Owned d (slice_set actors a (y job plan xt (Desk (Unmap bl)) Done))) (sym gone.1)
-        (owned_then P t.desk known.is.kept f.phase.stages f.phase.come actors are k.owned a x ex parted block c live mine held bl law.1 new.tree new.policy (y job plan xt (Desk (Unmap bl)) Done) refl refl))
+        let at : s.mapping block.0 ≡ Some c → IsMappedAt (holdings t.desk) bl.0 c = λ stood. subst (λ (o : OBlock). IsMappedAt (holdings t.desk) o.0 c) (sym same) (stands_so P t.desk known.is.kept s f.phase.desk block.0 c stood) in
+        elim law.2.1 [
+          | inl d ↦ leaves_keeps bl new e did c (DemoteOrder block) d.live d.mine tt (at (leaving block c None (DemoteOrder block) d.live (inl (refl, refl)) (λ no. absurd (no refl)))) (for_block Demote block bl same) false refl
+          | inr d ↦ leaves_keeps bl new e did c (ReplaceOrder block d.new d.k) d.live d.mine tt (at d.stood) (subst (λ (o : OBlock). is_of o (ReplaceOrder block d.new d.k) ≡ true) (sym same) (of_order Demote block (Some d.new.0) (ReplaceOrder block d.new d.k) (inr (refl, refl)))) true refl
+        ]
 
     pub release_keeps : (bl : OBlock) (new : DeskState P) → Desk (ReleaseOrder bl) ≡ want plan → DidRelease x.orders bl t.desk new → KeepingAt (record { words = t.words; desk = new }) (slice_set actors a (y job plan xt (Desk (ReleaseOrder bl)) Done))
     release_keeps bl new e d =
-        let law = migrations_followed.gives_up (size P A shape) (most P A shape) shape.geometry.origin_blocks t.words t.desk.space.committing slots devices seen a x_seen m block bl plan f.site.world (are_owned P t.desk actors are k.owned f.phase.stages) there_seen (ap task_seen xt) its (sym e) f.phase.agrees in
-        let q = order_for m block in
-        let of = for_block m block block refl in
-        let c = law.1.0 in
-        let live = law.1.1.live in
-        let mine = law.1.1.mine in
-        let held = held_there P t.desk actors are k.owned f.phase.stages a x ex q block of c live mine in
-        let found = only_of bl x.orders held.order held.has (ap (λ (o : OBlock). is_of o held.order) law.0 ∙ seen_of f.phase.stages block held.order q held.seen of)
-        (λ p h i. only_held P t.desk actors are k.owned f.phase.stages a x ex q block of c live mine held p (Contains-append_left x.orders x.awaiting p h) (ap (λ (o : OBlock). is_of o p) (sym law.0) ∙ i)) in
-        let is : new ≡ released t.desk (record { 0 = c }) = (subst (λ (o : Option Order). IsGivenUp o t.desk new) found d).0 held.live ∙ ap (λ (i : ℕ). released t.desk (record { 0 = i })) held.at in
-        desk_plain job plan xt (ReleaseOrder bl) Done new e (ready job plan xt (Desk (ReleaseOrder bl)) e) (λ i. ap (λ (q : DeskState P). place_of q.tree.entries i) is)
-        (over P t.desk actors are k.owned f.phase.stages a x ex q block of c live mine held (k.parted a x ex) bl law.0 new (ap (λ (q : DeskState P). q.orders.slots) is) (y job plan xt (Desk (ReleaseOrder bl)) Done)
-        (ap (λ (o : Option (Job × Plan)). orders_released bl (job_of o) x.orders) xt) (ap (λ (o : Option (Job × Plan)). awaiting_released bl (job_of o) x.awaiting) xt))
+        let law = migrations_followed.gives_up (size P A shape) (most P A shape) shape.geometry.origin_blocks t.words t.desk.space.committing slots devices actors a x m block bl plan f.site.world ex xt its (sym e) f.phase.agrees in
+        by law.0 law.1
+      where
+        by : bl ≡ block → ((c : ℕ) × (next : Option ℕ) × (order : Order) × IsOrderFor m block next order × EndsOrder (GivesUp c) c (size P A shape) (most P A shape) a f.site.world t.words t.desk.space.committing slots devices actors x (record x { task = Some (Migrate m block, after plan Done); orders = dropped bl x.orders }) order) →
+            KeepingAt (record { words = t.words; desk = new }) (slice_set actors a (y job plan xt (Desk (ReleaseOrder bl)) Done))
+        by same (c, next, order, of, ends) =
+            let held = Contains-append_left x.orders x.awaiting order ends.mine in
+            let l = live_at P t.desk actors are k.owned a x ex order c ends.live held in
+            let is_its : is_of bl order ≡ true = ap (λ (o : OBlock). is_of o order) same ∙ of_order m block next order of in
+            let found = only_of bl x.orders order ends.mine is_its (λ p h i. only_held P t.desk actors are k.owned a x ex order c ends.live held bl is_its p (Contains-append_left x.orders x.awaiting p h) i) in
+            let is : new ≡ released t.desk (record { 0 = c }) = (subst (λ (o : Option Order). IsGivenUp o t.desk new) found d).0 l ∙ ap (λ (i : ℕ). released t.desk (record { 0 = i })) (at_there P t.desk actors are k.owned a x ex order c ends.live held) in
+            desk_plain job plan xt (ReleaseOrder bl) Done new e (ready job plan xt (Desk (ReleaseOrder bl)) e) (λ i. ap (λ (q : DeskState P). place_of q.tree.entries i) is)
+            (over P t.desk actors are k.owned a x ex order c ends.live held bl is_its (k.parted a x ex) ends.mine new (ap (λ (q : DeskState P). q.orders.slots) is) (y job plan xt (Desk (ReleaseOrder bl)) Done)
+            (ap (λ (o : Option (Job × Plan)). orders_released bl (job_of o) x.orders) xt) (ap (λ (o : Option (Job × Plan)). awaiting_released bl (job_of o) x.awaiting) xt))
 
     -- the desk has no memory for its entry
     pub map_refused_keeps : (bl : OBlock) (c : CBlock) (refusal : Refusal) → Desk (Map bl c) ≡ want plan → KeepingAt t (slice_set actors a (y job plan xt (Desk (Map bl c)) (GotRefused refusal)))

@@ -27,11 +27,8 @@ mod Carrying
 mod Owned
 mod Migrations
 mod Migrating
-mod Seen
-mod Plans
-mod Alike
-mod Come
-mod Staging
+mod Finding
+mod Leaving
 mod Seeing
 mod Carried
 mod Placed

@@ -1,7 +1,7 @@
 -- Whatever comes of a promotion, a demotion or a write-back is followed.
-use Rattle.std.proofs.Common.{◌≡◌, ◌≢◌, ◌∙◌, ◌≤◌, ◌+◌, inl, inr, ℕ, Bool, true, List, [], ◌∷◌, ◌++◌, Option, Some, None, refl, sym, ap, subst, arith, length, slice_get, slice_set, Contains}
-use Rattle.std.proofs.lemmas.List.Elements.{Contains-append_cases, Contains-append_left}
-use Rattle.std.proofs.lemmas.Option.{get_or_from_slice_get, slice_get_within}
+use Rattle.std.proofs.Common.{◌≡◌, ◌≢◌, ◌∙◌, ◌≤◌, ◌+◌, if◌then◌else◌, false, inl, inr, ℕ, Bool, true, List, [], ◌∷◌, ◌++◌, Option, Some, None, refl, sym, ap, subst, arith, length, slice_get, slice_set, Contains}
+use Rattle.std.proofs.lemmas.List.Elements.{Contains-append_left}
+use Rattle.std.proofs.lemmas.Option.{slice_get_within}
 use Rattle.wb_types.specs.declared.extent.Extent.{Extent}
 use Rattle.wb_types.specs.declared.mode.Dev.{Dev}
 use Rattle.wb_types.specs.declared.mode.Dev.TheVariants.{Metadata, Cache, Origin}
@@ -18,13 +18,12 @@ use Rattle.wb_words.specs.declared.card.Hold.TheVariants.{Held}
 use Rattle.wb_words.specs.declared.step.CellStep.{CellStep}
 use Rattle.wb_words.specs.declared.step.CellStep.TheVariants.{Look, Take, Release, Seal, Finish, Count, SetFailed, SetSuspended}
 use Rattle.wb_policy.specs.declared.order.Order.{Order}
-use Rattle.wb_policy.specs.declared.order.Order.TheVariants.{Promote as PromoteOrder, Demote as DemoteOrder}
+use Rattle.wb_policy.specs.declared.order.Order.TheVariants.{Replace as ReplaceOrder, Demote as DemoteOrder}
 use Rattle.wb_space.specs.declared.block.Block.TheVariants.{Mapped, Reserved}
-use Rattle.wb_space.specs.Blocks.{state}
 use Rattle.wb_tree.specs.Mapping.{Mapping}
 use Rattle.wb_tree.specs.Edits.{IsChangedAt}
 use Rattle.wb_orders.specs.Orders.{AreOrders}
-use Rattle.wb_desk.specs.Desks.{DeskState, DeskInvariant, IsLive, Names, holdings}
+use Rattle.wb_desk.specs.Desks.{DeskState, DeskInvariant, holdings}
 use Rattle.wb_desk.specs.Calls.{released}
 use Rattle.wb_desk.specs.Entries.{MayMap, mapped, unmapped, entry_of}
 use Rattle.wb_desk.proofs.Entering.{entrance}
@@ -37,7 +36,7 @@ use Rattle.wb_tasks.specs.declared.step.Answer.{Answer}
 use Rattle.wb_tasks.specs.declared.step.DeviceStep.TheVariants.{Read as ReadExtent, Write as WriteExtent, Sync, ReadMetadata, WriteNode, WriteRoot}
 use Rattle.wb_tasks.specs.declared.step.DeskStep.TheVariants.{Map, Unmap, ReleaseOrder, BeginCommit, EndCommit}
 use Rattle.wb_tasks.specs.declared.step.Migration.{Migration}
-use Rattle.wb_tasks.specs.declared.step.Migration.TheVariants.{Promote, Demote}
+use Rattle.wb_tasks.specs.declared.step.Migration.TheVariants.{Demote}
 use Rattle.wb_tasks.specs.declared.step.Want.{Want}
 use Rattle.wb_tasks.specs.declared.step.Want.TheVariants.{Cell, Device, Desk, End}
 use Rattle.wb_tasks.specs.declared.step.Got.{Got}
@@ -48,39 +47,46 @@ use Rattle.wb_refines.specs.Translation.{number_of}
 use Rattle.wb_runs.specs.declared.job.Job.{Job}
 use Rattle.wb_runs.specs.declared.job.Job.TheVariants.{Migrate}
 use Rattle.wb_runs.specs.States.{Shape, State, Actor, Target, Stands}
-use Rattle.wb_runs.specs.Happenings.{Chosen, Plain, Asks, Gives, Falters, MayFailAt, DoesMap, DoesUnmap, DoesRelease, order_for}
+use Rattle.wb_runs.specs.Happenings.{Chosen, Plain, Asks, Gives, Falters, MayFailAt, DoesMap, DoesUnmap, DoesRelease}
 use Rattle.wb_runs.specs.Effects.{actor_then, dropped, replacing}
 use Rattle.wb_runs.specs.Headline.{place_of}
 use Rattle.wb_runs.specs.Holding.{TaskSuits}
 use Rattle.wb_runs.specs.Inside.{StepInside}
 use Rattle.wb_runs.specs.Clerk.{Notes, Doing, noted_step}
 use Rattle.wb_runs.proofs.Desks.{mapped_stands, unmapped_stands, released_for}
-use Rattle.wb_runs.proofs.Ordering.{held_of}
-use Rattle.wb_runs.proofs.Owning.{dropped_is}
 use Rattle.wb_runs.proofs.Images.{later_of}
 use Rattle.wb_runs.proofs.InsideRuns.{PlanInside, want_inside}
 use Rattle.wb_runs.proofs.Metadata.{AtDesk, unknowing, kept_readable}
-use Rattle.wb_link.specs.World.{World, after_all}
-use Rattle.wb_simulation.specs.Migrating.{AreOwned, SeesWhere}
+use Rattle.wb_link.specs.World.{after_all}
+use Rattle.wb_simulation.specs.Migrating.{SeesWhere}
 use Rattle.wb_simulation.specs.Steps.{IsOutside}
 use Rattle.wb_simulation.specs.Telling.{Carries}
 use Rattle.wb_simulation.specs.Worlds.{Agrees, Maps, Unmaps, GivesUp, FollowsBy}
 use Rattle.wb_simulation.proofs.Migrations.{migrations_followed}
 use Rattle.wb_simulation.proofs.Opening.{images_followed}
 use Rattle.wb_headline.specs.Desks.{orders_of, live_orders, DeskAgrees}
-use Rattle.wb_headline.specs.Seen.{Replacing, Waiting, order_seen, slots_seen, orders_seen, task_seen, actor_seen, actors_seen}
+use Rattle.wb_contents.specs.Volume.{Locations}
+use Rattle.wb_policy.specs.Law.{IsMappedAt}
+use Rattle.wb_link.specs.World.{Shared, removed}
+use Rattle.wb_orders.specs.Orders.{Orders, without_order}
+use Rattle.wb_desk.specs.Entries.{Removes, is_replacement}
+use Rattle.wb_space.specs.declared.block.Block.TheVariants.{Quarantined}
+use Rattle.wb_runs.proofs.Owning.{Owned}
+use Rattle.wb_simulation.specs.Carried.{IsOrderFor}
+use Rattle.wb_simulation.specs.Migrating.{EndsOrder}
+use Rattle.wb_simulation.specs.Worlds.{Turn, Stays, TurnedTo}
+use Rattle.wb_headline.specs.Desks.{block_there}
+use Rattle.wb_headline.proofs.Leaving.{keeps_so, leaves_from, left, none_waits, of_order, past, stands_so}
+use Rattle.wb_headline.proofs.Owned.{at_there, live_at}
 use Rattle.wb_headline.proofs.Carried.{own, looks_seal, looks_number}
 use Rattle.wb_headline.proofs.Carrying.{cells, read_done, read_fails, write_done, write_fails, map_refused, answers, carried_notes, sized_plain}
-use Rattle.wb_headline.proofs.Desking.{desk_maps, desk_releases, desk_unmaps, other_block}
+use Rattle.wb_headline.proofs.Desking.{desk_maps, desk_releases, desk_unmaps}
 use Rattle.wb_headline.proofs.Following.{size, most, Followed, Goes}
-use Rattle.wb_headline.proofs.Alike.{agrees_alike}
-use Rattle.wb_headline.proofs.Come.{come_over, come_released, named_seen}
-use Rattle.wb_headline.proofs.Owned.{IsHeld, are_owned, for_block, held_there, one_of_cache, only_held}
-use Rattle.wb_headline.proofs.Seen.{actors_turned, dropped_from, dropped_to, get_seen, only_of, orders_same, seen_of, slots_turned, true_not}
-use Rattle.wb_headline.proofs.Staging.{come_then, left, live_elsewhere, slots_then, stood, then_stages, unseen_then, waits_on}
+use Rattle.wb_headline.proofs.Owned.{for_block, only_held}
+use Rattle.wb_headline.proofs.Finding.{only_of}
 use Rattle.wb_runs.proofs.Located.{stands_alone, unmapped_there}
-use Rattle.wb_headline.proofs.Seeing.{orders_set, seal_tells_order, slots_many}
-use Rattle.wb_headline.proofs.Targets.{standing, actor_is, leads_on, unseen_turned}
+use Rattle.wb_headline.proofs.Seeing.{named, orders_set, seal_tells_order, slot_within}
+use Rattle.wb_headline.proofs.Targets.{standing, actor_is, leads_on}
 use Rattle.wb_headline.proofs.Whole.{Whole, Stepped_to, Faulted_to, at_target, held_tells}
 
 same_device : (device : Dev) (devices : Devices (List History)) → HoldsBlocks device → Rattle.wb_runs.specs.States.with_device device devices (Rattle.wb_devices.specs.Moving.device_in device devices) ≡ devices
@@ -105,42 +111,23 @@ module _ (P A : Type 0) (shape : Shape) (t : Target P) (commit : Option RunningC
   abbrev w : State P A
   w = at_target P A shape t commit devices actors
 
-  -- what is seen of orders and actors
   abbrev slots : List (Option Order)
-  slots = slots_seen f.phase.stages (live_orders t.desk)
+  slots = live_orders t.desk
 
-  abbrev seen : List Actor
-  seen = actors_seen f.phase.stages actors
-
-  abbrev x_seen : Actor
-  x_seen = actor_seen f.phase.stages x
-
-  there_seen : slice_get seen a ≡ Some x_seen
-  there_seen = get_seen f.phase.stages actors a x ex
-
-  agrees : Agrees (size P A shape) (most P A shape) t.words t.desk.space.committing slots devices seen f.site.world
+  agrees : Agrees (size P A shape) (most P A shape) t.words t.desk.space.committing slots devices actors f.site.world
   agrees = f.phase.agrees
-
-  are : AreOrders t.desk.orders
-  are = b.goes.known.is.orders
 
   kept : DeskInvariant unknowing t.desk
   kept = b.goes.known.is.kept
 
-  orders_owned : AreOwned slots seen
-  orders_owned = are_owned P t.desk actors are b.keeping.owned f.phase.stages
-
-  names : (c : ℕ) (q : Order) → slice_get slots c ≡ Some (Some q) → Names (holdings t.desk) (state t.desk.space.blocks c) c q
-  names = named_seen P t.desk f.phase.stages f.phase.come kept
-
   -- a step on a device or at the desk is a migration's own
   own_step : (next : Want) → next ≡ want plan → ((answer : Answer) → next ≢ End answer) → ((ws : List Want) → IsOutside (next ∷ ws) → ⊥) → (m : Migration) × (part : BlockRange) × IsOwnStep (OnBlock (Migrating m part)) next
-  own_step next e not out = own (size P A shape) (most P A shape) shape.geometry.origin_blocks t.words t.desk.space.committing slots devices seen f.site.world agrees a x_seen migration block plan there_seen (ap task_seen xt) suits next e not out
+  own_step next e not out = own (size P A shape) (most P A shape) shape.geometry.origin_blocks t.words t.desk.space.committing slots devices actors f.site.world agrees a x migration block plan ex xt suits next e not out
 
   -- where it looks at a seal or a number, the seal tells where its order has the block
-  sees : (step : CellStep) → Cell step ≡ want plan → SeesWhere t.words slots migration block step
-  sees (Look (SealWord o)) e = seal_tells_order P t.desk kept slots names t.words migration block (place_told (looks_seal (size P A shape) (most P A shape) shape.geometry.origin_blocks t.words t.desk.space.committing slots devices seen f.site.world agrees a x_seen migration block plan there_seen (ap task_seen xt) suits o e) (λ place dirty q. absurd (let bad : Cell (Look (SealWord o)) ≡ Cell (Seal block place dirty) = e ∙ q in cc)))
-  sees (Look (Number o)) e = seal_tells_order P t.desk kept slots names t.words migration block (place_told (looks_number (size P A shape) (most P A shape) shape.geometry.origin_blocks t.words t.desk.space.committing slots devices seen f.site.world agrees a x_seen migration block plan there_seen (ap task_seen xt) suits o e) (λ place dirty q. absurd (let bad : Cell (Look (Number o)) ≡ Cell (Seal block place dirty) = e ∙ q in cc)))
+  sees : (step : CellStep) → Cell step ≡ want plan → SeesWhere t.words slots f.site.world.shared.mapping migration block step
+  sees (Look (SealWord o)) e = seal_tells_order P t.desk kept slots (named P t.desk kept) t.words f.site.world.shared.mapping migration block (place_told (looks_seal (size P A shape) (most P A shape) shape.geometry.origin_blocks t.words t.desk.space.committing slots devices actors f.site.world agrees a x migration block plan ex xt suits o e) (λ place dirty q. absurd (let bad : Cell (Look (SealWord o)) ≡ Cell (Seal block place dirty) = e ∙ q in cc))) f.phase.desk.mapping
+  sees (Look (Number o)) e = seal_tells_order P t.desk kept slots (named P t.desk kept) t.words f.site.world.shared.mapping migration block (place_told (looks_number (size P A shape) (most P A shape) shape.geometry.origin_blocks t.words t.desk.space.committing slots devices actors f.site.world agrees a x migration block plan ex xt suits o e) (λ place dirty q. absurd (let bad : Cell (Look (Number o)) ≡ Cell (Seal block place dirty) = e ∙ q in cc))) f.phase.desk.mapping
   sees (Look Fail) e = tt
   sees (Look (LockWord o)) e = tt
   sees (Look (CountWord kind)) e = tt
@@ -160,156 +147,110 @@ module _ (P A : Type 0) (shape : Shape) (t : Target P) (commit : Option RunningC
 
   -- ---- an order is over
 
-  -- the actor then, and what is seen of it
+  are : AreOrders t.desk.orders
+  are = b.goes.known.is.orders
+
+  owned : Owned t.desk actors
+  owned = b.keeping.owned
+
   abbrev then_actor : OBlock → List Order → Actor
   then_actor bl awaiting = record x { task = Some (job, Rattle.wb_tasks.specs.Plan.after plan Done); orders = dropped bl x.orders; awaiting = awaiting }
 
-  abbrev then_there : OBlock → Actor
-  then_there bl = record x_seen { task = Some (job, Rattle.wb_tasks.specs.Plan.after plan Done); orders = dropped bl x_seen.orders }
+  abbrev s : Shared
+  s = f.site.world.shared
 
-  module _ (q : Order) (bl : OBlock) (of : is_of bl q ≡ true) (c : ℕ) (there : slice_get slots c ≡ Some (Some q)) (has : Contains x_seen.orders q) where
-    held : IsHeld t.desk f.phase.stages x q c
-    held = held_there P t.desk actors are b.keeping.owned f.phase.stages a x ex q bl of c there has
-
-    only : (p : Order) → Contains x.orders p → is_of bl p ≡ true → p ≡ held.order
-    only p h e = only_held P t.desk actors are b.keeping.owned f.phase.stages a x ex q bl of c there has held p (Contains-append_left x.orders x.awaiting p h) e
-
-    here_is : (o : Order) (l : IsLive t.desk o) → l.cache.0 ≡ c → o ≡ held.order
-    here_is o l e = one_of_cache P t.desk actors are b.keeping.owned o held.order l held.live (e ∙ sym held.at)
-
-    -- what this actor and the others keep is seen as before, whatever comes of the replacement on that cache block
-    mine_on : (r : Replacing) (o : Order) → Contains (dropped bl x.orders) o → order_seen (changed f.phase.stages c r) o ≡ order_seen f.phase.stages o
-    mine_on r o h =
-        let d = dropped_is bl x.orders o h in
-        let l = b.keeping.owned.live a x o ex (Contains-append_left x.orders x.awaiting o d.0) in
-        live_elsewhere P t.desk kept f.phase.stages c r o l (λ e. true_not (is_of bl o) (ap (is_of bl) (here_is o l e) ∙ seen_of f.phase.stages bl held.order q held.seen of) d.1)
-
-    others_on : (r : Replacing) (d : ℕ) (z : Actor) → d ≢ a → slice_get actors d ≡ Some z → orders_seen (changed f.phase.stages c r) z.orders ≡ orders_seen f.phase.stages z.orders
-    others_on r d z m e = orders_same f.phase.stages (changed f.phase.stages c r) z.orders (λ o h. (
-        let k = Contains-append_left z.orders z.awaiting o h in
-        let l = b.keeping.owned.live d z o e k in
-        live_elsewhere P t.desk kept f.phase.stages c r o l (λ i. m (b.keeping.owned.one d a z x o e ex k (subst (λ (p : Order). Contains (held_of x) p) (sym (here_is o l i)) (Contains-append_left x.orders x.awaiting held.order held.has))))))
-
-    -- what is seen of orders and actors then agrees, where at other cache blocks it is the same
-    agrees_then : (desk' : DeskState P) (stages' : ℕ → Replacing) (awaiting : List Order) (s' : World) → slots_seen stages' (live_orders desk') ≡ slice_set slots c None → ((o : Order) → Contains (dropped bl x.orders) o → order_seen stages' o ≡ order_seen f.phase.stages o) →
-        ((d : ℕ) (z : Actor) → d ≢ a → slice_get actors d ≡ Some z → orders_seen stages' z.orders ≡ orders_seen f.phase.stages z.orders) →
-        Agrees (size P A shape) (most P A shape) t.words t.desk.space.committing (slice_set slots c None) devices (slice_set seen a (then_there bl)) s' →
-        Agrees (size P A shape) (most P A shape) t.words t.desk.space.committing (slots_seen stages' (live_orders desk')) devices (actors_seen stages' (slice_set actors a (then_actor bl awaiting))) s'
-    agrees_then desk' stages' awaiting s' same_slots mine others g =
-        let to = dropped_to f.phase.stages bl x.orders held.order q held.seen of only in
-        let from = dropped_from f.phase.stages bl x.orders held.order q held.seen of only in
-        let alike = agrees_alike (dropped bl x_seen.orders) (orders_seen f.phase.stages (dropped bl x.orders)) to from (then_there bl) (size P A shape) (most P A shape) t.words t.desk.space.committing (slice_set slots c None) devices seen a x_seen there_seen s' g in
-        let same_orders = orders_same f.phase.stages stages' (dropped bl x.orders) mine in
-        let y_same : record (then_there bl) { orders = orders_seen f.phase.stages (dropped bl x.orders) } ≡ actor_seen stages' (then_actor bl awaiting) = λ i. record (then_there bl) { orders = sym same_orders i } in
-        let actors_are : slice_set seen a (record (then_there bl) { orders = orders_seen f.phase.stages (dropped bl x.orders) }) ≡ actors_seen stages' (slice_set actors a (then_actor bl awaiting)) = ap (λ (v : Actor). slice_set seen a v) y_same ∙ sym (actors_turned f.phase.stages stages' actors a (then_actor bl awaiting) others) in
-        subst (λ (os : List (Option Order)). Agrees (size P A shape) (most P A shape) t.words t.desk.space.committing os devices (actors_seen stages' (slice_set actors a (then_actor bl awaiting))) s') (sym same_slots)
-        (subst (λ (those : List Actor). Agrees (size P A shape) (most P A shape) t.words t.desk.space.committing (slice_set slots c None) devices those s') actors_are alike)
-
-  -- the slots of a desk at which it is over
-  slots_over : (c : ℕ) → slots_seen f.phase.stages (orders_of (slice_set t.desk.orders.slots c None)) ≡ slice_set slots c None
-  slots_over c = ap (λ (os : List (Option Order)). slots_seen f.phase.stages os) (orders_set t.desk.orders.slots c None) ∙ slots_turned f.phase.stages f.phase.stages (live_orders t.desk) c None (λ i o n e. refl)
+  -- the desk and its orders turn, and whatever is read of the metadata stays
+  goes_to : (turn : Turn) (desk' : DeskState P) (y : Actor) (next : Want) (orders' : List (Option Order)) → actor_then {P = P} {A = A} shape (Stands t) devices x next Done ≡ y →
+      (g : FollowsBy turn Carries (size P A shape) (most P A shape) a f.site.world t.words desk'.space.committing orders' devices (slice_set actors a y)) → (TurnedTo turn s (after_all f.site.world g.records).shared → TurnedTo Stays s (after_all f.site.world g.records).shared) →
+      AtDesk shape.geometry b.goes.images desk' commit devices.metadata → orders' ≡ live_orders desk' → DeskAgrees desk' (after_all f.site.world g.records).shared →
+      Goes P A shape (record { devices = devices; commit = commit; phase = Stands (record { words = t.words; desk = desk' }); actors = slice_set actors a (actor_then {P = P} {A = A} shape (Stands t) devices x next Done) }) n
+  goes_to turn desk' y next orders' is g stays known' same desk =
+      let s' = (after_all f.site.world g.records).shared in
+      let turned = stays g.turned in
+      let readable = kept_readable shape.geometry b.goes.images devices.metadata P A (Stands t) commit b.goes.known in
+      subst (λ (v : Actor). Goes P A shape (record { devices = devices; commit = commit; phase = Stands (record { words = t.words; desk = desk' }); actors = slice_set actors a v }) n) (sym is)
+      (leads_on P A shape b.goes.images t commit devices actors n b.goes.known f a x ex turn Carries (record { words = t.words; desk = desk' }) commit devices (slice_set actors a y) n b.goes.images orders' g tt
+      (carried_notes P A shape b.goes.images t commit devices actors n b.goes.known f a x ex turn t.words desk'.space.committing orders' devices (slice_set actors a y) g)
+      (sized_plain P A shape b.goes.images t commit devices actors n b.goes.known f a x ex y) known' same desk
+      (images_followed.stay shape.geometry b.goes.images.committed (later_of b.goes.images) devices.metadata devices.metadata s s' f.phase.images_agree turned readable.read)
+      (λ state e. turned.1 ∙ f.phase.running state e))
 
   -- a block that was promoted is mapped
   maps_on : (bl : OBlock) (c : CBlock) (tree : Mapping) (policy : P) (read : List Bytes) → MayMap t.desk bl c → IsChangedAt t.desk.tree tree c.0 (Some (entry_of bl)) → Desk (Map bl c) ≡ want plan → To (Desk (Map bl c)) Done read (Asks (mapped t.desk c tree policy))
   maps_on bl c tree policy read may changed next =
-      let y = then_actor bl x.awaiting in
       let desk' = mapped t.desk c tree policy in
-      let law = migrations_followed.maps (size P A shape) (most P A shape) shape.geometry.origin_blocks t.words t.desk.space.committing slots devices seen a x_seen migration block bl c plan f.site.world orders_owned there_seen (ap task_seen xt) suits (sym next) agrees in
-      let g = subst (λ (k : OBlock). FollowsBy (Maps k.0 c.0) (Carries (length seen)) (size P A shape) (most P A shape) a f.site.world t.words t.desk.space.committing (slice_set slots c.0 None) devices (slice_set seen a (then_there bl))) (sym law.1) law.2.follows in
-      let s = f.site.world.shared in
-      let s' = (after_all f.site.world g.records).shared in
-      let room = slice_get_within t.desk.space.blocks c.0 Reserved may.reserved in
       let en = entrance unknowing t.desk bl c kept may in
-      let readable = kept_readable shape.geometry b.goes.images devices.metadata P A (Stands t) commit b.goes.known in
-      subst (λ (v : Actor). Goes P A shape (record { devices = devices; commit = commit; phase = Stands (record { words = t.words; desk = desk' }); actors = slice_set actors a v }) n) (sym (actor_is P A shape (Stands t) devices x job plan (Desk (Map bl c)) Done xt))
-      (leads_on P A shape b.goes.images t commit devices actors n b.goes.known f a x ex (Maps bl.0 c.0) (Carries (length seen)) (record { words = t.words; desk = desk' }) commit devices (slice_set actors a y) n b.goes.images f.phase.stages (slice_set slots c.0 None) (slice_set seen a (then_there bl)) g tt
-      (carried_notes P A shape b.goes.images t commit devices actors n b.goes.known f a x ex (Maps bl.0 c.0) t.words t.desk.space.committing (slice_set slots c.0 None) devices (slice_set seen a (then_there bl)) g)
-      (sized_plain P A shape b.goes.images t commit devices actors n b.goes.known f a x ex y)
-      (mapped_stands P shape.geometry b.goes.images t.desk commit devices.metadata bl c tree policy b.goes.known may changed)
-      (agrees_then (PromoteOrder block c) bl (for_block (Promote c) block bl law.1) c.0 law.2.live law.2.mine desk' f.phase.stages x.awaiting (after_all f.site.world g.records) (slots_over c.0) (λ o h. refl) (λ d z m e. refl) g.agrees)
-      (subst (λ (os : List (Option Order)). DeskAgrees desk' os s') (sym (slots_over c.0))
-      (desk_maps P t.desk slots s s' f.phase.desk bl c tree policy room (let l = en.inside in let m = kept.mapping.size in omega (arith, l, m)) (unmapped_there P t.desk kept bl.0 en.unmapped) en.none changed g.desk.0 g.desk.1))
-      (come_over P t.desk f.phase.stages f.phase.come desk' c.0 (orders_set t.desk.orders.slots c.0 None) (other_block t.desk.space.blocks c.0 Mapped))
-      (unseen_turned f.phase.stages actors a y (λ o h. f.phase.unseen a x ex o h) (λ d z m e o h. f.phase.unseen d z e o h))
-      (images_followed.stay shape.geometry b.goes.images.committed (later_of b.goes.images) devices.metadata devices.metadata s s' f.phase.images_agree g.turned readable.read)
-      (λ state e. g.turned.1 ∙ f.phase.running state e))
+      let free = ap (λ (m : Locations). m bl.0) f.phase.desk.mapping ∙ unmapped_there P t.desk kept bl.0 en.unmapped in
+      let law = migrations_followed.maps (size P A shape) (most P A shape) shape.geometry.origin_blocks t.words t.desk.space.committing slots devices actors a x migration block bl c plan f.site.world ex xt suits (sym next) free agrees in
+      let over = law.2 in
+      let g = subst (λ (k : OBlock). FollowsBy (Maps k.0 c.0) Carries (size P A shape) (most P A shape) a f.site.world t.words t.desk.space.committing (slice_set slots c.0 None) devices (slice_set actors a (then_actor bl x.awaiting))) (sym law.1) over.2.follows in
+      let room = slice_get_within t.desk.space.blocks c.0 Reserved may.reserved in
+      goes_to (Maps bl.0 c.0) desk' (then_actor bl x.awaiting) (Desk (Map bl c)) (slice_set slots c.0 None) (actor_is P A shape (Stands t) devices x job plan (Desk (Map bl c)) Done xt) g (λ d. d)
+      (mapped_stands P shape.geometry b.goes.images t.desk commit devices.metadata bl c tree policy b.goes.known may changed) (sym (orders_set t.desk.orders.slots c.0 None))
+      (desk_maps P t.desk s (after_all f.site.world g.records).shared f.phase.desk bl c tree policy room (let l = en.inside in let m = kept.mapping.size in omega (arith, l, m)) (unmapped_there P t.desk kept bl.0 en.unmapped) en.none changed g.desk.0 g.desk.1)
 
   -- one that was demoted leaves, or one that another is to follow
+  module _ (bl : OBlock) (read : List Bytes) (new : DeskState P) (next : Desk (Unmap bl) ≡ want plan) (did : DidUnmap (λ policy o. new.policy) bl t.desk new) (same : bl ≡ block) where
+    abbrev away : Actor
+    away = then_actor bl (replacing bl x.orders ++ x.awaiting)
+
+    module _ (c : ℕ) (o : Order) (live : slice_get slots c ≡ Some (Some o)) (mine : Contains x.orders o) (removes : Removes o) (at : IsMappedAt (holdings t.desk) bl.0 c) (of : is_of bl o ≡ true) where
+      leaves_to : (v : Bool) → is_replacement o ≡ v → (after_it : Option ℕ) → block_there (Quarantined v false) ≡ removed after_it → (orders' : List (Option Order)) → orders' ≡ orders_of (if v then t.desk.orders else without_order t.desk.orders (record { 0 = c })).slots →
+          FollowsBy (Unmaps block.0 c after_it) Carries (size P A shape) (most P A shape) a f.site.world t.words t.desk.space.committing orders' devices (slice_set actors a (then_actor bl (replacing bl x.orders ++ x.awaiting))) → To (Desk (Unmap bl)) Done read (Asks new)
+      leaves_to v r after_it there orders' orders_are follows =
+          let parted = b.keeping.parted a x ex in
+          let gone = left P t.desk kept actors are owned a x ex parted bl c o live mine removes at of new did in
+          let alone = stands_alone P t.desk kept bl.0 c at in
+          let desk' = unmapped t.desk (record { 0 = c }) new.tree new.policy in
+          let g = subst (λ (k : OBlock). FollowsBy (Unmaps k.0 c after_it) Carries (size P A shape) (most P A shape) a f.site.world t.words t.desk.space.committing orders' devices (slice_set actors a away)) (sym same) follows in
+          let room = slice_get_within t.desk.space.blocks c Mapped (mapped_state unknowing t.desk bl.0 c kept at) in
+          subst (λ (k : DeskState P). To (Desk (Unmap bl)) Done read (Asks k)) (sym gone.1)
+          (goes_to (Unmaps bl.0 c after_it) desk' away (Desk (Unmap bl)) orders' (actor_is P A shape (Stands t) devices x job plan (Desk (Unmap bl)) Done xt) g (λ d. d)
+          (subst (λ (k : DeskState P). AtDesk shape.geometry b.goes.images k commit devices.metadata) gone.1 (unmapped_stands P shape.geometry b.goes.images t.desk commit devices.metadata bl new b.goes.known did))
+          (orders_are ∙ ap (λ (os : Orders). orders_of os.slots) (sym (past P t.desk kept actors are owned a x ex parted bl c o live mine removes at of v r)))
+          (desk_unmaps P t.desk s (after_all f.site.world g.records).shared f.phase.desk bl.0 (record { 0 = c }) alone.0 new.tree new.policy after_it
+          (ap (λ (k : Bool). block_there (Quarantined k false)) (keeps_so P t.desk kept actors are owned a x ex parted bl c o live mine removes at of v r) ∙ there) room alone.1 gone.0 g.desk.0 g.desk.1))
+
   unmaps_on : (bl : OBlock) (read : List Bytes) (new : DeskState P) → Desk (Unmap bl) ≡ want plan → DidUnmap (λ policy o. new.policy) bl t.desk new → To (Desk (Unmap bl)) Done read (Asks new)
   unmaps_on bl read new next did =
-      let law = migrations_followed.unmaps (size P A shape) (most P A shape) shape.geometry.origin_blocks t.words t.desk.space.committing slots devices seen a x_seen migration block bl plan f.site.world orders_owned there_seen (ap task_seen xt) suits (sym next) agrees in
+      let leaving = leaves_from P t.desk kept s f.phase.desk in
+      let law = migrations_followed.unmaps (size P A shape) (most P A shape) shape.geometry.origin_blocks t.words t.desk.space.committing slots devices actors a x migration block bl plan f.site.world ex xt suits (sym next) (leaving bl) agrees in
+      let same : bl ≡ block = law.1 in
       let c = law.2.0 in
-      let live = law.2.1.live in
-      let mine = law.2.1.mine in
-      let owned = b.keeping.owned in
-      let parted = b.keeping.parted a x ex in
-      let t_held = held (DemoteOrder block) bl (for_block Demote block bl law.1) c live mine in
-      let y = then_actor bl (replacing bl x.orders ++ x.awaiting) in
-      let stages' = then_stages P t.desk kept f.phase.stages f.phase.come actors are owned a x ex parted block c live mine t_held in
-      let at = stood P t.desk kept f.phase.stages f.phase.come actors are owned a x ex parted block c live mine t_held in
-      let gone = left P t.desk kept f.phase.stages f.phase.come actors are owned a x ex parted block c live mine t_held new (subst (λ (k : OBlock). DidUnmap (λ policy o. new.policy) k t.desk new) law.1 did) in
-      let alone = stands_alone P t.desk kept block.0 c at in
-      let desk' = unmapped t.desk (record { 0 = c }) new.tree new.policy in
-      let g = law.2.1.follows in
-      let s = f.site.world.shared in
-      let s' = (after_all f.site.world g.records).shared in
-      let room = slice_get_within t.desk.space.blocks c Mapped (mapped_state unknowing t.desk block.0 c kept at) in
-      let readable = kept_readable shape.geometry b.goes.images devices.metadata P A (Stands t) commit b.goes.known in
-      let same_slots = slots_then P t.desk kept f.phase.stages f.phase.come actors are owned a x ex parted block c live mine t_held in
-      subst (λ (k : DeskState P). To (Desk (Unmap bl)) Done read (Asks k)) (sym gone.1)
-      (subst (λ (v : Actor). Goes P A shape (record { devices = devices; commit = commit; phase = Stands (record { words = t.words; desk = desk' }); actors = slice_set actors a v }) n) (sym (actor_is P A shape (Stands t) devices x job plan (Desk (Unmap bl)) Done xt))
-      (leads_on P A shape b.goes.images t commit devices actors n b.goes.known f a x ex (Unmaps block.0 c) (Carries (length seen)) (record { words = t.words; desk = desk' }) commit devices (slice_set actors a y) n b.goes.images stages' (slice_set slots c None) (slice_set seen a (then_there bl)) g tt
-      (carried_notes P A shape b.goes.images t commit devices actors n b.goes.known f a x ex (Unmaps block.0 c) t.words t.desk.space.committing (slice_set slots c None) devices (slice_set seen a (then_there bl)) g)
-      (sized_plain P A shape b.goes.images t commit devices actors n b.goes.known f a x ex y)
-      (subst (λ (k : DeskState P). AtDesk shape.geometry b.goes.images k commit devices.metadata) gone.1 (unmapped_stands P shape.geometry b.goes.images t.desk commit devices.metadata bl new b.goes.known did))
-      (agrees_then (DemoteOrder block) bl (for_block Demote block bl law.1) c live mine desk' stages' (replacing bl x.orders ++ x.awaiting) (after_all f.site.world g.records) same_slots
-      (mine_on (DemoteOrder block) bl (for_block Demote block bl law.1) c live mine Waiting) (others_on (DemoteOrder block) bl (for_block Demote block bl law.1) c live mine Waiting)
-      g.agrees)
-      (subst (λ (os : List (Option Order)). DeskAgrees desk' os s') (sym same_slots)
-      (desk_unmaps P t.desk slots s s' f.phase.desk block.0 (record { 0 = c }) alone.0 new.tree new.policy room alone.1 gone.0 g.desk.0 g.desk.1))
-      (come_then P t.desk kept f.phase.stages f.phase.come actors are owned a x ex parted block c live mine t_held new.tree new.policy)
-      (unseen_turned stages' actors a y
-      (λ o h. elim (Contains-append_cases (replacing bl x.orders) x.awaiting o h) [
-        | inl r ↦ unseen_then P t.desk kept f.phase.stages f.phase.come actors are owned a x ex parted block c live mine t_held bl law.1 o r
-        | inr w ↦ waits_on f.phase.stages c o (f.phase.unseen a x ex o w)
-      ])
-      (λ d z m e o h. waits_on f.phase.stages c o (f.phase.unseen d z e o h)))
-      (images_followed.stay shape.geometry b.goes.images.committed (later_of b.goes.images) devices.metadata devices.metadata s s' f.phase.images_agree g.turned readable.read)
-      (λ state e. g.turned.1 ∙ f.phase.running state e)))
+      elim law.2.1 [
+        | inl d ↦ (
+            let parted = b.keeping.parted a x ex in
+            let at = subst (λ (k : OBlock). IsMappedAt (holdings t.desk) k.0 c) (sym same) (stands_so P t.desk kept s f.phase.desk block.0 c (leaving block c None (DemoteOrder block) d.live (inl (refl, refl)) (λ no. absurd (no refl)))) in
+            let of = for_block Demote block bl same in
+            let none = none_waits P t.desk kept actors are owned a x ex parted bl c (DemoteOrder block) d.live d.mine tt at of refl in
+            leaves_to bl read new next did same c (DemoteOrder block) d.live d.mine tt at of false refl None refl (slice_set slots c None) (sym (orders_set t.desk.orders.slots c None))
+            (subst (λ (os : List Order). FollowsBy (Unmaps block.0 c None) Carries (size P A shape) (most P A shape) a f.site.world t.words t.desk.space.committing (slice_set slots c None) devices (slice_set actors a (then_actor bl (os ++ x.awaiting)))) (sym none) d.follows))
+        | inr d ↦ leaves_to bl read new next did same c (ReplaceOrder block d.new d.k) d.live d.mine tt (subst (λ (k : OBlock). IsMappedAt (holdings t.desk) k.0 c) (sym same) (stands_so P t.desk kept s f.phase.desk block.0 c d.stood))
+            (subst (λ (k : OBlock). is_of k (ReplaceOrder block d.new d.k) ≡ true) (sym same) (of_order Demote block (Some d.new.0) (ReplaceOrder block d.new d.k) (inr (refl, refl)))) true refl (Some d.new.0) refl slots refl d.follows
+      ]
 
   -- an order is given up
   releases_on : (bl : OBlock) (read : List Bytes) (new : DeskState P) → Desk (ReleaseOrder bl) ≡ want plan → DidRelease x.orders bl t.desk new → To (Desk (ReleaseOrder bl)) Done read (Asks new)
   releases_on bl read new next d =
-      let y = then_actor bl x.awaiting in
-      let law = migrations_followed.gives_up (size P A shape) (most P A shape) shape.geometry.origin_blocks t.words t.desk.space.committing slots devices seen a x_seen migration block bl plan f.site.world orders_owned there_seen (ap task_seen xt) suits (sym next) agrees in
-      let c = law.1.0 in
-      let q = order_for migration block in
-      let of = for_block migration block bl law.0 in
-      let h = held q bl of c law.1.1.live law.1.1.mine in
-      let found = only_of bl x.orders h.order h.has (seen_of f.phase.stages bl h.order q h.seen of) (only q bl of c law.1.1.live law.1.1.mine) in
-      let is : new ≡ released t.desk (record { 0 = c }) = (subst (λ (o : Option Order). IsGivenUp o t.desk new) found d).0 h.live ∙ ap (λ (k : ℕ). released t.desk (record { 0 = k })) h.at in
-      let desk' = released t.desk (record { 0 = c }) in
-      let g = law.1.1.follows in
-      let s = f.site.world.shared in
-      let s' = (after_all f.site.world g.records).shared in
-      let inside = slice_get_within slots c (Some q) law.1.1.live in
-      let many_slots = kept.slots in
-      let many_blocks = kept.blocks in
-      let many_seen = slots_many f.phase.stages t.desk.orders.slots in
-      let readable = kept_readable shape.geometry b.goes.images devices.metadata P A (Stands t) commit b.goes.known in
-      subst (λ (k : DeskState P). To (Desk (ReleaseOrder bl)) Done read (Asks k)) (sym is)
-      (subst (λ (v : Actor). Goes P A shape (record { devices = devices; commit = commit; phase = Stands (record { words = t.words; desk = desk' }); actors = slice_set actors a v }) n) (sym (actor_is P A shape (Stands t) devices x job plan (Desk (ReleaseOrder bl)) Done xt))
-      (leads_on P A shape b.goes.images t commit devices actors n b.goes.known f a x ex (GivesUp c) (Carries (length seen)) (record { words = t.words; desk = desk' }) commit devices (slice_set actors a y) n b.goes.images f.phase.stages (slice_set slots c None) (slice_set seen a (then_there bl)) g tt
-      (carried_notes P A shape b.goes.images t commit devices actors n b.goes.known f a x ex (GivesUp c) t.words t.desk.space.committing (slice_set slots c None) devices (slice_set seen a (then_there bl)) g)
-      (sized_plain P A shape b.goes.images t commit devices actors n b.goes.known f a x ex y)
-      (subst (λ (k : DeskState P). AtDesk shape.geometry b.goes.images k commit devices.metadata) is (released_for P shape.geometry b.goes.images t.desk commit devices.metadata new (order_found bl x.orders) b.goes.known d))
-      (agrees_then q bl of c law.1.1.live law.1.1.mine desk' f.phase.stages x.awaiting (after_all f.site.world g.records) (slots_over c) (λ o k. refl) (λ k z m e. refl) g.agrees)
-      (subst (λ (os : List (Option Order)). DeskAgrees desk' os s') (sym (slots_over c))
-      (desk_releases P t.desk slots s s' f.phase.desk (record { 0 = c }) q (omega (arith, inside, many_seen, many_slots, many_blocks)) inside (get_or_from_slice_get slots c (Some q) None law.1.1.live) g.desk.0 g.desk.1))
-      (come_released P t.desk f.phase.stages f.phase.come (record { 0 = c }))
-      (unseen_turned f.phase.stages actors a y (λ o k. f.phase.unseen a x ex o k) (λ k z m e o r. f.phase.unseen k z e o r))
-      (images_followed.stay shape.geometry b.goes.images.committed (later_of b.goes.images) devices.metadata devices.metadata s s' f.phase.images_agree g.turned readable.read)
-      (λ state e. g.turned.1 ∙ f.phase.running state e)))
+      let law = migrations_followed.gives_up (size P A shape) (most P A shape) shape.geometry.origin_blocks t.words t.desk.space.committing slots devices actors a x migration block bl plan f.site.world ex xt suits (sym next) agrees in
+      by law.0 law.1
+    where
+      by : bl ≡ block → ((c : ℕ) × (after_it : Option ℕ) × (order : Order) × IsOrderFor migration block after_it order × EndsOrder (GivesUp c) c (size P A shape) (most P A shape) a f.site.world t.words t.desk.space.committing slots devices actors x (then_actor bl x.awaiting) order) → To (Desk (ReleaseOrder bl)) Done read (Asks new)
+      by same (c, after_it, order, of, ends) =
+          let held = Contains-append_left x.orders x.awaiting order ends.mine in
+          let l = live_at P t.desk actors are owned a x ex order c ends.live held in
+          let at : l.cache.0 ≡ c = at_there P t.desk actors are owned a x ex order c ends.live held in
+          let is_its : is_of bl order ≡ true = ap (λ (k : OBlock). is_of k order) same ∙ of_order migration block after_it order of in
+          let found = only_of bl x.orders order ends.mine is_its (λ p h i. only_held P t.desk actors are owned a x ex order c ends.live held bl is_its p (Contains-append_left x.orders x.awaiting p h) i) in
+          let is : new ≡ released t.desk (record { 0 = c }) = (subst (λ (o : Option Order). IsGivenUp o t.desk new) found d).0 l ∙ ap (λ (k : ℕ). released t.desk (record { 0 = k })) at in
+          let inside = slot_within t.desk.orders.slots l.cache.0 l.live l.there in
+          let many_slots = kept.slots in
+          let many_blocks = kept.blocks in
+          let g = ends.follows in
+          subst (λ (k : DeskState P). To (Desk (ReleaseOrder bl)) Done read (Asks k)) (sym is)
+          (goes_to (GivesUp c) (released t.desk (record { 0 = c })) (then_actor bl x.awaiting) (Desk (ReleaseOrder bl)) (slice_set slots c None) (actor_is P A shape (Stands t) devices x job plan (Desk (ReleaseOrder bl)) Done xt) g (λ v. v)
+          (subst (λ (k : DeskState P). AtDesk shape.geometry b.goes.images k commit devices.metadata) is (released_for P shape.geometry b.goes.images t.desk commit devices.metadata new (order_found bl x.orders) b.goes.known d))
+          (sym (orders_set t.desk.orders.slots c None)) (desk_releases P t.desk s (after_all f.site.world g.records).shared f.phase.desk (record { 0 = c }) (omega (arith, inside, at, many_slots, many_blocks)) g.desk.0 g.desk.1))
 
   by_map : (bl : OBlock) (c : CBlock) (got : Got) (read : List Bytes) (chosen : Chosen P A) → Desk (Map bl c) ≡ want plan → DoesMap bl c t.desk got chosen → To (Desk (Map bl c)) got read chosen
   by_map bl c Done read (Asks new) e d = subst (λ (v : DeskState P). To (Desk (Map bl c)) Done read (Asks v)) (sym d.2) (maps_on bl c new.tree new.policy read d.0 d.1 e)

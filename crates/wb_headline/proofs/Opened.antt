@@ -1,5 +1,5 @@
 -- An opening that is answered is followed.
-use Rattle.std.proofs.Common.{◌≡◌, ◌∙◌, ◌≤◌, ◌+◌, ◌*◌, ◌^◌, inl, inr, ℕ, true, false, List, Option, Some, None, refl, sym, ap, subst, arith, length, map, replicate, slice_get, slice_set, Contains}
+use Rattle.std.proofs.Common.{◌≡◌, ◌∙◌, ◌≤◌, ◌^◌, inl, inr, ℕ, true, false, List, Option, Some, None, refl, sym, ap, subst, arith, length, map, replicate, slice_get, slice_set, Contains}
 use Rattle.std.proofs.lemmas.List.{length-replicate, length-set, length-map}
 use Rattle.wb_types.proofs.Lists.{set_cases}
 use Rattle.wb_types.specs.declared.entry.Entry.{Entry}
@@ -44,21 +44,14 @@ use Rattle.wb_simulation.specs.Sites.{DevicesAgree, IsRunning}
 use Rattle.wb_simulation.specs.Worlds.{zeros, Agrees}
 use Rattle.wb_simulation.proofs.Noted.{notes_followed}
 use Rattle.wb_simulation.proofs.Opened.{opened_followed}
-use Rattle.wb_headline.specs.Desks.{block_there, slot_at, live_orders}
-use Rattle.wb_headline.specs.Seen.{Replacing, Leaving, slots_seen, task_seen, actors_seen}
-use Rattle.wb_headline.proofs.Seen.{seen_here, seen_many, vacant_seen}
-use Rattle.wb_runs.proofs.Lists.{replicated}
+use Rattle.wb_headline.specs.Desks.{block_there, live_orders}
 use Rattle.wb_headline.proofs.Events.{Reached, event_reaches}
 use Rattle.wb_headline.proofs.Unclean.{NeverClean, event_on}
-use Rattle.wb_headline.proofs.Following.{NoneIsSeen, HasReadAt, IsOver, many, size, most, Followed, Goes}
+use Rattle.wb_headline.proofs.Following.{HasReadAt, IsOver, many, size, most, Followed, Goes}
 use Rattle.wb_headline.proofs.Arriving.{SameSectors, sized_so, rests, gone}
 use Rattle.wb_headline.proofs.Allowed.{shows_allowed, length-rising}
 use Rattle.wb_headline.proofs.Showing.{state_allowed}
-use Rattle.wb_headline.proofs.Answering.{no_orders_live, opened_state, opened_there, view_of, answer_of, answer_may, opened_site, answer_leads, shown_view}
-
--- no replacement has come far where there is none
-abbrev pub at_first : ℕ → Replacing
-at_first c = Leaving
+use Rattle.wb_headline.proofs.Answering.{no_orders_live, opened_state, view_of, answer_of, answer_may, opened_site, answer_leads, shown_view}
 
 module _ (P A : Type 0) (shape : Shape) (images : Images) (devices : Devices (List History)) (commit : Option RunningCommit) (mode : Mode) (reading : Option (ReadSteps A)) (actors : List Actor) (n : Notes) where
   abbrev w : State P A
@@ -142,31 +135,25 @@ module _ (P A : Type 0) (shape : Shape) (images : Images) (devices : Devices (Li
           (map newest devices.cache) (map newest devices.origin) (read-left devices.cache) (read-left devices.origin)
 
       abbrev blocks_now : ℕ → Rattle.wb_link.specs.World.Block
-      blocks_now k = block_there (opened_state tree k) None
+      blocks_now k = block_there (opened_state tree k)
 
       abbrev site_now : Site
       site_now = opened_site f.site i tree
 
-      none_seen : slots_seen at_first (live_orders (target_over shape mode policy stored).desk) ≡ replicate shape.geometry.cache_blocks None
-      none_seen = ap (λ (os : List (Option Order)). slots_seen at_first os) (no_orders_live shape.geometry.cache_blocks) ∙ vacant_seen at_first shape.geometry.cache_blocks
-
-      rest_seen : (b : ℕ) (z : Actor) → slice_get (actors_seen at_first (slice_set actors a y)) b ≡ Some z → z.task ≡ None
-      rest_seen b z e = (let v = seen_here at_first (slice_set actors a y) b z e in ap (λ (u : Actor). u.task) v.2 ∙ ap task_seen (at_rest b v.0 v.1))
-
-      agrees_now : Agrees (size P A shape) (most P A shape) (target_over shape mode policy stored).words false (slots_seen at_first (live_orders (target_over shape mode policy stored).desk)) devices (actors_seen at_first (slice_set actors a y)) site_now.world
+      agrees_now : Agrees (size P A shape) (most P A shape) (target_over shape mode policy stored).words false (live_orders (target_over shape mode policy stored).desk) devices (slice_set actors a y) site_now.world
       agrees_now =
-          let many_then : length (actors_seen at_first (slice_set actors a y)) + length (actors_seen at_first (slice_set actors a y)) * shape.geometry.cache_blocks ≡ length f.site.world.actors = ap (λ k. k + k * shape.geometry.cache_blocks) (seen_many at_first (slice_set actors a y) ∙ length-set actors a y ∙ f.sized.actors_many) ∙ sym f.as_many in
+          let many_then : length (slice_set actors a y) ≡ length f.site.world.actors = length-set actors a y ∙ f.sized.actors_many ∙ sym f.as_many in
           let few : shape.geometry.cache_blocks ≤ 2 ^ 32 = (let l = shape.geometry.within.cache_to in omega (arith, l)) in
-          subst (λ (os : List (Option Order)). Agrees (size P A shape) (most P A shape) (target_over shape mode policy stored).words false os devices (actors_seen at_first (slice_set actors a y)) site_now.world) (sym none_seen)
-          (subst (λ (k : ℕ). Agrees (size P A shape) (most P A shape) (target_over shape mode policy stored).words false (replicate shape.geometry.cache_blocks None) devices (actors_seen at_first (slice_set actors a y)) (record { shared = opened_on f.site.world.shared Writeback i blocks_now; actors = replicate k idle })) many_then
-          (opened_followed (size P A shape) (most P A shape) shape.geometry.origin_blocks shape.geometry.cache_blocks stored.root.clean tree i blocks_now f.site.world.shared devices (actors_seen at_first (slice_set actors a y)) mapping few rd.0.bare rd.0.same rd.0.unclean d.origin d.cache rest_seen))
+          subst (λ (os : List (Option Order)). Agrees (size P A shape) (most P A shape) (target_over shape mode policy stored).words false os devices (slice_set actors a y) site_now.world) (sym (no_orders_live shape.geometry.cache_blocks))
+          (subst (λ (k : ℕ). Agrees (size P A shape) (most P A shape) (target_over shape mode policy stored).words false (replicate shape.geometry.cache_blocks None) devices (slice_set actors a y) (record { shared = opened_on f.site.world.shared Writeback i blocks_now; actors = replicate k idle; waiting = λ c. None })) many_then
+          (opened_followed (size P A shape) (most P A shape) shape.geometry.origin_blocks shape.geometry.cache_blocks stored.root.clean tree i blocks_now f.site.world.shared devices (slice_set actors a y) mapping few rd.0.bare rd.0.same rd.0.unclean d.origin d.cache at_rest))
 
       -- the seals tell where the tree has each block
       pub opened_tells : (block : OBlock) → number_of (place_in (word_at (target_over shape mode policy stored).words.seals block)) ≡ place_of tree block.0
       opened_tells block = sym (agrees_now.words_agree.seals block).location ∙ ap (λ (l : ℕ → Option ℕ). l block.0) rd.0.same
 
-      pub opened_goes : NoneIsSeen at_first (slice_set actors a y) → Goes P A shape stands_now (begins (length n.doings) shown_now)
-      opened_goes unseen =
+      pub opened_goes : Goes P A shape stands_now (begins (length n.doings) shown_now)
+      opened_goes =
           let may = answer_may (size P A shape) f.site i tree ph rd.0.same in
           let leads = answer_leads f.site i tree ph in
           let readable = kept_readable shape.geometry one.now devices.metadata P A (Stands (target_over shape mode policy stored)) None one.kept in
@@ -188,11 +175,8 @@ module _ (P A : Type 0) (shape : Shape) (images : Images) (devices : Devices (Li
               };
               phase = record {
                 phase_is = refl;
-                stages = at_first;
                 agrees = agrees_now;
-                desk = record { mapping = rd.0.same; blocks = λ c. opened_there tree c (slot_at (slots_seen at_first (live_orders (target_over shape mode policy stored).desk)) c) };
-                come = λ c o e. absurd (let none = replicated shape.geometry.cache_blocks c None (Some o) (ap (λ (os : List (Option Order)). slice_get os c) (sym (no_orders_live shape.geometry.cache_blocks)) ∙ e) in cc);
-                unseen = unseen;
+                desk = record { mapping = rd.0.same; blocks = λ c. refl };
                 images_agree = record {
                   read = readable.read;
                   committed_is = rd.0.same ∙ ap (λ es. located es) (sym one.entries_are);

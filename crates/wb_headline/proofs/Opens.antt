@@ -1,5 +1,5 @@
 -- Whatever step an opening takes, done or failing, it is followed.
-use Rattle.std.proofs.Common.{◌≡◌, ◌∙◌, ◌⊎◌, inl, inr, ℕ, Bool, true, false, List, [], Option, Some, None, refl, sym, ap, subst, length, slice_get, slice_set, arith, Contains}
+use Rattle.std.proofs.Common.{◌≡◌, ◌∙◌, ◌⊎◌, inl, inr, ℕ, Bool, true, false, List, [], Option, Some, None, refl, sym, ap, subst, length, slice_get, slice_set}
 use Rattle.wb_types.specs.declared.mode.Mode.{Mode}
 use Rattle.wb_types.specs.declared.mode.Mode.TheVariants.{Writeback}
 use Rattle.wb_types.specs.declared.mode.Dev.TheVariants.{Metadata, Cache, Origin}
@@ -31,12 +31,10 @@ use Rattle.wb_runs.proofs.Underway.{sync_does, sync_fails, put_fails}
 use Rattle.wb_runs.proofs.Metadata.{MetadataKept}
 use Rattle.wb_runs.proofs.Linking.{AtPhase}
 use Rattle.wb_link.specs.Openings.{Opens as OpensThere, Stage, Settling, Caching, Basing, Looking, Rooting, Renewing, Answering}
-use Rattle.wb_headline.proofs.Following.{NoneIsSeen, opening_at, HasReadAt, AtStage, IsOver, Followed, Goes}
+use Rattle.wb_headline.proofs.Following.{opening_at, HasReadAt, AtStage, IsOver, Followed, Goes}
 use Rattle.wb_headline.proofs.Opening.{settle_done, settle_fails, cache_done, cache_fails, origin_done, origin_fails, looks, look_fails, root_done, root_fails, renew_done, renew_fails}
 use Rattle.wb_headline.proofs.Keeping.{NoOrders}
-use Rattle.wb_headline.proofs.Kept.{none_goes}
-use Rattle.wb_headline.proofs.Opened.{at_first, refused_goes, opened_goes}
-use Rattle.wb_policy.specs.declared.order.Order.{Order}
+use Rattle.wb_headline.proofs.Opened.{refused_goes, opened_goes}
 
 module _ (P A : Type 0) (shape : Shape) (images : Images) (devices : Devices (List History)) (commit : Option RunningCommit) (mode : Mode) (reading : Option (ReadSteps A)) (actors : List Actor) (n : Notes) where
   abbrev w : State P A
@@ -78,14 +76,9 @@ module _ (P A : Type 0) (shape : Shape) (images : Images) (devices : Devices (Li
           (renew_done P A shape images devices commit mode reading actors n known f alone a x ex opened_in [] doing job_is total left i ph rd xt (synced devices.metadata) read (sync_does rd.0.running.image rd.0.running.steps devices.metadata s.0)))
       by_stage (Answering i) ph rd xt g = by_chosen chosen g.2
         where
-          none_seen : NoneIsSeen at_first (slice_set actors a (actor_then {P = P} {A = A} shape (Opens mode reading) devices x (End Finished) got))
-          none_seen b z e o h = absurd (
-              let k = subst (λ (os : List Order). Contains os o) (none_goes P A shape (Opens mode reading) devices actors a x (End Finished) got ex none b z e).1 h in
-              omega (arith, k.1))
-
           over_reading : (policy : P) → is_all_done commit ≡ true → Done_by job buffer (End Finished) got read (Opened policy)
           over_reading policy done =
-              let o = opened_goes P A shape images devices commit mode reading actors n known f alone a x ex opened_in (opening_at total left (Answering i)) xt got i ph rd policy done cache_size origin_size (λ b z e o h. none_seen b z e o h) in
+              let o = opened_goes P A shape images devices commit mode reading actors n known f alone a x ex opened_in (opening_at total left (Answering i)) xt got i ph rd policy done cache_size origin_size in
               let Then : Option (ReadSteps A) → Job → Type 0 = λ r j. Goes P A shape (record { devices = devices; commit = None; phase = phase_opened shape mode r (Opened policy); actors = slice_set actors a (actor_then {P = P} {A = A} shape (Opens mode reading) devices x (End Finished) got) })
               (Rattle.wb_runs.specs.Clerk.finished_note n a doing j (shown_in shape devices (phase_opened shape mode r (Opened policy)))) in
               subst (λ (j : Job). Then reading j) (sym job_is) (subst (λ (r : Option (ReadSteps A)). Then r (Open opened_in)) (sym rd.0.reading_is) o)

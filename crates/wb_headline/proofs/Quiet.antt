@@ -1,5 +1,5 @@
 -- Events of the abstract world that are no records: they leave no task, and nothing is noted of them unless an opening shows something.
-use Rattle.std.proofs.Common.{◌≡◌, ◌≢◌, ◌∙◌, ◌≤◌, ℕ, Option, Some, None, refl, sym, ap, subst, length, slice_get}
+use Rattle.std.proofs.Common.{◌≡◌, ◌≢◌, ◌∙◌, ℕ, Option, Some, None, refl, sym, ap, subst, length, slice_get}
 use Rattle.std.proofs.lemmas.List.{length-replicate}
 use Rattle.wb_types.specs.declared.mode.Mode.{Mode}
 use Rattle.wb_link.specs.Tables.{Script}
@@ -62,5 +62,4 @@ notes_at_rest size n n' s s' m g h f l d rest = record {
   as_many = ap length f ∙ g.as_many ∙ ap length (sym h);
   floors_as_many = ap length l ∙ g.floors_as_many ∙ ap length (sym h);
   each = λ a y less e. subst (λ (t : Option Script). IsNotedSo size (length n'.histories) t (slice_get n'.doings a) a m) (sym (rest a y e)) tt;
-  behind = λ a less. g.behind a (subst (λ (k : ℕ). k ≤ a) d less);
 }

@@ -16,7 +16,7 @@ use Rattle.wb_words.specs.SharedWords.{Words}
 use Rattle.wb_words.specs.Effects.{result_of, words_after}
 use Rattle.wb_words.specs.declared.step.CellStep.{CellStep}
 use Rattle.wb_tasks.specs.Tables.{BlockRange, Reading as ReadingPart, Writing as WritingPart, OnBlock, TaskJob}
-use Rattle.wb_tasks.specs.Plan.{Plan, want, after, got_of, first_step}
+use Rattle.wb_tasks.specs.Plan.{Plan, want, got_of, first_step}
 use Rattle.wb_tasks.specs.Ready.{Suits, HoldsBlocks}
 use Rattle.wb_tasks.specs.declared.step.Answer.{Answer}
 use Rattle.wb_tasks.specs.declared.step.Answer.TheVariants.{Done as Finished, Refused as Refuses}
@@ -55,31 +55,18 @@ use Rattle.wb_simulation.proofs.Moving.{extent_steps_followed}
 use Rattle.wb_simulation.proofs.Ending.{answers_followed}
 use Rattle.wb_simulation.proofs.Noted.{notes_followed}
 use Rattle.wb_headline.specs.Desks.{live_orders}
-use Rattle.wb_headline.specs.Seen.{slots_seen, task_seen, actor_seen, actors_seen}
 use Rattle.wb_headline.proofs.Following.{size, most, Sized, Followed, Goes}
 use Rattle.wb_headline.proofs.Arriving.{SameSectors, sized_so}
-use Rattle.wb_headline.proofs.Seen.{get_seen, cards_seen}
-use Rattle.wb_headline.proofs.Plans.{request_seen, suited_seen}
 use Rattle.wb_headline.proofs.Targets.{standing, actor_is, beside, noted_within, stays_on}
 
 module _ (P A : Type 0) (shape : Shape) (images : Images) (t : Target P) (commit : Option RunningCommit) (devices : Devices (List History)) (actors : List Actor) (n : Notes) (known : MetadataKept {P = P} {A = A} shape.geometry images (Stands t) commit devices.metadata)
     (f : Followed P A shape images (standing P A shape images t commit devices actors n) n) (rule : LockRule shape.geometry.origin_blocks t.words (cards_of actors)) (all_suited : AllSuited shape.geometry.origin_blocks actors) (a : ℕ) (x : Actor) (ex : slice_get actors a ≡ Some x) (job : Job) (plan : Plan) (xt : x.task ≡ Some (job, plan)) (suits : Suits shape.geometry.origin_blocks plan x.card)
     (shown : List Bytes) (doing : Doing) (noted : slice_get n.doings a ≡ Some (Some doing)) (job_is : doing.job ≡ job) where
-  -- what is seen of orders and actors
   abbrev slots : List (Option Order)
-  slots = slots_seen f.phase.stages (live_orders t.desk)
+  slots = live_orders t.desk
 
-  abbrev seen : List Actor
-  seen = actors_seen f.phase.stages actors
-
-  abbrev x_seen : Actor
-  x_seen = actor_seen f.phase.stages x
-
-  there : slice_get seen a ≡ Some x_seen
-  there = get_seen f.phase.stages actors a x ex
-
-  task_there : IsRequestJob job → x_seen.task ≡ Some (job, plan)
-  task_there q = ap task_seen xt ∙ ap (λ (p : Plan). Some (job, p)) (request_seen job plan q)
+  task_there : IsRequestJob job → x.task ≡ Some (job, plan)
+  task_there q = xt
 
   -- the state after a step that leaves words, desk and metadata
   abbrev after_it : Words → Devices (List History) → Actor → State P A
@@ -95,20 +82,20 @@ module _ (P A : Type 0) (shape : Shape) (images : Images) (t : Target P) (commit
   put_same d = record { histories = refl; finished = refl; floors = refl; doings = length-set n.doings a d }
 
   -- nothing is noted
-  quietly : (words' : Words) (devices' : Devices (List History)) (y y_seen : Actor) → y_seen ≡ actor_seen f.phase.stages y → ((order : Order) → Contains y.awaiting order → Contains x.awaiting order) →
-      Follows Quietly (size P A shape) (most P A shape) a f.site.world words' t.desk.space.committing slots devices' (slice_set seen a y_seen) → devices'.metadata ≡ devices.metadata → Goes P A shape (after_it words' devices' y) n
-  quietly words' devices' y y_seen is within g same =
+  quietly : (words' : Words) (devices' : Devices (List History)) (y : Actor) →
+      Follows Quietly (size P A shape) (most P A shape) a f.site.world words' t.desk.space.committing slots devices' (slice_set actors a y) → devices'.metadata ≡ devices.metadata → Goes P A shape (after_it words' devices' y) n
+  quietly words' devices' y g same =
       let b = beside P A shape images t commit devices actors n known f a x ex in
-      stays_on P A shape images t commit devices actors n known f a x ex Quietly words' devices' y y_seen n is g tt
-      (notes_followed.quiet Stays (size P A shape) (most P A shape) a f.site.world words' t.desk.space.committing slots devices' (slice_set seen a y_seen) g b.0 n f.notes b.1 (noted_within P A shape images t commit devices actors n known f a x ex) f.notes_agree)
-      (sized_then y n same_n) within same
+      stays_on P A shape images t commit devices actors n known f a x ex Quietly words' devices' y n g tt
+      (notes_followed.quiet Stays (size P A shape) (most P A shape) a f.site.world words' t.desk.space.committing slots devices' (slice_set actors a y) g b.0 n f.notes b.1 (noted_within P A shape images t commit devices actors n known f a x ex) f.notes_agree)
+      (sized_then y n same_n) same
 
   -- a step on the shared words
   pub on_words : (step : CellStep) → IsRequestJob job → Cell step ≡ want plan → Goes P A shape (after_it (words_after t.words step) devices (actor_then {P = P} {A = A} shape (Stands t) devices x (Cell step) (got_of (result_of t.words step)))) n
   on_words step q e = subst (λ (y : Actor). Goes P A shape (after_it (words_after t.words step) devices y) n) (sym (actor_is P A shape (Stands t) devices x job plan (Cell step) (got_of (result_of t.words step)) xt))
-      (quietly (words_after t.words step) devices (went t.words job plan step x) (went t.words job plan step x_seen) (λ i. record (went t.words job plan step x_seen) { task = Some (job, sym (request_seen job (after plan (got_of (result_of t.words step))) q) i) }) (λ order h. h)
-      (cell_steps_followed (size P A shape) (most P A shape) shape.geometry.origin_blocks t.words t.desk.space.committing slots devices seen a x_seen job plan step f.site.world q (subst (λ (cs : List Card). LockRule shape.geometry.origin_blocks t.words cs) (sym (cards_seen f.phase.stages actors)) rule)
-      there (task_there q) suits (sym e) f.phase.agrees) refl)
+      (quietly (words_after t.words step) devices (went t.words job plan step x)
+      (cell_steps_followed (size P A shape) (most P A shape) shape.geometry.origin_blocks t.words t.desk.space.committing slots devices actors a x job plan step f.site.world q (subst (λ (cs : List Card). LockRule shape.geometry.origin_blocks t.words cs) refl rule)
+      ex (task_there q) suits (sym e) f.phase.agrees) refl)
 
   -- what failed of it is noted, and what it has read
   redone : (s : World) (m : _) (doing' : Doing) → NotesAgree (size P A shape) n s m → doing'.entered ≡ doing.entered → doing'.then_finished ≡ doing.then_finished → NotesAgree (size P A shape) (put n a (Some doing')) s m
@@ -142,24 +129,8 @@ begins_by plan step e = by_steps plan.steps refl
 
 module _ (P A : Type 0) (shape : Shape) (images : Images) (t : Target P) (commit : Option RunningCommit) (devices : Devices (List History)) (actors : List Actor) (n : Notes) (known : MetadataKept {P = P} {A = A} shape.geometry images (Stands t) commit devices.metadata)
     (f : Followed P A shape images (standing P A shape images t commit devices actors n) n) (rule : LockRule shape.geometry.origin_blocks t.words (cards_of actors)) (all_suited : AllSuited shape.geometry.origin_blocks actors) (a : ℕ) (x : Actor) (ex : slice_get actors a ≡ Some x) (shown : List Bytes) (doing : Doing) (noted : slice_get n.doings a ≡ Some (Some doing)) where
-  -- what is seen of orders and actors
   abbrev slots_now : List (Option Order)
-  slots_now = slots_seen f.phase.stages (live_orders t.desk)
-
-  abbrev seen_now : List Actor
-  seen_now = actors_seen f.phase.stages actors
-
-  abbrev x_now : Actor
-  x_now = actor_seen f.phase.stages x
-
-  there_now : slice_get seen_now a ≡ Some x_now
-  there_now = get_seen f.phase.stages actors a x ex
-
-  rule_now : LockRule shape.geometry.origin_blocks t.words (cards_of seen_now)
-  rule_now = subst (λ (cs : List Card). LockRule shape.geometry.origin_blocks t.words cs) (sym (cards_seen f.phase.stages actors)) rule
-
-  suited_now : AllSuited shape.geometry.origin_blocks seen_now
-  suited_now = suited_seen shape.geometry.origin_blocks f.phase.stages actors all_suited
+  slots_now = live_orders t.desk
 
   -- a data device with another list leaves the metadata
   metadata_same : (device : Dev) (list : List History) → HoldsBlocks device → (with_device device devices list).metadata ≡ devices.metadata
@@ -178,8 +149,8 @@ module _ (P A : Type 0) (shape : Shape) (images : Images) (t : Target P) (commit
 
     -- what it is told there
     pub read_follows : (contents : List Bytes) → length contents ≡ e.count → GivesEach (device_in device devices) e.first contents →
-        Follows (Reads part.block.0 (e.first % size P A shape) contents) (size P A shape) (most P A shape) a f.site.world t.words t.desk.space.committing slots_now devices (slice_set seen_now a (after_step (Read extent) plan Done x_now))
-    read_follows contents many gives = extent_steps_followed.read_done (size P A shape) (most P A shape) shape.geometry.origin_blocks t.words t.desk.space.committing slots_now devices seen_now a x_now extent part plan device e contents f.site.world there_now (ap task_seen xt) claim.is_job suits (sym next) holds many gives f.phase.agrees
+        Follows (Reads part.block.0 (e.first % size P A shape) contents) (size P A shape) (most P A shape) a f.site.world t.words t.desk.space.committing slots_now devices (slice_set actors a (after_step (Read extent) plan Done x))
+    read_follows contents many gives = extent_steps_followed.read_done (size P A shape) (most P A shape) shape.geometry.origin_blocks t.words t.desk.space.committing slots_now devices actors a x extent part plan device e contents f.site.world ex xt claim.is_job suits (sym next) holds many gives f.phase.agrees
 
     -- the notes then
     read_n : (contents : List Bytes) → Notes
@@ -194,32 +165,32 @@ module _ (P A : Type 0) (shape : Shape) (images : Images) (t : Target P) (commit
         let doing2 : Doing = record doing { readings = doing.readings ++ readings_from n.histories (sector_for shape extent e) contents } in
         let s' = after_all f.site.world g.records in
         let m' = told f.notes g.records in
-        let once = notes_followed.read part.block.0 (e.first % size P A shape) contents Stays (size P A shape) (most P A shape) a f.site.world t.words t.desk.space.committing slots_now devices (slice_set seen_now a (after_step (Read extent) plan Done x_now)) g b.0 n f.notes b.1 noted_less f.notes_agree in
+        let once = notes_followed.read part.block.0 (e.first % size P A shape) contents Stays (size P A shape) (most P A shape) a f.site.world t.words t.desk.space.committing slots_now devices (slice_set actors a (after_step (Read extent) plan Done x)) g b.0 n f.notes b.1 noted_less f.notes_agree in
         let first = notes_followed.redone (size P A shape) n s' m' a doing doing once noted refl refl in
         let second = notes_followed.redone (size P A shape) (put n a (Some doing)) s' m' a doing doing2 first (set_there n.doings a (Some doing) (Some doing) noted) refl refl in
         let y = after_step (Read extent) plan Done x in
         let n2 = put (put n a (Some doing)) a (Some doing2) in
         subst (λ (q : Job). Goes P A shape (record { devices = devices; commit = commit; phase = Stands (record { words = t.words; desk = t.desk }); actors = slice_set actors a (actor_then {P = P} {A = A} shape (Stands t) devices x (Device (ReadExtent device e)) Done) }) (device_note shape (put n a (Some doing)) a doing q (ReadExtent device e) Done contents)) (sym job_is)
         (subst (λ (y : Actor). Goes P A shape (record { devices = devices; commit = commit; phase = Stands (record { words = t.words; desk = t.desk }); actors = slice_set actors a y }) n2) (sym (actor_is P A shape (Stands t) devices x (Read extent) plan (Device (ReadExtent device e)) Done xt))
-        (stays_on P A shape images t commit devices actors n known f a x ex (Reads part.block.0 (e.first % size P A shape) contents) t.words devices y (after_step (Read extent) plan Done x_now) n2 refl g tt second
-        (sized_so P A shape actors (slice_set actors a y) n n2 (record { histories = refl; finished = refl; floors = refl; doings = length-set (put n a (Some doing)).doings a (Some doing2) ∙ length-set n.doings a (Some doing) }) (length-set actors a y) f.sized) (λ o h. h) refl))
+        (stays_on P A shape images t commit devices actors n known f a x ex (Reads part.block.0 (e.first % size P A shape) contents) t.words devices y n2 g tt second
+        (sized_so P A shape actors (slice_set actors a y) n n2 (record { histories = refl; finished = refl; floors = refl; doings = length-set (put n a (Some doing)).doings a (Some doing2) ∙ length-set n.doings a (Some doing) }) (length-set actors a y) f.sized) refl))
 
     pub read_fails : (contents : List Bytes) →
         Goes P A shape (record { devices = devices; commit = commit; phase = Stands (record { words = t.words; desk = t.desk }); actors = slice_set actors a (actor_then {P = P} {A = A} shape (Stands t) devices x (Device (ReadExtent device e)) Fault) })
         (noted_step shape shown n a (Some (Some doing)) (Device (ReadExtent device e)) Fault contents)
     read_fails contents =
-        let g = extent_steps_followed.read_fails (size P A shape) (most P A shape) shape.geometry.origin_blocks t.words t.desk.space.committing slots_now devices seen_now a x_now extent part plan device e f.site.world there_now (ap task_seen xt) claim.is_job suits (sym next) holds f.phase.agrees in
+        let g = extent_steps_followed.read_fails (size P A shape) (most P A shape) shape.geometry.origin_blocks t.words t.desk.space.committing slots_now devices actors a x extent part plan device e f.site.world ex xt claim.is_job suits (sym next) holds f.phase.agrees in
         let b = beside P A shape images t commit devices actors n known f a x ex in
         let mid = failing doing (ReadExtent device e) Fault in
         let s' = after_all f.site.world g.records in
         let m' = told f.notes g.records in
-        let once = notes_followed.quiet Stays (size P A shape) (most P A shape) a f.site.world t.words t.desk.space.committing slots_now devices (slice_set seen_now a (after_step (Read extent) plan Fault x_now)) g b.0 n f.notes b.1 noted_less f.notes_agree in
+        let once = notes_followed.quiet Stays (size P A shape) (most P A shape) a f.site.world t.words t.desk.space.committing slots_now devices (slice_set actors a (after_step (Read extent) plan Fault x)) g b.0 n f.notes b.1 noted_less f.notes_agree in
         let first = notes_followed.redone (size P A shape) n s' m' a doing mid once noted refl refl in
         let y = after_step (Read extent) plan Fault x in
         subst (λ (q : Job). Goes P A shape (record { devices = devices; commit = commit; phase = Stands (record { words = t.words; desk = t.desk }); actors = slice_set actors a (actor_then {P = P} {A = A} shape (Stands t) devices x (Device (ReadExtent device e)) Fault) }) (device_note shape (put n a (Some mid)) a mid q (ReadExtent device e) Fault contents)) (sym job_is)
         (subst (λ (y : Actor). Goes P A shape (record { devices = devices; commit = commit; phase = Stands (record { words = t.words; desk = t.desk }); actors = slice_set actors a y }) (put n a (Some mid))) (sym (actor_is P A shape (Stands t) devices x (Read extent) plan (Device (ReadExtent device e)) Fault xt))
-        (stays_on P A shape images t commit devices actors n known f a x ex Quietly t.words devices y (after_step (Read extent) plan Fault x_now) (put n a (Some mid)) refl g tt first
-        (sized_so P A shape actors (slice_set actors a y) n (put n a (Some mid)) (record { histories = refl; finished = refl; floors = refl; doings = length-set n.doings a (Some mid) }) (length-set actors a y) f.sized) (λ o h. h) refl))
+        (stays_on P A shape images t commit devices actors n known f a x ex Quietly t.words devices y (put n a (Some mid)) g tt first
+        (sized_so P A shape actors (slice_set actors a y) n (put n a (Some mid)) (record { histories = refl; finished = refl; floors = refl; doings = length-set n.doings a (Some mid) }) (length-set actors a y) f.sized) refl))
 
   -- ---- a write
 
@@ -231,7 +202,7 @@ module _ (P A : Type 0) (shape : Shape) (images : Images) (t : Target P) (commit
     in_block : e.first % size P A shape + e.count ≤ size P A shape
     in_block =
         let b = beside P A shape images t commit devices actors n known f a x ex in
-        let r : IsRequestAt (size P A shape) content t.words WritingPart plan x.card b.0 = doing_of (size P A shape) (most P A shape) t.words x_now b.0 (Write extent content) plan (f.phase.agrees.each a x_now b.0 there_now b.1) (ap task_seen xt) in
+        let r : IsRequestAt (size P A shape) content t.words WritingPart plan x.card b.0 = doing_of (size P A shape) (most P A shape) t.words x b.0 (Write extent content) plan (f.phase.agrees.each a x b.0 ex b.1) xt in
         let first = begins_by plan (WriteExtent device e) (sym next) in
         (subst (λ (ws : List Want). AreOfBlock (size P A shape) r.part.block.0 ws) first.1 r.of_block).0.room
 
@@ -245,7 +216,7 @@ module _ (P A : Type 0) (shape : Shape) (images : Images) (t : Target P) (commit
         omega (arith, m1, in_block, sectors, mul_comm shape.geometry.block shape.geometry.origin_blocks)
 
     module _ (got : Got) (mid : Doing) (same_entered : mid.entered ≡ doing.entered) (same_then : mid.then_finished ≡ doing.then_finished) (list : List History)
-        (g : Follows (Writes written_part.block.0 (e.first % size P A shape) e.count content) (size P A shape) (most P A shape) a f.site.world t.words t.desk.space.committing slots_now (with_device device devices list) (slice_set seen_now a (after_step (Write extent content) plan got x_now))) where
+        (g : Follows (Writes written_part.block.0 (e.first % size P A shape) e.count content) (size P A shape) (most P A shape) a f.site.world t.words t.desk.space.committing slots_now (with_device device devices list) (slice_set actors a (after_step (Write extent content) plan got x))) where
       abbrev n1 : Notes
       n1 = put n a (Some mid)
 
@@ -258,9 +229,9 @@ module _ (P A : Type 0) (shape : Shape) (images : Images) (t : Target P) (commit
           let b = beside P A shape images t commit devices actors n known f a x ex in
           let first = notes_followed.redone (size P A shape) n f.site.world f.notes a doing mid f.notes_agree noted same_entered same_then in
           let less1 = subst (λ (k : ℕ). a < k) (sym (length-set n.doings a (Some mid))) noted_less in
-          let second = notes_followed.write written_part.block.0 (e.first % size P A shape) e.count content Stays (size P A shape) (most P A shape) a f.site.world t.words t.desk.space.committing slots_now (with_device device devices list) (slice_set seen_now a (after_step (Write extent content) plan got x_now)) g b.0 n1 f.notes b.1 less1 first mid
+          let second = notes_followed.write written_part.block.0 (e.first % size P A shape) e.count content Stays (size P A shape) (most P A shape) a f.site.world t.words t.desk.space.committing slots_now (with_device device devices list) (slice_set actors a (after_step (Write extent content) plan got x)) g b.0 n1 f.notes b.1 less1 first mid
           (set_there n.doings a (Some doing) (Some mid) noted) in_block in_range in
-          stays_on P A shape images t commit devices actors n known f a x ex (Writes written_part.block.0 (e.first % size P A shape) e.count content) t.words (with_device device devices list) (after_step (Write extent content) plan got x) (after_step (Write extent content) plan got x_now) n2 refl g tt second sized (λ o h. h) (metadata_same device list holds)
+          stays_on P A shape images t commit devices actors n known f a x ex (Writes written_part.block.0 (e.first % size P A shape) e.count content) t.words (with_device device devices list) (after_step (Write extent content) plan got x) n2 g tt second sized (metadata_same device list holds)
 
     -- histories keep their number
     entered_many : (sectors : List ℕ) (en : Entering) → length (enter_each content sectors en).histories ≡ length en.histories
@@ -283,7 +254,7 @@ module _ (P A : Type 0) (shape : Shape) (images : Images) (t : Target P) (commit
         (noted_step shape shown n a (Some (Some doing)) (Device (WriteExtent device e)) Done contents)
     writes contents inside beside_them =
         let list = written_each (device_in device devices) e.first (replicate e.count content) in
-        let g = extent_steps_followed.write_done (size P A shape) (most P A shape) shape.geometry.origin_blocks t.words t.desk.space.committing slots_now devices seen_now a x_now extent content written_part plan device e f.site.world rule_now suited_now there_now (ap task_seen xt) claim.is_job suits (sym next) holds inside beside_them f.phase.agrees in
+        let g = extent_steps_followed.write_done (size P A shape) (most P A shape) shape.geometry.origin_blocks t.words t.desk.space.committing slots_now devices actors a x extent content written_part plan device e f.site.world rule all_suited ex xt claim.is_job suits (sym next) holds inside beside_them f.phase.agrees in
         subst (λ (q : Job). Goes P A shape (record { devices = with_device device devices list; commit = commit; phase = Stands (record { words = t.words; desk = t.desk }); actors = slice_set actors a (actor_then {P = P} {A = A} shape (Stands t) devices x (Device (WriteExtent device e)) Done) }) (device_note shape (put n a (Some doing)) a doing q (WriteExtent device e) Done contents)) (sym job_is)
         (subst (λ (y : Actor). Goes P A shape (record { devices = with_device device devices list; commit = commit; phase = Stands (record { words = t.words; desk = t.desk }); actors = slice_set actors a y }) (write_note (put n a (Some doing)) a doing (enter_each content (rising (sector_for shape extent e) e.count) (entering (put n a (Some doing)) doing))))
         (sym (actor_is P A shape (Stands t) devices x (Write extent content) plan (Device (WriteExtent device e)) Done xt)) (writes_on Done doing refl refl list g (sized_after Done doing)))
@@ -294,7 +265,7 @@ module _ (P A : Type 0) (shape : Shape) (images : Images) (t : Target P) (commit
     write_fails contents lands inside beside_them =
         let list = written_where lands (device_in device devices) e.first (replicate e.count content) in
         let mid = failing doing (WriteExtent device e) Fault in
-        let g = extent_steps_followed.write_fails (size P A shape) (most P A shape) shape.geometry.origin_blocks t.words t.desk.space.committing slots_now devices seen_now a x_now extent content written_part plan device e lands f.site.world rule_now suited_now there_now (ap task_seen xt) claim.is_job suits (sym next) holds inside beside_them f.phase.agrees in
+        let g = extent_steps_followed.write_fails (size P A shape) (most P A shape) shape.geometry.origin_blocks t.words t.desk.space.committing slots_now devices actors a x extent content written_part plan device e lands f.site.world rule all_suited ex xt claim.is_job suits (sym next) holds inside beside_them f.phase.agrees in
         subst (λ (q : Job). Goes P A shape (record { devices = with_device device devices list; commit = commit; phase = Stands (record { words = t.words; desk = t.desk }); actors = slice_set actors a (actor_then {P = P} {A = A} shape (Stands t) devices x (Device (WriteExtent device e)) Fault) }) (device_note shape (put n a (Some mid)) a mid q (WriteExtent device e) Fault contents)) (sym job_is)
         (subst (λ (y : Actor). Goes P A shape (record { devices = with_device device devices list; commit = commit; phase = Stands (record { words = t.words; desk = t.desk }); actors = slice_set actors a y }) (write_note (put n a (Some mid)) a mid (enter_each content (rising (sector_for shape extent e) e.count) (entering (put n a (Some mid)) mid))))
         (sym (actor_is P A shape (Stands t) devices x (Write extent content) plan (Device (WriteExtent device e)) Fault xt)) (writes_on Fault mid refl refl list g (sized_after Fault mid)))
@@ -302,19 +273,19 @@ module _ (P A : Type 0) (shape : Shape) (images : Images) (t : Target P) (commit
   -- ---- answers
 
   module _ (job : Job) (request : IsRequestJob job) (plan : Plan) (xt : x.task ≡ Some (job, plan)) (suits : Suits shape.geometry.origin_blocks plan x.card) (job_is : doing.job ≡ job) (answer : Answer) (next : End answer ≡ want plan) where
-    answer_follows : Follows (Answers (job_for (size P A shape) (content_of job) plan.job) answer) (size P A shape) (most P A shape) a f.site.world t.words t.desk.space.committing slots_now devices (slice_set seen_now a (record x_now { task = None }))
-    answer_follows = answers_followed (size P A shape) (most P A shape) shape.geometry.origin_blocks t.words t.desk.space.committing slots_now devices seen_now a x_now job plan answer f.site.world request there_now (ap task_seen xt ∙ ap (λ (p : Plan). Some (job, p)) (request_seen job plan request)) suits (sym next) f.phase.agrees
+    answer_follows : Follows (Answers (job_for (size P A shape) (content_of job) plan.job) answer) (size P A shape) (most P A shape) a f.site.world t.words t.desk.space.committing slots_now devices (slice_set actors a (record x { task = None }))
+    answer_follows = answers_followed (size P A shape) (most P A shape) shape.geometry.origin_blocks t.words t.desk.space.committing slots_now devices actors a x job plan answer f.site.world request ex xt suits (sym next) f.phase.agrees
 
     -- the state and notes then
     abbrev Answered : Notes → Type 0
     Answered n' = Goes P A shape (record { devices = devices; commit = commit; phase = Stands (record { words = t.words; desk = t.desk }); actors = slice_set actors a (actor_then {P = P} {A = A} shape (Stands t) devices x (End answer) Done) }) n'
 
-    answered_with : (there : Answer) (of : Rattle.wb_link.specs.Tables.Job) (n' : Notes) → SameSized n n' → (g : Follows (Answers of there) (size P A shape) (most P A shape) a f.site.world t.words t.desk.space.committing slots_now devices (slice_set seen_now a (record x_now { task = None }))) →
+    answered_with : (there : Answer) (of : Rattle.wb_link.specs.Tables.Job) (n' : Notes) → SameSized n n' → (g : Follows (Answers of there) (size P A shape) (most P A shape) a f.site.world t.words t.desk.space.committing slots_now devices (slice_set actors a (record x { task = None }))) →
         NotesAgree (size P A shape) n' (after_all f.site.world g.records) (told f.notes g.records) → Answered n'
     answered_with there of n' same g notes =
         subst (λ (y : Actor). Goes P A shape (record { devices = devices; commit = commit; phase = Stands (record { words = t.words; desk = t.desk }); actors = slice_set actors a y }) n') (sym (actor_is P A shape (Stands t) devices x job plan (End answer) Done xt ∙ (λ i. record { task = None; card = x.card; orders = orders_still x.orders x.awaiting job answer request i; awaiting = awaiting_still x.orders x.awaiting job answer request i; buffer = x.buffer })))
-        (stays_on P A shape images t commit devices actors n known f a x ex (Answers of there) t.words devices (record x { task = None }) (record x_now { task = None }) n' refl g tt notes
-        (record { actors_many = length-set actors a (record x { task = None }) ∙ f.sized.actors_many; doings_many = same.doings ∙ f.sized.doings_many; sectors = same.histories ∙ f.sized.sectors }) (λ o h. h) refl)
+        (stays_on P A shape images t commit devices actors n known f a x ex (Answers of there) t.words devices (record x { task = None }) n' g tt notes
+        (record { actors_many = length-set actors a (record x { task = None }) ∙ f.sized.actors_many; doings_many = same.doings ∙ f.sized.doings_many; sectors = same.histories ∙ f.sized.sectors }) refl)
 
   -- by its job
   pub answers : (job : Job) → IsRequestJob job → (plan : Plan) → x.task ≡ Some (job, plan) → Suits shape.geometry.origin_blocks plan x.card → doing.job ≡ job → JobClaim shape job plan doing → (answer : Answer) → End answer ≡ want plan → (contents : List Bytes) →
@@ -323,21 +294,21 @@ module _ (P A : Type 0) (shape : Shape) (images : Images) (t : Target P) (commit
       let g = answer_follows job q plan xt suits job_is (Refuses refusal) next in
       let b = beside P A shape images t commit devices actors n known f a x ex in
       answered_with job q plan xt suits job_is (Refuses refusal) next (Refuses refusal) _ (put n a None) (record { histories = refl; doings = length-set n.doings a None }) g
-      (notes_followed.refused (job_for (size P A shape) (content_of job) plan.job) refusal Stays (size P A shape) (most P A shape) a f.site.world t.words t.desk.space.committing slots_now devices (slice_set seen_now a (record x_now { task = None })) g b.0 n f.notes b.1 noted_less f.notes_agree)
+      (notes_followed.refused (job_for (size P A shape) (content_of job) plan.job) refusal Stays (size P A shape) (most P A shape) a f.site.world t.words t.desk.space.committing slots_now devices (slice_set actors a (record x { task = None })) g b.0 n f.notes b.1 noted_less f.notes_agree)
   answers (Read extent) q plan xt suits job_is claim Finished next contents =
       let part = block_range shape extent claim.cut in
       let of = job_for (size P A shape) [] (OnBlock (ReadingPart part)) in
-      let g = subst (λ (k : TaskJob). Follows (Answers (job_for (size P A shape) [] k) Finished) (size P A shape) (most P A shape) a f.site.world t.words t.desk.space.committing slots_now devices (slice_set seen_now a (record x_now { task = None }))) claim.is_job (answer_follows (Read extent) q plan xt suits job_is Finished next) in
+      let g = subst (λ (k : TaskJob). Follows (Answers (job_for (size P A shape) [] k) Finished) (size P A shape) (most P A shape) a f.site.world t.words t.desk.space.committing slots_now devices (slice_set actors a (record x { task = None }))) claim.is_job (answer_follows (Read extent) q plan xt suits job_is Finished next) in
       let b = beside P A shape images t commit devices actors n known f a x ex in
       subst (λ (k : Job). Goes P A shape (record { devices = devices; commit = commit; phase = Stands (record { words = t.words; desk = t.desk }); actors = slice_set actors a (actor_then {P = P} {A = A} shape (Stands t) devices x (End Finished) Done) }) (finished_note n a doing k shown)) (sym job_is)
       (answered_with (Read extent) q plan xt suits job_is Finished next Finished of (put n a None) (record { histories = refl; doings = length-set n.doings a None }) g
-      (notes_followed.read_answered part.block.0 _ Stays (size P A shape) (most P A shape) a f.site.world t.words t.desk.space.committing slots_now devices (slice_set seen_now a (record x_now { task = None })) g b.0 n f.notes b.1 noted_less f.notes_agree))
+      (notes_followed.read_answered part.block.0 _ Stays (size P A shape) (most P A shape) a f.site.world t.words t.desk.space.committing slots_now devices (slice_set actors a (record x { task = None })) g b.0 n f.notes b.1 noted_less f.notes_agree))
   answers (Write extent content) q plan xt suits job_is claim Finished next contents =
       let part = block_range shape extent claim.cut in
       let of = job_for (size P A shape) content (OnBlock (WritingPart part)) in
-      let g = subst (λ (k : TaskJob). Follows (Answers (job_for (size P A shape) content k) Finished) (size P A shape) (most P A shape) a f.site.world t.words t.desk.space.committing slots_now devices (slice_set seen_now a (record x_now { task = None }))) claim.is_job (answer_follows (Write extent content) q plan xt suits job_is Finished next) in
+      let g = subst (λ (k : TaskJob). Follows (Answers (job_for (size P A shape) content k) Finished) (size P A shape) (most P A shape) a f.site.world t.words t.desk.space.committing slots_now devices (slice_set actors a (record x { task = None }))) claim.is_job (answer_follows (Write extent content) q plan xt suits job_is Finished next) in
       let b = beside P A shape images t commit devices actors n known f a x ex in
       subst (λ (k : Job). Goes P A shape (record { devices = devices; commit = commit; phase = Stands (record { words = t.words; desk = t.desk }); actors = slice_set actors a (actor_then {P = P} {A = A} shape (Stands t) devices x (End Finished) Done) }) (finished_note n a doing k shown)) (sym job_is)
       (answered_with (Write extent content) q plan xt suits job_is Finished next Finished of (record n { finished = all_raised n.finished doing.entered; doings = slice_set n.doings a None }) (record { histories = refl; doings = length-set n.doings a None }) g
-      (notes_followed.write_answered part.block.0 _ content Stays (size P A shape) (most P A shape) a f.site.world t.words t.desk.space.committing slots_now devices (slice_set seen_now a (record x_now { task = None })) g b.0 n f.notes b.1 noted_less f.notes_agree doing noted))
+      (notes_followed.write_answered part.block.0 _ content Stays (size P A shape) (most P A shape) a f.site.world t.words t.desk.space.committing slots_now devices (slice_set actors a (record x { task = None })) g b.0 n f.notes b.1 noted_less f.notes_agree doing noted))
   answers job q plan xt suits job_is claim Finished next contents = absurd q

@@ -1,7 +1,6 @@
 -- Where a desk has a block, and what its live orders say of that: a seal that tells it tells where an order has the block, and what is
 -- written there is beside other orders.
-use Rattle.std.proofs.Common.{◌≡◌, ◌∙◌, ◌<◌, ◌/◌, inl, inr, ℕ, zero, suc, List, [], ◌∷◌, Option, Some, None, refl, ap, subst, arith, length, slice_get, slice_set}
-use Rattle.std.proofs.lemmas.List.{length-map}
+use Rattle.std.proofs.Common.{◌≢◌, ◌≡◌, ◌∙◌, ◌<◌, ◌/◌, inl, inr, ℕ, zero, suc, List, [], ◌∷◌, Option, Some, None, refl, sym, ap, subst, arith, length, slice_get, slice_set}
 use Rattle.std.proofs.lemmas.Option.{get_or_from_slice_get}
 use Rattle.wb_types.proofs.Lists.{set_cases}
 use Rattle.wb_types.specs.declared.extent.Extent.{Extent}
@@ -25,15 +24,16 @@ use Rattle.wb_tasks.specs.declared.step.Migration.{Migration}
 use Rattle.wb_tasks.specs.declared.step.Migration.TheVariants.{Promote, Demote, Clean}
 use Rattle.wb_refines.specs.Translation.{location_at, number_of}
 use Rattle.wb_refines.specs.Migrations.{IsWhere}
-use Rattle.wb_runs.specs.Happenings.{order_for}
 use Rattle.wb_runs.specs.Headline.{place_of}
 use Rattle.wb_runs.proofs.Located.{same_block, one_there, stands_there}
 use Rattle.wb_runs.proofs.Metadata.{unknowing}
 use Rattle.wb_simulation.specs.Laws.{IsFrom, IsBesideOrders}
+use Rattle.wb_contents.specs.Volume.{Locations}
+use Rattle.wb_simulation.specs.Carried.{IsOrderFor, IsReplacing}
 use Rattle.wb_simulation.specs.Migrating.{SealTells}
+use Rattle.wb_simulation.specs.Opened.{located}
 use Rattle.wb_simulation.proofs.Opened.{found_at}
 use Rattle.wb_headline.specs.Desks.{order_of, orders_of, live_orders}
-use Rattle.wb_headline.specs.Seen.{Replacing, slot_seen, slots_seen}
 
 -- ---- orders by cache block
 
@@ -71,9 +71,6 @@ pub orders_many : (slots : List (Option LiveOrder)) → length (orders_of slots)
 orders_many [] = refl
 orders_many (s ∷ slots) = ap suc (orders_many slots)
 
-pub slots_many : (stages : ℕ → Replacing) (slots : List (Option LiveOrder)) → length (slots_seen stages (orders_of slots)) ≡ length slots
-slots_many stages slots = length-map (orders_of slots) (λ (s : Option Order). slot_seen stages s) ∙ orders_many slots
-
 -- no order lives where it is over
 pub over_there : (orders : List (Option Order)) (c : ℕ) (o : Order) → slice_get (slice_set orders c None) c ≡ Some (Some o) → ⊥
 over_there orders c o e = elim (set_cases orders c c None (Some o) e) [ inl i ↦ absurd (let bad = i.1 in cc) | inr n ↦ n.0 refl ]
@@ -87,7 +84,7 @@ module _ (P : Type 0) (desk : DeskState P) (kept : DeskInvariant unknowing desk)
       let many = kept.slots in
       subst (λ (q : Order). Names (holdings desk) (state desk.space.blocks c) c q) l.2 (subst (λ (s : Option LiveOrder). NamesWhatIs (holdings desk) (state desk.space.blocks c) c s) l.1 (kept.each c (omega (arith, within, many))).stands)
 
-  mapped_there : (b c : ℕ) → place_of desk.tree.entries b ≡ Some c → IsMappedAt (holdings desk) b c
+  pub mapped_there : (b c : ℕ) → place_of desk.tree.entries b ≡ Some c → IsMappedAt (holdings desk) b c
   mapped_there b c e =
       let f = found_at desk.tree.entries b 0 c e in
       let at : IsMappedAt (holdings desk) b f.0 = there desk.tree.entries f.0 f.1 f.4 ∙ ap (λ (k : ℕ). Some (Some k)) f.5 in
@@ -97,8 +94,8 @@ module _ (P : Type 0) (desk : DeskState P) (kept : DeskInvariant unknowing desk)
 
   module _ (slots : List (Option Order)) (names : (c : ℕ) (o : Order) → slice_get slots c ≡ Some (Some o) → Names (holdings desk) (state desk.space.blocks c) c o) where
     -- A seal that tells where the desk has a block tells where its order has it.
-    pub seal_tells_order : (words : Words) (migration : Migration) (block : OBlock) → number_of (place_in (word_at words.seals block)) ≡ place_of desk.tree.entries block.0 → SealTells words slots migration block
-    seal_tells_order words migration block told c e = by migration (names c.0 (order_for migration block) e)
+    pub seal_tells_order : (words : Words) (m : Locations) (migration : Migration) (block : OBlock) → number_of (place_in (word_at words.seals block)) ≡ place_of desk.tree.entries block.0 → m ≡ located desk.tree.entries → SealTells words slots m migration block
+    seal_tells_order words m migration block told is c next order e of leaves = by migration of (names c.0 order e)
       where
         where_is : (place : Option CBlock) → number_of place ≡ Some c.0 → place ≡ Some c
         where_is None n = absurd (let bad : None ≡ Some c.0 = n in cc)
@@ -107,10 +104,30 @@ module _ (P : Type 0) (desk : DeskState P) (kept : DeskInvariant unknowing desk)
         here : IsMappedAt (holdings desk) block.0 c.0 → place_in (word_at words.seals block) ≡ Some c
         here at = where_is (place_in (word_at words.seals block)) (told ∙ stands_there P desk kept block.0 c.0 at)
 
-        by : (m : Migration) → Names (holdings desk) (state desk.space.blocks c.0) c.0 (order_for m block) → IsWhere m c (place_in (word_at words.seals block))
-        by (Promote k) n = tt
-        by Demote n = here n
-        by Clean n = here n
+        names_as : (o : Order) → order ≡ o → Names (holdings desk) (state desk.space.blocks c.0) c.0 order → Names (holdings desk) (state desk.space.blocks c.0) c.0 o
+        names_as o is n = subst (λ (p : Order). Names (holdings desk) (state desk.space.blocks c.0) c.0 p) is n
+
+        stands : next ≢ None → place_in (word_at words.seals block) ≡ Some c
+        stands some = where_is (place_in (word_at words.seals block)) (told ∙ ap (λ (k : Locations). k block.0) (sym is) ∙ leaves some)
+
+        by : (m : Migration) → IsOrderFor m block next order → Names (holdings desk) (state desk.space.blocks c.0) c.0 order → IsWhere m c (place_in (word_at words.seals block))
+        by (Promote k) of n = tt
+        by Clean (inl i) n = here (names_as (CleanOrder block) i.0 n)
+        by Clean (inr r) n = absurd (none order r)
+          where
+            none : (o : Order) → IsReplacing Clean block next o → ⊥
+            none (PromoteOrder b k) r = r
+            none (Replace old new k) r = r
+            none (DemoteOrder b) r = r
+            none (CleanOrder b) r = r
+        by Demote (inl i) n = here (names_as (DemoteOrder block) i.0 n)
+        by Demote (inr r) n = stands (follows order r)
+          where
+            follows : (o : Order) → IsReplacing Demote block next o → next ≢ None
+            follows (PromoteOrder b k) r q = r
+            follows (Replace old new k) r q = (let bad : None ≡ Some new.0 = sym q ∙ r.1 in cc)
+            follows (DemoteOrder b) r q = r
+            follows (CleanOrder b) r q = r
 
     -- What is written where the desk has a block is in no cache block out of which another one is copied.
     pub beside_orders : (size : ℕ) (block : OBlock) (device : Dev) (e : Extent) → ((k : ℕ) → location_at size device e ≡ Some k → place_of desk.tree.entries block.0 ≡ Some k) → IsBesideOrders size slots block device e

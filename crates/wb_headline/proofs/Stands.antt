@@ -42,7 +42,6 @@ use Rattle.wb_runs.proofs.Metadata.{MetadataKept}
 use Rattle.wb_runs.proofs.Claims.{JobClaim}
 use Rattle.wb_simulation.specs.Laws.{IsBesideOrders}
 use Rattle.wb_headline.specs.Desks.{live_orders}
-use Rattle.wb_headline.specs.Seen.{slots_seen}
 use Rattle.wb_runs.proofs.Owning.{Owned}
 use Rattle.wb_types.specs.declared.number.OBlock.{OBlock}
 use Rattle.wb_headline.proofs.Following.{size, most, Followed, Goes}
@@ -114,7 +113,7 @@ module _ (P A : Type 0) (shape : Shape) (images : Images) (t : Target P) (commit
   -- ---- writes
 
   module _ (extent : Extent) (content : Bytes) (xt : x.task ≡ Some (Write extent content, plan)) (job_is : doing.job ≡ Write extent content) (claim : JobClaim shape (Write extent content) plan doing)
-      (beside_orders : (device : Dev) (e : Extent) → Device (WriteExtent device e) ≡ want plan → IsBesideOrders (size P A shape) (slots_seen f.phase.stages (live_orders t.desk)) (record { 0 = extent.first / block_size shape }) device e) where
+      (beside_orders : (device : Dev) (e : Extent) → Device (WriteExtent device e) ≡ want plan → IsBesideOrders (size P A shape) (live_orders t.desk) (record { 0 = extent.first / block_size shape }) device e) where
     abbrev of_write : TaskJob
     of_write = OnBlock (WritingPart (block_range shape extent claim.cut))
 

@@ -11,7 +11,7 @@ use Rattle.wb_types.specs.declared.mode.Mode.TheVariants.{Writeback, Writethroug
 use Rattle.wb_disk.specs.Device.{Content as Bytes, History}
 use Rattle.wb_words.specs.SharedWords.{flag}
 use Rattle.wb_words.specs.declared.card.Hold.TheVariants.{Nothing}
-use Rattle.wb_tasks.specs.Tables.{Reading as ReadingPart, Writing as WritingPart, OnBlock, Flushing}
+use Rattle.wb_tasks.specs.Tables.{Reading as ReadingPart, Writing as WritingPart, OnBlock}
 use Rattle.wb_tasks.specs.Plan.{Plan, table}
 use Rattle.wb_policy.specs.declared.order.Order.{Order}
 use Rattle.wb_devices.specs.declared.devices.Devices.{Devices}
@@ -19,7 +19,7 @@ use Rattle.wb_devices.specs.declared.running.RunningCommit.{RunningCommit}
 use Rattle.wb_runs.specs.declared.job.Job.{Job}
 use Rattle.wb_runs.specs.declared.job.Job.TheVariants.{Read, Write, Flush, Open}
 use Rattle.wb_runs.specs.States.{Shape, State, Actor, Target, Phase, Stands, Gone, Opens, OfTarget, resting, block_size}
-use Rattle.wb_runs.specs.Happenings.{block_range, extent_refusal, task_job}
+use Rattle.wb_runs.specs.Happenings.{blocks_left, block_range, extent_refusal, task_job}
 use Rattle.wb_runs.specs.Effects.{all_resting}
 use Rattle.wb_runs.specs.Clerk.{Notes, Doing, begun, put, nobody}
 use Rattle.wb_runs.proofs.Images.{Images}
@@ -39,11 +39,9 @@ use Rattle.wb_simulation.proofs.Starting.{starts_followed}
 use Rattle.wb_simulation.proofs.Opening.{openings_followed}
 use Rattle.wb_simulation.proofs.Noted.{notes_followed}
 use Rattle.wb_headline.specs.Desks.{live_orders}
-use Rattle.wb_headline.specs.Seen.{slots_seen, plan_seen, task_seen, actor_seen, actors_seen}
 use Rattle.wb_headline.proofs.Allowed.{there as is_there}
 use Rattle.wb_headline.proofs.Following.{opening_at, AtStage, IsOver, size, most, Sized, Followed, Goes}
 use Rattle.wb_headline.proofs.Arriving.{SameSectors, sized_so, arrives, opens, agreeing}
-use Rattle.wb_headline.proofs.Seen.{get_seen}
 use Rattle.wb_headline.proofs.Targets.{standing, beside, noted_within, stays_on}
 
 -- ---- the extents of a request are of its block
@@ -81,23 +79,13 @@ part_of shape extent cut inside cuts = record {
 
 module _ (P A : Type 0) (shape : Shape) (images : Images) (t : Target P) (commit : Option RunningCommit) (devices : Devices (List History)) (actors : List Actor) (n : Notes) (known : MetadataKept {P = P} {A = A} shape.geometry images (Stands t) commit devices.metadata)
     (f : Followed P A shape images (standing P A shape images t commit devices actors n) n) (a : ℕ) (x : Actor) (ex : slice_get actors a ≡ Some x) (xt : x.task ≡ None) where
-  -- what is seen of orders and actors
   abbrev slots : List (Option Order)
-  slots = slots_seen f.phase.stages (live_orders t.desk)
-
-  abbrev seen : List Actor
-  seen = actors_seen f.phase.stages actors
-
-  abbrev x_seen : Actor
-  x_seen = actor_seen f.phase.stages x
-
-  there : slice_get seen a ≡ Some x_seen
-  there = get_seen f.phase.stages actors a x ex
+  slots = live_orders t.desk
 
   -- an actor that has been given a job, there or not
-  begins_so : (job : Job) (plan seen_plan : Plan) (of : AbstractJob) → plan_seen job plan ≡ seen_plan → job_alone of ≡ false → Begun of (size P A shape) (most P A shape) a f.site.world t.words t.desk.space.committing slots devices (slice_set seen a (record x_seen { task = Some (job, seen_plan) })) →
+  begins_so : (job : Job) (plan : Plan) (of : AbstractJob) → job_alone of ≡ false → Begun of (size P A shape) (most P A shape) a f.site.world t.words t.desk.space.committing slots devices (slice_set actors a (record x { task = Some (job, plan) })) →
       Goes P A shape (record { devices = devices; commit = commit; phase = Stands (record { words = t.words; desk = t.desk }); actors = slice_set actors a (record x { task = Some (job, plan) }) }) (put n a (Some (begun n job)))
-  begins_so job plan seen_plan of is plain b = by b
+  begins_so job plan of plain b = by b
     where
       n' : Notes
       n' = put n a (Some (begun n job))
@@ -114,32 +102,29 @@ module _ (P A : Type 0) (shape : Shape) (images : Images) (t : Target P) (commit
       was : (d : Option Doing) × (slice_get n.doings a ≡ Some d)
       was = is_there n.doings a less
 
-      is_seen : record x_seen { task = Some (job, seen_plan) } ≡ actor_seen f.phase.stages (record x { task = Some (job, plan) })
-      is_seen = λ i. record x_seen { task = Some (job, sym is i) }
-
-      by : Begun of (size P A shape) (most P A shape) a f.site.world t.words t.desk.space.committing slots devices (slice_set seen a (record x_seen { task = Some (job, seen_plan) })) →
+      by : Begun of (size P A shape) (most P A shape) a f.site.world t.words t.desk.space.committing slots devices (slice_set actors a (record x { task = Some (job, plan) })) →
           Goes P A shape (record { devices = devices; commit = commit; phase = Stands (record { words = t.words; desk = t.desk }); actors = slice_set actors a (record x { task = Some (job, plan) }) }) (put n a (Some (begun n job)))
-      by (inl g) = stays_on P A shape images t commit devices actors n known f a x ex (Starts of) t.words devices (record x { task = Some (job, plan) }) (record x_seen { task = Some (job, seen_plan) }) (put n a (Some (begun n job))) is_seen g plain
-          (notes_followed.starts of job Stays (size P A shape) (most P A shape) a f.site.world t.words t.desk.space.committing slots devices (slice_set seen a (record x_seen { task = Some (job, seen_plan) })) g y.0 n f.notes y.1 less f.notes_agree was.0 was.1) sized (λ o h. h) refl
+      by (inl g) = stays_on P A shape images t commit devices actors n known f a x ex (Starts of) t.words devices (record x { task = Some (job, plan) }) (put n a (Some (begun n job))) g plain
+          (notes_followed.starts of job Stays (size P A shape) (most P A shape) a f.site.world t.words t.desk.space.committing slots devices (slice_set actors a (record x { task = Some (job, plan) })) g y.0 n f.notes y.1 less f.notes_agree was.0 was.1) sized refl
       by (inr g) =
-          let none = (subst (λ (q : Option (Job × Plan)). IsBusyAt (size P A shape) (most P A shape) t.words q x.card y.0) (ap task_seen xt) (f.phase.agrees.each a x_seen y.0 there y.1).at).0 in
-          stays_on P A shape images t commit devices actors n known f a x ex Quietly t.words devices (record x { task = Some (job, plan) }) (record x_seen { task = Some (job, seen_plan) }) (put n a (Some (begun n job))) is_seen g tt
-          (notes_followed.starts_late job Stays (size P A shape) (most P A shape) a f.site.world t.words t.desk.space.committing slots devices (slice_set seen a (record x_seen { task = Some (job, seen_plan) })) g y.0 n f.notes y.1 less f.notes_agree none) sized (λ o h. h) refl
+          let none = (subst (λ (q : Option (Job × Plan)). IsBusyAt (size P A shape) (most P A shape) t.words q x.card y.0) xt (f.phase.agrees.each a x y.0 ex y.1).at).0 in
+          stays_on P A shape images t commit devices actors n known f a x ex Quietly t.words devices (record x { task = Some (job, plan) }) (put n a (Some (begun n job))) g tt
+          (notes_followed.starts_late job Stays (size P A shape) (most P A shape) a f.site.world t.words t.desk.space.committing slots devices (slice_set actors a (record x { task = Some (job, plan) })) g y.0 n f.notes y.1 less f.notes_agree none) sized refl
 
   pub read_starts : (extent : Extent) (cut : List Extent) → x.card.hold ≡ Nothing → extent_refusal shape extent ≡ None → IsCutInto extent cut →
       Goes P A shape (record { devices = devices; commit = commit; phase = Stands (record { words = t.words; desk = t.desk }); actors = slice_set actors a (record x { task = Some (Read extent, table (task_job shape x.awaiting (Read extent) cut)) }) }) (put n a (Some (begun n (Read extent))))
-  read_starts extent cut holds inside cuts = begins_so (Read extent) (table (task_job shape x.awaiting (Read extent) cut)) (table (task_job shape x.awaiting (Read extent) cut)) (job_for (size P A shape) [] (OnBlock (ReadingPart (block_range shape extent cut)))) refl refl
-      (starts_followed.read (size P A shape) (most P A shape) t.words t.desk.space.committing slots devices seen a x_seen extent (block_range shape extent cut) f.site.world there (ap task_seen xt) holds (part_of shape extent cut inside cuts) f.phase.agrees)
+  read_starts extent cut holds inside cuts = begins_so (Read extent) (table (task_job shape x.awaiting (Read extent) cut)) (job_for (size P A shape) [] (OnBlock (ReadingPart (block_range shape extent cut)))) refl
+      (starts_followed.read (size P A shape) (most P A shape) t.words t.desk.space.committing slots devices actors a x extent (block_range shape extent cut) f.site.world ex xt holds (part_of shape extent cut inside cuts) f.phase.agrees)
 
   pub write_starts : (extent : Extent) (content : Bytes) (cut : List Extent) → x.card.hold ≡ Nothing → extent_refusal shape extent ≡ None → IsCutInto extent cut →
       Goes P A shape (record { devices = devices; commit = commit; phase = Stands (record { words = t.words; desk = t.desk }); actors = slice_set actors a (record x { task = Some (Write extent content, table (task_job shape x.awaiting (Write extent content) cut)) }) }) (put n a (Some (begun n (Write extent content))))
-  write_starts extent content cut holds inside cuts = begins_so (Write extent content) (table (task_job shape x.awaiting (Write extent content) cut)) (table (task_job shape x.awaiting (Write extent content) cut)) (job_for (size P A shape) content (OnBlock (WritingPart (block_range shape extent cut)))) refl refl
-      (starts_followed.write (size P A shape) (most P A shape) t.words t.desk.space.committing slots devices seen a x_seen extent content (block_range shape extent cut) f.site.world there (ap task_seen xt) holds (part_of shape extent cut inside cuts) f.phase.agrees)
+  write_starts extent content cut holds inside cuts = begins_so (Write extent content) (table (task_job shape x.awaiting (Write extent content) cut)) (job_for (size P A shape) content (OnBlock (WritingPart (block_range shape extent cut)))) refl
+      (starts_followed.write (size P A shape) (most P A shape) t.words t.desk.space.committing slots devices actors a x extent content (block_range shape extent cut) f.site.world ex xt holds (part_of shape extent cut inside cuts) f.phase.agrees)
 
-  -- whatever a flush serves here, it serves nobody there
+  -- a flush
   pub flush_starts : (cut : List Extent) → Goes P A shape (record { devices = devices; commit = commit; phase = Stands (record { words = t.words; desk = t.desk }); actors = slice_set actors a (record x { task = Some (Flush, table (task_job shape x.awaiting Flush cut)) }) }) (put n a (Some (begun n Flush)))
-  flush_starts cut = begins_so Flush (table (task_job shape x.awaiting Flush cut)) (table (Flushing [] (most P A shape))) (FlushingFor None) refl refl
-      (starts_followed.flush (size P A shape) (most P A shape) t.words t.desk.space.committing slots devices seen a x_seen f.site.world there (ap task_seen xt) f.phase.agrees)
+  flush_starts cut = begins_so Flush (table (task_job shape x.awaiting Flush cut)) (FlushingFor None) refl
+      (starts_followed.flush (size P A shape) (most P A shape) t.words t.desk.space.committing slots devices actors a x (blocks_left x.awaiting) f.site.world ex xt f.phase.agrees)
 
 -- ---- an opening, over whatever is there
 

@@ -3,9 +3,9 @@ use Rattle.std.proofs.Common.{◌≡◌, inl, inr, ℕ, Bool, true, false, List,
 use Rattle.wb_types.proofs.Lists.{set_cases}
 use Rattle.wb_disk.specs.Device.{Content}
 use Rattle.wb_types.specs.declared.mode.Mode.{Mode}
-use Rattle.wb_link.specs.Tables.{Job, Reading, Writing, Writing_through, Flushing, Suspending, Promoting, Demoting, Cleaning, Invalidating, Order, Script, Seal, Want, Begin, Begin_clean, End_running, Read_at, Write_at, Sync_cache_device, Sync_origin_device, End, Got, Done, Lost, Flag, Seen, Gave, Ticket, Served, Broken, Short, Fault, read_each, write_each, copy_each, write_through_each, dirtying, copy_dirty, dropping, work, table, want, first_of_steps, later_steps, until_failed, breaking, steps_after_fault, after_fault, letting, release, after}
-use Rattle.wb_link.specs.World.{World, Shared, Actor, Record, Start, Again, Step, effect, if_landed, put_sector, task_after, actor_after, step_task, step_actor, start_actor, again_actor, reserved, after_record, after_all, job_alone, given}
-use Rattle.wb_link.specs.Openings.{Site, Phase, Stands, Gone, Opens, Stage, Settling, Caching, Basing, Rooting, Answering, Outcome, Settled, Fine, Broke, Shown, Event, On, Stopped, Begins, Advances, after_event, advance, advanced, found_clean, emptied, stopped}
+use Rattle.wb_link.specs.Tables.{Job, Reading, Writing, Writing_through, Flushing, Suspending, Promoting, Demoting, Cleaning, Invalidating, Order, Script, Seal, Want, Begin, Begin_clean, End_running, Read_at, Write_at, Sync_cache_device, Sync_origin_device, End, Got, Done, Lost, Flag, Seen, Gave, Ticket, Served, Broken, Short, Fault, read_each, write_each, copy_each, write_through_each, dirtying, copy_dirty, dropping, read_from, write_work, work, table, want, first_of_steps, later_steps, until_failed, breaking, steps_after_fault, after_fault, letting, release, after}
+use Rattle.wb_link.specs.World.{World, Shared, Actor, Record, Start, Again, Step, Release, release_order, effect, if_landed, put_sector, task_after, actor_after, step_task, step_actor, start_actor, again_actor, reserved, after_record, after_all, job_alone, given}
+use Rattle.wb_link.specs.Openings.{Site, Phase, Stands, Gone, Opens, Stage, Settling, Caching, Basing, Rooting, Answering, Outcome, Settled, Fine, Learns, Refused, Broke, Shown, Event, On, Stopped, Begins, Advances, after_event, advance, advanced, found_clean, emptied, stopped}
 use Rattle.wb_link.proofs.Lists.{replicated}
 use Rattle.wb_refines.specs.Going.{records}
 
@@ -33,6 +33,7 @@ AllPlain actors = (a : ℕ) (y : Actor) → slice_get actors a ≡ Some y → Is
 abbrev pub IsPlainRecord : Record → Type 0
 IsPlainRecord (Start a job) = job_alone job ≡ false
 IsPlainRecord (Again a job) = job_alone job ≡ false
+IsPlainRecord (Release k) = Unit {0}
 IsPlainRecord (Step a next got) = Unit {0}
 
 abbrev pub ArePlainRecords : List Record → Type 0
@@ -67,15 +68,19 @@ dirty_plain : (dirty : Bool) (order : Order) (os : List ℕ) (rest : List Want) 
 dirty_plain true order os rest p = copy_plain (Some order.cache) None order.block os rest p
 dirty_plain false order os rest p = p
 
-dropping_plain : (b : ℕ) (location : Option ℕ) → ArePlain (dropping b location)
-dropping_plain b None = (tt, tt)
-dropping_plain b (Some k) = (tt, (tt, (tt, tt)))
+dropping_plain : (b : ℕ) (location : Option ℕ) (rest : List Want) → ArePlain rest → ArePlain (dropping b location rest)
+dropping_plain b None rest p = p
+dropping_plain b (Some k) rest p = (tt, (tt, p))
+
+written_plain : (past : Bool) (b : ℕ) (os : List ℕ) (seal : Seal) → ArePlain (write_work past b os seal)
+written_plain true b os seal = dropping_plain b seal.location _ (write_plain None b os _ (tt, tt))
+written_plain false b os seal = dirtying_plain b seal.location seal.dirty _ (write_plain seal.location b os _ (tt, tt))
 
 work_plain : (job : Job) (seal : Seal) → ArePlain (work job seal)
-work_plain (Reading b os) seal = read_plain seal.location b os _ (tt, tt)
-work_plain (Writing b os c) seal = dirtying_plain b seal.location seal.dirty _ (write_plain seal.location b os _ (tt, tt))
+work_plain (Reading past b os) seal = read_plain (read_from past seal.location) b os _ (tt, tt)
+work_plain (Writing past b os c) seal = written_plain past b os seal
 work_plain (Writing_through b os c) seal = through_plain seal.location b os _ (tt, tt)
-work_plain (Invalidating b) seal = dropping_plain b seal.location
+work_plain (Invalidating b) seal = dropping_plain b seal.location _ (tt, tt)
 work_plain (Flushing order) seal = tt
 work_plain Suspending seal = tt
 work_plain (Promoting order os) seal = copy_plain None (Some order.cache) order.block os _ (tt, (tt, (tt, (tt, tt))))
@@ -83,8 +88,8 @@ work_plain (Cleaning order os) seal = dirty_plain seal.dirty order os _ (tt, (tt
 work_plain (Demoting order os) seal = dirty_plain seal.dirty order os _ (tt, (tt, (tt, tt)))
 
 table_plain : (job : Job) → job_alone job ≡ false → IsPlainTask (Some (table job))
-table_plain (Reading b os) j = (j, (tt, (tt, (tt, tt))))
-table_plain (Writing b os c) j = (j, (tt, (tt, (tt, tt))))
+table_plain (Reading past b os) j = (j, (tt, (tt, (tt, tt))))
+table_plain (Writing past b os c) j = (j, (tt, (tt, (tt, tt))))
 table_plain (Writing_through b os c) j = (j, (tt, (tt, (tt, tt))))
 table_plain (Invalidating b) j = (j, (tt, (tt, (tt, tt))))
 table_plain (Flushing order) j = (j, (tt, (tt, (tt, (tt, (tt, (tt, (tt, tt))))))))
@@ -109,15 +114,15 @@ breaking_plain Suspending = (tt, (tt, tt))
 breaking_plain job = (tt, tt)
 
 fault_plain : (job : Job) (more : Bool) (ws : List Want) → ArePlain (steps_after_fault job more ws)
-fault_plain (Writing b os c) true ws = until_plain ws
+fault_plain (Writing past b os c) true ws = until_plain ws
 fault_plain (Promoting order os) true ws = until_plain ws
 fault_plain (Cleaning order os) true ws = until_plain ws
 fault_plain (Demoting order os) true ws = until_plain ws
-fault_plain (Writing b os c) false ws = (tt, tt)
+fault_plain (Writing past b os c) false ws = (tt, tt)
 fault_plain (Promoting order os) false ws = (tt, tt)
 fault_plain (Cleaning order os) false ws = (tt, tt)
 fault_plain (Demoting order os) false ws = (tt, tt)
-fault_plain (Reading b os) more ws = (tt, tt)
+fault_plain (Reading past b os) more ws = (tt, tt)
 fault_plain (Writing_through b os c) more ws = (tt, tt)
 fault_plain (Invalidating b) more ws = (tt, tt)
 fault_plain (Flushing order) more ws = (tt, (tt, tt))
@@ -235,6 +240,11 @@ record_on w (Step a next got) p n = by_actor (slice_get w.actors a) refl
     by_actor : (o : Option Actor) → slice_get w.actors a ≡ o → NeverClean (step_actor w a o got)
     by_actor None e = n
     by_actor (Some x) e = by_task x x.task (n.tasks a x e)
+record_on w (Release k) p n = by (w.waiting k)
+  where
+    by : (o : Option Order) → NeverClean (release_order w k o)
+    by None = n
+    by (Some q) = record { tasks = n.tasks; images = n.images }
 
 pub records_on : (w : World) (rs : List Record) → ArePlainRecords rs → NeverClean w → NeverClean (after_all w rs)
 records_on w [] p n = n
@@ -259,7 +269,12 @@ advanced_unclean s mode Caching Fine u = u
 advanced_unclean s mode Caching (Broke choice) u = u
 advanced_unclean s mode Basing Fine u = u
 advanced_unclean s mode Basing (Broke choice) u = u
-advanced_unclean s mode (Rooting i) outcome u = (u.0, λ b. refl)
+advanced_unclean s mode (Rooting i) Refused u = u
+advanced_unclean s mode (Rooting i) Fine u = (u.0, λ b. refl)
+advanced_unclean s mode (Rooting i) (Broke choice) u = (u.0, λ b. refl)
+advanced_unclean s mode (Rooting i) (Settled new_root) u = (u.0, λ b. refl)
+advanced_unclean s mode (Rooting i) (Learns learnt) u = (u.0, λ b. refl)
+advanced_unclean s mode (Rooting i) (Shown blocks view) u = (u.0, λ b. refl)
 advanced_unclean s mode (Answering i) (Shown blocks view) u = (λ b. refl, λ b. refl)
 advanced_unclean s mode stage outcome u = u
 

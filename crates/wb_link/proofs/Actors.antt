@@ -64,7 +64,7 @@ order_from x s (Unmap_from o) p r e = let is = follower_is o.cache o.next p e in
 order_from x s (Give_up o) p r e = absurd (cc)
 order_from x s w p r e = (p, e, (refl, λ b n. n))
 
-apart_left : (p o q : Order) → Sub p o → Apart o q → Apart p q
+pub apart_left : (p o q : Order) → Sub p o → Apart o q → Apart p q
 apart_left p o q s a = (λ b m n. a.0 b (s.1 b m) n, λ e. a.1 (sym s.0 ∙ e))
 
 apart_right : (p o q : Order) → Sub q o → Apart p o → Apart p q

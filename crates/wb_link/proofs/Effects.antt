@@ -175,7 +175,7 @@ sound_ended (Quarantined false) m c r k i = i
 sound_ended (Retained true) m c r k i = (i.0, i.1, i.1)
 sound_ended (Retained false) m c r k i = i
 
-sound_given : (b : Block) (m c r : Locations) (k : ℕ) → Sound b m c r k → Sound (given_back b) m c r k
+pub sound_given : (b : Block) (m c r : Locations) (k : ℕ) → Sound b m c r k → Sound (given_back b) m c r k
 sound_given Free m c r k i = i
 sound_given Mapped m c r k i = i
 sound_given Reserved m c r k i = i

@@ -61,10 +61,11 @@ gives_begin s ticket P p q r z y x Short g = y
 gives_begin s ticket P p q r z y x Lost g = x
 gives_begin s ticket P p q r z y x got g = absurd g
 
-pub gives_suspend : (s : Shared) (P : Got → Type 0) → (s.committing ≡ false → P Done) → P Lost → (got : Got) → Gives s Begin_clean got → P got
-gives_suspend s P p q Done g = p g
-gives_suspend s P p q Lost g = q
-gives_suspend s P p q got g = absurd g
+pub gives_suspend : (s : Shared) (P : Got → Type 0) → (s.committing ≡ false → P Done) → P Lost → P Short → (got : Got) → Gives s Begin_clean got → P got
+gives_suspend s P p q r Done g = p g
+gives_suspend s P p q r Lost g = q
+gives_suspend s P p q r Short g = r
+gives_suspend s P p q r got g = absurd g
 
 pub gives_suspended : (s : Shared) (P : Got → Type 0) → P Done → (got : Got) → Gives s Set_suspended got → P got
 gives_suspended s P p Done g = p

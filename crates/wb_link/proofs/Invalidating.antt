@@ -37,41 +37,45 @@ disowning (suc n) size a b c s d k = λ t e got o g v r.
     (quietly size a (λ y u f. Safe n size a y u f) _ _ (Disown b) Done t e g refl (rests_on a b (Disown b ∷ []) Finished c s t d e o k) (plain a b (Disown b) Done e e refl) (ending n size a b Finished c t e)) got v
 
 -- the block is unmapped: its seal is to say so
-record Left (b : ℕ) (d : Volume) : Type 0 where
-  done : (i : ℕ) → d.finished b i ≡ length (d.histories b i).later
-  whole : (i : ℕ) → d.standing b i ≡ Whole
-  unmapped : d.mapping b ≡ None
+pub record Left (b : ℕ) (d : Volume) : Type 0 where
+  pub done : (i : ℕ) → d.finished b i ≡ length (d.histories b i).later
+  pub whole : (i : ℕ) → d.standing b i ≡ Whole
+  pub unmapped : d.mapping b ≡ None
 
-sealing : (n size a b : ℕ) (c : Content) (s : Shared) (d : Volume) → Left b d → Safe n size a (dropping_of b (Set_seal b (record { location = None; dirty = false }) ∷ Disown b ∷ []) Finished (Owns b) c) s d
+abbrev pub unmapped_seal : Seal
+unmapped_seal = record { location = None; dirty = false }
+
+pub left_rests : (b : ℕ) (t : Shared) (d e : Volume) → block_view e b ≡ block_view d b → Left b d → Rests (changed t.seals b unmapped_seal b) (block_view e b)
+left_rests b t d e same k = record {
+  whole = λ i. ap (λ (w : BlockView). w.standing i) same ∙ k.whole i;
+  done = λ i. ap (λ (w : BlockView). w.finished i) same ∙ k.done i ∙ sym (ap (λ (w : BlockView). length (w.histories i).later) same);
+  location = ap (λ (w : Seal). w.location) (changed_same t.seals b unmapped_seal) ∙ sym gone;
+  dirty = λ j f. let bad : None ≡ Some j = sym gone ∙ f in absurd (cc);
+} where
+  gone : e.mapping b ≡ None
+  gone = ap (λ (w : BlockView). w.location) same ∙ k.unmapped
+
+sealing : (n size a b : ℕ) (c : Content) (s : Shared) (d : Volume) → Left b d → Safe n size a (dropping_of b (Set_seal b unmapped_seal ∷ Disown b ∷ []) Finished (Owns b) c) s d
 sealing zero size a b c s d k = tt
 sealing (suc n) size a b c s d k = λ t e got o g v r.
-    let seal : Seal = record { location = None; dirty = false } in
-    let same : block_view e b ≡ block_view d b = o.block b refl in
-    let gone : e.mapping b ≡ None = ap (λ (w : BlockView). w.location) same ∙ k.unmapped in
-    let rests : Rests (changed t.seals b seal b) (block_view e b) = record {
-      whole = λ i. ap (λ (w : BlockView). w.standing i) same ∙ k.whole i;
-      done = λ i. ap (λ (w : BlockView). w.finished i) same ∙ k.done i ∙ sym (ap (λ (w : BlockView). length (w.histories i).later) same);
-      location = ap (λ (w : Seal). w.location) (changed_same t.seals b seal) ∙ sym gone;
-      dirty = λ j f. let bad : None ≡ Some j = sym gone ∙ f in absurd (cc);
-    } in
-    gives_set t b seal (λ w. Result n size a b (Set_seal b seal ∷ Disown b ∷ []) Finished (Owns b) c t e w)
+    gives_set t b unmapped_seal (λ w. Result n size a b (Set_seal b unmapped_seal ∷ Disown b ∷ []) Finished (Owns b) c t e w)
     (record {
       run = tt;
       mine = tt;
-      agrees = seal_agrees t e (changed t.seals b seal) e.dirty g.agrees;
+      agrees = seal_agrees t e (changed t.seals b unmapped_seal) e.dirty g.agrees;
       ready = refl;
       owes = tt;
-      right = plain a b (Set_seal b seal) Done e e refl;
-      left = disowning n size a b c (record t { seals = changed t.seals b seal }) e rests;
+      right = plain a b (Set_seal b unmapped_seal) Done e e refl;
+      left = disowning n size a b c (record t { seals = changed t.seals b unmapped_seal }) e (left_rests b t d e (o.block b refl) k);
     })
     got v
 
-unmapping : (n size a b k : ℕ) (c : Content) (s : Shared) (d : Volume) → Life Passthrough d → RestsAt s d b → d.mapping b ≡ Some k → Safe n size a (dropping_of b (dropping b (Some k)) Finished (Owns b) c) s d
+unmapping : (n size a b k : ℕ) (c : Content) (s : Shared) (d : Volume) → Life Passthrough d → RestsAt s d b → d.mapping b ≡ Some k → Safe n size a (dropping_of b (dropping b (Some k) (Disown b ∷ [])) Finished (Owns b) c) s d
 unmapping zero size a b k c s d l h m = tt
 unmapping (suc n) size a b k c s d l h m = λ t e got o g v r.
-    let now : RestsAt t e b = rests_on a b (dropping b (Some k)) Finished c s t d e o h in
+    let now : RestsAt t e b = rests_on a b (dropping b (Some k) (Disown b ∷ [])) Finished c s t d e o h in
     let there : e.mapping b ≡ Some k = ap (λ (w : BlockView). w.location) (o.block b refl) ∙ m in
-    gives_drop t b k (λ w. Result n size a b (dropping b (Some k)) Finished (Owns b) c t e w)
+    gives_drop t b k (λ w. Result n size a b (dropping b (Some k) (Disown b ∷ [])) Finished (Owns b) c t e w)
     (record {
       run = ((o.live ∙ l.0, (k, there, inr (g.kept.latest.passed (o.mode ∙ l.1) b k there, now.whole))), tt);
       mine = ((refl, inr refl), tt);
@@ -83,7 +87,7 @@ unmapping (suc n) size a b k c s d l h m = λ t e got o g v r.
     })
     got v
 
-worked : (n size a b : ℕ) (p : Option ℕ) (c : Content) (s : Shared) (d : Volume) → Life Passthrough d → RestsAt s d b → p ≡ (s.seals b).location → Safe n size a (dropping_of b (dropping b p) Finished (Owns b) c) s d
+worked : (n size a b : ℕ) (p : Option ℕ) (c : Content) (s : Shared) (d : Volume) → Life Passthrough d → RestsAt s d b → p ≡ (s.seals b).location → Safe n size a (dropping_of b (dropping b p (Disown b ∷ [])) Finished (Owns b) c) s d
 worked n size a b None c s d l k is = disowning n size a b c s d k
 worked n size a b (Some j) c s d l k is = unmapping n size a b j c s d l k (sym (is ∙ k.location))
 

@@ -8,6 +8,7 @@ pub mod Actors
 pub mod Agreeing
 pub mod Copying
 pub mod Steps
+pub mod Aside
 pub mod Givings
 pub mod Reading
 pub mod Writing

@@ -3,6 +3,7 @@
 use Rattle.std.proofs.Common.{◌≡◌, ◌≢◌, ◌≤◌, ◌⊎◌, ℕ, zero, suc, Bool, true, false, List, [], ◌∷◌, Option, Some, None, length, slice_get}
 use Rattle.wb_disk.specs.Device.{Content, newest, only}
 use Rattle.wb_contents.specs.Volume.{Locations, Volume, Whole}
+use Rattle.wb_types.specs.declared.mode.Mode.{Mode}
 use Rattle.wb_types.specs.declared.mode.Mode.TheVariants.{Passthrough}
 use Rattle.wb_contents.specs.Acts.{Act, Write, Write_origin, Write_cache, Fail_write, Finish, Fill_cache, Copy_back, Map, Unmap, Make_dirty, Make_clean, Begin_commit, Begin_suspend, Sync_cache, Sync_origin, Fail_cache_sync, Fail_origin_sync, Write_root, End_commit, Begin_flush, End_flush, after_all as after_acts}
 use Rattle.wb_contents.specs.Conditions.{IsUnnamed, IsRun as IsActs}
@@ -19,15 +20,16 @@ abbrev pub landed_write : Bool → (b o : ℕ) → Content → List Act
 landed_write true b o c = Write b o c ∷ []
 landed_write false b o c = Fail_write b o c ∷ []
 
-abbrev pub write_acts : Content → Want → Got → List Act
-write_acts c (Set_seal b seal) got = Make_dirty b ∷ []
-write_acts c (Write_at location b o) Done = Write b o c ∷ Finish b o ∷ []
-write_acts c (Write_at location b o) (Fault choice) = landed_write choice.landed b o c
-write_acts c w got = []
-
 abbrev pub if_so : Bool → List Act → List Act
 if_so true acts = acts
 if_so false acts = []
+
+abbrev pub write_acts : Content → Want → Got → List Act
+write_acts c (Set_seal b seal) got = if_so seal.dirty (Make_dirty b ∷ [])
+write_acts c (Unmap_plain b k) got = Unmap b ∷ []
+write_acts c (Write_at location b o) Done = Write b o c ∷ Finish b o ∷ []
+write_acts c (Write_at location b o) (Fault choice) = landed_write choice.landed b o c
+write_acts c w got = []
 
 -- by write-through: where it is mapped, on the origin first
 abbrev pub landed_through : Bool → (b o : ℕ) → Content → List Act
@@ -82,8 +84,8 @@ drop_acts (Unmap_plain b k) got = Unmap b ∷ []
 drop_acts w got = []
 
 abbrev pub acts_of : Locations → ℕ → Job → Content → Want → Got → List Act
-acts_of locations a (Reading b os) buffer w got = []
-acts_of locations a (Writing b os c) buffer w got = write_acts c w got
+acts_of locations a (Reading past b os) buffer w got = []
+acts_of locations a (Writing past b os c) buffer w got = write_acts c w got
 acts_of locations a (Writing_through b os c) buffer w got = write_through_acts (locations b) c w got
 acts_of locations a (Invalidating b) buffer w got = drop_acts w got
 acts_of locations a (Flushing order) buffer w got = flush_acts a w got
@@ -205,7 +207,7 @@ Owes job w t e = Unit {0}
 -- What is promised of a step: what a read gives is the sector's last write; the histories are the clerk's, who sees
 -- the step alone; a flush that is answered done has covered what was finished when it began.
 abbrev pub ReadsRight : Job → Want → Got → Volume → Type 0
-ReadsRight (Reading block os) (Read_at location b o) (Gave c) d = c ≡ newest (d.histories b o)
+ReadsRight (Reading past block os) (Read_at location b o) (Gave c) d = c ≡ newest (d.histories b o)
 ReadsRight job w got d = Unit {0}
 
 abbrev pub FlushesRight : ℕ → Job → Want → Volume → Volume → Type 0
@@ -270,6 +272,15 @@ Unowned actors b = (a : ℕ) (x : Actor) → slice_get actors a ≡ Some x → x
 abbrev pub NobodyAlone : List Actor → Type 0
 NobodyAlone actors = (a : ℕ) (x : Actor) → slice_get actors a ≡ Some x → is_alone x.task ≡ false
 
+-- What is known of the orders that are put aside.
+pub record SetAside (s : Shared) (actors : List Actor) (waiting : ℕ → Option Order) (mode : Mode) : Type 0 where
+  pub at : (k : ℕ) (p : Order) → waiting k ≡ Some p → p.cache ≡ k
+  pub stands : (k : ℕ) (p : Order) → waiting k ≡ Some p → Ordered (s.blocks p.cache)
+  pub placed : (k : ℕ) (p : Order) → waiting k ≡ Some p → Placing s p
+  pub apart : (k : ℕ) (p : Order) (a : ℕ) (x : Actor) (q : Order) → waiting k ≡ Some p → slice_get actors a ≡ Some x → x.order ≡ Some q → Apart q p
+  pub each : (j k : ℕ) (p q : Order) → waiting j ≡ Some p → waiting k ≡ Some q → j ≢ k → Apart p q
+  pub modes : (k : ℕ) (p : Order) → waiting k ≡ Some p → mode ≢ Passthrough
+
 -- The link's invariant.
 pub record Linked (size : ℕ) (w : World) (d : Volume) : Type 0 where
   pub good : Good size w.shared d
@@ -285,3 +296,4 @@ pub record Linked (size : ℕ) (w : World) (d : Volume) : Type 0 where
   pub resting : (a : ℕ) (x : Actor) → slice_get w.actors a ≡ Some x → x.task ≡ None → (x.held ≡ Nothing) ⊎ (w.shared.fail ≡ true)
   pub living : NobodyAlone w.actors → w.shared.fail ≡ false → d.live ≡ true
   pub safe : (a : ℕ) (x : Actor) (n : ℕ) → slice_get w.actors a ≡ Some x → Safe n size a x w.shared d
+  pub aside : SetAside w.shared w.actors w.waiting d.mode

@@ -59,6 +59,7 @@ opening_noted size many s mode Looking Refused d n e r y k = record { noted = k;
 opening_noted size many s mode Looking (Broke choice) d n e r y k = record { noted = k; right = tt }
 opening_noted size many s mode (Rooting i) Fine d n e r y k = record { noted = record { histories = k.histories; floors = k.floors }; right = tt }
 opening_noted size many s mode (Rooting i) (Broke choice) d n e r y k = record { noted = record { histories = k.histories; floors = k.floors }; right = tt }
+opening_noted size many s mode (Rooting i) Refused d n e r y k = record { noted = k; right = tt }
 opening_noted size many s mode (Renewing i) Fine d n e r y k = record { noted = k; right = tt }
 opening_noted size many s mode (Renewing i) (Broke choice) d n e r y k = record { noted = k; right = tt }
 opening_noted size many s mode (Answering i) (Shown blocks view) d n e r y k = record {

@@ -37,7 +37,7 @@ raised_below (x ∷ es) f g l i b o = raised_below es (changed_at f x.block x.of
     i.1 b o
 
 pub finished_ok : (job : Job) (w : Want) (es : List Entry) (f g : ℕ → ℕ → ℕ) → ((b o : ℕ) → f b o ≤ g b o) → (w ≡ End Finished → AllBelow g es) → (b o : ℕ) → finished_after job w es f b o ≤ g b o
-finished_ok (Writing block os c) (End Finished) es f g l i b o = raised_below es f g l (i refl) b o
+finished_ok (Writing past block os c) (End Finished) es f g l i b o = raised_below es f g l (i refl) b o
 finished_ok (Writing_through block os c) (End Finished) es f g l i b o = raised_below es f g l (i refl) b o
 finished_ok job w es f g l i b o = l b o
 
@@ -83,6 +83,6 @@ new_entry histories g b o c held e same is own = inr (own, rw (same, is, here_is
 
 pub entered_ok : (x : Actor) (s t : Shared) (d e : Volume) (job : Job) (w : Want) (got : Got) (histories : ℕ → ℕ → History) (es : List Entry) → histories ≡ d.histories → e.histories ≡ histories_after d.histories job w → Grows d e → Ready w x s → Owes job w t e → AllEntered x.held d es →
     AllEntered (held_after x.held w got) e (entered_after histories job w es)
-entered_ok x s t d e (Writing block os c) (Write_at location b o) got histories es same is g r p i = (new_entry d.histories histories b o c x.held e same is r, entered_own x s t d e (Writing block os c) (Write_at location b o) got es g r p i)
+entered_ok x s t d e (Writing past block os c) (Write_at location b o) got histories es same is g r p i = (new_entry d.histories histories b o c x.held e same is r, entered_own x s t d e (Writing past block os c) (Write_at location b o) got es g r p i)
 entered_ok x s t d e (Writing_through block os c) (Write_at None b o) got histories es same is g r p i = (new_entry d.histories histories b o c x.held e same is r, entered_own x s t d e (Writing_through block os c) (Write_at None b o) got es g r p i)
 entered_ok x s t d e job w got histories es same is g r p i = entered_own x s t d e job w got es g r p i

@@ -18,7 +18,7 @@ use Rattle.wb_link.proofs.Steady.{quiet, part}
 use Rattle.wb_link.proofs.Givings.{resting_safe}
 
 -- Where nobody has anything, the desk's rules and resting blocks are all there is.
-pub fresh : (size many : ℕ) (s : Shared) (d : Volume) → Good size s d → ((b : ℕ) → RestsAt s d b) → d.live ≡ true → Linked size (record { shared = s; actors = replicate many resting }) d
+pub fresh : (size many : ℕ) (s : Shared) (d : Volume) → Good size s d → ((b : ℕ) → RestsAt s d b) → d.live ≡ true → Linked size (record { shared = s; actors = replicate many resting; waiting = λ k. None }) d
 fresh size many s d g rest live = record {
   good = g;
   rests = λ b u. rest b;
@@ -30,6 +30,7 @@ fresh size many s d g rest live = record {
   dropping = λ a x e. subst (λ (v : Actor). drops v.task ≡ true → d.mode ≡ Passthrough) (replicated many a resting x e) (λ f. absurd (cc));
   resting = λ a x e. subst (λ (v : Actor). v.task ≡ None → (v.held ≡ Nothing) ⊎ (s.fail ≡ true)) (replicated many a resting x e) (λ f. inl refl);
   living = λ nobody f. live;
+  aside = record { at = λ k p e. absurd (cc); stands = λ k p e. absurd (cc); placed = λ k p e. absurd (cc); apart = λ k p a x q e. absurd (cc); each = λ j k p q e. absurd (cc); modes = λ k p e. absurd (cc) };
   safe = λ a x n e. subst (λ (v : Actor). Safe n size a v s d) (replicated many a resting x e) (resting_safe n size a Nothing None false [] s d);
 }
 
@@ -134,6 +135,7 @@ opening_acts mode Caching Fine = Sync_cache ∷ []
 opening_acts mode Caching (Broke choice) = Fail_cache_sync choice.settled ∷ []
 opening_acts mode Basing Fine = Sync_origin ∷ []
 opening_acts mode Basing (Broke choice) = Fail_origin_sync choice.settled ∷ []
+opening_acts mode (Rooting i) Refused = []
 opening_acts mode (Rooting i) outcome = Write_opening_root ∷ []
 opening_acts mode (Answering i) (Shown blocks view) = Open mode ∷ []
 opening_acts mode stage outcome = []
@@ -265,6 +267,7 @@ opening_goes size w mode (Rooting i) Fine d e r y = record {
   lived = (rooted_empty size w.shared d mode i e r.0.live r.1 r.2, (decided_rooted d r.0, knows_rooted mode i d r.2));
 }
 opening_goes size w mode (Rooting i) (Broke choice) d e r y = record { run = ((r.0.live, r.1), tt); lived = rooted_empty size w.shared d mode i e r.0.live r.1 r.2 }
+opening_goes size w mode (Rooting i) Refused d e r y = record { run = tt; lived = e }
 opening_goes size w mode (Renewing i) Fine d e r y = record { run = tt; lived = (e, r) }
 opening_goes size w mode (Renewing i) (Broke choice) d e r y = record { run = tt; lived = e }
 opening_goes size w mode (Answering i) (Shown blocks view) d e r y = record { run = (may_open mode i d r.0 r.1, tt); lived = opened_linked size w d mode i blocks e r.0 r.1 y.0 }

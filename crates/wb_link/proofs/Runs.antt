@@ -6,12 +6,13 @@ use Rattle.wb_contents.specs.Acts.{Act, after_all as after_acts}
 use Rattle.wb_contents.specs.Conditions.{IsRun as IsActs}
 use Rattle.wb_contents.proofs.Positions.{changed_same, changed_other}
 use Rattle.wb_link.specs.Tables.{Want, End, Got, Gave, Job, Flushing, Suspending, Script, want, after, table, Reading, Writing, Writing_through, Promoting, Demoting, Cleaning, Invalidating, Read_at}
-use Rattle.wb_link.specs.World.{Held, effect, Actor, World, Record, Start, Step, actor_after, task_after, given, resting, after_record, May, MayStep, Again}
+use Rattle.wb_link.specs.World.{Release, Held, effect, Actor, World, Record, Start, Step, actor_after, task_after, given, resting, after_record, May, MayStep, Again}
 use Rattle.wb_link.specs.Clerk.{Notes, note, histories_after, noted_step, entered_after, Entry, job_noted, GivesLatest, IsRight, opened}
 use Rattle.wb_link.proofs.Link.{Linked, acts_of, start_acts, Ready, ReadsRight}
 use Rattle.wb_link.proofs.Lists.{replicated}
 use Rattle.wb_link.proofs.Steps.{in_set, stepped, step_is, step_linked, Facts, step_facts}
 use Rattle.wb_link.proofs.Acts.{Keeps}
+use Rattle.wb_link.proofs.Aside.{release_is, release_linked}
 use Rattle.wb_link.proofs.Starting.{again_is, again_linked, again_acted, start_is, start_linked, start_run, start_keeps}
 use Rattle.wb_link.proofs.Noting.{AllEntered, all_below, finished_ok, flushes, floors_ok, entered_on, entered_ok}
 use Rattle.wb_link.proofs.Actors.{job_on, no_task}
@@ -35,8 +36,8 @@ pub record Moves (size : ℕ) (w : World) (d : Volume) (n : Notes) (r : Record) 
   pub right : IsRight n r
 
 start_books : (a : ℕ) (d : Volume) (job : Job) → (after_acts d (start_acts a job)).histories ≡ d.histories
-start_books a d (Reading b os) = refl
-start_books a d (Writing b os c) = refl
+start_books a d (Reading past b os) = refl
+start_books a d (Writing past b os c) = refl
 start_books a d (Writing_through b os c) = refl
 start_books a d (Invalidating b) = refl
 start_books a d (Flushing o) = refl
@@ -56,7 +57,7 @@ start_noted a d Suspending f = changed_same d.then_finished a d.finished
 start_noted a d job f = absurd (cc)
 
 reads_right : (histories : ℕ → ℕ → History) (job : Job) (w : Want) (got : Got) (d : Volume) → histories ≡ d.histories → ReadsRight job w got d → GivesLatest histories (Some job) w got
-reads_right histories (Reading block os) (Read_at location b o) (Gave c) d e r = r ∙ sym (ap (λ f. newest (f b o)) e)
+reads_right histories (Reading past block os) (Read_at location b o) (Gave c) d e r = r ∙ sym (ap (λ f. newest (f b o)) e)
 reads_right histories job w got d e r = tt
 
 started_noted : (size : ℕ) (w : World) (d : Volume) (n : Notes) (a : ℕ) (x : Actor) (job : Job) → Keeps a x w.shared.committing d (after_acts d (start_acts a job)) → Noted w.actors d n → slice_get w.actors a ≡ Some x → Noted (slice_set w.actors a (given x job)) (after_acts d (start_acts a job)) (note n (Start a job))
@@ -155,3 +156,10 @@ moves size w d n (Step a next got) i k m =
           (subst (λ (v : Notes). Noted (stepped w a m.0 m.1 got).actors (after_acts d (acts_of w.shared.mapping a m.1.job m.0.buffer (want m.1) got)) v) (sym is) (step_noted size w d n a m.0 m.1 next got i k step));
       right = subst (λ (v : Want). GivesLatest n.histories (n.jobs a) v got) (sym step.asked) (subst (λ (v : Option Job). GivesLatest n.histories v (want m.1) got) (sym job) (reads_right n.histories m.1.job (want m.1) got d k.histories good.right.reads));
     }
+moves size w d n (Release k) i k' m = record {
+  acts = [];
+  run = tt;
+  linked = subst (λ (v : World). Linked size v d) (sym (release_is w k m.0 m.1)) (release_linked size w d k m.0 i m.1 m.2);
+  noted = subst (λ (v : World). Noted v.actors d n) (sym (release_is w k m.0 m.1)) k';
+  right = tt;
+}

@@ -4,16 +4,17 @@ use Rattle.std.proofs.Common.{◌≡◌, ◌≢◌, ◌≤◌, ◌+◌, ◌⊎�
 use Rattle.std.proofs.lemmas.Bool.{cases_eq}
 use Rattle.wb_disk.specs.Device.{Content}
 use Rattle.wb_contents.specs.Volume.{Volume, Locations, changed}
-use Rattle.wb_types.specs.declared.mode.Mode.TheVariants.{Writeback, Writethrough, Passthrough}
+use Rattle.wb_types.specs.declared.mode.Mode.TheVariants.{Writethrough, Passthrough}
 use Rattle.wb_contents.specs.Acts.{after_all as after_acts}
 use Rattle.wb_contents.specs.Conditions.{IsRun as IsActs}
 use Rattle.wb_contents.proofs.Positions.{changed_same, changed_other}
 use Rattle.wb_link.specs.Tables.{Order, Job, Reading, Writing, Writing_through, Flushing, Suspending, Promoting, Demoting, Cleaning, Invalidating, Seal, Finished, Look_fail, acquire, Script}
-use Rattle.wb_link.specs.World.{job_alone, Within, Covers, Block, Free, Mapped, Reserved, Retained, Shared, Nothing, Owns, Actor, World, Start, reserved, order_of, given, start_actor, Apart, MayStart, MayBegin, after_record, drops, job_drops, Again, again_actor, MayAgain, MayRepeat}
+use Rattle.wb_link.specs.World.{job_alone, Within, Covers, Block, Free, Mapped, Reserved, Retained, Shared, Nothing, Owns, Actor, World, Start, reserved, order_of, given, start_actor, Apart, MayStart, MayBegin, after_record, drops, job_drops, Again, again_actor, aside, taken, MayAgain, MayRepeat}
 use Rattle.wb_link.proofs.Views.{block_view}
 use Rattle.wb_link.proofs.Acts.{NotCache, Keeps}
-use Rattle.wb_link.proofs.Link.{Ordered, Agrees, Placing, Good, Sound, AllSound, Rests, Safe, Disjoint, Unowned, Linked, AllMine, start_acts}
-use Rattle.wb_link.proofs.Lists.{get_set_other}
+use Rattle.wb_link.proofs.Link.{Ordered, Turns, SetAside, Agrees, Placing, Good, Sound, AllSound, Rests, Safe, Disjoint, Unowned, Linked, AllMine, start_acts}
+use Rattle.wb_link.proofs.Lists.{get_set_same, get_set_other}
+use Rattle.wb_link.proofs.Aside.{apart_back, aside_cases, put_aside, take_up, kept_safe}
 use Rattle.wb_link.proofs.Steady.{Acted, acted}
 use Rattle.wb_link.proofs.Effects.{KeepsShared, sound_put}
 use Rattle.wb_link.proofs.Actors.{turned, placing_on, others_of, safe_on}
@@ -21,7 +22,7 @@ use Rattle.wb_link.proofs.Agreeing.{asked_agrees, blocks_agrees}
 use Rattle.wb_link.proofs.Steps.{in_set}
 use Rattle.wb_link.proofs.Givings.{at_work}
 use Rattle.wb_link.proofs.Reading.{reading_safe}
-use Rattle.wb_link.proofs.Writing.{writing_safe}
+use Rattle.wb_link.proofs.Writing.{mode_of, writing_safe}
 use Rattle.wb_link.proofs.WritingThrough.{writing_through_safe}
 use Rattle.wb_link.proofs.Flushing.{flushing_safe}
 use Rattle.wb_link.proofs.Suspending.{suspending_safe}
@@ -32,8 +33,8 @@ use Rattle.wb_link.proofs.Demoting.{demoting_safe}
 
 -- What a job's start has to give its task.
 abbrev Startable : ℕ → ℕ → Job → Shared → Volume → Type 0
-Startable size a (Reading b os) t e = Unit {0}
-Startable size a (Writing b os x) t e = Within size os × (e.mode ≡ Writeback)
+Startable size a (Reading past b os) t e = past ≡ true → e.mode ≡ Passthrough
+Startable size a (Writing past b os x) t e = Within size os × (e.mode ≡ mode_of past)
 Startable size a (Writing_through b os x) t e = Within size os × (e.mode ≡ Writethrough)
 Startable size a (Invalidating b) t e = e.mode ≡ Passthrough
 Startable size a (Flushing q) t e = e.ticket a ≤ e.began + 1
@@ -46,8 +47,8 @@ abbrev beginner : Job → Content → Actor
 beginner job c = at_work job (Look_fail ∷ acquire job) Finished Nothing (order_of job) false c
 
 job_safe : (n size a : ℕ) (job : Job) (c : Content) (t : Shared) (e : Volume) → Startable size a job t e → Safe n size a (beginner job c) t e
-job_safe n size a (Reading b os) c t e k = reading_safe n size a b os c t e
-job_safe n size a (Writing b os x) c t e k = writing_safe n size a b os x c t e k.0 k.1
+job_safe n size a (Reading past b os) c t e k = reading_safe n size a past b os c t e k
+job_safe n size a (Writing past b os x) c t e k = writing_safe n size a past b os x c t e k.0 k.1
 job_safe n size a (Writing_through b os x) c t e k = writing_through_safe n size a b os x c t e k.0 k.1
 job_safe n size a (Invalidating b) c t e k = invalidating_safe n size a b c t e k
 job_safe n size a (Flushing q) c t e k = flushing_safe q n size a c t e k
@@ -66,6 +67,7 @@ record Reserves (size a : ℕ) (x : Actor) (job : Job) (s t : Shared) (d e : Vol
   fail : t.fail ≡ s.fail
   keeps : KeepsShared x s t
   startable : Startable size a job t e
+  turns : (k : ℕ) → Ordered (s.blocks k) → Turns (s.blocks k) (t.blocks k)
   mapping : t.mapping ≡ s.mapping
   placed : (p : Order) → order_of job ≡ Some p → Placing t p
   stands : (p : Order) → order_of job ≡ Some p → Ordered (t.blocks p.cache)
@@ -79,10 +81,11 @@ not_free b e (inl (inr f)) = absurd (cc)
 not_free b e (inr f) = let bad : Free ≡ Retained f.0 = sym e ∙ f.1 in absurd (cc)
 
 reserves : (size : ℕ) (w : World) (d : Volume) (a : ℕ) (x : Actor) (job : Job) → Good size w.shared d → (w.shared.fail ≡ false → d.live ≡ true) → MayStart size w job → Reserves size a x job w.shared (reserved w.shared job) d (after_acts d (start_acts a job))
-reserves size w d a x (Reading b os) g l m = record { agrees = g.agrees; sound = g.sound; seals = refl; committing = refl; root_written = refl; fail = refl; keeps = record { seal = λ b n. refl; state = λ h k n r. inl refl }; startable = tt; mapping = refl; placed = λ p e. absurd (cc); stands = λ p e. absurd (cc) }
-reserves size w d a x (Writing b os c) g l m = record { agrees = g.agrees; sound = g.sound; seals = refl; committing = refl; root_written = refl; fail = refl; keeps = record { seal = λ b n. refl; state = λ h k n r. inl refl }; startable = (m.0, sym g.agrees.mode ∙ m.1); mapping = refl; placed = λ p e. absurd (cc); stands = λ p e. absurd (cc) }
-reserves size w d a x (Writing_through b os c) g l m = record { agrees = g.agrees; sound = g.sound; seals = refl; committing = refl; root_written = refl; fail = refl; keeps = record { seal = λ b n. refl; state = λ h k n r. inl refl }; startable = (m.0, sym g.agrees.mode ∙ m.1); mapping = refl; placed = λ p e. absurd (cc); stands = λ p e. absurd (cc) }
-reserves size w d a x (Invalidating b) g l m = record { agrees = g.agrees; sound = g.sound; seals = refl; committing = refl; root_written = refl; fail = refl; keeps = record { seal = λ b n. refl; state = λ h k n r. inl refl }; startable = sym g.agrees.mode ∙ m; mapping = refl; placed = λ p e. absurd (cc); stands = λ p e. absurd (cc) }
+reserves size w d a x (Reading false b os) g l m = record { agrees = g.agrees; sound = g.sound; seals = refl; committing = refl; root_written = refl; fail = refl; keeps = record { seal = λ b n. refl; state = λ h k n r. inl refl }; turns = λ k r. inl refl; startable = λ f. absurd (cc); mapping = refl; placed = λ p e. absurd (cc); stands = λ p e. absurd (cc) }
+reserves size w d a x (Reading true b os) g l m = record { agrees = g.agrees; sound = g.sound; seals = refl; committing = refl; root_written = refl; fail = refl; keeps = record { seal = λ b n. refl; state = λ h k n r. inl refl }; turns = λ k r. inl refl; startable = λ f. sym g.agrees.mode ∙ m.1; mapping = refl; placed = λ p e. absurd (cc); stands = λ p e. absurd (cc) }
+reserves size w d a x (Writing past b os c) g l m = record { agrees = g.agrees; sound = g.sound; seals = refl; committing = refl; root_written = refl; fail = refl; keeps = record { seal = λ b n. refl; state = λ h k n r. inl refl }; turns = λ k r. inl refl; startable = (m.0, sym g.agrees.mode ∙ m.1); mapping = refl; placed = λ p e. absurd (cc); stands = λ p e. absurd (cc) }
+reserves size w d a x (Writing_through b os c) g l m = record { agrees = g.agrees; sound = g.sound; seals = refl; committing = refl; root_written = refl; fail = refl; keeps = record { seal = λ b n. refl; state = λ h k n r. inl refl }; turns = λ k r. inl refl; startable = (m.0, sym g.agrees.mode ∙ m.1); mapping = refl; placed = λ p e. absurd (cc); stands = λ p e. absurd (cc) }
+reserves size w d a x (Invalidating b) g l m = record { agrees = g.agrees; sound = g.sound; seals = refl; committing = refl; root_written = refl; fail = refl; keeps = record { seal = λ b n. refl; state = λ h k n r. inl refl }; turns = λ k r. inl refl; startable = sym g.agrees.mode ∙ m; mapping = refl; placed = λ p e. absurd (cc); stands = λ p e. absurd (cc) }
 reserves size w d a x (Flushing q) g l m = record {
   agrees = asked_agrees w.shared d a g.agrees;
   sound = g.sound;
@@ -90,7 +93,7 @@ reserves size w d a x (Flushing q) g l m = record {
   committing = refl;
   root_written = refl;
   fail = refl;
-  keeps = record { seal = λ b n. refl; state = λ h k n r. inl refl };
+  keeps = record { seal = λ b n. refl; state = λ h k n r. inl refl }; turns = λ k r. inl refl;
   startable = let e = changed_same d.ticket a (d.began + 1) in omega (arith, e);
   mapping = refl;
   placed = λ p e. absurd (cc);
@@ -103,7 +106,7 @@ reserves size w d a x Suspending g l m = record {
   committing = refl;
   root_written = refl;
   fail = refl;
-  keeps = record { seal = λ b n. refl; state = λ h k n r. inl refl };
+  keeps = record { seal = λ b n. refl; state = λ h k n r. inl refl }; turns = λ k r. inl refl;
   startable = (let e = changed_same d.ticket a (d.began + 1) in omega (arith, e), l);
   mapping = refl;
   placed = λ p e. absurd (cc);
@@ -120,6 +123,7 @@ reserves size w d a x (Promoting p os) g l m = record {
     seal = λ b n. refl;
     state = λ h k n r. inl (changed_other w.shared.blocks p.cache k Reserved (λ e. not_free (w.shared.blocks k) (ap w.shared.blocks e ∙ m.5) r));
   };
+  turns = λ k r. inl (changed_other w.shared.blocks p.cache k Reserved (λ e. not_free (w.shared.blocks k) (ap w.shared.blocks e ∙ m.5) r));
   startable = (m.0, m.1, record { unmapped = sym (ap (λ f. f p.block) g.agrees.mapping) ∙ m.4; reserved = changed_same w.shared.blocks p.cache Reserved });
   mapping = refl;
   placed = λ q e. let same : p ≡ q = cc in subst (λ (v : Order). Placing (reserved w.shared (Promoting p os)) v) same (λ f. m.4, λ f. let was = changed_same w.shared.blocks p.cache Reserved in absurd (cc), λ f. m.4, m.6);
@@ -132,7 +136,7 @@ reserves size w d a x (Cleaning p os) g l m = record {
   committing = refl;
   root_written = refl;
   fail = refl;
-  keeps = record { seal = λ b n. refl; state = λ h k n r. inl refl };
+  keeps = record { seal = λ b n. refl; state = λ h k n r. inl refl }; turns = λ k r. inl refl;
   startable = (m.0, m.1, sym (ap (λ f. f p.block) g.agrees.mapping) ∙ m.4);
   mapping = refl;
   placed = λ q e. let same : p ≡ q = cc in subst (λ (v : Order). Placing w.shared v) same (λ f. let was = m.5 in absurd (cc), λ f. m.4, λ f. let was : Mapped ≡ Retained f.0 = sym m.5 ∙ f.1 in absurd (cc), m.6);
@@ -145,7 +149,7 @@ reserves size w d a x (Demoting p os) g l m = record {
   committing = refl;
   root_written = refl;
   fail = refl;
-  keeps = record { seal = λ b n. refl; state = λ h k n r. inl refl };
+  keeps = record { seal = λ b n. refl; state = λ h k n r. inl refl }; turns = λ k r. inl refl;
   startable = (m.0, m.1, sym (ap (λ f. f p.block) g.agrees.mapping) ∙ m.4);
   mapping = refl;
   placed = λ q e. let same : p ≡ q = cc in subst (λ (v : Order). Placing w.shared v) same (λ f. let was = m.5 in absurd (cc), λ f. m.4, λ f. let was : Mapped ≡ Retained f.0 = sym m.5 ∙ f.1 in absurd (cc), m.6);
@@ -154,19 +158,37 @@ reserves size w d a x (Demoting p os) g l m = record {
 
 -- its order is apart from all others
 ungiven : (size : ℕ) (w : World) (job : Job) → MayStart size w job → (b : ℕ) (y : Actor) (p q : Order) → slice_get w.actors b ≡ Some y → order_of job ≡ Some p → y.order ≡ Some q → Apart q p
-ungiven size w (Reading b os) m k y p q g e f = absurd (cc)
-ungiven size w (Writing b os c) m k y p q g e f = absurd (cc)
+ungiven size w (Reading past b os) m k y p q g e f = absurd (cc)
+ungiven size w (Writing past b os c) m k y p q g e f = absurd (cc)
 ungiven size w (Writing_through b os c) m k y p q g e f = absurd (cc)
 ungiven size w (Invalidating b) m k y p q g e f = absurd (cc)
 ungiven size w (Flushing o) m k y p q g e f = absurd (cc)
 ungiven size w Suspending m k y p q g e f = absurd (cc)
-ungiven size w (Promoting o os) m k y p q g e f = let same : o ≡ p = cc in subst (λ (v : Order). Apart q v) same (m.2 k y q g f)
-ungiven size w (Cleaning o os) m k y p q g e f = let same : o ≡ p = cc in subst (λ (v : Order). Apart q v) same (m.2 k y q g f)
-ungiven size w (Demoting o os) m k y p q g e f = let same : o ≡ p = cc in subst (λ (v : Order). Apart q v) same (m.2 k y q g f)
+ungiven size w (Promoting o os) m k y p q g e f = let same : o ≡ p = cc in subst (λ (v : Order). Apart q v) same (m.2.0 k y q g f)
+ungiven size w (Cleaning o os) m k y p q g e f = let same : o ≡ p = cc in subst (λ (v : Order). Apart q v) same (m.2.0 k y q g f)
+ungiven size w (Demoting o os) m k y p q g e f = let same : o ≡ p = cc in subst (λ (v : Order). Apart q v) same (m.2.0 k y q g f)
+
+-- also from those that are aside
+unwaiting : (size : ℕ) (w : World) (job : Job) → MayStart size w job → (k : ℕ) (p q : Order) → w.waiting k ≡ Some q → order_of job ≡ Some p → Apart q p
+unwaiting size w (Reading past b os) m k p q g e = absurd (cc)
+unwaiting size w (Writing past b os c) m k p q g e = absurd (cc)
+unwaiting size w (Writing_through b os c) m k p q g e = absurd (cc)
+unwaiting size w (Invalidating b) m k p q g e = absurd (cc)
+unwaiting size w (Flushing o) m k p q g e = absurd (cc)
+unwaiting size w Suspending m k p q g e = absurd (cc)
+unwaiting size w (Promoting o os) m k p q g e = let same : o ≡ p = cc in subst (λ (v : Order). Apart q v) same (m.2.1 k q g)
+unwaiting size w (Cleaning o os) m k p q g e = let same : o ≡ p = cc in subst (λ (v : Order). Apart q v) same (m.2.1 k q g)
+unwaiting size w (Demoting o os) m k p q g e = let same : o ≡ p = cc in subst (λ (v : Order). Apart q v) same (m.2.1 k q g)
+
+aside_ungiven : (size : ℕ) (w : World) (a : ℕ) (x : Actor) (job : Job) → MayStart size w job → slice_get w.actors a ≡ Some x → (k : ℕ) (p q : Order) → aside w.waiting x.order k ≡ Some p → order_of job ≡ Some q → Apart q p
+aside_ungiven size w a x job m here k p q e f = elim (aside_cases w.waiting x.order k p e) [
+  | inl o ↦ apart_back p q (ungiven size w job m a x q p here f o.0)
+  | inr o ↦ apart_back p q (unwaiting size w job m k q p o.0 f)
+]
 
 pub start_run : (a : ℕ) (d : Volume) (job : Job) → IsActs d (start_acts a job)
-start_run a d (Reading b os) = tt
-start_run a d (Writing b os c) = tt
+start_run a d (Reading past b os) = tt
+start_run a d (Writing past b os c) = tt
 start_run a d (Writing_through b os c) = tt
 start_run a d (Invalidating b) = tt
 start_run a d (Flushing o) = (tt, tt)
@@ -176,8 +198,8 @@ start_run a d (Cleaning p os) = tt
 start_run a d (Demoting p os) = tt
 
 start_mine : (size a : ℕ) (x : Actor) (busy : Bool) (job : Job) → x.task ≡ None → AllMine size a x busy (start_acts a job)
-start_mine size a x busy (Reading b os) f = tt
-start_mine size a x busy (Writing b os c) f = tt
+start_mine size a x busy (Reading past b os) f = tt
+start_mine size a x busy (Writing past b os c) f = tt
 start_mine size a x busy (Writing_through b os c) f = tt
 start_mine size a x busy (Invalidating b) f = tt
 start_mine size a x busy (Flushing o) f = ((refl, f), tt)
@@ -195,6 +217,7 @@ start_order size w job p m e = absurd (cc)
 
 start_drops : (size : ℕ) (w : World) (job : Job) → MayStart size w job → job_drops job ≡ true → w.shared.mode ≡ Passthrough
 start_drops size w (Invalidating b) m e = m
+start_drops size w (Writing past b os c) m e = m.1 ∙ ap mode_of e
 start_drops size w job m e = absurd (cc)
 
 -- a suspend begins where nobody has a task
@@ -203,7 +226,7 @@ start_alone size w Suspending m e = m
 start_alone size w job m e = absurd (cc)
 
 abbrev pub started : World → ℕ → Actor → Job → World
-started w a x job = record { shared = reserved w.shared job; actors = slice_set w.actors a (given x job) }
+started w a x job = record { shared = reserved w.shared job; actors = slice_set w.actors a (given x job); waiting = aside w.waiting x.order }
 
 pub start_is : (size : ℕ) (w : World) (a : ℕ) (job : Job) (x : Actor) → MayBegin size w a job x → after_record w (Start a job) ≡ started w a x job
 start_is size w a job x m = ap (λ o. start_actor w a o job) m.actor
@@ -217,28 +240,28 @@ start_linked size w d a x job i m = record {
     sound = res.sound;
     idle = λ e. res.root_written ∙ i.good.idle (sym res.committing ∙ e);
   };
-  rests = λ b u. subst (λ (v : _). Rests (t.seals b) v) (sym (done.keeps.block b none_owned)) (subst (λ (f : ℕ → Seal). Rests (f b) (block_view d b)) (sym res.seals) (i.rests b (was_unowned b u)));
+  rests = λ b u. subst (λ (v : _). Rests (t.seals b) v) (sym (done.keeps.block b (u a y (get_set_same w.actors a x y m.actor)))) (subst (λ (f : ℕ → Seal). Rests (f b) (block_view d b)) (sym res.seals) (i.rests b (was_unowned b u)));
   disjoint = λ b c z v g h n. in_set w.actors a x y m.actor (λ k p. (q : Actor) (j : ℕ) → slice_get (slice_set w.actors a y) j ≡ Some q → k ≢ j → Disjoint p q)
       (λ q j f k. in_set w.actors a x y m.actor (λ l r. a ≢ l → Disjoint y r) (λ bad. absurd (bad refl))
-      (λ l r o f' k'. record { held = λ b e. let bad : Nothing ≡ Owns b = sym m.held ∙ e in absurd (cc); order = λ p q e f. let apart = ungiven size w job m.may l r p q f' e f in (λ b m n. apart.0 b n m, λ e. apart.1 (sym e)); leads = λ e f. let bad : false ≡ true = sym m.leads ∙ e in absurd (cc); alone = λ e. start_alone size w job m.may e l r f' }) j q f k)
+      (λ l r o f' k'. record { held = (i.disjoint a l x r m.actor f' k').held; order = λ p q e f. apart_back q p (ungiven size w job m.may l r p q f' e f); leads = (i.disjoint a l x r m.actor f' k').leads; alone = λ e. start_alone size w job m.may e l r f' }) j q f k)
       (λ k p o f q j f2 k2. in_set w.actors a x y m.actor (λ l r. k ≢ l → Disjoint p r)
       (λ o2. record { held = (i.disjoint k a p x f m.actor o).held; order = λ p' q e f'. ungiven size w job m.may k p q p' f f' e; leads = (i.disjoint k a p x f m.actor o).leads; alone = λ e. let n = m.nobody_alone k p f in absurd (cc) })
       (λ l r o3 f3 k3. i.disjoint k l p r f f3 k3) j q f2 k2)
       b z g v c h n;
   leads = in_set w.actors a x y m.actor (λ k p. p.leads ≡ true → t.committing ≡ true)
-      (λ e. let bad : false ≡ true = sym m.leads ∙ e in absurd (cc))
+      (λ e. res.committing ∙ i.leads a x m.actor e)
       (λ k p o f l. res.committing ∙ i.leads k p f l);
   stands = λ b z p g. in_set w.actors a x y m.actor (λ k v. (q : Order) → v.order ≡ Some q → Ordered (t.blocks q.cache))
       (λ q f. res.stands q f)
-      (λ k v o f q r. let was = i.stands k v q f r in turned (s.blocks q.cache) (t.blocks q.cache) was (res.keeps.state idle_drops q.cache no_order was))
+      (λ k v o f q r. let was = i.stands k v q f r in turned (s.blocks q.cache) (t.blocks q.cache) was (res.turns q.cache was))
       b z g p;
   safe = λ b z n g. in_set w.actors a x y m.actor (λ k v. Safe n size k v t e)
-      (subst (λ (v : Actor). Safe n size a v t e) (sym begun) (job_safe n size a job x.buffer t e res.startable))
+      (begins_safe n)
       (λ k v o f. safe_on n size k v s t d e (others_of size a k x v s t d e o i.good (i.disjoint a k x v m.actor f (λ z. o (sym z))) (m.nobody_alone a x m.actor) (m.nobody_alone k v f) (λ h. res.fail ∙ h) (λ q r. idle_drops) (i.leads k v f) (λ q r. i.stands k v q f r) res.keeps done.keeps) (i.safe k v n f))
       b z g;
   placed = λ b z p g. in_set w.actors a x y m.actor (λ k v. (q : Order) → v.order ≡ Some q → Placing t q)
       (λ q f. res.placed q f)
-      (λ k v o f q r. placing_on s t q (res.keeps.state idle_drops q.cache no_order (i.stands k v q f r)) (ap (λ h. h q.block) res.mapping) (λ b n. ap (λ h. h b) res.mapping) (i.placed k v q f r))
+      (λ k v o f q r. placing_on s t q (res.turns q.cache (i.stands k v q f r)) (ap (λ h. h q.block) res.mapping) (λ b n. ap (λ h. h b) res.mapping) (i.placed k v q f r))
       b z g p;
   orders = λ b z p g. in_set w.actors a x y m.actor (λ k v. (q : Order) → v.order ≡ Some q → e.mode ≢ Passthrough)
       (λ q f h. start_order size w job q m.may f (i.good.agrees.mode ∙ sym done.keeps.mode ∙ h))
@@ -248,8 +271,16 @@ start_linked size w d a x job i m = record {
       (λ f. done.keeps.mode ∙ sym i.good.agrees.mode ∙ start_drops size w job m.may f)
       (λ k v o f g. done.keeps.mode ∙ i.dropping k v f g);
   resting = in_set w.actors a x y m.actor (λ k v. v.task ≡ None → (v.held ≡ Nothing) ⊎ (t.fail ≡ true))
-      (λ f. inl m.held)
+      (λ f. absurd (cc))
       (λ k v o f g. elim (i.resting k v f g) [ inl h ↦ inl h | inr h ↦ inr (res.fail ∙ h) ]);
+  aside = record {
+    at = set.at;
+    stands = λ k p f. turned (s.blocks p.cache) (t.blocks p.cache) (set.stands k p f) (res.turns p.cache (set.stands k p f));
+    placed = λ k p f. placing_on s t p (res.turns p.cache (set.stands k p f)) (ap (λ h. h p.block) res.mapping) (λ b n. ap (λ h. h b) res.mapping) (set.placed k p f);
+    apart = set.apart;
+    each = set.each;
+    modes = λ k p f h. set.modes k p f (sym done.keeps.mode ∙ h);
+  };
   living = λ nobody f. done.keeps.live (m.nobody_alone a x m.actor) ∙ i.living m.nobody_alone (sym res.fail ∙ f);
 } where
   s : Shared
@@ -270,21 +301,24 @@ start_linked size w d a x job i m = record {
   done : Acted size a x w.shared.committing d (after_acts d (start_acts a job))
   done = acted size a x w.shared.committing d (start_acts a job) i.good.kept i.good.bounded (start_run a d job) (start_mine size a x w.shared.committing job m.task)
 
-  begun : given x job ≡ beginner job x.buffer
-  begun = λ j. record { task = Some (record { job = job; steps = Look_fail ∷ acquire job; answer = Finished }); held = m.held j; order = order_of job; leads = m.leads j; buffer = x.buffer }
+  set : SetAside w.shared (slice_set w.actors a (given x job)) (aside w.waiting x.order) d.mode
+  set = put_aside size w d a x (given x job) i m.actor (λ k p q e f. aside_ungiven size w a x job m.may m.actor k p q e f)
+
+  begins_safe : (n : ℕ) → Safe n size a (given x job) (reserved w.shared job) (after_acts d (start_acts a job))
+  begins_safe n = elim m.free [
+    | inl f ↦ subst (λ (v : Actor). Safe n size a v (reserved w.shared job) (after_acts d (start_acts a job))) (begun f.0 f.1) (job_safe n size a job x.buffer (reserved w.shared job) (after_acts d (start_acts a job)) res.startable)
+    | inr f ↦ kept_safe job n size a x.held (order_of job) x.leads x.buffer (reserved w.shared job) (after_acts d (start_acts a job)) (res.fail ∙ f)
+  ]
+    where
+      begun : x.held ≡ Nothing → x.leads ≡ false → beginner job x.buffer ≡ given x job
+      begun h l = λ j. record { task = Some (record { job = job; steps = Look_fail ∷ acquire job; answer = Finished }); held = sym h j; order = order_of job; leads = sym l j; buffer = x.buffer }
 
   idle_drops : drops x.task ≡ false
   idle_drops = ap (λ (o : Option Script). drops o) m.task
 
-  none_owned : {b : ℕ} → x.held ≢ Owns b
-  none_owned {b = b} e = let bad : Nothing ≡ Owns b = sym m.held ∙ e in absurd (cc)
-
-  no_order : {k : ℕ} → NotCache x k
-  no_order {k = k} p e = let bad : None ≡ Some p = sym m.order ∙ e in absurd (cc)
-
   was_unowned : (b : ℕ) → Unowned (slice_set w.actors a (given x job)) b → Unowned w.actors b
   was_unowned b u c z g = elim (cases_eq c a) [
-    | inl is ↦ let now : Some x ≡ Some z = sym m.actor ∙ ap (λ k. slice_get w.actors k) (sym is) ∙ g in let same : x ≡ z = cc in subst (λ (v : Actor). v.held ≢ Owns b) same none_owned
+    | inl is ↦ let now : Some x ≡ Some z = sym m.actor ∙ ap (λ k. slice_get w.actors k) (sym is) ∙ g in let same : x ≡ z = cc in subst (λ (v : Actor). v.held ≢ Owns b) same (u a (given x job) (get_set_same w.actors a x (given x job) m.actor))
     | inr o ↦ u c z (get_set_other w.actors a c _ o ∙ g)
   ]
 
@@ -323,7 +357,7 @@ again_alone size s (Flushing q) m = (refl, refl)
 again_alone size s job m = absurd m
 
 abbrev pub repeated : World → ℕ → Actor → Job → World
-repeated w a x job = record { shared = w.shared; actors = slice_set w.actors a (given x job) }
+repeated w a x job = record { shared = w.shared; actors = slice_set w.actors a (given x job); waiting = taken (aside w.waiting x.order) (order_of job) }
 
 pub again_is : (size : ℕ) (w : World) (a : ℕ) (job : Job) (x : Actor) → MayRepeat size w a job x → after_record w (Again a job) ≡ repeated w a x job
 again_is size w a job x m = ap (λ o. again_actor w a o job) m.actor
@@ -334,26 +368,27 @@ again_acted size w d a x job i m = acted size a x w.shared.committing d (start_a
 pub again_linked : (size : ℕ) (w : World) (d : Volume) (a : ℕ) (x : Actor) (job : Job) → Linked size w d → MayRepeat size w a job x → Linked size (repeated w a x job) (after_acts d (start_acts a job))
 again_linked size w d a x job i m = record {
   good = record { kept = done.kept; agrees = again_agrees size a w.shared d job m.may i.good.agrees; bounded = done.bounded; sound = i.good.sound; idle = i.good.idle };
-  rests = λ b u. subst (λ (v : _). Rests (w.shared.seals b) v) (sym (done.keeps.block b none_owned)) (i.rests b (was_unowned b u));
+  rests = λ b u. subst (λ (v : _). Rests (w.shared.seals b) v) (sym (done.keeps.block b (u a y (get_set_same w.actors a x y m.actor)))) (i.rests b (was_unowned b u));
   disjoint = λ b c z v g h n. in_set w.actors a x y m.actor (λ k p. (q : Actor) (j : ℕ) → slice_get (slice_set w.actors a y) j ≡ Some q → k ≢ j → Disjoint p q)
       (λ q j f k. in_set w.actors a x y m.actor (λ l r. a ≢ l → Disjoint y r) (λ bad. absurd (bad refl))
-      (λ l r o f' k'. let old = i.disjoint a l x r m.actor f' k' in record { held = old.held; order = λ p q e f. old.order p q (m.order ∙ e) f; leads = old.leads; alone = λ e. let not = only.0 in absurd (cc) }) j q f k)
+      (λ l r o f' k'. let old = i.disjoint a l x r m.actor f' k' in record { held = old.held; order = λ p q e f. apart_back q p (set_out.apart p.cache p l r q (is_out p e) (there l r (λ z. k' (sym z)) f') f); leads = old.leads; alone = λ e. let not = only.0 in absurd (cc) }) j q f k)
       (λ k p o f q j f2 k2. in_set w.actors a x y m.actor (λ l r. k ≢ l → Disjoint p r)
-      (λ o2. let old = i.disjoint k a p x f m.actor o in record { held = old.held; order = λ p' q e f'. old.order p' q e (m.order ∙ f'); leads = old.leads; alone = λ e. let n = m.nobody_alone k p f in absurd (cc) })
+      (λ o2. let old = i.disjoint k a p x f m.actor o in record { held = old.held; order = λ p' q e f'. set_out.apart q.cache q k p p' (is_out q f') (there k p o f) e; leads = old.leads; alone = λ e. let n = m.nobody_alone k p f in absurd (cc) })
       (λ l r o3 f3 k3. i.disjoint k l p r f f3 k3) j q f2 k2)
       b z g v c h n;
   leads = in_set w.actors a x y m.actor (λ k p. p.leads ≡ true → w.shared.committing ≡ true) (i.leads a x m.actor) (λ k p o f. i.leads k p f);
   stands = λ b z p g. in_set w.actors a x y m.actor (λ k v. (q : Order) → v.order ≡ Some q → Ordered (w.shared.blocks q.cache))
-      (λ q f. i.stands a x q m.actor (m.order ∙ f)) (λ k v o f. λ q. i.stands k v q f) b z g p;
+      (λ q f. set_out.stands q.cache q (is_out q f)) (λ k v o f. λ q. i.stands k v q f) b z g p;
   placed = λ b z p g. in_set w.actors a x y m.actor (λ k v. (q : Order) → v.order ≡ Some q → Placing w.shared q)
-      (λ q f. i.placed a x q m.actor (m.order ∙ f)) (λ k v o f. λ q. i.placed k v q f) b z g p;
+      (λ q f. set_out.placed q.cache q (is_out q f)) (λ k v o f. λ q. i.placed k v q f) b z g p;
   orders = λ b z p g. in_set w.actors a x y m.actor (λ k v. (q : Order) → v.order ≡ Some q → e.mode ≢ Passthrough)
-      (λ q f h. i.orders a x q m.actor (m.order ∙ f) (sym done.keeps.mode ∙ h)) (λ k v o f q r h. i.orders k v q f r (sym done.keeps.mode ∙ h)) b z g p;
+      (λ q f h. set_out.modes q.cache q (is_out q f) (sym done.keeps.mode ∙ h)) (λ k v o f q r h. i.orders k v q f r (sym done.keeps.mode ∙ h)) b z g p;
   dropping = in_set w.actors a x y m.actor (λ k v. drops v.task ≡ true → e.mode ≡ Passthrough) (λ f. let not = only.1 in absurd (cc)) (λ k v o f g. done.keeps.mode ∙ i.dropping k v f g);
-  resting = in_set w.actors a x y m.actor (λ k v. v.task ≡ None → (v.held ≡ Nothing) ⊎ (w.shared.fail ≡ true)) (λ f. inl m.held) (λ k v o f. i.resting k v f);
+  resting = in_set w.actors a x y m.actor (λ k v. v.task ≡ None → (v.held ≡ Nothing) ⊎ (w.shared.fail ≡ true)) (λ f. absurd (cc)) (λ k v o f. i.resting k v f);
+  aside = record { at = set.at; stands = set.stands; placed = set.placed; apart = set.apart; each = set.each; modes = λ k p f h. set.modes k p f (sym done.keeps.mode ∙ h) };
   living = λ nobody f. done.keeps.live (m.nobody_alone a x m.actor) ∙ i.living m.nobody_alone f;
   safe = λ b z n g. in_set w.actors a x y m.actor (λ k v. Safe n size k v w.shared e)
-      (subst (λ (v : Actor). Safe n size a v w.shared e) (sym begun) (job_safe n size a job x.buffer w.shared e startable))
+      (begins_safe n)
       (λ k v o f. safe_on n size k v w.shared w.shared d e (others_of size a k x v w.shared w.shared d e o i.good (i.disjoint a k x v m.actor f (λ z. o (sym z))) (m.nobody_alone a x m.actor) (m.nobody_alone k v f) (λ h. h) (λ q r. idle_drops) (i.leads k v f) (λ q r. i.stands k v q f r) (record { seal = λ b n. refl; state = λ h k n r. inl refl }) done.keeps) (i.safe k v n f))
       b z g;
 } where
@@ -369,20 +404,36 @@ again_linked size w d a x job i m = record {
   idle_drops : drops x.task ≡ false
   idle_drops = ap (λ (o : Option Script). drops o) m.task
 
-  none_owned : {b : ℕ} → x.held ≢ Owns b
-  none_owned {b = b} e = let bad : Nothing ≡ Owns b = sym m.held ∙ e in absurd (cc)
+  -- its order, and those that are aside once its own is
+  is_out : (p : Order) → order_of job ≡ Some p → aside w.waiting x.order p.cache ≡ Some p
+  is_out p e = let one : Some m.order.0 ≡ Some p = sym m.order.1 ∙ e in let same : m.order.0 ≡ p = cc in subst (λ (v : Order). aside w.waiting x.order v.cache ≡ Some v) same m.order.2
+
+  set_out : SetAside w.shared (slice_set w.actors a (record x { order = None })) (aside w.waiting x.order) d.mode
+  set_out = put_aside size w d a x (record x { order = None }) i m.actor (λ k p q e f. absurd (cc))
+
+  there : (j : ℕ) (v : Actor) → j ≢ a → slice_get w.actors j ≡ Some v → slice_get (slice_set w.actors a (record x { order = None })) j ≡ Some v
+  there j v n h = get_set_other w.actors a j (record x { order = None }) n ∙ h
+
+  set : SetAside w.shared (slice_set w.actors a (given x job)) (taken (aside w.waiting x.order) (order_of job)) d.mode
+  set = subst (λ (o : Option Order). SetAside w.shared (slice_set w.actors a (given x job)) (taken (aside w.waiting x.order) o) d.mode) (sym m.order.1) (take_up size w d a x (given x job) m.order.0 i m.actor m.order.1 m.order.2)
 
   only : (job_alone job ≡ false) × (job_drops job ≡ false)
   only = again_alone size w.shared job m.may
 
   startable : Startable size a job w.shared (after_acts d (start_acts a job))
-  startable = let p = again_order size w.shared job m.may in again_startable size a w.shared d job p.0 i.good.agrees m.may p.1 (i.placed a x p.0 m.actor (m.order ∙ p.1))
+  startable = again_startable size a w.shared d job m.order.0 i.good.agrees m.may m.order.1 (set_out.placed m.order.0.cache m.order.0 m.order.2)
 
-  begun : given x job ≡ beginner job x.buffer
-  begun = λ j. record { task = Some (record { job = job; steps = Look_fail ∷ acquire job; answer = Finished }); held = m.held j; order = order_of job; leads = m.leads j; buffer = x.buffer }
+  begins_safe : (n : ℕ) → Safe n size a (given x job) w.shared (after_acts d (start_acts a job))
+  begins_safe n = elim m.free [
+    | inl f ↦ subst (λ (v : Actor). Safe n size a v w.shared (after_acts d (start_acts a job))) (begun f.0 f.1) (job_safe n size a job x.buffer w.shared (after_acts d (start_acts a job)) startable)
+    | inr f ↦ kept_safe job n size a x.held (order_of job) x.leads x.buffer w.shared (after_acts d (start_acts a job)) f
+  ]
+    where
+      begun : x.held ≡ Nothing → x.leads ≡ false → beginner job x.buffer ≡ given x job
+      begun h l = λ j. record { task = Some (record { job = job; steps = Look_fail ∷ acquire job; answer = Finished }); held = sym h j; order = order_of job; leads = sym l j; buffer = x.buffer }
 
   was_unowned : (b : ℕ) → Unowned (slice_set w.actors a (given x job)) b → Unowned w.actors b
   was_unowned b u c z g = elim (cases_eq c a) [
-    | inl is ↦ let now : Some x ≡ Some z = sym m.actor ∙ ap (λ k. slice_get w.actors k) (sym is) ∙ g in let same : x ≡ z = cc in subst (λ (v : Actor). v.held ≢ Owns b) same (λ e. let bad : Nothing ≡ Owns b = sym m.held ∙ e in absurd (cc))
+    | inl is ↦ let now : Some x ≡ Some z = sym m.actor ∙ ap (λ k. slice_get w.actors k) (sym is) ∙ g in let same : x ≡ z = cc in subst (λ (v : Actor). v.held ≢ Owns b) same (u a (given x job) (get_set_same w.actors a x (given x job) m.actor))
     | inr o ↦ u c z (get_set_other w.actors a c _ o ∙ g)
   ]

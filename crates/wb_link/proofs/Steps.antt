@@ -6,14 +6,14 @@ use Rattle.wb_types.specs.declared.mode.Mode.TheVariants.{Passthrough}
 use Rattle.wb_contents.specs.Acts.{Act, after_all as after_acts}
 use Rattle.wb_contents.specs.Conditions.{IsRun as IsActs}
 use Rattle.wb_link.specs.Tables.{Order, Answer, Want, Look_fail, Share, Own, Begin_clean, End, Got, Done, Flag, Script, want}
-use Rattle.wb_link.specs.World.{is_alone, job_alone, task_after, Nothing, Shared, Owns, Actor, World, Step, effect, actor_after, held_after, Gives, Wins, MayStep, step_task, step_actor, after_record, drops}
+use Rattle.wb_link.specs.World.{Apart, is_alone, job_alone, task_after, Nothing, Shared, Owns, Actor, World, Step, effect, actor_after, held_after, Gives, Wins, MayStep, step_task, step_actor, after_record, drops}
 use Rattle.wb_link.proofs.Views.{block_view}
 use Rattle.wb_link.proofs.Acts.{Grows, NotBlock}
-use Rattle.wb_link.proofs.Link.{Ordered, Placing, Rests, RestsAt, NobodyAlone, Ready, Owes, Receives, Right, Goes, Next, Safe, Disjoint, Unowned, Linked, acts_of}
+use Rattle.wb_link.proofs.Link.{Ordered, Turns, Placing, Rests, RestsAt, NobodyAlone, Ready, Owes, Receives, Right, Goes, Next, Safe, Disjoint, Unowned, Linked, acts_of}
 use Rattle.wb_link.proofs.Lists.{get_set_same, get_set_other}
 use Rattle.wb_link.proofs.Steady.{Acted, acted}
 use Rattle.wb_link.proofs.Effects.{KeepsShared, effect_keeps, effect_sound, effect_idle, effect_fail}
-use Rattle.wb_link.proofs.Actors.{own_ordered, own_placing, order_from, turned, placing_on, drops_was, WinsOver, disjoint_left, disjoint_right, other_busy, leader_busy, others_of, others_same, safe_on, is_false, no_task, task_was, alone_on, owes_alone, may_end, idle_safe, owns_or, disowned}
+use Rattle.wb_link.proofs.Actors.{own_ordered, own_placing, order_from, apart_left, turned, placing_on, drops_was, WinsOver, disjoint_left, disjoint_right, other_busy, leader_busy, others_of, others_same, safe_on, is_false, no_task, task_was, alone_on, owes_alone, may_end, idle_safe, owns_or, disowned}
 
 wins_over : (actors : List Actor) (w : Want) (got : Got) → Wins actors w got → (b : ℕ) (y : Actor) → slice_get actors b ≡ Some y → WinsOver y w got
 wins_over actors (Share c) Done wins b y e = wins b y e
@@ -72,6 +72,7 @@ abbrev pub stepped : World → ℕ → Actor → Script → Got → World
 stepped w a x script got = record {
   shared = effect w.shared script.job x.buffer (want script) got;
   actors = slice_set w.actors a (actor_after x script (want script) got);
+  waiting = w.waiting;
 }
 
 pub step_is : (w : World) (a : ℕ) (asked : Want) (got : Got) (x : Actor) (script : Script) → MayStep w a asked got x script → after_record w (Step a asked got) ≡ stepped w a x script got
@@ -123,6 +124,18 @@ step_linked size w d a x script asked got i m = record {
       (λ f. let end = task_was script next got f in ended end.0 end.1)
       (λ k v o f g. elim (i.resting k v f g) [ inl h ↦ inl h | inr h ↦ inr (fails h) ]);
   living = λ nobody f. by_alone (job_alone script.job) refl nobody f;
+  aside = record {
+    at = i.aside.at;
+    stands = λ k q r. turned (s.blocks q.cache) (t.blocks q.cache) (i.aside.stands k q r) (turns_aside k q r);
+    placed = λ k q r. placing_on s t q (turns_aside k q r) (stays (undropped k q r) q.block (λ p m2 e2. (i.aside.apart k q a x p r m.actor m2).0 q.block (inl e2) (inl refl)))
+        (λ b n. stays (undropped k q r) b (λ p m2 e2. (i.aside.apart k q a x p r m.actor m2).0 b (inl e2) (inr n))) (i.aside.placed k q r);
+    apart = λ k q b z p r g. in_set w.actors a x y m.actor (λ j v. (p2 : Order) → v.order ≡ Some p2 → Apart p2 q)
+        (λ p2 f. let had = order_from x s next p2 first.ready f in apart_left p2 had.0 q had.2 (i.aside.apart k q a x had.0 r m.actor had.1))
+        (λ j v o h p2 f. i.aside.apart k q j v p2 r h f)
+        b z g p;
+    each = i.aside.each;
+    modes = λ k q r. same_mode (i.aside.modes k q r);
+  };
 } where
   s : Shared
   s = w.shared
@@ -151,6 +164,13 @@ step_linked size w d a x script asked got i m = record {
   -- who has an order is not in passthrough, where alone a block is unmapped without one
   not_dropping : (k : ℕ) (v : Actor) (q : Order) → slice_get w.actors k ≡ Some v → v.order ≡ Some q → drops x.task ≡ false
   not_dropping k v q f r = is_false (drops x.task) (λ h. i.orders k v q f r (i.dropping a x m.actor h))
+
+  -- of orders that are aside
+  undropped : (k : ℕ) (q : Order) → w.waiting k ≡ Some q → drops x.task ≡ false
+  undropped k q r = is_false (drops x.task) (λ h. i.aside.modes k q r (i.dropping a x m.actor h))
+
+  turns_aside : (k : ℕ) (q : Order) → w.waiting k ≡ Some q → Turns (w.shared.blocks q.cache) ((effect w.shared script.job x.buffer (want script) got).blocks q.cache)
+  turns_aside k q r = keeps.state (undropped k q r) q.cache (λ p m2 e2. (i.aside.apart k q a x p r m.actor m2).1 e2) (i.aside.stands k q r)
 
   -- where it stands no order of this actor's
   stays : drops x.task ≡ false → (b : ℕ) → NotBlock x b → t.mapping b ≡ s.mapping b

@@ -3,7 +3,7 @@ use Rattle.std.proofs.Common.{◌≡◌, ◌≢◌, ◌≤◌, ◌+◌, ◌⊎�
 use Rattle.wb_disk.specs.Device.{Content}
 use Rattle.wb_contents.specs.Volume.{Volume}
 use Rattle.wb_contents.specs.Acts.{after as after_act, Begin_suspend, Sync_cache, Sync_origin, Fail_cache_sync, Fail_origin_sync, Write_root, End_commit, End_flush}
-use Rattle.wb_link.specs.Tables.{Suspending, Answer, Finished, Busy, Failed, Io, Want, Look_fail, Set_failed, Set_suspended, Break_commits, Begin_clean, Sync_cache_device, Sync_origin_device, Put_root, Sync_metadata, End_running, End, Got, Done, Lost, Flag, Fault}
+use Rattle.wb_link.specs.Tables.{Suspending, Answer, Finished, Busy, Failed, Io, Want, Look_fail, Set_failed, Set_suspended, Break_commits, Begin_clean, Sync_cache_device, Sync_origin_device, Put_root, Sync_metadata, End_running, End, Got, Done, Lost, Flag, Short, Fault}
 use Rattle.wb_link.specs.World.{Shared, Nothing, Actor, actor_after}
 use Rattle.wb_link.proofs.Views.{CommitView, commit_view}
 use Rattle.wb_link.proofs.Link.{Others, Receives, Right, FlushesRight, Safe}
@@ -176,6 +176,7 @@ beginning (suc n) size a c s d k l f = λ t e got o g v r.
       left = caching n size a c _ (after_act e Begin_suspend) (record { ticket = omega (arith, k, o.ticket, o.began); is_cached = λ f. absurd (cc); is_based = λ f. absurd (cc); is_rooted = λ f. absurd (cc) });
     })
     (λ rest. quietly size a (λ y u f. Safe n size a y u f) _ _ Begin_clean Lost t e g (refl, refl) tt (plain a Begin_clean Lost e e refl tt) (given_up n size a Busy false c t e (λ f. absurd (cc)) (inr (o.live ∙ l))))
+    (λ rest. quietly size a (λ y u f. Safe n size a y u f) _ _ Begin_clean Short t e g (refl, refl) tt (plain a Begin_clean Short e e refl tt) (given_up n size a Failed false c t e (λ f. absurd (cc)) (inr (o.live ∙ l))))
     got v r
 
 pub suspending_safe : (n size a : ℕ) (c : Content) (s : Shared) (d : Volume) → d.ticket a ≤ d.began + 1 → (s.fail ≡ false → d.live ≡ true) → Safe n size a (suspending (Look_fail ∷ Begin_clean ∷ Sync_cache_device ∷ Sync_origin_device ∷ Put_root ∷ Sync_metadata ∷ End_running ∷ Set_suspended ∷ []) Finished false c) s d

@@ -1,11 +1,12 @@
 -- The world is not empty: a run of one actor that writes, promotes, writes again, flushes and demotes.
-use Rattle.std.proofs.Common.{◌≡◌, ◌≢◌, ◌<◌, inl, inr, ℕ, zero, suc, Bool, true, false, [], ◌∷◌, Option, Some, None, refl, sym, subst, ◌∙◌, arith, slice_get, Contains}
-use Rattle.wb_link.specs.Examples.{order, one_actor, replacement, replaced, settles, lives_of, reopening}
-use Rattle.wb_disk.specs.Device.{History, newest, only}
-use Rattle.wb_contents.specs.Volume.{changed, at_location}
+use Rattle.std.proofs.Common.{◌≡◌, ◌≢◌, ◌<◌, inl, inr, ℕ, zero, suc, Bool, true, false, cond, [], ◌∷◌, Option, Some, None, refl, sym, subst, ◌∙◌, arith, slice_get, Contains}
+use Rattle.wb_link.specs.Examples.{order, one_actor, replacement, follower, replaced, settles, lives_of, reopening, one_clean, past_the_cache}
+use Rattle.wb_disk.specs.Device.{History, newest, added, only}
+use Rattle.wb_contents.specs.Volume.{changed, changed_at, at_location}
+use Rattle.wb_contents.specs.Acts.{all_synced}
 use Rattle.wb_disk.proofs.Leaving.{newest_there}
-use Rattle.wb_link.specs.Openings.{Site, MayStop, Happens}
-use Rattle.wb_link.specs.Tables.{Order}
+use Rattle.wb_link.specs.Openings.{Site, site, MayStop, Happens}
+use Rattle.wb_link.specs.Tables.{Order, Seal}
 use Rattle.wb_link.specs.World.{Shared, Actor, Nothing, Owns, Shares, Apart, IsRun, begins, is_alone}
 
 only_one : (x y : Actor) (a : ℕ) → slice_get (x ∷ []) a ≡ Some y → x ≡ y
@@ -26,7 +27,7 @@ covers o l = (0, omega arith, omega arith)
 
 pub one_actor_runs : IsRun 1 (begins 1 []) one_actor
 one_actor_runs = (
-  (_, record { actor = refl; task = refl; held = refl; order = refl; leads = refl; nobody_alone = nobody _ refl; may = ((omega arith, tt), refl) }),
+  (_, record { actor = refl; task = refl; free = inl (refl, refl); nobody_alone = nobody _ refl; may = ((omega arith, tt), refl) }),
   (
     (_, _, record { actor = refl; task = refl; asked = refl; gives = refl; wins = tt }),
     (
@@ -40,7 +41,7 @@ one_actor_runs = (
             (
               (_, _, record { actor = refl; task = refl; asked = refl; gives = tt; wins = tt }),
               (
-                (_, record { actor = refl; task = refl; held = refl; order = refl; leads = refl; nobody_alone = nobody _ refl; may = ((omega arith, tt), covers, ungiven _ refl, (λ e. absurd (cc)), refl, refl, (λ b e. absurd (cc))) }),
+                (_, record { actor = refl; task = refl; free = inl (refl, refl); nobody_alone = nobody _ refl; may = ((omega arith, tt), covers, (ungiven _ refl, (λ k o e. absurd (cc))), (λ e. absurd (cc)), refl, refl, (λ b e. absurd (cc))) }),
                 (
                   (_, _, record { actor = refl; task = refl; asked = refl; gives = refl; wins = tt }),
                   (
@@ -62,7 +63,7 @@ one_actor_runs = (
                                   (
                                     (_, _, record { actor = refl; task = refl; asked = refl; gives = tt; wins = tt }),
                                     (
-                                      (_, record { actor = refl; task = refl; held = refl; order = refl; leads = refl; nobody_alone = nobody _ refl; may = ((omega arith, tt), refl) }),
+                                      (_, record { actor = refl; task = refl; free = inl (refl, refl); nobody_alone = nobody _ refl; may = ((omega arith, tt), refl) }),
                                       (
                                         (_, _, record { actor = refl; task = refl; asked = refl; gives = refl; wins = tt }),
                                         (
@@ -78,7 +79,7 @@ one_actor_runs = (
                                                   (
                                                     (_, _, record { actor = refl; task = refl; asked = refl; gives = tt; wins = tt }),
                                                     (
-                                                      (_, record { actor = refl; task = refl; held = refl; order = refl; leads = refl; nobody_alone = nobody _ refl; may = refl }),
+                                                      (_, record { actor = refl; task = refl; free = inl (refl, refl); nobody_alone = nobody _ refl; may = refl }),
                                                       (
                                                         (_, _, record { actor = refl; task = refl; asked = refl; gives = refl; wins = tt }),
                                                         (
@@ -96,7 +97,7 @@ one_actor_runs = (
                                                                     (
                                                                       (_, _, record { actor = refl; task = refl; asked = refl; gives = tt; wins = tt }),
                                                                       (
-                                                                        (_, record { actor = refl; task = refl; held = refl; order = refl; leads = refl; nobody_alone = nobody _ refl; may = ((omega arith, tt), covers, ungiven _ refl, (λ e. absurd (cc)), refl, refl, (λ b e. absurd (cc))) }),
+                                                                        (_, record { actor = refl; task = refl; free = inl (refl, refl); nobody_alone = nobody _ refl; may = ((omega arith, tt), covers, (ungiven _ refl, (λ k o e. absurd (cc))), (λ e. absurd (cc)), refl, refl, (λ b e. absurd (cc))) }),
                                                                         (
                                                                           (_, _, record { actor = refl; task = refl; asked = refl; gives = refl; wins = tt }),
                                                                           (
@@ -193,7 +194,7 @@ unmapped b e = let is : 1 ≡ b = cc in subst (λ (v : ℕ). changed {X = Option
 
 pub three_actors_run : IsRun 1 (begins 3 []) replaced
 three_actors_run = (
-  (_, record { actor = refl; task = refl; held = refl; order = refl; leads = refl; nobody_alone = alone_of _ _ _ refl refl refl; may = ((omega arith, tt), covers, ungiven_of order _ _ _ refl refl refl, (λ e. absurd (cc)), refl, refl, (λ b e. absurd (cc))) }),
+  (_, record { actor = refl; task = refl; free = inl (refl, refl); nobody_alone = alone_of _ _ _ refl refl refl; may = ((omega arith, tt), covers, (ungiven_of order _ _ _ refl refl refl, (λ k o e. absurd (cc))), (λ e. absurd (cc)), refl, refl, (λ b e. absurd (cc))) }),
   (
     (_, _, record { actor = refl; task = refl; asked = refl; gives = refl; wins = tt }),
     (
@@ -215,7 +216,7 @@ three_actors_run = (
                     (
                       (_, _, record { actor = refl; task = refl; asked = refl; gives = tt; wins = tt }),
                       (
-                        (_, record { actor = refl; task = refl; held = refl; order = refl; leads = refl; nobody_alone = alone_of _ _ _ refl refl refl; may = ((omega arith, tt), covers, ungiven_of replacement _ _ _ refl refl refl, (λ e. absurd (cc)), refl, refl, unmapped) }),
+                        (_, record { actor = refl; task = refl; free = inl (refl, refl); nobody_alone = alone_of _ _ _ refl refl refl; may = ((omega arith, tt), covers, (ungiven_of replacement _ _ _ refl refl refl, (λ k o e. absurd (cc))), (λ e. absurd (cc)), refl, refl, unmapped) }),
                         (
                           (_, _, record { actor = refl; task = refl; asked = refl; gives = refl; wins = tt }),
                           (
@@ -231,19 +232,19 @@ three_actors_run = (
                                     (
                                       (_, _, record { actor = refl; task = refl; asked = refl; gives = tt; wins = tt }),
                                       (
-                                        (_, record { actor = refl; task = refl; held = refl; order = refl; leads = refl; nobody_alone = alone_of _ _ _ refl refl refl; may = refl }),
+                                        (_, record { actor = refl; task = refl; free = inl (refl, refl); nobody_alone = alone_of _ _ _ refl refl refl; may = refl }),
                                         (
                                           (_, _, record { actor = refl; task = refl; asked = refl; gives = refl; wins = tt }),
                                           (
                                             (_, _, record { actor = refl; task = refl; asked = refl; gives = (refl, refl, tt); wins = tt }),
                                             (
-                                              (_, record { actor = refl; task = refl; held = refl; order = refl; leads = refl; nobody_alone = alone_of _ _ _ refl refl refl; may = (_, refl) }),
+                                              (_, record { actor = refl; task = refl; free = inl (refl, refl); order = (follower, refl, refl); nobody_alone = alone_of _ _ _ refl refl refl; may = (_, refl) }),
                                               (
                                                 (_, _, record { actor = refl; task = refl; asked = refl; gives = refl; wins = tt }),
                                                 (
                                                   (_, _, record { actor = refl; task = refl; asked = refl; gives = (refl, refl, refl, refl); wins = tt }),
                                                   (
-                                                    (_, record { actor = refl; task = refl; held = refl; order = refl; leads = refl; nobody_alone = alone_of _ _ _ refl refl refl; may = refl }),
+                                                    (_, record { actor = refl; task = refl; free = inl (refl, refl); nobody_alone = alone_of _ _ _ refl refl refl; may = refl }),
                                                     (
                                                       (_, _, record { actor = refl; task = refl; asked = refl; gives = refl; wins = tt }),
                                                       (
@@ -279,7 +280,7 @@ three_actors_run = (
                                                                                     (
                                                                                       (_, _, record { actor = refl; task = refl; asked = refl; gives = tt; wins = tt }),
                                                                                       (
-                                                                                        (_, record { actor = refl; task = refl; held = refl; order = refl; leads = refl; nobody_alone = alone_of _ _ _ refl refl refl; may = ((omega arith, tt), covers, refl) }),
+                                                                                        (_, record { actor = refl; task = refl; free = inl (refl, refl); order = (follower, refl, refl); nobody_alone = alone_of _ _ _ refl refl refl; may = ((omega arith, tt), covers, refl) }),
                                                                                         (
                                                                                           (_, _, record { actor = refl; task = refl; asked = refl; gives = refl; wins = tt }),
                                                                                           (
@@ -454,3 +455,35 @@ without_crash size w f = (
     ),
   ),
 )
+
+-- A life past the cache.
+
+unowned : (x : Actor) → x.held ≡ Nothing → (b : ℕ) (y : Actor) → slice_get (x ∷ []) b ≡ Some y → y.held ≢ Owns 0
+unowned x n b y e = (free x n b y e).0
+
+idle : (x : Actor) → x.task ≡ None → (b : ℕ) (y : Actor) → slice_get (x ∷ []) b ≡ Some y → y.task ≡ None
+idle x n b y e = subst (λ (v : Actor). v.task ≡ None) (only_one x y b e) n
+
+either_clean : (t : Bool) → cond (cond {A = Seal} t (record { location = Some 0; dirty = false }) (record { location = None; dirty = false })).dirty false true ≡ true
+either_clean true = refl
+either_clean false = refl
+
+one_is_clean : (b k : ℕ) → one_clean.locations b ≡ Some k → one_clean.clean b ≡ true
+one_is_clean b k e = either_clean _
+
+abbrev copied : ℕ → ℕ → History
+copied = all_synced (changed_at (λ k o. only []) 0 0 (added (only []) []))
+
+same_copied : (t : Bool) → [] ≡ newest (only (newest (cond {A = History} t (added (only []) []) (only []))))
+same_copied true = refl
+same_copied false = refl
+
+either_view : (b o : ℕ) (t : Bool) → [] ≡ newest (at_location (λ b o. only []) copied (cond {A = Option ℕ} t (Some 0) None) b o)
+either_view b o true = same_copied _
+either_view b o false = refl
+
+one_view : (b o : ℕ) → [] ≡ newest (at_location (λ b o. only []) copied (one_clean.locations b) b o)
+one_view b o = either_view b o _
+
+pub past_the_cache_happens : Happens 1 (site 1 []) past_the_cache
+past_the_cache_happens = ((refl, (_, record { actor = refl; task = refl; free = inl (refl, refl); nobody_alone = nobody _ refl; may = ((omega arith, tt), covers, (ungiven _ refl, (λ k o e. absurd (cc))), (λ e. absurd (cc)), refl, refl, (λ b e. absurd (cc))) })), ((refl, (_, _, record { actor = refl; task = refl; asked = refl; gives = refl; wins = tt })), ((refl, (_, _, record { actor = refl; task = refl; asked = refl; gives = tt; wins = free _ refl })), ((refl, (_, _, record { actor = refl; task = refl; asked = refl; gives = refl; wins = tt })), ((refl, (_, _, record { actor = refl; task = refl; asked = refl; gives = refl; wins = tt })), ((refl, (_, _, record { actor = refl; task = refl; asked = refl; gives = tt; wins = tt })), ((refl, (_, _, record { actor = refl; task = refl; asked = refl; gives = tt; wins = tt })), ((refl, (_, _, record { actor = refl; task = refl; asked = refl; gives = tt; wins = tt })), ((refl, (_, _, record { actor = refl; task = refl; asked = refl; gives = tt; wins = tt })), ((refl, (_, _, record { actor = refl; task = refl; asked = refl; gives = tt; wins = tt })), ((refl, (_, _, record { actor = refl; task = refl; asked = refl; gives = tt; wins = tt })), ((refl, (_, record { actor = refl; task = refl; free = inl (refl, refl); nobody_alone = nobody _ refl; may = idle _ refl })), ((refl, (_, _, record { actor = refl; task = refl; asked = refl; gives = refl; wins = tt })), ((refl, (_, _, record { actor = refl; task = refl; asked = refl; gives = tt; wins = tt })), ((refl, (_, _, record { actor = refl; task = refl; asked = refl; gives = tt; wins = tt })), ((refl, (_, record { actor = refl; task = refl; free = inl (refl, refl); nobody_alone = nobody _ refl; may = idle _ refl })), ((refl, (_, _, record { actor = refl; task = refl; asked = refl; gives = refl; wins = tt })), ((refl, (_, _, record { actor = refl; task = refl; asked = refl; gives = refl; wins = tt })), ((refl, (_, _, record { actor = refl; task = refl; asked = refl; gives = tt; wins = tt })), ((refl, (_, _, record { actor = refl; task = refl; asked = refl; gives = tt; wins = tt })), ((refl, (_, _, record { actor = refl; task = refl; asked = refl; gives = tt; wins = tt })), ((refl, (_, _, record { actor = refl; task = refl; asked = refl; gives = tt; wins = tt })), ((refl, (_, _, record { actor = refl; task = refl; asked = refl; gives = tt; wins = tt })), ((refl, (_, _, record { actor = refl; task = refl; asked = refl; gives = tt; wins = tt })), ((refl, (_, _, record { actor = refl; task = refl; asked = refl; gives = tt; wins = tt })), (inr refl, ((_, _, refl, (λ e. absurd (cc))), ((_, _, refl, tt), ((_, _, refl, tt), ((_, _, refl, (refl, refl, one_is_clean)), ((_, _, refl, tt), (inl (λ e. absurd (cc)), ((_, _, refl, (λ e. absurd (cc))), ((_, _, refl, tt), ((_, _, refl, tt), ((_, _, refl, (refl, refl, one_is_clean)), ((_, _, refl, tt), ((_, _, refl, tt), ((_, _, refl, ((λ k. inl refl), one_view)), ((refl, (_, record { actor = refl; task = refl; free = inl (refl, refl); nobody_alone = nobody _ refl; may = ((omega arith, tt), refl) })), ((refl, (_, _, record { actor = refl; task = refl; asked = refl; gives = refl; wins = tt })), ((refl, (_, _, record { actor = refl; task = refl; asked = refl; gives = tt; wins = unowned _ refl })), ((refl, (_, _, record { actor = refl; task = refl; asked = refl; gives = refl; wins = tt })), ((refl, (_, _, record { actor = refl; task = refl; asked = refl; gives = refl; wins = tt })), ((refl, (_, _, record { actor = refl; task = refl; asked = refl; gives = tt; wins = tt })), ((refl, (_, _, record { actor = refl; task = refl; asked = refl; gives = tt; wins = tt })), ((refl, (_, record { actor = refl; task = refl; free = inl (refl, refl); nobody_alone = nobody _ refl; may = ((omega arith, tt), refl) })), ((refl, (_, _, record { actor = refl; task = refl; asked = refl; gives = refl; wins = tt })), ((refl, (_, _, record { actor = refl; task = refl; asked = refl; gives = tt; wins = free _ refl })), ((refl, (_, _, record { actor = refl; task = refl; asked = refl; gives = refl; wins = tt })), ((refl, (_, _, record { actor = refl; task = refl; asked = refl; gives = tt; wins = tt })), ((refl, (_, _, record { actor = refl; task = refl; asked = refl; gives = tt; wins = tt })), ((refl, (_, _, record { actor = refl; task = refl; asked = refl; gives = tt; wins = tt })), ((refl, (_, _, record { actor = refl; task = refl; asked = refl; gives = tt; wins = tt })), ((refl, (_, _, record { actor = refl; task = refl; asked = refl; gives = tt; wins = tt })), ((refl, (_, record { actor = refl; task = refl; free = inl (refl, refl); nobody_alone = nobody _ refl; may = ((omega arith, tt), refl) })), ((refl, (_, _, record { actor = refl; task = refl; asked = refl; gives = refl; wins = tt })), ((refl, (_, _, record { actor = refl; task = refl; asked = refl; gives = tt; wins = unowned _ refl })), ((refl, (_, _, record { actor = refl; task = refl; asked = refl; gives = refl; wins = tt })), ((refl, (_, _, record { actor = refl; task = refl; asked = refl; gives = refl; wins = tt })), ((refl, (_, _, record { actor = refl; task = refl; asked = refl; gives = tt; wins = tt })), ((refl, (_, _, record { actor = refl; task = refl; asked = refl; gives = tt; wins = tt })), tt))))))))))))))))))))))))))))))))))))))))))))))))))))))))))))))

@@ -1,25 +1,26 @@
 -- What is left of a write is safe, from its start on.
-use Rattle.std.proofs.Common.{◌≡◌, ◌≢◌, ◌<◌, ◌⊎◌, inl, inr, ℕ, zero, suc, Bool, true, false, List, [], ◌∷◌, Option, Some, None, refl, sym, ap, subst, ◌∙◌, length}
+use Rattle.std.proofs.Common.{◌≡◌, ◌≢◌, ◌<◌, ◌⊎◌, inl, inr, ℕ, zero, suc, Bool, true, false, cond, List, [], ◌∷◌, Option, Some, None, refl, sym, ap, subst, ◌∙◌, length}
 use Rattle.wb_disk.specs.Device.{Content, History, added}
 use Rattle.wb_contents.specs.Volume.{Volume, Standing, Whole, changed, changed_at}
 use Rattle.wb_types.specs.declared.mode.Mode.{Mode}
-use Rattle.wb_types.specs.declared.mode.Mode.TheVariants.{Writeback}
-use Rattle.wb_contents.specs.Acts.{sector_written, after as after_act, Write, Finish, Fail_write, Make_dirty, after_all as after_acts}
+use Rattle.wb_types.specs.declared.mode.Mode.TheVariants.{Writeback, Passthrough}
+use Rattle.wb_contents.specs.Acts.{sector_written, after as after_act, Write, Finish, Fail_write, Make_dirty, Unmap, after_all as after_acts}
 use Rattle.std.proofs.lemmas.Bool.{cases_eq}
 use Rattle.wb_contents.proofs.Positions.{changed_same}
 use Rattle.wb_contents.proofs.Sectors.{here_is, elsewhere_is}
-use Rattle.wb_link.specs.Tables.{Job, Writing, Answer, Finished, Busy, Failed, Io, Want, Look_fail, Own, Look_seal, Set_seal, Disown, Set_failed, Write_at, End, Choice, Got, Done, Lost, Flag, Seen, Fault, Seal, dirtying, write_each, until_failed, steps_after_fault}
+use Rattle.wb_link.specs.Tables.{Job, Writing, Answer, Finished, Busy, Failed, Io, Want, Look_fail, Own, Look_seal, Set_seal, Disown, Set_failed, Write_at, End, Choice, Got, Done, Lost, Flag, Seen, Fault, Seal, Unmap_plain, dropping, write_work, write_each, until_failed, steps_after_fault}
 use Rattle.wb_link.specs.World.{Shared, Held, Nothing, Owns, Actor, Within, actor_after, put_sector, if_landed}
 use Rattle.wb_link.specs.Clerk.{histories_after}
 use Rattle.wb_link.proofs.Views.{BlockView, block_view, Holds}
 use Rattle.wb_link.proofs.Effects.{put_sector_desk}
 use Rattle.wb_link.proofs.Link.{Good, Rests, RestsAt, MayEnd, Receives, Others, Right, Goes, Safe, landed_write}
-use Rattle.wb_link.proofs.Agreeing.{write_agrees, finish_agrees, lose_agrees, failed_agrees, seal_agrees}
-use Rattle.wb_link.proofs.Givings.{at_work, script_of, Comes, Life, life_on, may_end_on, holds_nothing, resting_safe, quietly, gives_flag, gives_own, gives_seal, gives_set, gives_disown, gives_failed, gives_write, gives_end}
+use Rattle.wb_link.proofs.Agreeing.{write_agrees, finish_agrees, lose_agrees, failed_agrees, seal_agrees, unmap_agrees}
+use Rattle.wb_link.proofs.Givings.{at_work, script_of, Comes, Life, life_on, may_end_on, holds_nothing, resting_safe, quietly, gives_flag, gives_own, gives_seal, gives_set, gives_disown, gives_failed, gives_write, gives_drop, gives_end}
+use Rattle.wb_link.proofs.Invalidating.{Left, left_rests, unmapped_seal}
 
 -- the write of this content to sectors of a block
-abbrev writing_of : ℕ → List ℕ → Content → List Want → Answer → Held → Content → Actor
-writing_of b os x steps answer held c = at_work (Writing b os x) steps answer held None false c
+abbrev writing_of : Bool → ℕ → List ℕ → Content → List Want → Answer → Held → Content → Actor
+writing_of past b os x steps answer held c = at_work (Writing past b os x) steps answer held None false c
 
 abbrev Result : ℕ → ℕ → ℕ → Job → List Want → Answer → Held → Content → Shared → Volume → Got → Type 0
 Result n size a job steps answer held c t e got = Comes n size a job steps answer held None false c t e got
@@ -33,32 +34,36 @@ pub record Owning (to : Option ℕ) (seal : Seal) (v : BlockView) : Type 0 where
   pub writable : Writable v
   pub route : to ≡ v.location
 
+-- the mode of a write
+abbrev pub mode_of : Bool → Mode
+mode_of past = cond past Passthrough Writeback
+
 -- others leave it so
 owning_on : (a b : ℕ) (x : Actor) (to : Option ℕ) (s t : Shared) (d e : Volume) → x.held ≡ Owns b → Others a x s d t e → Owning to (s.seals b) (block_view d b) → Owning to (t.seals b) (block_view e b)
 owning_on a b x to s t d e h o k = subst (λ (v : BlockView). Owning to (t.seals b) v) (sym (o.block b has)) (subst (λ (v : Seal). Owning to v (block_view d b)) (sym (o.seal b has)) k) where
   has : Holds x.held b
   has = subst (λ (v : Held). Holds v b) (sym h) refl
 
-plain : (a b : ℕ) (os : List ℕ) (x : Content) (w : Want) (got : Got) (d e : Volume) → e.histories ≡ histories_after d.histories (Writing b os x) w → Right a (Writing b os x) w got d e
-plain a b os x w got d e r = record { reads = tt; histories = r; flushes = tt }
+plain : (a : ℕ) (past : Bool) (b : ℕ) (os : List ℕ) (x : Content) (w : Want) (got : Got) (d e : Volume) → e.histories ≡ histories_after d.histories (Writing past b os x) w → Right a (Writing past b os x) w got d e
+plain a past b os x w got d e r = record { reads = tt; histories = r; flushes = tt }
 
-ending : (n size a b : ℕ) (os : List ℕ) (x : Content) (answer : Answer) (held : Held) (c : Content) (s : Shared) (d : Volume) → MayEnd answer held s → Safe n size a (writing_of b os x [] answer held c) s d
-ending zero size a b os x answer held c s d h = tt
-ending (suc n) size a b os x answer held c s d h = λ t e got o g v r. gives_end t answer (λ k. Result n size a (Writing b os x) [] answer held c t e k)
-    (quietly size a (λ y u f. Safe n size a y u f) _ _ (End answer) Done t e g (may_end_on a (writing_of b os x [] answer held c) s t d e answer held o h) tt (plain a b os x (End answer) Done e e refl) (resting_safe n size a held None false c t e)) got v
+ending : (n size a : ℕ) (past : Bool) (b : ℕ) (os : List ℕ) (x : Content) (answer : Answer) (held : Held) (c : Content) (s : Shared) (d : Volume) → MayEnd answer held s → Safe n size a (writing_of past b os x [] answer held c) s d
+ending zero size a past b os x answer held c s d h = tt
+ending (suc n) size a past b os x answer held c s d h = λ t e got o g v r. gives_end t answer (λ k. Result n size a (Writing past b os x) [] answer held c t e k)
+    (quietly size a (λ y u f. Safe n size a y u f) _ _ (End answer) Done t e g (may_end_on a (writing_of past b os x [] answer held c) s t d e answer held o h) tt (plain a past b os x (End answer) Done e e refl) (resting_safe n size a held None false c t e)) got v
 
-disowning : (n size a b : ℕ) (os : List ℕ) (x : Content) (answer : Answer) (c : Content) (s : Shared) (d : Volume) → RestsAt s d b → Safe n size a (writing_of b os x (Disown b ∷ []) answer (Owns b) c) s d
-disowning zero size a b os x answer c s d k = tt
-disowning (suc n) size a b os x answer c s d k = λ t e got o g v r.
+disowning : (n size a : ℕ) (past : Bool) (b : ℕ) (os : List ℕ) (x : Content) (answer : Answer) (c : Content) (s : Shared) (d : Volume) → RestsAt s d b → Safe n size a (writing_of past b os x (Disown b ∷ []) answer (Owns b) c) s d
+disowning zero size a past b os x answer c s d k = tt
+disowning (suc n) size a past b os x answer c s d k = λ t e got o g v r.
     let now : RestsAt t e b = subst (λ (w : BlockView). Rests (t.seals b) w) (sym (o.block b refl)) (subst (λ (w : Seal). Rests w (block_view d b)) (sym (o.seal b refl)) k) in
-    gives_disown t b (λ k. Result n size a (Writing b os x) (Disown b ∷ []) answer (Owns b) c t e k)
-    (quietly size a (λ y u f. Safe n size a y u f) _ _ (Disown b) Done t e g refl now (plain a b os x (Disown b) Done e e refl) (ending n size a b os x answer Nothing c t e (holds_nothing answer t))) got v
+    gives_disown t b (λ k. Result n size a (Writing past b os x) (Disown b ∷ []) answer (Owns b) c t e k)
+    (quietly size a (λ y u f. Safe n size a y u f) _ _ (Disown b) Done t e g refl now (plain a past b os x (Disown b) Done e e refl) (ending n size a past b os x answer Nothing c t e (holds_nothing answer t))) got v
 
 -- after a fault the block is kept
-failing : (n size a b : ℕ) (os : List ℕ) (x c : Content) (s : Shared) (d : Volume) → Safe n size a (writing_of b os x (Set_failed ∷ []) Io (Owns b) c) s d
-failing zero size a b os x c s d = tt
-failing (suc n) size a b os x c s d = λ t e got o g v r. gives_failed t (λ k. Result n size a (Writing b os x) (Set_failed ∷ []) Io (Owns b) c t e k)
-    (record { run = tt; mine = tt; agrees = failed_agrees t e g.agrees; ready = tt; owes = tt; right = plain a b os x Set_failed Done e e refl; left = ending n size a b os x Io (Owns b) c (record t { fail = true }) e (inr refl) })
+failing : (n size a : ℕ) (past : Bool) (b : ℕ) (os : List ℕ) (x c : Content) (s : Shared) (d : Volume) → Safe n size a (writing_of past b os x (Set_failed ∷ []) Io (Owns b) c) s d
+failing zero size a past b os x c s d = tt
+failing (suc n) size a past b os x c s d = λ t e got o g v r. gives_failed t (λ k. Result n size a (Writing past b os x) (Set_failed ∷ []) Io (Owns b) c t e k)
+    (record { run = tt; mine = tt; agrees = failed_agrees t e g.agrees; ready = tt; owes = tt; right = plain a past b os x Set_failed Done e e refl; left = ending n size a past b os x Io (Owns b) c (record t { fail = true }) e (inr refl) })
     got v
 
 -- A sector is written.
@@ -111,15 +116,15 @@ until_each : (to : Option ℕ) (b : ℕ) (os : List ℕ) (last : List Want) → 
 until_each to b [] last e = e
 until_each to b (o ∷ os) last e = ap (λ ws. Write_at to b o ∷ ws) (until_each to b os last e)
 
-module _ (n size a b : ℕ) (all : List ℕ) (q : ℕ) (os : List ℕ) (x : Content) (to : Option ℕ) (last : List Want) (answer : Answer) (c : Content) (until : until_failed last ≡ Set_failed ∷ []) (inside : q < size)
-    (next : (t : Shared) (e : Volume) → Life Writeback e → Reaches to (block_view e b) → Safe n size a (writing_of b all x (write_each to b os (Set_failed ∷ [])) Io (Owns b) c) t e) where
-  left_after : (more : Bool) (t : Shared) (e : Volume) → Life Writeback e → Reaches to (block_view e b) → Safe n size a (writing_of b all x (steps_after_fault (Writing b all x) more (write_each to b os last)) Io (Owns b) c) t e
-  left_after true t e life k = subst (λ (ws : List Want). Safe n size a (writing_of b all x ws Io (Owns b) c) t e) (sym (until_each to b os last until)) (next t e life k)
-  left_after false t e life k = failing n size a b all x c t e
+module _ (n size a : ℕ) (past : Bool) (b : ℕ) (all : List ℕ) (q : ℕ) (os : List ℕ) (x : Content) (to : Option ℕ) (last : List Want) (answer : Answer) (c : Content) (until : until_failed last ≡ Set_failed ∷ []) (inside : q < size)
+    (next : (t : Shared) (e : Volume) → Life (mode_of past) e → Reaches to (block_view e b) → Safe n size a (writing_of past b all x (write_each to b os (Set_failed ∷ [])) Io (Owns b) c) t e) where
+  left_after : (more : Bool) (t : Shared) (e : Volume) → Life (mode_of past) e → Reaches to (block_view e b) → Safe n size a (writing_of past b all x (steps_after_fault (Writing past b all x) more (write_each to b os last)) Io (Owns b) c) t e
+  left_after true t e life k = subst (λ (ws : List Want). Safe n size a (writing_of past b all x ws Io (Owns b) c) t e) (sym (until_each to b os last until)) (next t e life k)
+  left_after false t e life k = failing n size a past b all x c t e
 
   -- a sector's write fails
-  failed : (choice : Choice) (t : Shared) (e : Volume) → Good size t e → Life Writeback e → Reaches to (block_view e b) → (landed : Bool) →
-      Goes size a (λ y u f. Safe n size a y u f) (writing_of b all x (write_each to b (q ∷ os) last) answer (Owns b) c) (script_of (Writing b all x) (write_each to b (q ∷ os) last) answer) (Write_at to b q) (Fault choice)
+  failed : (choice : Choice) (t : Shared) (e : Volume) → Good size t e → Life (mode_of past) e → Reaches to (block_view e b) → (landed : Bool) →
+      Goes size a (λ y u f. Safe n size a y u f) (writing_of past b all x (write_each to b (q ∷ os) last) answer (Owns b) c) (script_of (Writing past b all x) (write_each to b (q ∷ os) last) answer) (Write_at to b q) (Fault choice)
       t (if_landed landed (put_sector t to b q x) t) e (after_acts e (landed_write landed b q x)) (landed_write landed b q x)
   failed choice t e g life k true = record {
     run = ((life.0, k.0), tt);
@@ -127,8 +132,8 @@ module _ (n size a b : ℕ) (all : List ℕ) (q : ℕ) (os : List ℕ) (x : Cont
     agrees = write_agrees t e to b q x k.1 g.agrees;
     ready = refl;
     owes = tt;
-    right = plain a b all x (Write_at to b q) (Fault choice) e (after_act e (Write b q x)) (written_books e (e.mapping b) b q x);
-    left = left_after choice.more _ _ (written_life Writeback e (e.mapping b) b q x life) (reaches_written to e (e.mapping b) b q x k);
+    right = plain a past b all x (Write_at to b q) (Fault choice) e (after_act e (Write b q x)) (written_books e (e.mapping b) b q x);
+    left = left_after choice.more _ _ (written_life (mode_of past) e (e.mapping b) b q x life) (reaches_written to e (e.mapping b) b q x k);
   }
   failed choice t e g life k false = record {
     run = (life.0, tt);
@@ -136,52 +141,52 @@ module _ (n size a b : ℕ) (all : List ℕ) (q : ℕ) (os : List ℕ) (x : Cont
     agrees = lose_agrees t e b q x g.agrees;
     ready = refl;
     owes = tt;
-    right = plain a b all x (Write_at to b q) (Fault choice) e (after_act e (Fail_write b q x)) refl;
+    right = plain a past b all x (Write_at to b q) (Fault choice) e (after_act e (Fail_write b q x)) refl;
     left = left_after choice.more _ _ life k;
   }
 
 -- one of the writes that are left after a fault
-failing_one : (n size a b : ℕ) (all : List ℕ) (q : ℕ) (os : List ℕ) (x : Content) (to : Option ℕ) (c : Content) (s : Shared) (d : Volume) → q < size → Life Writeback d → Reaches to (block_view d b) →
-    ((t : Shared) (e : Volume) → Life Writeback e → Reaches to (block_view e b) → Safe n size a (writing_of b all x (write_each to b os (Set_failed ∷ [])) Io (Owns b) c) t e) →
-    Safe (suc n) size a (writing_of b all x (write_each to b (q ∷ os) (Set_failed ∷ [])) Io (Owns b) c) s d
-failing_one n size a b all q os x to c s d m l k next = λ t e got o g v r.
-    let life : Life Writeback e = life_on a (writing_of b all x (write_each to b (q ∷ os) (Set_failed ∷ [])) Io (Owns b) c) s t d e Writeback o l in
+failing_one : (n size a : ℕ) (past : Bool) (b : ℕ) (all : List ℕ) (q : ℕ) (os : List ℕ) (x : Content) (to : Option ℕ) (c : Content) (s : Shared) (d : Volume) → q < size → Life (mode_of past) d → Reaches to (block_view d b) →
+    ((t : Shared) (e : Volume) → Life (mode_of past) e → Reaches to (block_view e b) → Safe n size a (writing_of past b all x (write_each to b os (Set_failed ∷ [])) Io (Owns b) c) t e) →
+    Safe (suc n) size a (writing_of past b all x (write_each to b (q ∷ os) (Set_failed ∷ [])) Io (Owns b) c) s d
+failing_one n size a past b all q os x to c s d m l k next = λ t e got o g v r.
+    let life : Life (mode_of past) e = life_on a (writing_of past b all x (write_each to b (q ∷ os) (Set_failed ∷ [])) Io (Owns b) c) s t d e (mode_of past) o l in
     let now : Reaches to (block_view e b) = reaches_on a b _ to s t d e refl o k in
-    gives_write t to b q (λ w. Result n size a (Writing b all x) (write_each to b (q ∷ os) (Set_failed ∷ [])) Io (Owns b) c t e w)
+    gives_write t to b q (λ w. Result n size a (Writing past b all x) (write_each to b (q ∷ os) (Set_failed ∷ [])) Io (Owns b) c t e w)
     (record {
       run = ((life.0, now.0), (written_whole e (e.mapping b) b q x, tt));
       mine = ((refl, m), (refl, tt));
       agrees = finish_agrees _ _ b q (write_agrees t e to b q x now.1 g.agrees);
       ready = refl;
       owes = tt;
-      right = plain a b all x (Write_at to b q) Done e (after_act (after_act e (Write b q x)) (Finish b q)) (written_books e (e.mapping b) b q x);
-      left = next _ _ (written_life Writeback e (e.mapping b) b q x life) (reaches_written to e (e.mapping b) b q x now);
+      right = plain a past b all x (Write_at to b q) Done e (after_act (after_act e (Write b q x)) (Finish b q)) (written_books e (e.mapping b) b q x);
+      left = next _ _ (written_life (mode_of past) e (e.mapping b) b q x life) (reaches_written to e (e.mapping b) b q x now);
     })
-    (λ choice. failed n size a b all q os x to (Set_failed ∷ []) Io c refl m next choice t e g life now choice.landed)
+    (λ choice. failed n size a past b all q os x to (Set_failed ∷ []) Io c refl m next choice t e g life now choice.landed)
     got v
 
-failing_each : (n size a b : ℕ) (all os : List ℕ) (x : Content) (to : Option ℕ) (c : Content) (s : Shared) (d : Volume) → Within size os → Life Writeback d → Reaches to (block_view d b) → Safe n size a (writing_of b all x (write_each to b os (Set_failed ∷ [])) Io (Owns b) c) s d
-failing_each zero size a b all os x to c s d m l k = tt
-failing_each (suc n) size a b all [] x to c s d m l k = failing (suc n) size a b all x c s d
-failing_each (suc n) size a b all (q ∷ os) x to c s d m l k = failing_one n size a b all q os x to c s d m.0 l k (λ t e life r. failing_each n size a b all os x to c t e m.1 life r)
+failing_each : (n size a : ℕ) (past : Bool) (b : ℕ) (all os : List ℕ) (x : Content) (to : Option ℕ) (c : Content) (s : Shared) (d : Volume) → Within size os → Life (mode_of past) d → Reaches to (block_view d b) → Safe n size a (writing_of past b all x (write_each to b os (Set_failed ∷ [])) Io (Owns b) c) s d
+failing_each zero size a past b all os x to c s d m l k = tt
+failing_each (suc n) size a past b all [] x to c s d m l k = failing (suc n) size a past b all x c s d
+failing_each (suc n) size a past b all (q ∷ os) x to c s d m l k = failing_one n size a past b all q os x to c s d m.0 l k (λ t e life r. failing_each n size a past b all os x to c t e m.1 life r)
 
-writing : (n size a b : ℕ) (all os : List ℕ) (x : Content) (to : Option ℕ) (c : Content) (s : Shared) (d : Volume) → Within size os → Life Writeback d → Owning to (s.seals b) (block_view d b) → Safe n size a (writing_of b all x (write_each to b os (Disown b ∷ [])) Finished (Owns b) c) s d
-writing zero size a b all os x to c s d m l k = tt
-writing (suc n) size a b all [] x to c s d m l k = disowning (suc n) size a b all x Finished c s d k.rests
-writing (suc n) size a b all (q ∷ os) x to c s d m l k = λ t e got o g v r.
-    let life : Life Writeback e = life_on a (writing_of b all x (write_each to b (q ∷ os) (Disown b ∷ [])) Finished (Owns b) c) s t d e Writeback o l in
+writing : (n size a : ℕ) (past : Bool) (b : ℕ) (all os : List ℕ) (x : Content) (to : Option ℕ) (c : Content) (s : Shared) (d : Volume) → Within size os → Life (mode_of past) d → Owning to (s.seals b) (block_view d b) → Safe n size a (writing_of past b all x (write_each to b os (Disown b ∷ [])) Finished (Owns b) c) s d
+writing zero size a past b all os x to c s d m l k = tt
+writing (suc n) size a past b all [] x to c s d m l k = disowning (suc n) size a past b all x Finished c s d k.rests
+writing (suc n) size a past b all (q ∷ os) x to c s d m l k = λ t e got o g v r.
+    let life : Life (mode_of past) e = life_on a (writing_of past b all x (write_each to b (q ∷ os) (Disown b ∷ [])) Finished (Owns b) c) s t d e (mode_of past) o l in
     let now : Owning to (t.seals b) (block_view e b) = owning_on a b _ to s t d e refl o k in
-    gives_write t to b q (λ w. Result n size a (Writing b all x) (write_each to b (q ∷ os) (Disown b ∷ [])) Finished (Owns b) c t e w)
+    gives_write t to b q (λ w. Result n size a (Writing past b all x) (write_each to b (q ∷ os) (Disown b ∷ [])) Finished (Owns b) c t e w)
     (record {
       run = ((life.0, now.writable), (written_whole e (e.mapping b) b q x, tt));
       mine = ((refl, m.0), (refl, tt));
       agrees = finish_agrees _ _ b q (write_agrees t e to b q x now.route g.agrees);
       ready = refl;
       owes = tt;
-      right = plain a b all x (Write_at to b q) Done e (after_act (after_act e (Write b q x)) (Finish b q)) (written_books e (e.mapping b) b q x);
-      left = writing n size a b all os x to c _ _ m.1 (written_life Writeback e (e.mapping b) b q x life) (on t e now);
+      right = plain a past b all x (Write_at to b q) Done e (after_act (after_act e (Write b q x)) (Finish b q)) (written_books e (e.mapping b) b q x);
+      left = writing n size a past b all os x to c _ _ m.1 (written_life (mode_of past) e (e.mapping b) b q x life) (on t e now);
     })
-    (λ choice. failed n size a b all q os x to (Disown b ∷ []) Finished c refl m.0 (λ t e life r. failing_each n size a b all os x to c t e m.1 life r) choice t e g life (now.writable, now.route) choice.landed)
+    (λ choice. failed n size a past b all q os x to (Disown b ∷ []) Finished c refl m.0 (λ t e life r. failing_each n size a past b all os x to c t e m.1 life r) choice t e g life (now.writable, now.route) choice.landed)
     got v
   where
     on : (t : Shared) (e : Volume) → Owning to (t.seals b) (block_view e b) → Owning to ((put_sector t to b q x).seals b) (block_view (after_act (after_act e (Write b q x)) (Finish b q)) b)
@@ -190,22 +195,22 @@ writing (suc n) size a b all (q ∷ os) x to c s d m l k = λ t e got o g v r.
 -- The seal, and what comes of it.
 
 -- a clean location is sealed dirty first
-made_dirty : (n size a b : ℕ) (os : List ℕ) (x : Content) (j : ℕ) (c : Content) (s : Shared) (d : Volume) → Within size os → Life Writeback d → RestsAt s d b → d.mapping b ≡ Some j → Safe n size a (writing_of b os x (Set_seal b (record { location = Some j; dirty = true }) ∷ write_each (Some j) b os (Disown b ∷ [])) Finished (Owns b) c) s d
+made_dirty : (n size a b : ℕ) (os : List ℕ) (x : Content) (j : ℕ) (c : Content) (s : Shared) (d : Volume) → Within size os → Life Writeback d → RestsAt s d b → d.mapping b ≡ Some j → Safe n size a (writing_of false b os x (Set_seal b (record { location = Some j; dirty = true }) ∷ write_each (Some j) b os (Disown b ∷ [])) Finished (Owns b) c) s d
 made_dirty zero size a b os x j c s d m l k p = tt
 made_dirty (suc n) size a b os x j c s d m l k p = λ t e got o g v r.
     let life : Life Writeback e = (o.live ∙ l.0, o.mode ∙ l.1) in
     let same : block_view e b ≡ block_view d b = o.block b refl in
     let whole : (i : ℕ) → e.standing b i ≡ Whole = λ i. ap (λ (w : BlockView). w.standing i) same ∙ k.whole i in
     let there : e.mapping b ≡ Some j = ap (λ (w : BlockView). w.location) same ∙ p in
-    gives_set t b (record { location = Some j; dirty = true }) (λ w. Result n size a (Writing b os x) (Set_seal b (record { location = Some j; dirty = true }) ∷ write_each (Some j) b os (Disown b ∷ [])) Finished (Owns b) c t e w)
+    gives_set t b (record { location = Some j; dirty = true }) (λ w. Result n size a (Writing false b os x) (Set_seal b (record { location = Some j; dirty = true }) ∷ write_each (Some j) b os (Disown b ∷ [])) Finished (Owns b) c t e w)
     (record {
       run = (life.1, tt);
       mine = (refl, tt);
       agrees = seal_agrees t e (changed t.seals b (record { location = Some j; dirty = true })) (changed e.dirty b true) g.agrees;
       ready = refl;
       owes = tt;
-      right = plain a b os x (Set_seal b (record { location = Some j; dirty = true })) Done e (after_act e (Make_dirty b)) refl;
-      left = writing n size a b os os x (Some j) c _ _ m life (record {
+      right = plain a false b os x (Set_seal b (record { location = Some j; dirty = true })) Done e (after_act e (Make_dirty b)) refl;
+      left = writing n size a false b os os x (Some j) c _ _ m life (record {
         rests = record {
           whole = whole;
           location = ap (λ (w : Seal). w.location) (changed_same t.seals b (record { location = Some j; dirty = true })) ∙ sym there;
@@ -218,37 +223,74 @@ made_dirty (suc n) size a b os x j c s d m l k p = λ t e got o g v r.
     })
     got v
 
-worked : (n size a b : ℕ) (os : List ℕ) (x : Content) (p : Option ℕ) (f : Bool) (c : Content) (s : Shared) (d : Volume) → Within size os → Life Writeback d → RestsAt s d b → p ≡ (s.seals b).location → f ≡ (s.seals b).dirty →
-    Safe n size a (writing_of b os x (dirtying b p f (write_each p b os (Disown b ∷ []))) Finished (Owns b) c) s d
-worked n size a b os x None f c s d m l k ep ef = writing n size a b os os x None c s d m l (record { rests = k; writable = inl (sym (ep ∙ k.location)); route = ep ∙ k.location })
-worked n size a b os x (Some j) true c s d m l k ep ef = writing n size a b os os x (Some j) c s d m l (record { rests = k; writable = inr (sym (ef ∙ k.dirty j (sym (ep ∙ k.location)))); route = ep ∙ k.location })
-worked n size a b os x (Some j) false c s d m l k ep ef = made_dirty n size a b os x j c s d m l k (sym (ep ∙ k.location))
-
-sealed : (n size a b : ℕ) (os : List ℕ) (x c : Content) (s : Shared) (d : Volume) → Within size os → Life Writeback d → RestsAt s d b → Safe n size a (writing_of b os x (Look_seal b ∷ []) Finished (Owns b) c) s d
-sealed zero size a b os x c s d m l k = tt
-sealed (suc n) size a b os x c s d m l k = λ t e got o g v r.
-    let now : RestsAt t e b = subst (λ (w : BlockView). Rests (t.seals b) w) (sym (o.block b refl)) (subst (λ (w : Seal). Rests w (block_view d b)) (sym (o.seal b refl)) k) in
-    gives_seal t b (λ w. Result n size a (Writing b os x) (Look_seal b ∷ []) Finished (Owns b) c t e w)
-    (λ seal is. quietly size a (λ y u f. Safe n size a y u f) _ _ (Look_seal b) (Seen seal) t e g tt tt (plain a b os x (Look_seal b) (Seen seal) e e refl)
-    (worked n size a b os x seal.location seal.dirty c t e m (o.live ∙ l.0, o.mode ∙ l.1) now (ap (λ (w : Seal). w.location) is) (ap (λ (w : Seal). w.dirty) is)))
+-- past the cache a mapped block is unmapped first, and its seal says so
+sealed_off : (n size a b : ℕ) (os : List ℕ) (x c : Content) (s : Shared) (d : Volume) → Within size os → Life Passthrough d → Left b d → Safe n size a (writing_of true b os x (Set_seal b unmapped_seal ∷ write_each None b os (Disown b ∷ [])) Finished (Owns b) c) s d
+sealed_off zero size a b os x c s d m l k = tt
+sealed_off (suc n) size a b os x c s d m l k = λ t e got o g v r.
+    let same : block_view e b ≡ block_view d b = o.block b refl in
+    let gone : e.mapping b ≡ None = ap (λ (w : BlockView). w.location) same ∙ k.unmapped in
+    gives_set t b unmapped_seal (λ w. Result n size a (Writing true b os x) (Set_seal b unmapped_seal ∷ write_each None b os (Disown b ∷ [])) Finished (Owns b) c t e w)
+    (record {
+      run = tt;
+      mine = tt;
+      agrees = seal_agrees t e (changed t.seals b unmapped_seal) e.dirty g.agrees;
+      ready = refl;
+      owes = tt;
+      right = plain a true b os x (Set_seal b unmapped_seal) Done e e refl;
+      left = writing n size a true b os os x None c (record t { seals = changed t.seals b unmapped_seal }) e m (o.live ∙ l.0, o.mode ∙ l.1) (record { rests = left_rests b t d e same k; writable = inl gone; route = sym gone });
+    })
     got v
 
-owning : (n size a b : ℕ) (os : List ℕ) (x c : Content) (s : Shared) (d : Volume) → Within size os → Life Writeback d → Safe n size a (writing_of b os x (Own b ∷ Look_seal b ∷ []) Finished Nothing c) s d
-owning zero size a b os x c s d m l = tt
-owning (suc n) size a b os x c s d m l = λ t e got o g v r.
-    gives_own t b (λ w. Receives (writing_of b os x (Own b ∷ Look_seal b ∷ []) Finished Nothing c) (Writing b os x) (Own b) w t e → Result n size a (Writing b os x) (Own b ∷ Look_seal b ∷ []) Finished Nothing c t e w)
-    (λ k. quietly size a (λ y u f. Safe n size a y u f) _ _ (Own b) Done t e g refl tt (plain a b os x (Own b) Done e e refl) (sealed n size a b os x c t e m (o.live ∙ l.0, o.mode ∙ l.1) k))
-    (λ k. quietly size a (λ y u f. Safe n size a y u f) _ _ (Own b) Lost t e g refl tt (plain a b os x (Own b) Lost e e refl) (ending n size a b os x Busy Nothing c t e (inl refl)))
+unmapped : (n size a b k : ℕ) (os : List ℕ) (x c : Content) (s : Shared) (d : Volume) → Within size os → Life Passthrough d → RestsAt s d b → d.mapping b ≡ Some k → Safe n size a (writing_of true b os x (dropping b (Some k) (write_each None b os (Disown b ∷ []))) Finished (Owns b) c) s d
+unmapped zero size a b k os x c s d m l h p = tt
+unmapped (suc n) size a b k os x c s d m l h p = λ t e got o g v r.
+    let now : RestsAt t e b = subst (λ (w : BlockView). Rests (t.seals b) w) (sym (o.block b refl)) (subst (λ (w : Seal). Rests w (block_view d b)) (sym (o.seal b refl)) h) in
+    let there : e.mapping b ≡ Some k = ap (λ (w : BlockView). w.location) (o.block b refl) ∙ p in
+    gives_drop t b k (λ w. Result n size a (Writing true b os x) (dropping b (Some k) (write_each None b os (Disown b ∷ []))) Finished (Owns b) c t e w)
+    (record {
+      run = ((o.live ∙ l.0, (k, there, inr (g.kept.latest.passed (o.mode ∙ l.1) b k there, now.whole))), tt);
+      mine = ((refl, inr refl), tt);
+      agrees = unmap_agrees t e b _ g.agrees;
+      ready = (refl, ap (λ f. f b) g.agrees.mapping ∙ there);
+      owes = tt;
+      right = plain a true b os x (Unmap_plain b k) Done e (after_act e (Unmap b)) refl;
+      left = sealed_off n size a b os x c _ (after_act e (Unmap b)) m (o.live ∙ l.0, o.mode ∙ l.1) (record { done = now.done; whole = now.whole; unmapped = changed_same e.mapping b None });
+    })
+    got v
+
+worked : (n size a : ℕ) (past : Bool) (b : ℕ) (os : List ℕ) (x : Content) (p : Option ℕ) (f : Bool) (c : Content) (s : Shared) (d : Volume) → Within size os → Life (mode_of past) d → RestsAt s d b → p ≡ (s.seals b).location → f ≡ (s.seals b).dirty →
+    Safe n size a (writing_of past b os x (write_work past b os (record { location = p; dirty = f })) Finished (Owns b) c) s d
+worked n size a true b os x None f c s d m l k ep ef = writing n size a true b os os x None c s d m l (record { rests = k; writable = inl (sym (ep ∙ k.location)); route = ep ∙ k.location })
+worked n size a true b os x (Some j) f c s d m l k ep ef = unmapped n size a b j os x c s d m l k (sym (ep ∙ k.location))
+worked n size a false b os x None f c s d m l k ep ef = writing n size a false b os os x None c s d m l (record { rests = k; writable = inl (sym (ep ∙ k.location)); route = ep ∙ k.location })
+worked n size a false b os x (Some j) true c s d m l k ep ef = writing n size a false b os os x (Some j) c s d m l (record { rests = k; writable = inr (sym (ef ∙ k.dirty j (sym (ep ∙ k.location)))); route = ep ∙ k.location })
+worked n size a false b os x (Some j) false c s d m l k ep ef = made_dirty n size a b os x j c s d m l k (sym (ep ∙ k.location))
+
+sealed : (n size a : ℕ) (past : Bool) (b : ℕ) (os : List ℕ) (x c : Content) (s : Shared) (d : Volume) → Within size os → Life (mode_of past) d → RestsAt s d b → Safe n size a (writing_of past b os x (Look_seal b ∷ []) Finished (Owns b) c) s d
+sealed zero size a past b os x c s d m l k = tt
+sealed (suc n) size a past b os x c s d m l k = λ t e got o g v r.
+    let now : RestsAt t e b = subst (λ (w : BlockView). Rests (t.seals b) w) (sym (o.block b refl)) (subst (λ (w : Seal). Rests w (block_view d b)) (sym (o.seal b refl)) k) in
+    gives_seal t b (λ w. Result n size a (Writing past b os x) (Look_seal b ∷ []) Finished (Owns b) c t e w)
+    (λ seal is. quietly size a (λ y u f. Safe n size a y u f) _ _ (Look_seal b) (Seen seal) t e g tt tt (plain a past b os x (Look_seal b) (Seen seal) e e refl)
+    (worked n size a past b os x seal.location seal.dirty c t e m (o.live ∙ l.0, o.mode ∙ l.1) now (ap (λ (w : Seal). w.location) is) (ap (λ (w : Seal). w.dirty) is)))
+    got v
+
+owning : (n size a : ℕ) (past : Bool) (b : ℕ) (os : List ℕ) (x c : Content) (s : Shared) (d : Volume) → Within size os → Life (mode_of past) d → Safe n size a (writing_of past b os x (Own b ∷ Look_seal b ∷ []) Finished Nothing c) s d
+owning zero size a past b os x c s d m l = tt
+owning (suc n) size a past b os x c s d m l = λ t e got o g v r.
+    gives_own t b (λ w. Receives (writing_of past b os x (Own b ∷ Look_seal b ∷ []) Finished Nothing c) (Writing past b os x) (Own b) w t e → Result n size a (Writing past b os x) (Own b ∷ Look_seal b ∷ []) Finished Nothing c t e w)
+    (λ k. quietly size a (λ y u f. Safe n size a y u f) _ _ (Own b) Done t e g refl tt (plain a past b os x (Own b) Done e e refl) (sealed n size a past b os x c t e m (o.live ∙ l.0, o.mode ∙ l.1) k))
+    (λ k. quietly size a (λ y u f. Safe n size a y u f) _ _ (Own b) Lost t e g refl tt (plain a past b os x (Own b) Lost e e refl) (ending n size a past b os x Busy Nothing c t e (inl refl)))
     got v r
 
-pub writing_safe : (n size a b : ℕ) (os : List ℕ) (x c : Content) (s : Shared) (d : Volume) → Within size os → d.mode ≡ Writeback → Safe n size a (writing_of b os x (Look_fail ∷ Own b ∷ Look_seal b ∷ []) Finished Nothing c) s d
-writing_safe zero size a b os x c s d m l = tt
-writing_safe (suc n) size a b os x c s d m l = λ t e got o g v r.
+pub writing_safe : (n size a : ℕ) (past : Bool) (b : ℕ) (os : List ℕ) (x c : Content) (s : Shared) (d : Volume) → Within size os → d.mode ≡ mode_of past → Safe n size a (writing_of past b os x (Look_fail ∷ Own b ∷ Look_seal b ∷ []) Finished Nothing c) s d
+writing_safe zero size a past b os x c s d m l = tt
+writing_safe (suc n) size a past b os x c s d m l = λ t e got o g v r.
     let steps = Look_fail ∷ Own b ∷ Look_seal b ∷ [] in
-    gives_flag t (λ w. Receives (writing_of b os x steps Finished Nothing c) (Writing b os x) Look_fail w t e → Result n size a (Writing b os x) steps Finished Nothing c t e w)
-    (λ f k. quietly size a (λ y u f. Safe n size a y u f) _ _ Look_fail (Flag f) t e g tt tt (plain a b os x Look_fail (Flag f) e e refl) (on f t e (o.mode ∙ l) k)) got v r
+    gives_flag t (λ w. Receives (writing_of past b os x steps Finished Nothing c) (Writing past b os x) Look_fail w t e → Result n size a (Writing past b os x) steps Finished Nothing c t e w)
+    (λ f k. quietly size a (λ y u f. Safe n size a y u f) _ _ Look_fail (Flag f) t e g tt tt (plain a past b os x Look_fail (Flag f) e e refl) (on f t e (o.mode ∙ l) k)) got v r
   where
-    on : (f : Bool) (t : Shared) (e : Volume) → e.mode ≡ Writeback → Receives (writing_of b os x (Look_fail ∷ Own b ∷ Look_seal b ∷ []) Finished Nothing c) (Writing b os x) Look_fail (Flag f) t e →
-        Safe n size a (actor_after (writing_of b os x (Look_fail ∷ Own b ∷ Look_seal b ∷ []) Finished Nothing c) (script_of (Writing b os x) (Look_fail ∷ Own b ∷ Look_seal b ∷ []) Finished) Look_fail (Flag f)) t e
-    on true t e l k = ending n size a b os x Failed Nothing c t e (inl refl)
-    on false t e l k = owning n size a b os x c t e m (k refl, l)
+    on : (f : Bool) (t : Shared) (e : Volume) → e.mode ≡ mode_of past → Receives (writing_of past b os x (Look_fail ∷ Own b ∷ Look_seal b ∷ []) Finished Nothing c) (Writing past b os x) Look_fail (Flag f) t e →
+        Safe n size a (actor_after (writing_of past b os x (Look_fail ∷ Own b ∷ Look_seal b ∷ []) Finished Nothing c) (script_of (Writing past b os x) (Look_fail ∷ Own b ∷ Look_seal b ∷ []) Finished) Look_fail (Flag f)) t e
+    on true t e l k = ending n size a past b os x Failed Nothing c t e (inl refl)
+    on false t e l k = owning n size a past b os x c t e m (k refl, l)

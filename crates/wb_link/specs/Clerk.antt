@@ -5,7 +5,7 @@ use Rattle.std.specs.Prelude.{◌≡◌, ◌+◌, ℕ, List, [], ◌∷◌, Opti
 use Rattle.wb_disk.specs.Device.{Content, History, newest, added, only}
 use Rattle.wb_contents.specs.Volume.{changed, changed_at}
 use Rattle.wb_link.specs.Tables.{Job, Reading, Writing, Writing_through, Flushing, Suspending, Finished, Want, Read_at, Write_at, End, Got, Gave}
-use Rattle.wb_link.specs.World.{Record, Start, Again, Step}
+use Rattle.wb_link.specs.World.{Record, Start, Again, Step, Release}
 
 -- an entry of a sector's history, by its position
 pub record Entry : Type 0 where
@@ -23,7 +23,7 @@ pub record Notes : Type 0 where
 
 -- a write is entered at its first step, failing or not
 abbrev pub histories_after : (ℕ → ℕ → History) → Job → Want → ℕ → ℕ → History
-histories_after histories (Writing block os c) (Write_at location b o) = changed_at histories b o (added (histories b o) c)
+histories_after histories (Writing past block os c) (Write_at location b o) = changed_at histories b o (added (histories b o) c)
 histories_after histories (Writing_through block os c) (Write_at None b o) = changed_at histories b o (added (histories b o) c)
 histories_after histories job w = histories
 
@@ -31,7 +31,7 @@ abbrev pub entry : (ℕ → ℕ → History) → ℕ → ℕ → Entry
 entry histories b o = record { block = b; offset = o; position = length (histories b o).later + 1 }
 
 abbrev pub entered_after : (ℕ → ℕ → History) → Job → Want → List Entry → List Entry
-entered_after histories (Writing block os c) (Write_at location b o) es = entry histories b o ∷ es
+entered_after histories (Writing past block os c) (Write_at location b o) es = entry histories b o ∷ es
 entered_after histories (Writing_through block os c) (Write_at None b o) es = entry histories b o ∷ es
 entered_after histories job w es = es
 
@@ -41,7 +41,7 @@ raised (e ∷ es) f = raised es (changed_at f e.block e.offset (max (f e.block e
 
 -- what a write has entered is finished when it is answered done
 abbrev pub finished_after : Job → Want → List Entry → (ℕ → ℕ → ℕ) → ℕ → ℕ → ℕ
-finished_after (Writing block os c) (End Finished) es f = raised es f
+finished_after (Writing past block os c) (End Finished) es f = raised es f
 finished_after (Writing_through block os c) (End Finished) es f = raised es f
 finished_after job w es f = f
 
@@ -74,13 +74,15 @@ abbrev pub note : Notes → Record → Notes
 note n (Start a job) = record n { jobs = changed n.jobs a (Some job); entered = changed n.entered a []; asked = changed n.asked a n.finished }
 note n (Again a job) = record n { jobs = changed n.jobs a (Some job); entered = changed n.entered a []; asked = changed n.asked a n.finished }
 note n (Step a w got) = noted_step n a (n.jobs a) w
+note n (Release k) = n
 
 -- what a read is given is the last write
 abbrev pub GivesLatest : (ℕ → ℕ → History) → Option Job → Want → Got → Type 0
-GivesLatest histories (Some (Reading block os)) (Read_at location b o) (Gave c) = c ≡ newest (histories b o)
+GivesLatest histories (Some (Reading past block os)) (Read_at location b o) (Gave c) = c ≡ newest (histories b o)
 GivesLatest histories job w got = Unit {0}
 
 abbrev pub IsRight : Notes → Record → Type 0
 IsRight n (Start a job) = Unit {0}
 IsRight n (Again a job) = Unit {0}
 IsRight n (Step a w got) = GivesLatest n.histories (n.jobs a) w got
+IsRight n (Release k) = Unit {0}

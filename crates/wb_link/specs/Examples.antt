@@ -1,18 +1,18 @@
 -- A run of one actor that writes, promotes, writes again, flushes and demotes; one of three actors with a replacement,
--- and flushes that share a commit; and lives that any site may go on with.
-use Rattle.std.specs.Prelude.{Bool, true, false, List, [], ◌∷◌, Some, None}
+-- flushes that share a commit; lives that any site may go on with; and a life past the cache.
+use Rattle.std.specs.Prelude.{Bool, true, false, cond, List, [], ◌∷◌, Some, None}
 use Rattle.wb_disk.specs.Device.{newest}
-use Rattle.wb_contents.specs.Volume.{at_location}
-use Rattle.wb_types.specs.declared.mode.Mode.TheVariants.{Writeback, Writethrough}
-use Rattle.wb_link.specs.Tables.{Order, Writing, Promoting, Demoting, Flushing, Finished, Look_fail, Own, Look_seal, Set_seal, Disown, Read_at, Write_at, Begin, Sync_cache_device, Sync_origin_device, Put_root, Sync_metadata, End_running, Make_room, Map_to, Unmap_from, End, Done, Flag, Seen, Gave, Ticket, Served}
+use Rattle.wb_contents.specs.Volume.{at_location, changed}
+use Rattle.wb_types.specs.declared.mode.Mode.TheVariants.{Writeback, Writethrough, Passthrough}
+use Rattle.wb_link.specs.Tables.{Order, Seal, Reading, Writing, Suspending, Promoting, Demoting, Flushing, Finished, Look_fail, Share, Leave, Own, Look_seal, Set_seal, Disown, Read_at, Write_at, Begin, Sync_cache_device, Sync_origin_device, Put_root, Sync_metadata, End_running, Make_room, Map_to, Unmap_from, Unmap_plain, Begin_clean, Set_suspended, Failed, Short, End, Done, Flag, Seen, Gave, Ticket, Served}
 use Rattle.wb_link.specs.World.{Mapped, Shared, Start, Again, Step, Record}
-use Rattle.wb_link.specs.Openings.{Stopping, Settled, Fine, Learns, Broke, Shown, Event, Stopped, Begins, Advances}
+use Rattle.wb_link.specs.Openings.{Learnt, Stopping, Settled, Fine, Learns, Refused, Broke, Shown, Event, On, Stopped, Begins, Advances}
 
 abbrev pub order : Order
 order = record { block = 0; cache = 0; next = None }
 
 abbrev pub one_actor : List Record
-one_actor = Start 0 (Writing 0 (0 ∷ []) (7 ∷ [])) ∷
+one_actor = Start 0 (Writing false 0 (0 ∷ []) (7 ∷ [])) ∷
     Step 0 Look_fail (Flag false) ∷
     Step 0 (Own 0) Done ∷
     Step 0 (Look_seal 0) (Seen (record { location = None; dirty = false })) ∷
@@ -30,7 +30,7 @@ one_actor = Start 0 (Writing 0 (0 ∷ []) (7 ∷ [])) ∷
     Step 0 (Set_seal 0 (record { location = Some 0; dirty = false })) Done ∷
     Step 0 (Disown 0) Done ∷
     Step 0 (End Finished) Done ∷
-    Start 0 (Writing 0 (0 ∷ []) (8 ∷ [])) ∷
+    Start 0 (Writing false 0 (0 ∷ []) (8 ∷ [])) ∷
     Step 0 Look_fail (Flag false) ∷
     Step 0 (Own 0) Done ∷
     Step 0 (Look_seal 0) (Seen (record { location = Some 0; dirty = false })) ∷
@@ -162,3 +162,83 @@ reopening s = Begins Writeback ∷
     Advances Fine ∷
     Advances Fine ∷
     shown s ∷ []
+
+-- a promoted block stays mapped over a suspend that meets want of memory first; passthrough reads it past the cache, writes
+-- it, which unmaps it, and reads it again, where an opening before was refused at its root
+abbrev pub then_all : List Record → List Event → List Event
+then_all [] es = es
+then_all (r ∷ rs) es = On r ∷ then_all rs es
+
+abbrev pub promoted_and_suspended : List Record
+promoted_and_suspended = Start 0 (Promoting order (0 ∷ [])) ∷
+    Step 0 Look_fail (Flag false) ∷
+    Step 0 (Own 0) Done ∷
+    Step 0 (Look_seal 0) (Seen (record { location = None; dirty = false })) ∷
+    Step 0 (Read_at None 0 0) (Gave []) ∷
+    Step 0 (Write_at (Some 0) 0 0) Done ∷
+    Step 0 Make_room Done ∷
+    Step 0 (Map_to order) Done ∷
+    Step 0 (Set_seal 0 (record { location = Some 0; dirty = false })) Done ∷
+    Step 0 (Disown 0) Done ∷
+    Step 0 (End Finished) Done ∷
+    Start 0 Suspending ∷
+    Step 0 Look_fail (Flag false) ∷
+    Step 0 Begin_clean Short ∷
+    Step 0 (End Failed) Done ∷
+    Start 0 Suspending ∷
+    Step 0 Look_fail (Flag false) ∷
+    Step 0 Begin_clean Done ∷
+    Step 0 Sync_cache_device Done ∷
+    Step 0 Sync_origin_device Done ∷
+    Step 0 Put_root Done ∷
+    Step 0 Sync_metadata Done ∷
+    Step 0 End_running Done ∷
+    Step 0 Set_suspended Done ∷
+    Step 0 (End Finished) Done ∷ []
+
+abbrev pub read_and_written : List Record
+read_and_written = Start 0 (Reading true 0 (0 ∷ [])) ∷
+    Step 0 Look_fail (Flag false) ∷
+    Step 0 (Share 0) Done ∷
+    Step 0 (Look_seal 0) (Seen (record { location = Some 0; dirty = false })) ∷
+    Step 0 (Read_at None 0 0) (Gave []) ∷
+    Step 0 (Leave 0) Done ∷
+    Step 0 (End Finished) Done ∷
+    Start 0 (Writing true 0 (0 ∷ []) (9 ∷ [])) ∷
+    Step 0 Look_fail (Flag false) ∷
+    Step 0 (Own 0) Done ∷
+    Step 0 (Look_seal 0) (Seen (record { location = Some 0; dirty = false })) ∷
+    Step 0 (Unmap_plain 0 0) Done ∷
+    Step 0 (Set_seal 0 (record { location = None; dirty = false })) Done ∷
+    Step 0 (Write_at None 0 0) Done ∷
+    Step 0 (Disown 0) Done ∷
+    Step 0 (End Finished) Done ∷
+    Start 0 (Reading true 0 (0 ∷ [])) ∷
+    Step 0 Look_fail (Flag false) ∷
+    Step 0 (Share 0) Done ∷
+    Step 0 (Look_seal 0) (Seen (record { location = None; dirty = false })) ∷
+    Step 0 (Read_at None 0 0) (Gave (9 ∷ [])) ∷
+    Step 0 (Leave 0) Done ∷
+    Step 0 (End Finished) Done ∷ []
+
+-- what an opening reads of block 0 on cache block 0, clean
+abbrev pub one_clean : Learnt
+one_clean = record { locations = changed (λ b. None) 0 (Some 0); clean = λ b. cond (changed {X = Seal} (λ b. record { location = None; dirty = false }) 0 (record { location = Some 0; dirty = false }) b).dirty false true }
+
+abbrev pub past_the_cache : List Event
+past_the_cache = then_all promoted_and_suspended (
+    Begins Passthrough ∷
+    Advances (Settled false) ∷
+    Advances Fine ∷
+    Advances Fine ∷
+    Advances (Learns one_clean) ∷
+    Advances Refused ∷
+    Begins Passthrough ∷
+    Advances (Settled false) ∷
+    Advances Fine ∷
+    Advances Fine ∷
+    Advances (Learns one_clean) ∷
+    Advances Fine ∷
+    Advances Fine ∷
+    Advances (Shown (λ k. Mapped) (λ b o. [])) ∷
+    then_all read_and_written [])

@@ -1,6 +1,6 @@
 -- Above the world: lives that end and begin. A crash leaves no target; so does an opening's start, which drops all
 -- tasks. An opening is one task, by steps, alone.
-use Rattle.std.specs.Prelude.{◌≡◌, ◌≢◌, ◌⊎◌, ℕ, Bool, true, false, cond, List, [], ◌∷◌, Some, Contains, length, replicate}
+use Rattle.std.specs.Prelude.{◌≡◌, ◌≢◌, ◌⊎◌, ℕ, Bool, true, false, cond, List, [], ◌∷◌, Some, None, Contains, length, replicate}
 use Rattle.wb_disk.specs.Device.{Content, entries, newest, only}
 use Rattle.wb_contents.specs.Volume.{Locations, at_location}
 use Rattle.wb_types.specs.declared.mode.Mode.{Mode}
@@ -121,6 +121,7 @@ Yields s mode Looking Refused = Unit {0}
 Yields s mode Looking (Broke choice) = Unit {0}
 Yields s mode (Rooting i) Fine = Unit {0}
 Yields s mode (Rooting i) (Broke choice) = Unit {0}
+Yields s mode (Rooting i) Refused = Unit {0}
 Yields s mode (Renewing i) Fine = Unit {0}
 Yields s mode (Renewing i) (Broke choice) = Unit {0}
 Yields s mode (Answering i) (Shown blocks view) = ((k : ℕ) → (blocks k ≡ Mapped) ⊎ ((blocks k ≡ Free) × IsUnnamed i.locations k)) × ((b o : ℕ) → view b o ≡ newest (at_location s.origin s.cache (i.locations b) b o))
@@ -133,6 +134,7 @@ advanced s mode Caching Fine = record s { cache = all_synced s.cache }
 advanced s mode Caching (Broke choice) = record s { cache = partly_synced choice.settled s.cache }
 advanced s mode Basing Fine = record s { origin = all_synced s.origin }
 advanced s mode Basing (Broke choice) = record s { origin = partly_synced choice.settled s.origin }
+advanced s mode (Rooting i) Refused = s
 advanced s mode (Rooting i) outcome = record s { running = i.locations; running_clean = λ b. false; root_written = true }
 advanced s mode (Answering i) (Shown blocks view) = opened_on s mode i blocks
 advanced s mode stage outcome = s
@@ -164,7 +166,7 @@ MayHappen size w (Advances outcome) = (mode : Mode) × (stage : Stage) × (w.pha
 
 -- no tasks
 abbrev pub emptied : World → Shared → World
-emptied w s = record { shared = s; actors = replicate (length w.actors) resting }
+emptied w s = record { shared = s; actors = replicate (length w.actors) resting; waiting = λ k. None }
 
 abbrev pub advance : World → Phase → Outcome → Site
 advance w (Opens mode stage) outcome = record { world = emptied w (advanced w.shared mode stage outcome); phase = next_phase mode stage outcome }

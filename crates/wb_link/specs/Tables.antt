@@ -10,8 +10,9 @@ pub record Order : Type 0 where
   pub next : Option ℕ
 
 pub data Job : Type 0 where
-  Reading : (block : ℕ) → List ℕ → Job
-  Writing : (block : ℕ) → List ℕ → Content → Job
+  -- where the block is, or past the cache, as in passthrough
+  Reading : (past : Bool) → (block : ℕ) → List ℕ → Job
+  Writing : (past : Bool) → (block : ℕ) → List ℕ → Content → Job
   Writing_through : (block : ℕ) → List ℕ → Content → Job
   -- of a replacement, under its order
   Flushing : (order : Option Order) → Job
@@ -124,16 +125,26 @@ abbrev pub mapping_on : Order → List Want
 mapping_on order = Make_room ∷ entering order
 
 -- in passthrough, under no order
-abbrev pub dropping : ℕ → Option ℕ → List Want
-dropping b None = Disown b ∷ []
-dropping b (Some k) = Unmap_plain b k ∷ Set_seal b (record { location = None; dirty = false }) ∷ Disown b ∷ []
+abbrev pub dropping : ℕ → Option ℕ → List Want → List Want
+dropping b None rest = rest
+dropping b (Some k) rest = Unmap_plain b k ∷ Set_seal b (record { location = None; dirty = false }) ∷ rest
+
+-- a read past the cache is of the origin, wherever the block is
+abbrev pub read_from : (past : Bool) → Option ℕ → Option ℕ
+read_from true location = None
+read_from false location = location
+
+-- a write past the cache unmaps its block first
+abbrev pub write_work : (past : Bool) → ℕ → List ℕ → Seal → List Want
+write_work true b os seal = dropping b seal.location (write_each None b os (Disown b ∷ []))
+write_work false b os seal = dirtying b seal.location seal.dirty (write_each seal.location b os (Disown b ∷ []))
 
 -- once the seal was seen
 abbrev pub work : Job → Seal → List Want
-work (Reading b os) seal = read_each seal.location b os (Leave b ∷ [])
-work (Writing b os c) seal = dirtying b seal.location seal.dirty (write_each seal.location b os (Disown b ∷ []))
+work (Reading past b os) seal = read_each (read_from past seal.location) b os (Leave b ∷ [])
+work (Writing past b os c) seal = write_work past b os seal
 work (Writing_through b os c) seal = write_through_each seal.location b os (Disown b ∷ [])
-work (Invalidating b) seal = dropping b seal.location
+work (Invalidating b) seal = dropping b seal.location (Disown b ∷ [])
 work (Flushing order) seal = []
 work Suspending seal = []
 work (Promoting order os) seal = copy_each None (Some order.cache) order.block os (mapping_on order)
@@ -141,8 +152,8 @@ work (Cleaning order os) seal = copy_dirty seal.dirty order os (cleaning order)
 work (Demoting order os) seal = copy_dirty seal.dirty order os (unmapping order)
 
 abbrev pub acquire : Job → List Want
-acquire (Reading b os) = Share b ∷ Look_seal b ∷ []
-acquire (Writing b os c) = Own b ∷ Look_seal b ∷ []
+acquire (Reading past b os) = Share b ∷ Look_seal b ∷ []
+acquire (Writing past b os c) = Own b ∷ Look_seal b ∷ []
 acquire (Writing_through b os c) = Own b ∷ Look_seal b ∷ []
 acquire (Invalidating b) = Own b ∷ Look_seal b ∷ []
 acquire (Flushing order) = Begin None ∷ Sync_cache_device ∷ Sync_origin_device ∷ Put_root ∷ Sync_metadata ∷ End_running ∷ []
@@ -155,8 +166,8 @@ abbrev pub table : Job → Script
 table job = record { job = job; steps = Look_fail ∷ acquire job; answer = Finished }
 
 abbrev pub release : Job → List Want
-release (Reading b os) = Leave b ∷ []
-release (Writing b os c) = Disown b ∷ []
+release (Reading past b os) = Leave b ∷ []
+release (Writing past b os c) = Disown b ∷ []
 release (Writing_through b os c) = Disown b ∷ []
 release (Invalidating b) = Disown b ∷ []
 release (Flushing order) = []
@@ -196,7 +207,7 @@ until_failed ws = Set_failed ∷ []
 
 -- after a fault of a write
 abbrev pub steps_after_fault : Job → (more : Bool) → List Want → List Want
-steps_after_fault (Writing b os c) true ws = until_failed ws
+steps_after_fault (Writing past b os c) true ws = until_failed ws
 steps_after_fault (Promoting order os) true ws = until_failed ws
 steps_after_fault (Cleaning order os) true ws = until_failed ws
 steps_after_fault (Demoting order os) true ws = until_failed ws

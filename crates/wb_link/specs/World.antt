@@ -53,6 +53,8 @@ pub record Actor : Type 0 where
 pub record World : Type 0 where
   pub shared : Shared
   pub actors : List Actor
+  -- the orders that live and that nobody is at, by cache block
+  pub waiting : ℕ → Option Order
 
 -- What a step does to what is shared.
 
@@ -77,7 +79,7 @@ given_back block = block
 
 -- what an actor writes: a write what it was given, a migration what it has read
 abbrev pub content_for : Job → Content → Content
-content_for (Writing b os c) buffer = c
+content_for (Writing past b os c) buffer = c
 content_for (Writing_through b os c) buffer = c
 content_for other buffer = buffer
 
@@ -194,6 +196,7 @@ Gives s (Begin ticket) Short = Unserved s ticket
 Gives s (Begin ticket) Lost = s.committing ≡ true
 Gives s Begin_clean Done = s.committing ≡ false
 Gives s Begin_clean Lost = s.committing ≡ true
+Gives s Begin_clean Short = Unit {0}
 Gives s Sync_cache_device Done = Unit {0}
 Gives s Sync_cache_device (Fault choice) = Unit {0}
 Gives s Sync_origin_device Done = Unit {0}
@@ -245,8 +248,8 @@ Apart o p = ((b : ℕ) → Names o b → Names p b → ⊥) × (o.cache ≢ p.ca
 abbrev pub Waits : Shared → Order → Type 0
 Waits s o = (b : ℕ) → o.next ≡ Some b → s.mapping b ≡ None
 
-abbrev pub Ungiven : List Actor → Order → Type 0
-Ungiven actors order = (a : ℕ) (x : Actor) (o : Order) → slice_get actors a ≡ Some x → x.order ≡ Some o → Apart o order
+abbrev pub Ungiven : World → Order → Type 0
+Ungiven w order = ((a : ℕ) (x : Actor) (o : Order) → slice_get w.actors a ≡ Some x → x.order ≡ Some o → Apart o order) × ((k : ℕ) (o : Order) → w.waiting k ≡ Some o → Apart o order)
 
 -- these offsets are of the block
 abbrev pub Within : ℕ → List ℕ → Type 0
@@ -259,15 +262,16 @@ Covers size os = (o : ℕ) → o < size → Contains os o
 
 -- A job may be started: a migration only under an order that may be given.
 abbrev pub MayStart : ℕ → World → Job → Type 0
-MayStart size w (Reading b os) = Within size os
-MayStart size w (Writing b os c) = Within size os × (w.shared.mode ≡ Writeback)
+MayStart size w (Reading false b os) = Within size os
+MayStart size w (Reading true b os) = Within size os × (w.shared.mode ≡ Passthrough)
+MayStart size w (Writing past b os c) = Within size os × (w.shared.mode ≡ cond past Passthrough Writeback)
 MayStart size w (Writing_through b os c) = Within size os × (w.shared.mode ≡ Writethrough)
 MayStart size w (Invalidating b) = w.shared.mode ≡ Passthrough
 MayStart size w (Flushing order) = order ≡ None
 MayStart size w Suspending = (a : ℕ) (x : Actor) → slice_get w.actors a ≡ Some x → x.task ≡ None
-MayStart size w (Promoting order os) = Within size os × Covers size os × Ungiven w.actors order × (w.shared.mode ≢ Passthrough) × (w.shared.mapping order.block ≡ None) × (w.shared.blocks order.cache ≡ Free) × Waits w.shared order
-MayStart size w (Cleaning order os) = Within size os × Covers size os × Ungiven w.actors order × (w.shared.mode ≢ Passthrough) × (w.shared.mapping order.block ≡ Some order.cache) × (w.shared.blocks order.cache ≡ Mapped) × Waits w.shared order
-MayStart size w (Demoting order os) = Within size os × Covers size os × Ungiven w.actors order × (w.shared.mode ≢ Passthrough) × (w.shared.mapping order.block ≡ Some order.cache) × (w.shared.blocks order.cache ≡ Mapped) × Waits w.shared order
+MayStart size w (Promoting order os) = Within size os × Covers size os × Ungiven w order × (w.shared.mode ≢ Passthrough) × (w.shared.mapping order.block ≡ None) × (w.shared.blocks order.cache ≡ Free) × Waits w.shared order
+MayStart size w (Cleaning order os) = Within size os × Covers size os × Ungiven w order × (w.shared.mode ≢ Passthrough) × (w.shared.mapping order.block ≡ Some order.cache) × (w.shared.blocks order.cache ≡ Mapped) × Waits w.shared order
+MayStart size w (Demoting order os) = Within size os × Covers size os × Ungiven w order × (w.shared.mode ≢ Passthrough) × (w.shared.mapping order.block ≡ Some order.cache) × (w.shared.blocks order.cache ≡ Mapped) × Waits w.shared order
 
 -- Records.
 
@@ -276,6 +280,8 @@ pub data Record : Type 0 where
   -- a migration once more, under the order that its actor kept when it was answered busy or failed
   Again : (actor : ℕ) → Job → Record
   Step : (actor : ℕ) → Want → Got → Record
+  -- an order that is aside is given up, as by the flush that was to serve it and is refused
+  Release : (cache : ℕ) → Record
 
 -- an actor with nothing to do, that holds nothing
 abbrev pub resting : Actor
@@ -289,24 +295,39 @@ step_task w a x None got = w
 step_task w a x (Some script) got = record {
   shared = effect w.shared script.job x.buffer (want script) got;
   actors = slice_set w.actors a (actor_after x script (want script) got);
+  waiting = w.waiting;
 }
 
 abbrev pub step_actor : World → ℕ → Option Actor → Got → World
 step_actor w a None got = w
 step_actor w a (Some x) got = step_task w a x x.task got
 
+-- who begins something puts the order aside that it has, and who goes on with one takes that from there
+abbrev pub aside : (ℕ → Option Order) → Option Order → ℕ → Option Order
+aside waiting None = waiting
+aside waiting (Some p) = changed waiting p.cache (Some p)
+
+abbrev pub taken : (ℕ → Option Order) → Option Order → ℕ → Option Order
+taken waiting None = waiting
+taken waiting (Some p) = changed waiting p.cache None
+
 abbrev pub start_actor : World → ℕ → Option Actor → Job → World
 start_actor w a None job = w
-start_actor w a (Some x) job = record { shared = reserved w.shared job; actors = slice_set w.actors a (given x job) }
+start_actor w a (Some x) job = record { shared = reserved w.shared job; actors = slice_set w.actors a (given x job); waiting = aside w.waiting x.order }
 
 abbrev pub again_actor : World → ℕ → Option Actor → Job → World
 again_actor w a None job = w
-again_actor w a (Some x) job = record { shared = w.shared; actors = slice_set w.actors a (given x job) }
+again_actor w a (Some x) job = record { shared = w.shared; actors = slice_set w.actors a (given x job); waiting = taken (aside w.waiting x.order) (order_of job) }
+
+abbrev pub release_order : World → ℕ → Option Order → World
+release_order w k None = w
+release_order w k (Some p) = record { shared = record w.shared { blocks = changed w.shared.blocks k (given_back (w.shared.blocks k)) }; actors = w.actors; waiting = changed w.waiting k None }
 
 abbrev pub after_record : World → Record → World
 after_record w (Start a job) = start_actor w a (slice_get w.actors a) job
 after_record w (Again a job) = again_actor w a (slice_get w.actors a) job
 after_record w (Step a next got) = step_actor w a (slice_get w.actors a) got
+after_record w (Release k) = release_order w k (w.waiting k)
 
 -- an actor with this left to do takes its next step
 pub record MayStep (w : World) (a : ℕ) (next : Want) (got : Got) (x : Actor) (script : Script) : Type 0 where
@@ -328,19 +349,21 @@ is_alone (Some script) = job_alone script.job
 -- in passthrough there are no orders, and a block may be unmapped without one
 abbrev pub job_drops : Job → Bool
 job_drops (Invalidating b) = true
+job_drops (Writing past b os c) = past
 job_drops job = false
 
 abbrev pub drops : Option Script → Bool
 drops None = false
 drops (Some script) = job_drops script.job
 
--- an actor that has nothing and holds nothing is given a job
+abbrev pub IsFree : Shared → Actor → Type 0
+IsFree s x = ((x.held ≡ Nothing) × (x.leads ≡ false)) ⊎ (s.fail ≡ true)
+
+-- an actor without a task that holds nothing, or has kept it at a failure, is given a job
 pub record MayBegin (size : ℕ) (w : World) (a : ℕ) (job : Job) (x : Actor) : Type 0 where
   pub actor : slice_get w.actors a ≡ Some x
   pub task : x.task ≡ None
-  pub held : x.held ≡ Nothing
-  pub order : x.order ≡ None
-  pub leads : x.leads ≡ false
+  pub free : IsFree w.shared x
   pub nobody_alone : (b : ℕ) (y : Actor) → slice_get w.actors b ≡ Some y → is_alone y.task ≡ false
   pub may : MayStart size w job
 
@@ -355,9 +378,8 @@ MayAgain size s job = ⊥
 pub record MayRepeat (size : ℕ) (w : World) (a : ℕ) (job : Job) (x : Actor) : Type 0 where
   pub actor : slice_get w.actors a ≡ Some x
   pub task : x.task ≡ None
-  pub held : x.held ≡ Nothing
-  pub order : x.order ≡ order_of job
-  pub leads : x.leads ≡ false
+  pub free : IsFree w.shared x
+  pub order : (p : Order) × (order_of job ≡ Some p) × (aside w.waiting x.order p.cache ≡ Some p)
   pub nobody_alone : (b : ℕ) (y : Actor) → slice_get w.actors b ≡ Some y → is_alone y.task ≡ false
   pub may : MayAgain size w.shared job
 
@@ -365,6 +387,7 @@ abbrev pub May : ℕ → World → Record → Type 0
 May size w (Start a job) = (x : Actor) × MayBegin size w a job x
 May size w (Again a job) = (x : Actor) × MayRepeat size w a job x
 May size w (Step a next got) = (x : Actor) × (script : Script) × MayStep w a next got x script
+May size w (Release k) = (p : Order) × (w.waiting k ≡ Some p) × ((a : ℕ) (x : Actor) → slice_get w.actors a ≡ Some x → is_alone x.task ≡ false)
 
 abbrev pub after_all : World → List Record → World
 after_all w [] = w
@@ -397,4 +420,5 @@ begins many z = record {
     running_clean = λ b. false;
   };
   actors = replicate many resting;
+  waiting = λ k. None;
 }

@@ -10,7 +10,7 @@ use Rattle.wb_devices.specs.declared.running.RunningCommit.{RunningCommit}
 placed_prop : (nodes : PlacedNodes) (sectors : ℕ) → IsProp (HavePlaces nodes sectors)
 placed_prop nodes sectors = hlevel (le_prop, ℕ_set)
 
-abbrev commit_of : (image : Image) (steps : CommitSteps) → HavePlaces image.nodes.items image.root.geometry.meta_sectors → Option RunningCommit
+abbrev pub commit_of : (image : Image) (steps : CommitSteps) → HavePlaces image.nodes.items image.root.geometry.meta_sectors → Option RunningCommit
 commit_of image steps placed = Some (record { image = image; steps = steps; placed = placed })
 
 pub same_commit : (image : Image) (steps : CommitSteps) (p q : HavePlaces image.nodes.items image.root.geometry.meta_sectors) → commit_of image steps p ≡ commit_of image steps q

@@ -52,14 +52,10 @@ use Rattle.wb_policy.specs.declared.order.Order.{Order}
 -- ---- devices
 
 -- a device in its own place
-same_device : (device : Dev) (devices : Devices (List History)) → with_device device devices (device_in device devices) ≡ devices
+pub same_device : (device : Dev) (devices : Devices (List History)) → with_device device devices (device_in device devices) ≡ devices
 same_device Metadata devices = refl
 same_device Cache devices = refl
 same_device Origin devices = refl
-
--- where no sector is named, and the newest contents count, all land
-lands_all : (device : Dev) (choice : Choice) → choice.base ≡ Newest → choice.named ≡ [] → (old : List History) (at : ℕ) (contents : List Bytes) → written_where (lands device choice) old at contents ≡ written_each old at contents
-lands_all device choice b n old at contents = rw (b, n) refl
 
 first_there : {X : Type 0} (xs : List X) (i : ℕ) (x : X) → slice_get xs i ≡ Some x → slice_get (drop i xs) 0 ≡ Some x
 first_there [] zero x e = e
@@ -106,24 +102,14 @@ module _ (devices : Devices (List History)) (commit : Option RunningCommit) (dev
     did_read Flush device e read can many each d c = absurd can.0
     did_read (Open mode) device e read can many each d c = absurd can.0
 
-    pub did_write : (job : Job) (device : Dev) (e : Extent) (choice : Choice) (read : List Bytes) → IsDoable devices commit job (WriteExtent device e) → choice.base ≡ Newest → choice.named ≡ [] → read ≡ [] →
-        devices' ≡ with_device device devices (written_where (lands device choice) (device_in device devices) e.first (contents_for job buffer e.count)) → commit' ≡ commit → DoesOn devices commit job buffer (WriteExtent device e) read devices' commit'
-    did_write (Read extent) device e choice read can b n r d c = absurd can.0
-    did_write (Write extent content) device e choice read can b n r d c = record {
-      gives = λ shape t actors x. (can.1, (r, refl), refl, can.2);
-      copies = tt;
-      devices_are = d ∙ ap (λ new. with_device device devices new) (lands_all device choice b n (device_in device devices) e.first (contents_for (Write extent content) buffer e.count));
-      commit_is = c;
-    }
-    did_write (Migrate migration block) device e choice read can b n r d c = record {
-      gives = λ shape t actors x. (can.1, (r, refl), refl, can.2);
-      copies = tt;
-      devices_are = d ∙ ap (λ new. with_device device devices new) (lands_all device choice b n (device_in device devices) e.first buffer);
-      commit_is = c;
-    }
-    did_write (Replace old new) device e choice read can b n r d c = absurd can.0
-    did_write Flush device e choice read can b n r d c = absurd can.0
-    did_write (Open mode) device e choice read can b n r d c = absurd can.0
+    pub did_write : (job : Job) (device : Dev) (e : Extent) → IsDoable devices commit job (WriteExtent device e) →
+        devices' ≡ with_device device devices (written_each (device_in device devices) e.first (contents_for job buffer e.count)) → commit' ≡ commit → DoesOn devices commit job buffer (WriteExtent device e) [] devices' commit'
+    did_write (Read extent) device e can d c = absurd can.0
+    did_write (Write extent content) device e can d c = record { gives = λ shape t actors x. (can.1, (refl, refl), refl, can.2); copies = tt; devices_are = d; commit_is = c }
+    did_write (Migrate migration block) device e can d c = record { gives = λ shape t actors x. (can.1, (refl, refl), refl, can.2); copies = tt; devices_are = d; commit_is = c }
+    did_write (Replace old new) device e can d c = absurd can.0
+    did_write Flush device e can d c = absurd can.0
+    did_write (Open mode) device e can d c = absurd can.0
 
   syncs_so : (commit : Option RunningCommit) → ComesNext commit (Sync Metadata) devices.metadata → (t : RunTarget Quiet) → DoesSync {P = Quiet} {A = Global} (Stands t) commit devices.metadata Plain
   syncs_so None can t = can

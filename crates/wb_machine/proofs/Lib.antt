@@ -16,3 +16,4 @@ pub mod Flags
 mod Orders
 mod Stepped
 mod Kept
+pub mod Performed

@@ -14,7 +14,7 @@ use Rattle.wb_meta.specs.declared.commit_steps.CommitSteps.TheVariants.{NodesSyn
 use Rattle.wb_format.specs.declared.root.Root.{Root}
 use Rattle.wb_tasks.specs.Plan.{want, after, device_of}
 use Rattle.wb_tasks.specs.declared.step.DeviceStep.{DeviceStep}
-use Rattle.wb_tasks.specs.declared.step.DeviceStep.TheVariants.{Sync, WriteRoot}
+use Rattle.wb_tasks.specs.declared.step.DeviceStep.TheVariants.{Read, Write, ReadMetadata, Sync, WriteNode, WriteRoot}
 use Rattle.wb_tasks.specs.declared.step.Want.TheVariants.{Device}
 use Rattle.wb_tasks.specs.declared.step.Got.TheVariants.{Done, Fault}
 use Rattle.wb_devices.specs.Committing.{goes_on, is_coming}
@@ -29,6 +29,7 @@ use Rattle.wb_runs.specs.Happenings.{LandedOr, sector_put}
 use Rattle.wb_machine.specs.declared.opener.Opener.{Opener}
 use Rattle.wb_machine.specs.Life.{Now, FailsOn, Happens, MayPutCommitted, PutsCommitted, PutsRoot, commit_failed, commit_synced, commit_written, contents_of, device_step_of, reading_failed, reading_synced, state_of}
 use Rattle.wb_machine.specs.declared.phase.Phase.TheVariants.{Underway}
+use Rattle.wb_machine.specs.Serving.{RootComes, SyncComes}
 use Rattle.wb_machine.specs.Making.{reading_of}
 use Rattle.wb_machine.specs.Standing.{HasReadAll, StandsAt}
 use Rattle.wb_machine.proofs.Openings.{at_commit, fails, fails_to_put, fails_to_settle, puts, settles, syncs}
@@ -141,3 +142,38 @@ module _ (shape : Shape) (n : ℕ) (devices devices' : Devices Memory) (o new : 
       | inr sync ↦ root_fails_to_settle choice step what sync.0 sync.1 next e m t r c d
     ]
   ]
+
+-- what an opening writes comes next of its commit
+pub root_comes : (g : Geometry) (n : ℕ) (devices : Devices Memory) (o : Opener) (step : DeviceStep) → length devices.metadata.contents ≡ g.meta_sectors → StandsAt g n o → device_step_of (want o.task) ≡ Some step → RootComes step o.opening.commit devices.metadata.contents
+root_comes g n devices o WriteRoot whole stands kind = elim (finds g n o WriteRoot stands kind) [
+  | inl none ↦ absurd (none.1 refl)
+  | inr root ↦ elim root [
+    | inl write ↦ there write.1
+    | inr sync ↦ absurd (let never = sync.0 in cc)
+  ]
+]
+  where
+    there : HasReadAll g NodesSynced (reading_of o) o.opening.commit → RootComes WriteRoot o.opening.commit devices.metadata.contents
+    there all = subst (λ (k : Option RunningCommit). RootComes WriteRoot k devices.metadata.contents) (sym all.commit_is)
+        (comes_next all.next (length devices.metadata.contents) NodesSynced WriteRoot (fits_device g (length devices.metadata.contents) all whole) all.steps_are refl, tt)
+root_comes g n devices o (Sync device) whole stands kind = tt
+root_comes g n devices o (Read device e) whole stands kind = tt
+root_comes g n devices o (Write device e) whole stands kind = tt
+root_comes g n devices o (ReadMetadata left) whole stands kind = tt
+root_comes g n devices o (WriteNode number) whole stands kind = tt
+
+-- and so does a sync, where its commit runs
+pub sync_comes : (g : Geometry) (n : ℕ) (devices : Devices Memory) (o : Opener) (device : Dev) → length devices.metadata.contents ≡ g.meta_sectors → StandsAt g n o → want o.task ≡ Device (Sync device) → SyncComes device o.opening.commit devices.metadata.contents
+sync_comes g n devices o Cache whole stands next = tt
+sync_comes g n devices o Origin whole stands next = tt
+sync_comes g n devices o Metadata whole stands next = elim (finds g n o (Sync Metadata) stands (ap device_step_of next)) [
+  | inl none ↦ subst (λ (k : Option RunningCommit). SyncComes Metadata k devices.metadata.contents) (sym none.0) tt
+  | inr root ↦ elim root [
+    | inl write ↦ absurd (let never = write.0 in cc)
+    | inr sync ↦ there sync.1
+  ]
+]
+  where
+    there : HasReadAll g RootWritten (reading_of o) o.opening.commit → SyncComes Metadata o.opening.commit devices.metadata.contents
+    there all = subst (λ (k : Option RunningCommit). SyncComes Metadata k devices.metadata.contents) (sym all.commit_is)
+        (all.steps_are, comes_next all.next (length devices.metadata.contents) RootWritten (Sync Metadata) (fits_device g (length devices.metadata.contents) all whole) all.steps_are refl)

@@ -1,12 +1,16 @@
 -- What a start or a step of an actor does over a target that stands.
-use Rattle.std.specs.Prelude.{◌≡◌, ◌≤◌, ◌+◌, ◌⊎◌, ℕ, Bool, true, false, if◌then◌else◌, length, List, [], ◌∷◌, Option, Some, None, is_none, is_some, slice_get}
+use Rattle.std.specs.Prelude.{◌≡◌, ◌≤◌, ◌+◌, ◌⊎◌, ℕ, Bool, true, false, if◌then◌else◌, length, List, [], ◌∷◌, Option, Some, None, is_none, is_some, slice_get, IfSome}
 use Rattle.std.specs.declared.alloc.Global.{Global}
 use Rattle.wb_types.specs.Extents.{pieces}
 use Rattle.wb_types.specs.declared.extent.Extent.{Extent}
 use Rattle.wb_types.specs.declared.geometry.Geometry.{Geometry}
+use Rattle.wb_types.specs.declared.mode.Dev.{Dev}
 use Rattle.wb_types.specs.declared.mode.Dev.TheVariants.{Metadata}
+use Rattle.wb_devices.specs.Committing.{goes_on}
 use Rattle.wb_disk.specs.Device.{Content as Bytes, History}
-use Rattle.wb_disk.specs.Memory.{Memory}
+use Rattle.wb_disk.specs.Memory.{Memory, HasRoomFor}
+use Rattle.wb_meta.specs.Steps.{coming_step}
+use Rattle.wb_runs.specs.Happenings.{sector_put}
 use Rattle.wb_disk.specs.Crash.{Choice}
 use Rattle.wb_disk.specs.Failing.{lands}
 use Rattle.wb_words.specs.SharedWords.{Words, flag}
@@ -16,7 +20,7 @@ use Rattle.wb_cells.specs.Crews.{CrewState, crew_after}
 use Rattle.wb_policy.specs.declared.quiet.Quiet.{Quiet}
 use Rattle.wb_tree.specs.declared.image.Image.{Image}
 use Rattle.wb_meta.specs.declared.commit_steps.CommitSteps.{CommitSteps}
-use Rattle.wb_meta.specs.declared.commit_steps.CommitSteps.TheVariants.{NodesWritten, NodesSynced}
+use Rattle.wb_meta.specs.declared.commit_steps.CommitSteps.TheVariants.{NodesWritten, NodesSynced, RootWritten}
 use Rattle.wb_tasks.specs.Plan.{Plan, Fits, IsStep, table, want, device_of}
 use Rattle.wb_tasks.specs.Ready.{HoldsBlocks}
 use Rattle.wb_tasks.specs.declared.step.DeviceStep.{DeviceStep}
@@ -46,7 +50,7 @@ use Rattle.wb_stage.specs.Stages.{is_all_done}
 use Rattle.wb_runs.specs.States.{Shape, Actor, Stands, Gone, Target as RunTarget, block_size}
 use Rattle.wb_runs.specs.Happenings.{Chosen, Plain, Orders, Puts, DoesPut, FailsPut, Gives, IsNextOf, MayFailAt, Falters, KeepsMigration, KeepsReplacement, StartGives, begun_as, extent_of, order_for, task_job}
 use Rattle.wb_runs.specs.Holding.{AllSuited}
-use Rattle.wb_runs.specs.Effects.{buffer_then, commit_then, contents_at, cut_of, desk_then, device_done, device_failed, devices_then, job_of, awaiting_then, orders_given, orders_then, task_then}
+use Rattle.wb_runs.specs.Effects.{buffer_then, commit_then, contents_at, contents_for, cut_of, desk_then, device_done, device_failed, devices_then, job_of, awaiting_then, orders_given, orders_then, task_then}
 use Rattle.wb_machine.specs.declared.phase.Phase.{Phase}
 use Rattle.wb_machine.specs.declared.phase.Phase.TheVariants.{Standing}
 use Rattle.wb_machine.specs.declared.target.Target.{Target}
@@ -179,6 +183,16 @@ Opens job = ⊥
 abbrev pub ComesNext : Option RunningCommit → DeviceStep → List History → Type 0
 ComesNext commit step device = IsNextOf commit step device (λ running. Unit {0})
 
+-- where the step writes a root, it comes next of the commit
+abbrev pub RootComes : DeviceStep → Option RunningCommit → List History → Type 0
+RootComes WriteRoot commit device = ComesNext commit WriteRoot device
+RootComes step commit device = Unit {0}
+
+-- where a commit runs, a sync of the metadata is its last step
+abbrev pub SyncComes : Dev → Option RunningCommit → List History → Type 0
+SyncComes Metadata commit device = IfSome commit (λ running. (running.steps ≡ RootWritten) × (goes_on (length device) running.image running.steps (Sync Metadata) ≡ true))
+SyncComes device commit disk = Unit {0}
+
 -- a node or the root is written
 abbrev pub IsPut : DeviceStep → Type 0
 IsPut (WriteNode number) = Unit {0}
@@ -282,6 +296,33 @@ pub record DoesOn (devices : Devices (List History)) (commit : Option RunningCom
   pub copies : IsCopy devices job (Device step) read
   pub devices_are : devices' ≡ devices_then (done_by job buffer (chosen_at step devices')) devices (Device step)
   pub commit_is : commit' ≡ commit_by commit (Device step) Done (chosen_at step devices')
+
+-- what a step moves: what a job writes, or as many sectors as are read
+abbrev pub Moves : Job → List Bytes → DeviceStep → List Bytes → Type 0
+Moves job buffer (ReadExtent device e) moved = length moved ≡ e.count
+Moves job buffer (WriteExtent device e) moved = moved ≡ contents_for job buffer e.count
+Moves job buffer step moved = Unit {0}
+
+-- what was read by a step that moved these
+abbrev pub read_by : DeviceStep → List Bytes → List Bytes
+read_by (ReadExtent device e) moved = moved
+read_by step moved = []
+
+-- an extent of as many of these sectors, from this one on, as there are
+abbrev pub IsFront : ℕ → ℕ → ℕ → Extent → Type 0
+IsFront sectors first count e = (e.first ≡ first) × (e.count ≤ count) × (first ≤ sectors → first + e.count ≤ sectors) × ((e.count ≡ count) ⊎ (sectors ≤ first + e.count))
+
+-- the step whose extent has as many sectors as are written and are there
+abbrev pub FittedTo : List Bytes → Devices (List History) → DeviceStep → DeviceStep → Type 0
+FittedTo moved devices (WriteExtent device e) there = (f : Extent) × (there ≡ WriteExtent device f) × IsFront (length (device_in device devices)) e.first (length moved) f
+FittedTo moved devices step there = there ≡ step
+
+-- there is room for what a step writes
+abbrev pub HasRoomAt : Devices Memory → Option RunningCommit → DeviceStep → Type 0
+HasRoomAt devices commit (WriteExtent device e) = HasRoomFor (device_in device devices) e.first e.count
+HasRoomAt devices commit (WriteNode number) = IfSome commit (λ running. HasRoomFor devices.metadata (sector_put (coming_step running.image running.steps)) 1)
+HasRoomAt devices commit WriteRoot = IfSome commit (λ running. HasRoomFor devices.metadata (sector_put (coming_step running.image running.steps)) 1)
+HasRoomAt devices commit step = Unit {0}
 
 -- One that fails as the choice says.
 pub record FailsAt (choice : Choice) (devices : Devices (List History)) (commit : Option RunningCommit) (job : Job) (buffer : List Bytes) (step : DeviceStep) (devices' : Devices (List History)) (commit' : Option RunningCommit) : Type 0 where

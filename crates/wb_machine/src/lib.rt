@@ -5,7 +5,6 @@
 #![tactic(auto)]
 
 mod asking;
-mod committing;
 mod keeping;
 mod known_crew;
 mod machine;
@@ -17,14 +16,11 @@ mod outcome;
 mod performing;
 mod phase;
 mod requests;
-mod room;
-mod rooting;
 mod sealing;
 mod serving;
 mod starting;
 mod stepping;
 mod stopping;
-mod syncing;
 mod target;
 mod trace;
 mod viewing;

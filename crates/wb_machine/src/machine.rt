@@ -162,7 +162,7 @@ fn happen(
         }
         Event::Step(a) => step(geometry, alloc, devices, phase, *a),
         Event::FaultStep(a, choice) => {
-            let what = falter(geometry, devices, phase, *a, choice)?;
+            let what = falter(geometry, alloc, devices, phase, *a, choice)?;
             Ok(Outcome::told(alloc, what))
         }
         Event::Stop(choice) => Ok(Outcome::told(alloc, stop(devices, phase, choice))),

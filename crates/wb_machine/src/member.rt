@@ -238,6 +238,7 @@ impl Member {
     /// there is; then no content has changed.
     pub(crate) fn falter(
         &mut self,
+        alloc: Global,
         devices: &mut Devices<MemDisk>,
         commit: &mut Option<RunningCommit>,
         choice: &CrashChoice,
@@ -256,7 +257,7 @@ impl Member {
             return Ok(What::Skipped);
         };
         let buffer = self.buffer.as_slice();
-        let fails = fail_step(devices, commit, job, buffer, step, choice)?;
+        let fails = fail_step(alloc, devices, commit, job, buffer, step, choice)?;
         if !fails {
             return Ok(What::Skipped);
         }

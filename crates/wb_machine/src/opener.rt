@@ -23,16 +23,17 @@ ghost use Rattle.wb_machine.specs.declared.machine.TheConstants.{ACTORS};
 ghost use Rattle.wb_machine.specs.declared.phase.Phase.TheVariants.{Underway};
 ghost use Rattle.wb_machine.specs.Life.{FailsOn, Happens, PutsCommitted, commit_failed, commit_synced, commit_written, contents_of, device_step_of, made_synced, reading_synced, reading_failed, shape_of, state_of};
 ghost use Rattle.wb_machine.specs.Making.{HasMade, MadeBy, reading_of};
+ghost use Rattle.wb_machine.specs.Serving.{ComesNext, RootComes, SyncComes};
 ghost use Rattle.wb_machine.specs.Standing.{HasReadAll, IsReading, StandsAt};
 
 use crate::machine::ACTORS;
 use crate::making::{Made, make};
-use crate::rooting::{fail_root, put_committed};
+use crate::moving::{device_of, falter, make_room, sectors_of};
 use std::alloc::Global;
-use wb_devices::{Devices, Opening, RunningCommit};
+use wb_devices::{Devices, Opening, RunningCommit, put};
 use wb_disk::{CrashChoice, Disk, MemDisk};
 use wb_flow::OpenTask;
-use wb_meta::{CommitSteps, ReadSteps};
+use wb_meta::ReadSteps;
 use wb_tasks::{DeviceStep, Got, Task};
 use wb_types::{Content, Dev, Geometry, Refusal, SECTOR_BYTES};
 
@@ -62,7 +63,7 @@ impl Opener {
         ensures whole { length devices.new.metadata.contents ≡ geometry.now.meta_sectors }
         ensures stands { StandsAt geometry.now ACTORS self.new }
         ensures does { IfOk result (λ got. Happens (shape_of geometry.now ACTORS) (state_of ACTORS devices.old (Underway self.old)) (Step self.old.actor) (Stepped (Device step) got) [] (state_of ACTORS devices.new (Underway self.new))) }
-        ensures err { OnErr result ((devices.new ≡ devices.old) × (self.new ≡ self.old)) }
+        ensures err { OnErr result ((contents_of devices.new ≡ contents_of devices.old) × (self.new ≡ self.old)) }
         ensures refusal { IfErr result (λ refusal. refusal ≡ Memory) }
     {
         let _two_slots = geometry.node_count();
@@ -73,7 +74,7 @@ impl Opener {
             }
             DeviceStep::ReadMetadata(left) => Ok(self.read(geometry, &mut devices.metadata, left)),
             DeviceStep::WriteRoot => {
-                self.write_root(&mut devices.metadata)?;
+                self.write_root(devices)?;
                 Ok(Got::Done)
             }
             _ => unreachable!(),
@@ -82,7 +83,8 @@ impl Opener {
 
     /// Syncs a device, as the next step.
     fn sync(&mut self, devices: &mut Devices<MemDisk>, device: Dev)
-        requires { want self.old.task ≡ Device (Sync device) }
+        requires next { want self.old.task ≡ Device (Sync device) }
+        requires comes { SyncComes device self.old.opening.commit devices.old.metadata.contents }
         ensures actor { self.new.actor ≡ self.old.actor }
         ensures task { self.new.task ≡ after self.old.task Done }
         ensures geometry { self.new.opening.geometry ≡ self.old.opening.geometry }
@@ -91,32 +93,24 @@ impl Opener {
         ensures made { self.new.made ≡ made_synced device self.old.opening.commit self.old.made }
         ensures devices { contents_of devices.new ≡ with_device device (contents_of devices.old) (synced (device_in device (contents_of devices.old))) }
     {
-        match device {
-            Dev::Metadata => {
-                let _ = devices.metadata.sync();
-                self.has_durable_metadata();
-            }
-            Dev::Cache => {
-                let _ = devices.cache.sync();
-            }
-            Dev::Origin => {
-                let _ = devices.origin.sync();
-            }
-        }
+        self.begin(device);
+        sync(devices, &mut self.opening.commit, device);
         self.task.next(Got::Done);
     }
 
-    /// The metadata are durable: the root that was written, or, before that, what is to be read.
-    fn has_durable_metadata(&mut self)
+    /// Where no commit runs, the metadata that are made durable are to be read.
+    fn begin(&mut self, device: Dev)
         ensures actor { self.new.actor ≡ self.old.actor }
         ensures task { self.new.task ≡ self.old.task }
         ensures geometry { self.new.opening.geometry ≡ self.old.opening.geometry }
-        ensures commit { self.new.opening.commit ≡ commit_synced Metadata self.old.opening.commit }
-        ensures reading { reading_of self.new ≡ reading_synced self.old.opening.alloc Metadata self.old.opening.commit (reading_of self.old) }
-        ensures made { self.new.made ≡ made_synced Metadata self.old.opening.commit self.old.made }
+        ensures commit { self.new.opening.commit ≡ self.old.opening.commit }
+        ensures reading { reading_of self.new ≡ reading_synced self.old.opening.alloc device self.old.opening.commit (reading_of self.old) }
+        ensures made { self.new.made ≡ made_synced device self.old.opening.commit self.old.made }
     {
-        if let Some(running) = &mut self.opening.commit {
-            running.steps = CommitSteps::Done;
+        let Dev::Metadata = device else {
+            return;
+        };
+        if self.opening.commit.is_some() {
             return;
         }
         forget(&mut self.made);
@@ -126,22 +120,23 @@ impl Opener {
         });
     }
 
-    /// Writes the root, as the next step. `Memory` where there is none for it: nothing has changed.
-    fn write_root(&mut self, metadata: &mut MemDisk) -> Result<(), Refusal>
+    /// Writes the root, as the next step. `Memory` where there is none for it: no content has changed.
+    fn write_root(&mut self, devices: &mut Devices<MemDisk>) -> Result<(), Refusal>
         requires next { want self.old.task ≡ Device WriteRoot }
-        requires slots { 2 ≤ length metadata.old.contents }
-        ensures size { length metadata.new.contents ≡ length metadata.old.contents }
+        requires comes { ComesNext self.old.opening.commit WriteRoot devices.old.metadata.contents }
+        ensures size { length devices.new.metadata.contents ≡ length devices.old.metadata.contents }
         ensures actor { self.new.actor ≡ self.old.actor }
         ensures task { OnOk result (self.new.task ≡ after self.old.task Done) }
         ensures geometry { self.new.opening.geometry ≡ self.old.opening.geometry }
         ensures reading { reading_of self.new ≡ reading_of self.old }
         ensures made { self.new.made ≡ self.old.made }
         ensures commit { OnOk result (self.new.opening.commit ≡ commit_written self.old.opening.commit) }
-        ensures puts { OnOk result (PutsCommitted self.old.opening.commit metadata.old.contents metadata.new.contents) }
-        ensures err { OnErr result ((metadata.new ≡ metadata.old) × (self.new ≡ self.old)) }
+        ensures puts { OnOk result (PutsCommitted self.old.opening.commit devices.old.metadata.contents devices.new.metadata.contents) }
+        ensures others { OnOk result (contents_of devices.new ≡ record (contents_of devices.old) { metadata = devices.new.metadata.contents }) }
+        ensures err { OnErr result ((contents_of devices.new ≡ contents_of devices.old) × (self.new ≡ self.old)) }
         ensures refusal { IfErr result (λ refusal. refusal ≡ Memory) }
     {
-        put_committed(metadata, &mut self.opening.commit)?;
+        put_root(devices, &mut self.opening.commit)?;
         self.task.next(Got::Done);
         Ok(())
     }
@@ -154,7 +149,7 @@ impl Opener {
         requires geometry { self.old.opening.geometry ≡ geometry.now }
         requires size { length metadata.old.contents ≡ geometry.now.meta_sectors }
         requires reads { IsReading geometry.now left self.old.opening.reading self.old.opening.commit }
-        ensures device { metadata.new ≡ metadata.old }
+        ensures contents { metadata.new.contents ≡ metadata.old.contents }
         ensures actor { self.new.actor ≡ self.old.actor }
         ensures task { self.new.task ≡ after self.old.task result }
         ensures geometry { self.new.opening.geometry ≡ self.old.opening.geometry }
@@ -174,7 +169,7 @@ impl Opener {
         requires geometry { self.old.opening.geometry ≡ geometry.now }
         requires size { length metadata.old.contents ≡ geometry.now.meta_sectors }
         requires reads { IsReading geometry.now left self.old.opening.reading self.old.opening.commit }
-        ensures device { metadata.new ≡ metadata.old }
+        ensures contents { metadata.new.contents ≡ metadata.old.contents }
         ensures actor { self.new.actor ≡ self.old.actor }
         ensures task { self.new.task ≡ self.old.task }
         ensures kind { Fits (Device (ReadMetadata left)) result }
@@ -183,9 +178,7 @@ impl Opener {
         ensures made { MadeBy geometry.now ACTORS result self.old.actor self.new.made }
     {
         let _two_slots = geometry.node_count();
-        let sectors = metadata.sectors();
-        let content = content_of(metadata, coming_of(&self.opening));
-        match self.opening.tell(sectors, content, left) {
+        match self.opening.read(metadata, left) {
             Got::Done => match self.prepare() {
                 Ok(()) => Got::Done,
                 Err(refusal) => Got::Refused(refusal),
@@ -271,16 +264,6 @@ fn forget(made: &mut Option<Made>)
     *made = None;
 }
 
-/// The sector that an opening reads next.
-fn coming_of(opening: &Opening) -> Option<u64>
-    ensures { (was : Steps GlobalValue) → opening.now.reading ≡ Some was → result ≡ coming_sector was }
-{
-    match &opening.reading {
-        Some(steps) => steps.coming(),
-        None => None,
-    }
-}
-
 /// What stands newest in a sector, if one is named that the device has.
 pub(crate) fn content_of(disk: &mut MemDisk, coming: Option<u64>) -> Option<Content>
     ensures kept { disk.new ≡ disk.old }
@@ -295,28 +278,62 @@ pub(crate) fn content_of(disk: &mut MemDisk, coming: Option<u64>) -> Option<Cont
     Some(content)
 }
 
-/// A step of an opening on a device that fails: a sync, or the write of this commit's root, which lands where the choice says so, or
-/// one that reads metadata. False, and nothing changes, where it cannot fail so. `Memory` where a root is to land and there is none
-/// for it: nothing has changed.
-pub(crate) fn fail_step(
+/// Syncs a device; this commit goes on where it is the metadata.
+fn sync(devices: &mut Devices<MemDisk>, commit: &mut Option<RunningCommit>, device: Dev)
+    requires { SyncComes device commit.old devices.old.metadata.contents }
+    ensures commit { commit.new ≡ commit_synced device commit.old }
+    ensures devices { contents_of devices.new ≡ with_device device (contents_of devices.old) (synced (device_in device (contents_of devices.old))) }
+{
+    let _ = devices.perform(commit, DeviceStep::Sync(device), &mut []);
+}
+
+/// Writes the root that comes next of this commit, which goes on. `Memory` where there is none for it: no content has changed.
+fn put_root(
     devices: &mut Devices<MemDisk>,
-    commit: &Option<RunningCommit>,
+    commit: &mut Option<RunningCommit>,
+) -> Result<(), Refusal>
+    requires { ComesNext commit.old WriteRoot devices.old.metadata.contents }
+    ensures size { length devices.new.metadata.contents ≡ length devices.old.metadata.contents }
+    ensures root { OnOk result ((commit.new ≡ commit_written commit.old) × PutsCommitted commit.old devices.old.metadata.contents devices.new.metadata.contents) }
+    ensures others { OnOk result (contents_of devices.new ≡ record (contents_of devices.old) { metadata = devices.new.metadata.contents }) }
+    ensures err { OnErr result ((contents_of devices.new ≡ contents_of devices.old) × (commit.new ≡ commit.old)) }
+    ensures refusal { IfErr result (λ refusal. refusal ≡ Memory) }
+{
+    make_room(devices, commit, DeviceStep::WriteRoot)?;
+    match put(commit, &mut devices.metadata, DeviceStep::WriteRoot) {
+        Got::Done => Ok(()),
+        Got::Fault => Err(Refusal::Memory),
+        _ => unreachable!(),
+    }
+}
+
+/// A step of an opening on a device that fails: a sync, or the write of this commit's root, which lands where the choice says so, or
+/// one that reads metadata. False, and nothing changes, where it cannot fail so. `Memory` where there is none for it: no content has
+/// changed.
+pub(crate) fn fail_step(
+    alloc: Global,
+    devices: &mut Devices<MemDisk>,
+    commit: &mut Option<RunningCommit>,
     step: DeviceStep,
     choice: &CrashChoice,
 ) -> Result<bool, Refusal>
     requires next { device_step_of (Device step) ≡ Some step }
-    requires slots { 2 ≤ length devices.old.metadata.contents }
+    requires comes { RootComes step commit.old devices.old.metadata.contents }
     ensures may { IfOk result (λ may. IsTrue may ↔ MayFail (device_of step) choice.now (length (device_in (device_of step) (contents_of devices.old)))) }
-    ensures failed { IfOk result (λ may. OnTrue may (FailsOn commit.now step choice.now (contents_of devices.old) (contents_of devices.new))) }
+    ensures failed { IfOk result (λ may. OnTrue may (FailsOn commit.old step choice.now (contents_of devices.old) (contents_of devices.new))) }
+    ensures commit { commit.new ≡ commit.old }
     ensures kept { IfOk result (λ may. OnFalse may (devices.new ≡ devices.old)) }
-    ensures err { OnErr result (devices.new ≡ devices.old) }
+    ensures err { OnErr result (contents_of devices.new ≡ contents_of devices.old) }
     ensures refusal { IfErr result (λ refusal. refusal ≡ Memory) }
 {
-    match step {
-        DeviceStep::Sync(Dev::Metadata) => { Ok(devices.metadata.fail_sync(Dev::Metadata, choice)) }
-        DeviceStep::Sync(Dev::Cache) => Ok(devices.cache.fail_sync(Dev::Cache, choice)),
-        DeviceStep::Sync(Dev::Origin) => Ok(devices.origin.fail_sync(Dev::Origin, choice)),
-        DeviceStep::WriteRoot => fail_root(&mut devices.metadata, commit, choice),
-        _ => Ok(choice.may_fail(Dev::Metadata, devices.metadata.sectors())),
+    let device = device_of(step);
+    if !choice.may_fail(device, sectors_of(devices, device)) {
+        return Ok(false);
     }
+    if let DeviceStep::ReadMetadata(_) = step {
+        return Ok(true);
+    }
+    make_room(devices, commit, step)?;
+    falter(alloc, devices, commit, step, Vec::new(alloc), choice)?;
+    Ok(true)
 }

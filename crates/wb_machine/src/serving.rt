@@ -157,6 +157,7 @@ fn step_over(
 /// The next step of an actor's task, which is on a device, fails as the choice says.
 pub(crate) fn falter(
     geometry: &Geometry,
+    alloc: Global,
     devices: &mut Devices<MemDisk>,
     phase: &mut Phase,
     actor: usize,
@@ -172,14 +173,15 @@ pub(crate) fn falter(
     ensures refusal { IfErr result (λ refusal. refusal ≡ Memory) }
 {
     if let Phase::Standing(target, members) = phase {
-        return fail_over(geometry, devices, target, members, actor, choice);
+        return fail_over(geometry, alloc, devices, target, members, actor, choice);
     }
-    fail_opening(geometry, devices, phase, actor, choice)
+    fail_opening(geometry, alloc, devices, phase, actor, choice)
 }
 
 /// The same over a target that stands.
 fn fail_over(
     geometry: &Geometry,
+    alloc: Global,
     devices: &mut Devices<MemDisk>,
     target: &mut Target,
     members: &mut Vec<Member>,
@@ -199,6 +201,6 @@ fn fail_over(
         return Ok(What::Skipped);
     }
     let member = &mut members[actor];
-    let what = member.falter(devices, &mut target.commit, choice)?;
+    let what = member.falter(alloc, devices, &mut target.commit, choice)?;
     Ok(what)
 }

@@ -4,12 +4,13 @@ ghost use Rattle.std.specs.Prelude.{◌≡◌, [], false, IfOk, IfErr, OnErr};
 ghost use Rattle.wb_types.specs.declared.refusal.Refusal.TheVariants.{Memory};
 ghost use Rattle.wb_runs.specs.declared.event.Event.TheVariants.{Step, FaultStep};
 ghost use Rattle.wb_machine.specs.declared.machine.TheConstants.{ACTORS};
-ghost use Rattle.wb_machine.specs.Life.{Happens, IsThere, answered, device_step_of, shape_of, stands, stands_by, state_of};
+ghost use Rattle.wb_machine.specs.Life.{Happens, IsThere, answered, contents_of, device_step_of, shape_of, stands, stands_by, state_of};
 ghost use Rattle.wb_machine.specs.Standing.{IsSound};
 
 use crate::making::Made;
 use crate::opener::{Opener, fail_step};
 use crate::phase::{Phase, let_go, put};
+use std::alloc::Global;
 use std::mem;
 use wb_devices::Devices;
 use wb_disk::{CrashChoice, MemDisk};
@@ -30,7 +31,7 @@ pub(crate) fn step_opening(
     ensures there { IsThere ACTORS phase.new }
     ensures sound { IsSound geometry.now ACTORS devices.new phase.new }
     ensures ok { IfOk result (λ what. Happens (shape_of geometry.now ACTORS) (state_of ACTORS devices.old phase.old) (Step actor) what [] (state_of ACTORS devices.new phase.new)) }
-    ensures err { OnErr result ((devices.new ≡ devices.old) × (phase.new ≡ phase.old)) }
+    ensures err { OnErr result ((contents_of devices.new ≡ contents_of devices.old) × (phase.new ≡ phase.old)) }
     ensures refusal { IfErr result (λ refusal. refusal ≡ Memory) }
 {
     let Phase::Underway(opener) = phase else {
@@ -82,6 +83,7 @@ fn stands_by(want: Want, made: Option<Made>) -> Phase
 /// The next step of an actor's opening, which is on a device, fails as the choice says. No target stands.
 pub(crate) fn fail_opening(
     geometry: &Geometry,
+    alloc: Global,
     devices: &mut Devices<MemDisk>,
     phase: &mut Phase,
     actor: usize,
@@ -93,7 +95,7 @@ pub(crate) fn fail_opening(
     ensures there { IsThere ACTORS phase.new }
     ensures sound { IsSound geometry.now ACTORS devices.new phase.new }
     ensures ok { IfOk result (λ what. Happens (shape_of geometry.now ACTORS) (state_of ACTORS devices.old phase.old) (FaultStep actor choice.now) what [] (state_of ACTORS devices.new phase.new)) }
-    ensures err { OnErr result ((devices.new ≡ devices.old) × (phase.new ≡ phase.old)) }
+    ensures err { OnErr result ((contents_of devices.new ≡ contents_of devices.old) × (phase.new ≡ phase.old)) }
     ensures refusal { IfErr result (λ refusal. refusal ≡ Memory) }
 {
     let _two_slots = geometry.node_count();
@@ -107,7 +109,7 @@ pub(crate) fn fail_opening(
     let Some(step) = device_step_of(&want) else {
         return Ok(What::Skipped);
     };
-    let fails = fail_step(devices, &opener.opening.commit, step, choice)?;
+    let fails = fail_step(alloc, devices, &mut opener.opening.commit, step, choice)?;
     if !fails {
         return Ok(What::Skipped);
     }

@@ -15,7 +15,7 @@ use Rattle.std.specs.Prelude.{Result, IfErr}
 use Rattle.std.specs.Result.{IsErrAnd}
 use Rattle.wb_tree.proofs.Reading.ReachedLemmas.{is_reached-push}
 use Rattle.wb_meta.specs.Representing.{ReadsThere, ReadThere}
-use Rattle.wb_meta.specs.States.{IsDamagedAt, IsRefusedBy, IsOfReading, CountsFault}
+use Rattle.wb_meta.specs.States.{IsDamagedAt, IsRefusedBy, IsOfReading, CountsFault, FailsIf}
 use Rattle.wb_meta.specs.Reads.{HasLoaded}
 use Rattle.wb_meta.proofs.Framing.{reads_one, reached_before, reached_last}
 
@@ -165,4 +165,10 @@ pub fails_cause : (refusal : Refusal) (reading : Reading) (old new : ℕ) → Fa
 fails_cause refusal reading old new fails same = elim (fails_by refusal reading fails) [
   | inl memory ↦ let P : Refusal → Type 0 = λ r. CountsFault r old new in subst P (sym memory) same
   | inr named ↦ let P : Refusal → Type 0 = λ r. CountsFault r old new in subst P (sym named.damaged) same
+]
+
+pub fails_way : (refusal : Refusal) (reading : Reading) (May : Type 0) → FailsBy refusal reading → FailsIf refusal May
+fails_way refusal reading May fails = elim (fails_by refusal reading fails) [
+  | inl memory ↦ let P : Refusal → Type 0 = λ r. FailsIf r May in subst P (sym memory) tt
+  | inr named ↦ let P : Refusal → Type 0 = λ r. FailsIf r May in subst P (sym named.damaged) tt
 ]

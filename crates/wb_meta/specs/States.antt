@@ -86,3 +86,8 @@ IsOfReading _ = ⊥
 abbrev pub CountsFault : Refusal → ℕ → ℕ → Type 0
 CountsFault (Io device) old new = OneMore old new
 CountsFault _ old new = new ≡ old
+
+-- where it says so, the device may fail
+abbrev pub FailsIf : Refusal → Type 0 → Type 0
+FailsIf (Io device) May = May
+FailsIf _ May = Unit {0}

@@ -1,7 +1,9 @@
 -- What one step does to a device, and which step of a commit comes next.
-use Rattle.std.specs.Prelude.{◌≡◌, ◌⊎◌, ◌+◌, ◌%◌, ℕ, List, Option, Some, None, replicate, slice_get}
+use Rattle.std.specs.Prelude.{◌≡◌, ◌⊎◌, ◌+◌, ◌%◌, ℕ, Bool, [], ◌∷◌, List, Option, Some, None, replicate, slice_get}
 use Rattle.wb_types.specs.declared.number.Place.{Place}
 use Rattle.wb_disk.specs.Device.{Content, History, PartlySynced, synced, written}
+use Rattle.wb_disk.specs.Extents.{Call, Writing, Syncing, WrittenSo}
+use Rattle.wb_disk.specs.Failing.{SyncedSo}
 use Rattle.wb_format.specs.declared.node.Node.{Node}
 use Rattle.wb_format.specs.declared.root.Root.{Root}
 use Rattle.wb_format.specs.Layout.{SpellsNode, SpellsRoot}
@@ -74,3 +76,20 @@ FailsStep image (NodesWritten count) old new = MayNodeOrSync (slice_get image.no
 FailsStep image NodesSynced old new = MayPut (λ content. SpellsRoot content image.root) (slot_of image.root).0 old new
 FailsStep image RootWritten old new = PartlySynced old new
 FailsStep image Done old new = ⊥
+
+-- ---- where a disk that fails says how it lands
+
+-- such a content has landed as a write of this sector may
+abbrev pub PutSo : (Call → (ℕ → Bool) → Type 0) → (Content → Type 0) → ℕ → List History → List History → Type 0
+PutSo may spells at old new = (content : Content) × spells content × WrittenSo (may (Writing at 1)) old at (content ∷ []) new
+
+abbrev pub NodeOrSyncSo : (Call → (ℕ → Bool) → Type 0) → Option (Place × Node) → List History → List History → Type 0
+NodeOrSyncSo may (Some node) old new = PutSo may (λ content. SpellsNode content node.1) node.0.0 old new
+NodeOrSyncSo may None old new = SyncedSo (may Syncing) old new
+
+-- what a step that fails leaves of the device, which fails so
+abbrev pub FailsStepSo : (Call → (ℕ → Bool) → Type 0) → Image → CommitSteps → List History → List History → Type 0
+FailsStepSo may image (NodesWritten count) old new = NodeOrSyncSo may (slice_get image.nodes.items count) old new
+FailsStepSo may image NodesSynced old new = PutSo may (λ content. SpellsRoot content image.root) (slot_of image.root).0 old new
+FailsStepSo may image RootWritten old new = SyncedSo (may Syncing) old new
+FailsStepSo may image Done old new = ⊥

@@ -3,7 +3,8 @@
 ghost use Rattle.std.specs.Prelude.{◌≡◌, ◌≤◌, ◌<◌, ◌↔◌, ◌⊎◌, ◌+◌, ◌-◌, ℕ, List, map, length, IsTrue, IsFalse, IsSome, OnOk, IfOk, IfErr};
 ghost use Rattle.wb_types.specs.declared.refusal.Refusal.TheVariants.{Memory as OutOfMemory};
 ghost use Rattle.wb_disk.specs.Device.{Content as Bytes, History, newest};
-ghost use Rattle.wb_meta.specs.States.{RepresentsState, IsRefusedBy, IsOfReading, CountsFault};
+ghost use Rattle.wb_disk.specs.Extents.{Reading, MayLand};
+ghost use Rattle.wb_meta.specs.States.{RepresentsState, IsRefusedBy, IsOfReading, CountsFault, FailsIf};
 ghost use Rattle.wb_meta.specs.Reads.{IsToldOf, IsTreeOn, FitsDevice, AreStepsOn, HasLoaded, HasRead, ReadingGoesOn, StopsBy, IsDone, StepsFewer, ReadOneMore, coming_sector, known_root, sectors_read, steps_left};
 
 use crate::sector::{get_node, node_told};
@@ -113,6 +114,7 @@ impl<A: Allocator + Clone> ReadSteps<A> {
         ensures no_fault { D.tells → OnOk result (D.faults disk.new ≡ D.faults disk.old) }
         ensures cause { D.tells → IfErr result (λ refusal. CountsFault refusal (D.faults disk.old)
             (D.faults disk.new)) }
+        ensures how { D.tells → IfErr result (λ refusal. FailsIf refusal (MayLand (D.falters disk.old Reading))) }
     {
         match self {
             ReadSteps::Begun { alloc, global } => {

@@ -1,12 +1,15 @@
 //! Single steps of the metadata device.
 
-ghost use Rattle.std.specs.Prelude.{◌≡◌, ◌<◌, ◌⊎◌, ℕ, List, OnOk, OnErr, IfOk, IfErr, length, map, slice_get};
+ghost use Rattle.std.specs.Prelude.{◌≡◌, ◌<◌, ◌⊎◌, ℕ, List, OnOk, OnErr, IsErr, IfOk, IfErr, length, map, slice_get};
 ghost use Rattle.wb_types.specs.declared.refusal.Refusal.TheVariants.{Io};
 ghost use Rattle.wb_types.specs.declared.mode.Dev.TheVariants.{Metadata};
 ghost use Rattle.wb_format.specs.Layout.{SpellsNode, SpellsRoot};
 ghost use Rattle.wb_disk.specs.Device.{Content as Bytes, written, synced, PartlySynced, OneMore, newest};
 ghost use Rattle.wb_meta.specs.Representing.{ReadsThere};
-ghost use Rattle.wb_meta.specs.Steps.{Puts, MayPut, zero_sector};
+ghost use Rattle.wb_disk.specs.Extents.{Reading, MayLand};
+ghost use Rattle.wb_disk.specs.Extents.{Syncing};
+ghost use Rattle.wb_disk.specs.Failing.{SyncedSo};
+ghost use Rattle.wb_meta.specs.Steps.{Puts, MayPut, PutSo, zero_sector};
 
 use wb_disk::Disk;
 use wb_format::{Node, Root};
@@ -20,8 +23,11 @@ pub(crate) fn put_node<D: Disk>(disk: &mut D, at: u64, node: &Node) -> Result<()
         (D.contents disk.old) (D.contents disk.new)) }
     ensures err { D.tells → OnErr result (MayPut (λ content. SpellsNode content node.now) at
         (D.contents disk.old) (D.contents disk.new)) }
+    ensures how { D.tells → OnErr result (PutSo (D.falters disk.old) (λ content. SpellsNode content node.now) at
+        (D.contents disk.old) (D.contents disk.new)) }
     ensures no_fault { D.tells → OnOk result (D.faults disk.new ≡ D.faults disk.old) }
     ensures cause { D.tells → OnErr result (OneMore (D.faults disk.old) (D.faults disk.new)) }
+    ensures fails { D.fails disk.old → IsErr result }
     ensures refused { IfErr result (λ refusal. refusal ≡ Io Metadata) }
 {
     let mut content = [0; SECTOR_BYTES];
@@ -38,8 +44,11 @@ pub(crate) fn put_root<D: Disk>(disk: &mut D, at: u64, root: &Root) -> Result<()
         (D.contents disk.old) (D.contents disk.new)) }
     ensures err { D.tells → OnErr result (MayPut (λ content. SpellsRoot content root.now) at
         (D.contents disk.old) (D.contents disk.new)) }
+    ensures how { D.tells → OnErr result (PutSo (D.falters disk.old) (λ content. SpellsRoot content root.now) at
+        (D.contents disk.old) (D.contents disk.new)) }
     ensures no_fault { D.tells → OnOk result (D.faults disk.new ≡ D.faults disk.old) }
     ensures cause { D.tells → OnErr result (OneMore (D.faults disk.old) (D.faults disk.new)) }
+    ensures fails { D.fails disk.old → IsErr result }
     ensures refused { IfErr result (λ refusal. refusal ≡ Io Metadata) }
 {
     let mut content = [0; SECTOR_BYTES];
@@ -57,8 +66,10 @@ pub(crate) fn put_zeros<D: Disk>(disk: &mut D, at: u64) -> Result<(), Refusal>
     ensures cause { D.tells → OnErr result (OneMore (D.faults disk.old) (D.faults disk.new)) }
     ensures refused { IfErr result (λ refusal. refusal ≡ Io Metadata) }
 {
-    disk.write(at, &[0; SECTOR_BYTES])
-        .map_err(|_| Refusal::Io(Dev::Metadata))
+    if disk.write(at, &[0; SECTOR_BYTES]).is_err() {
+        return Err(Refusal::Io(Dev::Metadata));
+    }
+    Ok(())
 }
 
 /// Makes all that was written safe. `Io` where the device fails; each sector is then safe or not.
@@ -66,8 +77,10 @@ pub(crate) fn sync<D: Disk>(disk: &mut D) -> Result<(), Refusal>
     ensures size { D.size disk.new ≡ D.size disk.old }
     ensures ok { D.tells → OnOk result (D.contents disk.new ≡ synced (D.contents disk.old)) }
     ensures err { D.tells → OnErr result (PartlySynced (D.contents disk.old) (D.contents disk.new)) }
+    ensures how { D.tells → OnErr result (SyncedSo (D.falters disk.old Syncing) (D.contents disk.old) (D.contents disk.new)) }
     ensures no_fault { D.tells → OnOk result (D.faults disk.new ≡ D.faults disk.old) }
     ensures cause { D.tells → OnErr result (OneMore (D.faults disk.old) (D.faults disk.new)) }
+    ensures fails { D.fails disk.old → IsErr result }
     ensures refused { IfErr result (λ refusal. refusal ≡ Io Metadata) }
 {
     disk.sync().map_err(|_| Refusal::Io(Dev::Metadata))
@@ -86,7 +99,9 @@ pub(crate) fn get_node<D: Disk>(disk: &mut D, at: u64) -> Result<Option<Node>, R
     requires { at < D.size disk.old }
     ensures size { D.size disk.new ≡ D.size disk.old }
     ensures same { D.tells → D.contents disk.new ≡ D.contents disk.old }
+    ensures how { D.tells → OnErr result (MayLand (D.falters disk.old Reading)) }
     ensures found { D.tells → IfOk result (λ node. ReadsThere (map newest (D.contents disk.old)) (λ _. node) at) }
+    ensures fails { D.fails disk.old → IsErr result }
     ensures refused { IfErr result (λ refusal. refusal ≡ Io Metadata) }
     ensures no_fault { D.tells → OnOk result (D.faults disk.new ≡ D.faults disk.old) }
     ensures cause { D.tells → OnErr result (OneMore (D.faults disk.old) (D.faults disk.new)) }

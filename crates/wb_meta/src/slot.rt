@@ -4,6 +4,7 @@ ghost use Rattle.std.specs.Prelude.{◌≡◌, ◌⊎◌, ◌<◌, ℕ, List, ma
 ghost use Rattle.wb_types.specs.declared.refusal.Refusal.TheVariants.{Io, NotFormatted, Mismatch};
 ghost use Rattle.wb_types.specs.declared.mode.Dev.TheVariants.{Metadata};
 ghost use Rattle.wb_disk.specs.Device.{Content as Bytes, OneMore, newest};
+ghost use Rattle.wb_disk.specs.Extents.{Reading, MayLand};
 ghost use Rattle.wb_tree.specs.Reading.{IsNewestRoot};
 ghost use Rattle.wb_meta.specs.Slots.{IsInSlot, IsNewest};
 ghost use Rattle.wb_meta.specs.States.{IsRefusedBy};
@@ -17,6 +18,7 @@ pub(crate) fn read_slot<D: Disk>(disk: &mut D, slot: u32) -> Result<Option<Root>
     ensures size { D.size disk.new ≡ D.size disk.old }
     ensures same { D.tells → D.contents disk.new ≡ D.contents disk.old }
     ensures found { D.tells → IfOk result (IsInSlot (map newest (D.contents disk.old)) slot) }
+    ensures how { D.tells → OnErr result (MayLand (D.falters disk.old Reading)) }
     ensures refused { IfErr result (λ refusal. refusal ≡ Io Metadata) }
     ensures no_fault { D.tells → OnOk result (D.faults disk.new ≡ D.faults disk.old) }
     ensures cause { D.tells → OnErr result (OneMore (D.faults disk.old) (D.faults disk.new)) }

@@ -5,6 +5,7 @@ pub mod Passing
 pub mod Moved
 pub mod Served
 pub mod Readying
+pub mod Placed
 pub mod Ranging
 pub mod Serves
 pub mod Onward

@@ -1,5 +1,5 @@
 -- A stage of a request is ready for each of its steps; and from its run to what is told of it.
-use Rattle.std.proofs.Common.{◌≡◌, ◌≤◌, ◌<◌, ◌+◌, ◌%◌, ℕ, List, [], ◌∷◌, Result, Ok, Err, length, sym, ap, ◌∙◌, subst}
+use Rattle.std.proofs.Common.{◌≡◌, ◌≤◌, ◌<◌, ◌+◌, ◌/◌, ◌%◌, ℕ, List, [], ◌∷◌, Result, Ok, Err, length, sym, ap, ◌∙◌, subst}
 use Rattle.std.specs.Prelude.{OnOk, IfErr}
 use Rattle.wb_types.specs.declared.extent.Extent.{Extent}
 use Rattle.wb_types.specs.declared.number.OBlock.{OBlock}
@@ -22,6 +22,8 @@ use Rattle.wb_port.specs.Requests.{part_of, WasRead, WasWritten, WasRefused, Rea
 use Rattle.wb_port.specs.declared.moving.ReadStage.{ReadStage}
 use Rattle.wb_port.specs.declared.moving.WriteStage.{WriteStage}
 use Rattle.wb_port.proofs.Passing.{made_by_pass, same_table}
+use Rattle.wb_port.specs.Moves.{MayMove}
+use Rattle.wb_port.proofs.Placed.{part_in, works_there, moves_there, may_read, may_write}
 use Rattle.wb_port.proofs.Readying.{kept_by, ready_there, idle_again}
 use Rattle.wb_port.proofs.Served.{read_whole, write_whole}
 
@@ -82,10 +84,19 @@ module _ {D : Type 0} (tells : Type 0) (size : D → ℕ) (contents : D → List
         many_read x y (Desk step) g h = ap length h.1
         many_read x y (End answer) g h = ap length h.1
 
-    pub read_ready : block.0 < old.cells.now.blocks → old.hand.now.pass.table ≡ old.cells.now.table → old.hand.now.pass.card.hold ≡ Nothing → AreFirst s steps → IsReadyToRead new (want (left_by s steps))
-    read_ready there at idle f =
+    pub read_size : new.hand.now.block_sectors ≡ old.hand.now.block_sectors
+    read_size = kept_by (ReadLed tells size contents faults) (λ x. x.hand.now.block_sectors) (λ x w g y h. h.sized) old steps new leads
+
+    read_moves : 0 < block_sectors → sectors.first / block_sectors ≡ block.0 → sectors.first % block_sectors + sectors.count ≤ block_sectors → old.hand.now.block_sectors ≡ block_sectors → block.0 < old.cells.now.blocks → old.hand.now.pass.card.hold ≡ Nothing → AreFirst s steps → MayMove new.hand.now.block_sectors new.hand.now.pass.card (want (left_by s steps))
+    read_moves some of inside sized there idle f =
+        let job : BlockJob = Reading (part_of block_sectors block sectors) in
+        subst (λ (n : ℕ). MayMove n new.hand.now.pass.card (want (left_by s steps))) (sym (read_size ∙ sized))
+        (may_read (part_of block_sectors block sectors) _ _ (moves_there job (works_there job some (part_in block_sectors block sectors of inside)) (ReadLed tells size contents faults) (λ x. x.hand.now.pass.card) (λ x w g y h. made_by_pass x.cells.now.blocks x.hand.now.pass y.hand.now.pass w g h.by_pass) old.cells.now.blocks s old begun there idle steps new f leads))
+
+    pub read_ready : 0 < block_sectors → sectors.first / block_sectors ≡ block.0 → sectors.first % block_sectors + sectors.count ≤ block_sectors → old.hand.now.block_sectors ≡ block_sectors → block.0 < old.cells.now.blocks → old.hand.now.pass.table ≡ old.cells.now.table → old.hand.now.pass.card.hold ≡ Nothing → AreFirst s steps → IsReadyToRead new (want (left_by s steps))
+    read_ready some of inside sized there at idle f =
         let both = ready_there (ReadLed tells size contents faults) (λ x. x.hand.now.pass.card) (λ x w g y h. made_by_pass x.cells.now.blocks x.hand.now.pass y.hand.now.pass w g h.by_pass) old.cells.now.blocks s (Reading (part_of block_sectors block sectors)) old begun there idle steps new f leads in
-        ((read_at ∙ (at ∙ ap (λ x. x.now.table) (sym read_cells)), subst (λ x. MayTake x.now.blocks new.hand.now.pass.card (want (left_by s steps))) (sym read_cells) both.0), own_reads (part_of block_sectors block sectors) (want (left_by s steps)) both.1)
+        ((read_at ∙ (at ∙ ap (λ x. x.now.table) (sym read_cells)), subst (λ x. MayTake x.now.blocks new.hand.now.pass.card (want (left_by s steps))) (sym read_cells) both.0), own_reads (part_of block_sectors block sectors) (want (left_by s steps)) both.1, read_moves some of inside sized there idle f)
 
     pub read_idle : (answer : Answer) → block.0 < old.cells.now.blocks → old.hand.now.pass.card.hold ≡ Nothing → IsRunOf s steps answer → new.hand.now.pass.card.hold ≡ Nothing
     read_idle answer there idle run = idle_again (ReadLed tells size contents faults) (λ x. x.hand.now.pass.card) (λ x w g y h. made_by_pass x.cells.now.blocks x.hand.now.pass y.hand.now.pass w g h.by_pass) old.cells.now.blocks s (Reading (part_of block_sectors block sectors)) old begun there idle steps answer new run leads
@@ -120,10 +131,19 @@ module _ {D : Type 0} (tells : Type 0) (size : D → ℕ) (contents : D → List
     pub write_at : new.hand.now.pass.table ≡ old.hand.now.pass.table
     write_at = kept_by (WriteLed tells size contents faults) (λ x. x.hand.now.pass.table) (λ x w g y h. same_table x.cells.now.blocks x.hand.now.pass y.hand.now.pass w g h.by_pass) old steps new leads
 
-    pub write_ready : block.0 < old.cells.now.blocks → old.hand.now.pass.table ≡ old.cells.now.table → old.hand.now.pass.card.hold ≡ Nothing → AreFirst s steps → IsReadyToWrite new (want (left_by s steps))
-    write_ready there at idle f =
+    pub write_size : new.hand.now.block_sectors ≡ old.hand.now.block_sectors
+    write_size = kept_by (WriteLed tells size contents faults) (λ x. x.hand.now.block_sectors) (λ x w g y h. h.sized) old steps new leads
+
+    write_moves : 0 < block_sectors → sectors.first / block_sectors ≡ block.0 → sectors.first % block_sectors + sectors.count ≤ block_sectors → old.hand.now.block_sectors ≡ block_sectors → block.0 < old.cells.now.blocks → old.hand.now.pass.card.hold ≡ Nothing → AreFirst s steps → MayMove new.hand.now.block_sectors new.hand.now.pass.card (want (left_by s steps))
+    write_moves some of inside sized there idle f =
+        let job : BlockJob = Writing (part_of block_sectors block sectors) in
+        subst (λ (n : ℕ). MayMove n new.hand.now.pass.card (want (left_by s steps))) (sym (write_size ∙ sized))
+        (may_write (part_of block_sectors block sectors) _ _ (moves_there job (works_there job some (part_in block_sectors block sectors of inside)) (WriteLed tells size contents faults) (λ x. x.hand.now.pass.card) (λ x w g y h. made_by_pass x.cells.now.blocks x.hand.now.pass y.hand.now.pass w g h.by_pass) old.cells.now.blocks s old begun there idle steps new f leads))
+
+    pub write_ready : 0 < block_sectors → sectors.first / block_sectors ≡ block.0 → sectors.first % block_sectors + sectors.count ≤ block_sectors → old.hand.now.block_sectors ≡ block_sectors → block.0 < old.cells.now.blocks → old.hand.now.pass.table ≡ old.cells.now.table → old.hand.now.pass.card.hold ≡ Nothing → AreFirst s steps → IsReadyToWrite new (want (left_by s steps))
+    write_ready some of inside sized there at idle f =
         let both = ready_there (WriteLed tells size contents faults) (λ x. x.hand.now.pass.card) (λ x w g y h. made_by_pass x.cells.now.blocks x.hand.now.pass y.hand.now.pass w g h.by_pass) old.cells.now.blocks s (Writing (part_of block_sectors block sectors)) old begun there idle steps new f leads in
-        ((write_at ∙ (at ∙ ap (λ x. x.now.table) (sym write_cells)), subst (λ x. MayTake x.now.blocks new.hand.now.pass.card (want (left_by s steps))) (sym write_cells) both.0), own_writes (part_of block_sectors block sectors) (want (left_by s steps)) both.1)
+        ((write_at ∙ (at ∙ ap (λ x. x.now.table) (sym write_cells)), subst (λ x. MayTake x.now.blocks new.hand.now.pass.card (want (left_by s steps))) (sym write_cells) both.0), own_writes (part_of block_sectors block sectors) (want (left_by s steps)) both.1, write_moves some of inside sized there idle f)
 
     pub write_idle : (answer : Answer) → block.0 < old.cells.now.blocks → old.hand.now.pass.card.hold ≡ Nothing → IsRunOf s steps answer → new.hand.now.pass.card.hold ≡ Nothing
     write_idle answer there idle run = idle_again (WriteLed tells size contents faults) (λ x. x.hand.now.pass.card) (λ x w g y h. made_by_pass x.cells.now.blocks x.hand.now.pass y.hand.now.pass w g h.by_pass) old.cells.now.blocks s (Writing (part_of block_sectors block sectors)) old begun there idle steps answer new run leads

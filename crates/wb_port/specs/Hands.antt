@@ -16,6 +16,7 @@ use Rattle.wb_tasks.specs.declared.step.Got.{Got}
 use Rattle.wb_tasks.specs.declared.step.Got.TheVariants.{Done}
 use Rattle.wb_devices.specs.Moving.{DidRead, DidWrite, OthersStay, device_in}
 use Rattle.wb_devices.specs.declared.devices.Devices.{Devices}
+use Rattle.wb_port.specs.Moves.{MayMove}
 use Rattle.wb_port.specs.declared.hand.Hand.{Hand}
 use Rattle.wb_port.specs.declared.moving.ReadStage.{ReadStage}
 use Rattle.wb_port.specs.declared.moving.WriteStage.{WriteStage}
@@ -89,12 +90,13 @@ ReadStep tells size contents faults blocks s want got t =
     × ReadsInto tells size contents faults s.hand.devices s.out s.moved want got t.hand.devices t.out t.moved
 
 abbrev pub IsReadyToRead : {D : Type 0} → ReadStage D → Want → Type 0
-IsReadyToRead stage want = IsReadyOn stage.cells.now stage.hand.now.pass want × IsReads want
+IsReadyToRead stage want = IsReadyOn stage.cells.now stage.hand.now.pass want × IsReads want × MayMove stage.hand.now.block_sectors stage.hand.now.pass.card want
 
 pub record ReadLed {D : Type 0} (tells : Type 0) (size : D → ℕ) (contents : D → List History) (faults : D → ℕ) (old : ReadStage D) (want : Want) (got : Got) (new : ReadStage D) : Type 0 where
   pub cells : new.cells ≡ old.cells
   pub same_hand : new.hand.ghost_name ≡ old.hand.ghost_name
   pub same_slice : new.out.ghost_name ≡ old.out.ghost_name
+  pub sized : new.hand.now.block_sectors ≡ old.hand.now.block_sectors
   pub by_pass : DoneByPass old.cells.now.blocks old.hand.now.pass want got new.hand.now.pass
   pub into : ReadsInto tells size contents faults old.hand.now.devices old.out.now old.moved want got new.hand.now.devices new.out.now new.moved
 
@@ -117,11 +119,12 @@ WriteStep tells size contents faults blocks from s want got t =
     × WritesFrom tells size contents faults from s.hand.devices s.moved want got t.hand.devices t.moved
 
 abbrev pub IsReadyToWrite : {D : Type 0} → WriteStage D → Want → Type 0
-IsReadyToWrite stage want = IsReadyOn stage.cells.now stage.hand.now.pass want × IsWrites want
+IsReadyToWrite stage want = IsReadyOn stage.cells.now stage.hand.now.pass want × IsWrites want × MayMove stage.hand.now.block_sectors stage.hand.now.pass.card want
 
 pub record WriteLed {D : Type 0} (tells : Type 0) (size : D → ℕ) (contents : D → List History) (faults : D → ℕ) (old : WriteStage D) (want : Want) (got : Got) (new : WriteStage D) : Type 0 where
   pub cells : new.cells ≡ old.cells
   pub same_hand : new.hand.ghost_name ≡ old.hand.ghost_name
   pub same_slice : new.from ≡ old.from
+  pub sized : new.hand.now.block_sectors ≡ old.hand.now.block_sectors
   pub by_pass : DoneByPass old.cells.now.blocks old.hand.now.pass want got new.hand.now.pass
   pub from : WritesFrom tells size contents faults old.from.now old.hand.now.devices old.moved want got new.hand.now.devices new.moved

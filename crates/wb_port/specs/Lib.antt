@@ -1,3 +1,4 @@
+pub mod Moves
 pub mod Hands
 pub mod Requests
 pub mod Ports

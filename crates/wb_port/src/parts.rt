@@ -1,6 +1,6 @@
 //! A request over sectors of one block, from or into a slice.
 
-ghost use Rattle.std.specs.Prelude.{◌≡◌, ◌≢◌, ◌≤◌, ◌<◌, ◌+◌, ◌%◌, ◌^◌, OnOk, IfErr, length};
+ghost use Rattle.std.specs.Prelude.{◌≡◌, ◌≢◌, ◌≤◌, ◌<◌, ◌+◌, ◌/◌, ◌%◌, ◌^◌, OnOk, IfErr, length};
 ghost use Rattle.wb_words.specs.declared.card.Hold.TheVariants.{Nothing};
 ghost use Rattle.wb_port.specs.Requests.{WasRead, WasWritten, ReadRefused, WriteRefused};
 
@@ -25,6 +25,8 @@ pub fn read_part<'a, D: Disk>(
     requires range { sectors.first + sectors.count < 2 ^ 64 }
     requires inside { sectors.first % block_sectors + sectors.count ≤ block_sectors }
     requires block { block.0 < cells.now.blocks }
+    requires of { sectors.first / block_sectors ≡ block.0 }
+    requires size { hand.old.block_sectors ≡ block_sectors }
     requires at { hand.old.pass.table ≡ cells.now.table }
     requires idle { hand.old.pass.card.hold ≡ Nothing }
     requires fits { length out.old ≡ sectors.count }
@@ -34,6 +36,7 @@ pub fn read_part<'a, D: Disk>(
     ensures never_range { IfErr result (λ refusal. refusal ≢ Refusal.Range) }
     ensures at { hand.new.pass.table ≡ hand.old.pass.table }
     ensures idle { hand.new.pass.card.hold ≡ Nothing }
+    ensures size { hand.new.block_sectors ≡ hand.old.block_sectors }
 {
     let mut stage = ReadStage {
         cells,
@@ -66,6 +69,8 @@ pub fn write_part<'a, D: Disk>(
     requires range { sectors.first + sectors.count < 2 ^ 64 }
     requires inside { sectors.first % block_sectors + sectors.count ≤ block_sectors }
     requires block { block.0 < cells.now.blocks }
+    requires of { sectors.first / block_sectors ≡ block.0 }
+    requires size { hand.old.block_sectors ≡ block_sectors }
     requires at { hand.old.pass.table ≡ cells.now.table }
     requires idle { hand.old.pass.card.hold ≡ Nothing }
     requires fits { length from.now ≡ sectors.count }
@@ -74,6 +79,7 @@ pub fn write_part<'a, D: Disk>(
     ensures never_range { IfErr result (λ refusal. refusal ≢ Refusal.Range) }
     ensures at { hand.new.pass.table ≡ hand.old.pass.table }
     ensures idle { hand.new.pass.card.hold ≡ Nothing }
+    ensures size { hand.new.block_sectors ≡ hand.old.block_sectors }
 {
     let mut stage = WriteStage {
         cells,

@@ -33,6 +33,7 @@ pub struct Port<D> {
     ghost at: { hand.pass.table ≡ cells.value.table },
     ghost sized: { cells.value.blocks ≡ geometry.origin_blocks },
     ghost idle: { hand.pass.card.hold ≡ Nothing },
+    ghost block: { hand.block_sectors ≡ geometry.block },
     ghost few: { length accesses.items ≤ MostUnsettled },
     ghost room: { MostUnsettled ≤ vec_capacity accesses },
 }
@@ -44,8 +45,9 @@ impl<D: Disk + Drop> Port<D> {
         seat: Seat,
         devices: Devices<D>,
     ) -> Result<Port<D>, (Seat, Devices<D>)>
-        ensures hand { IfOk result (λ port. port.hand ≡ record { pass = seat.pass; devices = devices }) }
+        ensures hand { IfOk result (λ port. port.hand ≡ record { pass = seat.pass; block_sectors = seat.geometry.block; devices = devices }) }
         ensures geometry { IfOk result (λ port. port.geometry ≡ seat.geometry) }
+        ensures cells { IfOk result (λ port. port.cells ≡ seat.cells) }
         ensures unsettled { IfOk result (λ port. port.accesses.items ≡ []) }
         ensures back { IfErr result (λ back. (back.0 ≡ seat) × (back.1 ≡ devices)) }
     {
@@ -60,7 +62,7 @@ impl<D: Disk + Drop> Port<D> {
         Ok(Port {
             geometry,
             cells,
-            hand: Hand { pass, devices },
+            hand: Hand::new(geometry.block, pass, devices),
             accesses,
             buffer: Vec::new(alloc),
             commit: None,
@@ -69,7 +71,8 @@ impl<D: Disk + Drop> Port<D> {
 
     /// The seat and the devices.
     pub fn leave(self) -> (Seat, Devices<D>)
-        ensures { result.1 ≡ self.hand.devices }
+        ensures devices { result.1 ≡ self.hand.devices }
+        ensures seat { (result.0.cells ≡ self.cells) × (result.0.geometry ≡ self.geometry) × (result.0.pass ≡ self.hand.pass) }
     {
         let Port {
             geometry,
@@ -79,7 +82,7 @@ impl<D: Disk + Drop> Port<D> {
             buffer: _,
             commit: _,
         } = self;
-        let Hand { pass, devices } = hand;
+        let (pass, devices) = hand.apart();
         (
             Seat {
                 geometry,
@@ -100,6 +103,6 @@ impl<D: Disk + Drop> Port<D> {
         ensures buffer { self.new.buffer ≡ self.old.buffer }
         ensures commit { self.new.commit ≡ self.old.commit }
     {
-        self.cells.look(&mut self.hand.pass, Word::Fail) != 0
+        self.hand.look(&self.cells, Word::Fail) != 0
     }
 }

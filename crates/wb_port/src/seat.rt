@@ -1,6 +1,6 @@
 //! The right to step on a target's words, for one client.
 
-ghost use Rattle.std.specs.Prelude.{◌≡◌, IfOk};
+ghost use Rattle.std.specs.Prelude.{◌≡◌, IfOk, IfErr};
 ghost use Rattle.wb_words.specs.declared.card.Hold.TheVariants.{Nothing};
 ghost use Rattle.wb_words.specs.SharedWords.{IsWord};
 ghost use Rattle.wb_words.specs.Cards.{looked};
@@ -45,7 +45,11 @@ impl Seat {
     }
 
     /// Two seats of one; `Memory` where the words have as many owners as can be counted, and then the seat is lost.
-    pub fn split(self) -> Result<(Seat, Seat), Refusal> {
+    pub fn split(self) -> Result<(Seat, Seat), Refusal>
+        ensures words { IfOk result (λ two. (two.0.cells.value.table ≡ self.cells.value.table) × (two.1.cells.value.table ≡ self.cells.value.table)) }
+        ensures geometry { IfOk result (λ two. (two.0.geometry ≡ self.geometry) × (two.1.geometry ≡ self.geometry)) }
+        ensures refused { IfErr result (λ refusal. refusal ≡ Refusal.Memory) }
+    {
         let Seat {
             geometry,
             cells,

@@ -1,6 +1,6 @@
 //! A request over sectors of one block, driven to its answer.
 
-ghost use Rattle.std.specs.Prelude.{◌≡◌, ◌≢◌, ◌≤◌, ◌<◌, ◌+◌, ◌%◌, ◌^◌, OnOk, IfErr, length};
+ghost use Rattle.std.specs.Prelude.{◌≡◌, ◌≢◌, ◌≤◌, ◌<◌, ◌+◌, ◌/◌, ◌%◌, ◌^◌, OnOk, IfErr, length};
 ghost use Rattle.wb_words.specs.declared.card.Hold.TheVariants.{Nothing};
 ghost use Rattle.wb_tasks.specs.Ready.{StaysReady};
 ghost use Rattle.wb_tasks.specs.Tables.{OnBlock, Reading, Writing};
@@ -26,6 +26,8 @@ impl<'a, D: Disk> ReadStage<'a, D> {
         requires range { sectors.first + sectors.count < 2 ^ 64 }
         requires inside { sectors.first % block_sectors + sectors.count ≤ block_sectors }
         requires block { block.0 < self.old.cells.now.blocks }
+        requires of { sectors.first / block_sectors ≡ block.0 }
+        requires size { self.old.hand.now.block_sectors ≡ block_sectors }
         requires at { self.old.hand.now.pass.table ≡ self.old.cells.now.table }
         requires idle { self.old.hand.now.pass.card.hold ≡ Nothing }
         requires unmoved { self.old.moved ≡ 0 }
@@ -38,6 +40,7 @@ impl<'a, D: Disk> ReadStage<'a, D> {
         ensures never_range { IfErr result (λ refusal. refusal ≢ Refusal.Range) }
         ensures at { self.new.hand.now.pass.table ≡ self.old.hand.now.pass.table }
         ensures idle { self.new.hand.now.pass.card.hold ≡ Nothing }
+        ensures size { self.new.hand.now.block_sectors ≡ self.old.hand.now.block_sectors }
     {
         answered(read_all(self, block_sectors, block, sectors))
     }
@@ -55,6 +58,8 @@ impl<'a, D: Disk> WriteStage<'a, D> {
         requires range { sectors.first + sectors.count < 2 ^ 64 }
         requires inside { sectors.first % block_sectors + sectors.count ≤ block_sectors }
         requires block { block.0 < self.old.cells.now.blocks }
+        requires of { sectors.first / block_sectors ≡ block.0 }
+        requires size { self.old.hand.now.block_sectors ≡ block_sectors }
         requires at { self.old.hand.now.pass.table ≡ self.old.cells.now.table }
         requires idle { self.old.hand.now.pass.card.hold ≡ Nothing }
         requires unmoved { self.old.moved ≡ 0 }
@@ -65,6 +70,7 @@ impl<'a, D: Disk> WriteStage<'a, D> {
         ensures never_range { IfErr result (λ refusal. refusal ≢ Refusal.Range) }
         ensures at { self.new.hand.now.pass.table ≡ self.old.hand.now.pass.table }
         ensures idle { self.new.hand.now.pass.card.hold ≡ Nothing }
+        ensures size { self.new.hand.now.block_sectors ≡ self.old.hand.now.block_sectors }
     {
         answered(write_all(self, block_sectors, block, sectors))
     }

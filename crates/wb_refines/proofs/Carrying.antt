@@ -1,5 +1,5 @@
 -- Each step of a migration on the words and on the desk is followed.
-use Rattle.std.proofs.Common.{◌≡◌, ◌<◌, ◌∙◌, ℕ, Bool, true, false, List, [], ◌∷◌, Option, Some, None, refl, sym, ap, slice_get, slice_set}
+use Rattle.std.proofs.Common.{inl, ◌≡◌, ◌<◌, ◌∙◌, ℕ, Bool, true, false, List, [], ◌∷◌, Option, Some, None, refl, sym, ap, slice_get, slice_set}
 use Rattle.wb_types.specs.declared.number.CBlock.{CBlock}
 use Rattle.wb_disk.specs.Device.{Content}
 use Rattle.wb_tasks.specs.declared.step.Migration.{Migration}
@@ -10,7 +10,7 @@ use Rattle.wb_words.specs.declared.word.Word.TheVariants.{Number, Cell as LockWo
 use Rattle.wb_words.specs.declared.step.CellStep.TheVariants.{Look, SetFailed}
 use Rattle.wb_tasks.specs.Tables.{BlockRange, Migrating, work, OnBlock}
 use Rattle.wb_link.specs.Tables.{Order, Job, Done, Lost, Own, Seen, Disown, Give_up, Want as AbstractWant, Answer as AbstractAnswer, work as work_there, Finished as AnsweredDone, Busy as AnsweredBusy, Failed as AnsweredFailed, Io as AnsweredIo, table as table_there}
-use Rattle.wb_link.specs.World.{Shared, Nothing, Owns, Actor, start_actor, World, Start, May, MayStart, after_record, reserved, Again, MayAgain, again_actor}
+use Rattle.wb_link.specs.World.{aside, taken, Shared, Nothing, Owns, Actor, start_actor, World, Start, May, MayStart, after_record, reserved, Again, MayAgain, again_actor}
 use Rattle.wb_refines.specs.Translation.{number_of, offsets}
 use Rattle.wb_refines.specs.Going.{WinsBeside}
 use Rattle.wb_refines.specs.Migrations.{job_under, order_on, Fills, IsWhere}
@@ -19,7 +19,7 @@ use Rattle.wb_refines.specs.Carrying.{GoesTo, without_block, MigrationsBegin, Ca
 use Rattle.wb_refines.proofs.Migrating.{works}
 use Rattle.wb_types.specs.declared.number.OBlock.{OBlock}
 use Rattle.wb_tasks.specs.Plan.{first_steps}
-use Rattle.wb_refines.specs.Tasks.{IsIdle, NobodyIsAlone}
+use Rattle.wb_refines.specs.Tasks.{IsResting, NobodyIsAlone}
 
 abbrev owning : Job → Order → Content → AbstractAnswer → List AbstractWant → Actor
 owning job order buffer answer steps = record { task = Some (record { job = job; steps = steps; answer = answer }); held = Owns order.block; order = Some order; leads = false; buffer = buffer }
@@ -54,38 +54,38 @@ fails size actors a s order os (Promote c) buffer = record { may = (tt, tt, tt);
 fails size actors a s order os Demote buffer = record { may = (tt, tt, tt); shared = refl; is = refl }
 fails size actors a s order os Clean buffer = record { may = (tt, tt, tt); shared = refl; is = refl }
 
-starts : (size : ℕ) (w : World) (a : ℕ) (y : Actor) (part : BlockRange) (c : CBlock) (next : Option ℕ) (migration : Migration) → slice_get w.actors a ≡ Some y → IsIdle y → NobodyIsAlone w → MayStart size w (job_under (order_on part c next) (offsets size part.extents) migration) → May size w (Start a (job_under (order_on part c next) (offsets size part.extents) migration)) × (after_record w (Start a (job_under (order_on part c next) (offsets size part.extents) migration)) ≡ record { shared = reserved w.shared (job_under (order_on part c next) (offsets size part.extents) migration); actors = slice_set w.actors a (without_block (migrating size (order_on part c next) (offsets size part.extents) migration (first_steps (OnBlock (Migrating migration part))) AnsweredDone y.buffer)) })
+starts : (size : ℕ) (w : World) (a : ℕ) (y : Actor) (part : BlockRange) (c : CBlock) (next : Option ℕ) (migration : Migration) → slice_get w.actors a ≡ Some y → IsResting y → NobodyIsAlone w → MayStart size w (job_under (order_on part c next) (offsets size part.extents) migration) → May size w (Start a (job_under (order_on part c next) (offsets size part.extents) migration)) × (after_record w (Start a (job_under (order_on part c next) (offsets size part.extents) migration)) ≡ record { shared = reserved w.shared (job_under (order_on part c next) (offsets size part.extents) migration); actors = slice_set w.actors a (without_block (migrating size (order_on part c next) (offsets size part.extents) migration (first_steps (OnBlock (Migrating migration part))) AnsweredDone y.buffer)); waiting = aside w.waiting y.order })
 starts size w a y part c next (Promote k) here idle alone may = (
-  (y, record { actor = here; task = idle.task; held = idle.held; order = idle.order; leads = idle.leads; nobody_alone = alone; may = may }),
+  (y, record { actor = here; task = idle.task; free = inl (idle.held, idle.leads); nobody_alone = alone; may = may }),
   ap (λ (o : Option Actor). start_actor w a o (job_under (order_on part c next) (offsets size part.extents) (Promote k))) here
-      ∙ (λ i. record { shared = reserved w.shared (job_under (order_on part c next) (offsets size part.extents) (Promote k)); actors = slice_set w.actors a (record { task = Some (table_there (job_under (order_on part c next) (offsets size part.extents) (Promote k))); held = idle.held i; order = Some (order_on part c next); leads = idle.leads i; buffer = y.buffer }) }),
+      ∙ (λ i. record { shared = reserved w.shared (job_under (order_on part c next) (offsets size part.extents) (Promote k)); actors = slice_set w.actors a (record { task = Some (table_there (job_under (order_on part c next) (offsets size part.extents) (Promote k))); held = idle.held i; order = Some (order_on part c next); leads = idle.leads i; buffer = y.buffer }); waiting = aside w.waiting y.order }),
 )
 starts size w a y part c next Demote here idle alone may = (
-  (y, record { actor = here; task = idle.task; held = idle.held; order = idle.order; leads = idle.leads; nobody_alone = alone; may = may }),
+  (y, record { actor = here; task = idle.task; free = inl (idle.held, idle.leads); nobody_alone = alone; may = may }),
   ap (λ (o : Option Actor). start_actor w a o (job_under (order_on part c next) (offsets size part.extents) Demote)) here
-      ∙ (λ i. record { shared = reserved w.shared (job_under (order_on part c next) (offsets size part.extents) Demote); actors = slice_set w.actors a (record { task = Some (table_there (job_under (order_on part c next) (offsets size part.extents) Demote)); held = idle.held i; order = Some (order_on part c next); leads = idle.leads i; buffer = y.buffer }) }),
+      ∙ (λ i. record { shared = reserved w.shared (job_under (order_on part c next) (offsets size part.extents) Demote); actors = slice_set w.actors a (record { task = Some (table_there (job_under (order_on part c next) (offsets size part.extents) Demote)); held = idle.held i; order = Some (order_on part c next); leads = idle.leads i; buffer = y.buffer }); waiting = aside w.waiting y.order }),
 )
 starts size w a y part c next Clean here idle alone may = (
-  (y, record { actor = here; task = idle.task; held = idle.held; order = idle.order; leads = idle.leads; nobody_alone = alone; may = may }),
+  (y, record { actor = here; task = idle.task; free = inl (idle.held, idle.leads); nobody_alone = alone; may = may }),
   ap (λ (o : Option Actor). start_actor w a o (job_under (order_on part c next) (offsets size part.extents) Clean)) here
-      ∙ (λ i. record { shared = reserved w.shared (job_under (order_on part c next) (offsets size part.extents) Clean); actors = slice_set w.actors a (record { task = Some (table_there (job_under (order_on part c next) (offsets size part.extents) Clean)); held = idle.held i; order = Some (order_on part c next); leads = idle.leads i; buffer = y.buffer }) }),
+      ∙ (λ i. record { shared = reserved w.shared (job_under (order_on part c next) (offsets size part.extents) Clean); actors = slice_set w.actors a (record { task = Some (table_there (job_under (order_on part c next) (offsets size part.extents) Clean)); held = idle.held i; order = Some (order_on part c next); leads = idle.leads i; buffer = y.buffer }); waiting = aside w.waiting y.order }),
 )
 
-again : (size : ℕ) (w : World) (a : ℕ) (y : Actor) (part : BlockRange) (c : CBlock) (next : Option ℕ) (migration : Migration) → slice_get w.actors a ≡ Some y → y.task ≡ None → y.held ≡ Nothing → y.order ≡ Some (order_on part c next) → y.leads ≡ false → NobodyIsAlone w → MayAgain size w.shared (job_under (order_on part c next) (offsets size part.extents) migration) → May size w (Again a (job_under (order_on part c next) (offsets size part.extents) migration)) × (after_record w (Again a (job_under (order_on part c next) (offsets size part.extents) migration)) ≡ record { shared = w.shared; actors = slice_set w.actors a (without_block (migrating size (order_on part c next) (offsets size part.extents) migration (first_steps (OnBlock (Migrating migration part))) AnsweredDone y.buffer)) })
+again : (size : ℕ) (w : World) (a : ℕ) (y : Actor) (part : BlockRange) (c : CBlock) (next : Option ℕ) (migration : Migration) → slice_get w.actors a ≡ Some y → y.task ≡ None → y.held ≡ Nothing → aside w.waiting y.order c.0 ≡ Some (order_on part c next) → y.leads ≡ false → NobodyIsAlone w → MayAgain size w.shared (job_under (order_on part c next) (offsets size part.extents) migration) → May size w (Again a (job_under (order_on part c next) (offsets size part.extents) migration)) × (after_record w (Again a (job_under (order_on part c next) (offsets size part.extents) migration)) ≡ record { shared = w.shared; actors = slice_set w.actors a (without_block (migrating size (order_on part c next) (offsets size part.extents) migration (first_steps (OnBlock (Migrating migration part))) AnsweredDone y.buffer)); waiting = taken (aside w.waiting y.order) (Some (order_on part c next)) })
 again size w a y part c next (Promote k) here task held order leads alone may = (
-  (y, record { actor = here; task = task; held = held; order = order; leads = leads; nobody_alone = alone; may = may }),
+  (y, record { actor = here; task = task; free = inl (held, leads); order = (order_on part c next, refl, order); nobody_alone = alone; may = may }),
   ap (λ (o : Option Actor). again_actor w a o (job_under (order_on part c next) (offsets size part.extents) (Promote k))) here
-      ∙ (λ i. record { shared = w.shared; actors = slice_set w.actors a (record { task = Some (table_there (job_under (order_on part c next) (offsets size part.extents) (Promote k))); held = held i; order = Some (order_on part c next); leads = leads i; buffer = y.buffer }) }),
+      ∙ (λ i. record { shared = w.shared; actors = slice_set w.actors a (record { task = Some (table_there (job_under (order_on part c next) (offsets size part.extents) (Promote k))); held = held i; order = Some (order_on part c next); leads = leads i; buffer = y.buffer }); waiting = taken (aside w.waiting y.order) (Some (order_on part c next)) }),
 )
 again size w a y part c next Demote here task held order leads alone may = (
-  (y, record { actor = here; task = task; held = held; order = order; leads = leads; nobody_alone = alone; may = may }),
+  (y, record { actor = here; task = task; free = inl (held, leads); order = (order_on part c next, refl, order); nobody_alone = alone; may = may }),
   ap (λ (o : Option Actor). again_actor w a o (job_under (order_on part c next) (offsets size part.extents) Demote)) here
-      ∙ (λ i. record { shared = w.shared; actors = slice_set w.actors a (record { task = Some (table_there (job_under (order_on part c next) (offsets size part.extents) Demote)); held = held i; order = Some (order_on part c next); leads = leads i; buffer = y.buffer }) }),
+      ∙ (λ i. record { shared = w.shared; actors = slice_set w.actors a (record { task = Some (table_there (job_under (order_on part c next) (offsets size part.extents) Demote)); held = held i; order = Some (order_on part c next); leads = leads i; buffer = y.buffer }); waiting = taken (aside w.waiting y.order) (Some (order_on part c next)) }),
 )
 again size w a y part c next Clean here task held order leads alone may = (
-  (y, record { actor = here; task = task; held = held; order = order; leads = leads; nobody_alone = alone; may = may }),
+  (y, record { actor = here; task = task; free = inl (held, leads); order = (order_on part c next, refl, order); nobody_alone = alone; may = may }),
   ap (λ (o : Option Actor). again_actor w a o (job_under (order_on part c next) (offsets size part.extents) Clean)) here
-      ∙ (λ i. record { shared = w.shared; actors = slice_set w.actors a (record { task = Some (table_there (job_under (order_on part c next) (offsets size part.extents) Clean)); held = held i; order = Some (order_on part c next); leads = leads i; buffer = y.buffer }) }),
+      ∙ (λ i. record { shared = w.shared; actors = slice_set w.actors a (record { task = Some (table_there (job_under (order_on part c next) (offsets size part.extents) Clean)); held = held i; order = Some (order_on part c next); leads = leads i; buffer = y.buffer }); waiting = taken (aside w.waiting y.order) (Some (order_on part c next)) }),
 )
 
 pub migrations_begin : MigrationsBegin

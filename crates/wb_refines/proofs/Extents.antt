@@ -95,12 +95,12 @@ pub record Wrote (size : ℕ) (blank : Content) (actors : List Actor) (a : ℕ) 
 module _ (size : ℕ) (blank : Content) (actors : List Actor) (a : ℕ) (to : Option ℕ) (b : ℕ) (all : List ℕ) (c : Content) (held : Held) (buffer : Content) where
   -- each sector is written, one after the other
   pub writes_each : (rest : List Want) (answer : Answer) (count : ℕ) (s : Shared) (device : List History) (o : ℕ) → IsSide size blank to device s → o + count ≤ size → row to b * size + o + count ≤ length device →
-      Wrote size blank actors a s (Writing b all c) (write_each to b (rising o count) rest) answer held buffer (replicate count Done) to (written_where (λ at. true) device (row to b * size + o) (replicate count c)) (doing (Writing b all c) rest answer held buffer)
+      Wrote size blank actors a s (Writing false b all c) (write_each to b (rising o count) rest) answer held buffer (replicate count Done) to (written_where (λ at. true) device (row to b * size + o) (replicate count c)) (doing (Writing false b all c) rest answer held buffer)
   writes_each rest answer zero s device o i l m = record { may = tt; side_is = i; beside = same_beside to s; is = refl }
   writes_each rest answer (suc count) s device o i l m =
       let same : suc (row to b * size + o) ≡ row to b * size + (o + 1) = omega arith in
       let wider : length (written device (row to b * size + o) c) ≡ length device = length-grown (slice_get device (row to b * size + o)) device (row to b * size + o) c in
-      let later = subst (λ (v : ℕ). Wrote size blank actors a (put_sector s to b o c) (Writing b all c) (write_each to b (rising (o + 1) count) rest) answer held buffer (replicate count Done) to (written_where (λ at. true) (written device (row to b * size + o) c) v (replicate count c)) (doing (Writing b all c) rest answer held buffer)) (sym same)
+      let later = subst (λ (v : ℕ). Wrote size blank actors a (put_sector s to b o c) (Writing false b all c) (write_each to b (rising (o + 1) count) rest) answer held buffer (replicate count Done) to (written_where (λ at. true) (written device (row to b * size + o) c) v (replicate count c)) (doing (Writing false b all c) rest answer held buffer)) (sym same)
       (writes_each rest answer count (put_sector s to b o c) (written device (row to b * size + o) c) (o + 1) (put_is size blank to device s b o c (omega (arith, l)) (omega (arith, m)) i) (omega (arith, l)) (omega (arith, m, wider))) in
       record {
         may = (tt, tt, later.may);
@@ -128,7 +128,7 @@ module _ (size : ℕ) (blank : Content) (actors : List Actor) (a : ℕ) (to : Op
 
   -- Each sector lands or not, and the failed bit is to be set.
   pub fails_each : (lands : ℕ → Bool) (count : ℕ) (tail : List Want) (answer : Answer) (s : Shared) (device : List History) (o : ℕ) → IsSide size blank to device s → o + suc count ≤ size → row to b * size + o + suc count ≤ length device →
-      Wrote size blank actors a s (Writing b all c) (write_each to b (rising o (suc count)) tail) answer held buffer (faults lands (row to b * size + o) (suc count)) to (written_where lands device (row to b * size + o) (replicate (suc count) c)) (doing (Writing b all c) (Set_failed ∷ []) Io held buffer)
+      Wrote size blank actors a s (Writing false b all c) (write_each to b (rising o (suc count)) tail) answer held buffer (faults lands (row to b * size + o) (suc count)) to (written_where lands device (row to b * size + o) (replicate (suc count) c)) (doing (Writing false b all c) (Set_failed ∷ []) Io held buffer)
   fails_each lands zero tail answer s device o i l m = record {
     may = (tt, tt, tt);
     side_is = put_if (lands (row to b * size + o)) s device o i (omega (arith, l)) (omega (arith, m));
@@ -141,10 +141,10 @@ module _ (size : ℕ) (blank : Content) (actors : List Actor) (a : ℕ) (to : Op
       let wider = length-if (lands (row to b * size + o)) device (row to b * size + o) in
       let s' = if_landed (lands (row to b * size + o)) (put_sector s to b o c) s in
       let device' = if lands (row to b * size + o) then written device (row to b * size + o) c else device in
-      let later = subst (λ (ws : List Want). Wrote size blank actors a s' (Writing b all c) ws Io held buffer (faults lands (row to b * size + (o + 1)) (suc count)) to (written_where lands device' (row to b * size + (o + 1)) (replicate (suc count) c)) (doing (Writing b all c) (Set_failed ∷ []) Io held buffer))
+      let later = subst (λ (ws : List Want). Wrote size blank actors a s' (Writing false b all c) ws Io held buffer (faults lands (row to b * size + (o + 1)) (suc count)) to (written_where lands device' (row to b * size + (o + 1)) (replicate (suc count) c)) (doing (Writing false b all c) (Set_failed ∷ []) Io held buffer))
       (sym (until_each (rising (o + 1) (suc count)) tail))
       (fails_each lands count (until_failed tail) Io s' device' (o + 1) (put_if (lands (row to b * size + o)) s device o i (omega (arith, l)) (omega (arith, m))) (omega (arith, l)) (omega (arith, m, wider))) in
-      let there = subst (λ (v : ℕ). Wrote size blank actors a s' (Writing b all c) (until_failed (write_each to b (rising (o + 1) (suc count)) tail)) Io held buffer (faults lands v (suc count)) to (written_where lands device' v (replicate (suc count) c)) (doing (Writing b all c) (Set_failed ∷ []) Io held buffer)) (sym same) later in
+      let there = subst (λ (v : ℕ). Wrote size blank actors a s' (Writing false b all c) (until_failed (write_each to b (rising (o + 1) (suc count)) tail)) Io held buffer (faults lands v (suc count)) to (written_where lands device' v (replicate (suc count) c)) (doing (Writing false b all c) (Set_failed ∷ []) Io held buffer)) (sym same) later in
       record {
         may = (tt, tt, there.may);
         side_is = there.side_is;

@@ -8,7 +8,7 @@ use Rattle.wb_refines.specs.Going.{records, shared_after, gone, WinsBeside, MayG
 
 -- the world with another shared state and another actor
 abbrev pub with_own : World → ℕ → Shared → Actor → World
-with_own w a s y = record { shared = s; actors = slice_set w.actors a y }
+with_own w a s y = record { shared = s; actors = slice_set w.actors a y; waiting = w.waiting }
 
 wins_of : (actors : List Actor) (a : ℕ) (y : Actor) (next : Want) (got : Got) → slice_get actors a ≡ Some y → WinsBeside actors a y.held next got → Wins actors next got
 wins_of actors a y (Share b) Done e wins = λ c x g. elim (cases_eq c a) [
@@ -54,8 +54,8 @@ pub record Went (size : ℕ) (w : World) (a : ℕ) (rs : List Record) (s : Share
 
 pub goes : (size : ℕ) (gots : List Got) (w : World) (a : ℕ) (y : Actor) (task : Option Script) → slice_get w.actors a ≡ Some y → y.task ≡ task → MayGo w.actors a w.shared y task gots →
     Went size w a (records a task gots) (shared_after w.shared y task gots) (gone y task gots)
-goes size [] w a y None e t m = record { run = tt; is = ap (λ (ys : List Actor). record { shared = w.shared; actors = ys }) (sym (set_same w.actors a y e)) }
-goes size [] w a y (Some script) e t m = record { run = tt; is = ap (λ (ys : List Actor). record { shared = w.shared; actors = ys }) (sym (set_same w.actors a y e)) }
+goes size [] w a y None e t m = record { run = tt; is = ap (λ (ys : List Actor). record { shared = w.shared; actors = ys; waiting = w.waiting }) (sym (set_same w.actors a y e)) }
+goes size [] w a y (Some script) e t m = record { run = tt; is = ap (λ (ys : List Actor). record { shared = w.shared; actors = ys; waiting = w.waiting }) (sym (set_same w.actors a y e)) }
 goes size (got ∷ gots) w a y None e t m = absurd m
 goes size (got ∷ gots) w a y (Some script) e t m =
     let y' = actor_after y script (want script) got in
@@ -68,5 +68,5 @@ goes size (got ∷ gots) w a y (Some script) e t m =
         subst (λ (v : World). IsRun size v (records a (task_after script (want script) got) gots)) (sym is) later.run,
       );
       is = ap (λ (v : World). after_all v (records a (task_after script (want script) got) gots)) is ∙ later.is
-          ∙ (λ i. record { shared = shared_after s' y' (task_after script (want script) got) gots; actors = set_twice w.actors a y' (gone y' (task_after script (want script) got) gots) i });
+          ∙ (λ i. record { shared = shared_after s' y' (task_after script (want script) got) gots; actors = set_twice w.actors a y' (gone y' (task_after script (want script) got) gots) i; waiting = w.waiting });
     }

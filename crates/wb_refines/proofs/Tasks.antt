@@ -27,22 +27,22 @@ within_offsets size (e ∷ es) all = within_rising size (e.first % size) e.count
 pub tasks_begin : TasksBegin
 tasks_begin = record {
   read = λ size content w a y card part here idle alone inside h. record {
-    may = (y, record { actor = here; task = idle.task; held = idle.held; order = idle.order; leads = idle.leads; nobody_alone = alone; may = within_offsets size part.extents inside });
+    may = (y, record { actor = here; task = idle.task; free = inl (idle.held, idle.leads); nobody_alone = alone; may = within_offsets size part.extents inside });
     then_is = _;
     world = ap (λ (o : Option Actor). start_actor w a o (job_for size content (OnBlock (Reading part)))) here;
     at = record { buffer = y.buffer; is = λ i. record { task = Some (script_for size content (table (OnBlock (Reading part)))); held = (idle.held ∙ ap held_of (sym h)) i; order = None; leads = idle.leads i; buffer = y.buffer }; saw = tt };
   };
   write = λ size content w a y card part here idle alone inside mode h. record {
-    may = (y, record { actor = here; task = idle.task; held = idle.held; order = idle.order; leads = idle.leads; nobody_alone = alone; may = (within_offsets size part.extents inside, mode) });
+    may = (y, record { actor = here; task = idle.task; free = inl (idle.held, idle.leads); nobody_alone = alone; may = (within_offsets size part.extents inside, mode) });
     then_is = _;
     world = ap (λ (o : Option Actor). start_actor w a o (job_for size content (OnBlock (Writing part)))) here;
     at = record { buffer = y.buffer; is = λ i. record { task = Some (script_for size content (table (OnBlock (Writing part)))); held = (idle.held ∙ ap held_of (sym h)) i; order = None; leads = idle.leads i; buffer = y.buffer }; saw = tt };
   };
-  flush = λ size most content w a y here idle alone. record {
-    may = (y, record { actor = here; task = idle.task; held = idle.held; order = idle.order; leads = idle.leads; nobody_alone = alone; may = refl });
+  flush = λ size serves most content w a y here idle alone. record {
+    may = (y, record { actor = here; task = idle.task; free = inl (idle.held, idle.leads); nobody_alone = alone; may = refl });
     then_is = _;
     world = ap (λ (o : Option Actor). start_actor w a o (FlushingFor None)) here;
-    at = record { buffer = y.buffer; is = λ i. record { task = Some (script_for size content (table (Flushing [] most))); held = idle.held i; order = None; leads = idle.leads i; buffer = y.buffer } };
+    at = record { buffer = y.buffer; is = λ i. record { task = Some (script_for size content (table (Flushing serves most))); held = idle.held i; order = None; leads = idle.leads i; buffer = y.buffer } };
   };
 }
 
@@ -63,7 +63,7 @@ pub tasks_end : TasksEnd
 tasks_end = record {
   done = λ size content actors a s y job answer card h is. subst (λ (v : Actor). IsAnswered actors a s v × IsIdle (gone v v.task (DoneThere ∷ []))) (sym is.is)
       (record { may = (tt, tt, tt); shared = refl; over = refl }, record { task = refl; held = ap held_of h; order = refl; leads = refl });
-  flush = λ size most content actors a s y answer leads is.
+  flush = λ size serves most content actors a s y answer leads is.
       subst (λ (v : Actor). IsAnswered actors a s v × ((gone v v.task (DoneThere ∷ [])).leads ≡ leads) × (leads ≡ false → IsIdle (gone v v.task (DoneThere ∷ [])))) (sym is.is)
       (record { may = (tt, tt, tt); shared = refl; over = refl }, refl, λ e. record { task = refl; held = refl; order = refl; leads = e });
   stopped = λ actors a s y words answer job card k. let all = answers_now actors a s y k.script k.nothing k.task in (

@@ -14,10 +14,10 @@ use Rattle.wb_tasks.specs.declared.step.Want.TheVariants.{Cell, Desk}
 use Rattle.wb_tasks.specs.Tables.{BlockRange, Migrating, OnBlock, work}
 use Rattle.wb_tasks.specs.Plan.{first_steps}
 use Rattle.wb_link.specs.Tables.{Order, Got, Done, Flag, Lost, Seen, Short, Promoting, Demoting, Own, Set_seal, Map_to, Unmap_from, Give_up, Answer as AbstractAnswer, Finished as AnsweredDone, Busy as AnsweredBusy, Failed as AnsweredFailed, Io as AnsweredIo}
-use Rattle.wb_link.specs.World.{Shared, Nothing, Actor, World, Start, Again, May, MayStart, MayAgain, after_record, reserved, effect, following}
+use Rattle.wb_link.specs.World.{aside, taken, Shared, Nothing, Actor, World, Start, Again, May, MayStart, MayAgain, after_record, reserved, effect, following}
 use Rattle.wb_refines.specs.Translation.{number_of, offsets}
 use Rattle.wb_refines.specs.Going.{WinsBeside, shared_after, gone, MayGo}
-use Rattle.wb_refines.specs.Tasks.{IsIdle, NobodyIsAlone}
+use Rattle.wb_refines.specs.Tasks.{IsResting, NobodyIsAlone}
 use Rattle.wb_refines.specs.Migrations.{job_under, order_on, Fills, IsWhere}
 use Rattle.wb_refines.specs.Copies.{migrating}
 
@@ -37,17 +37,19 @@ under order y = record y { order = order }
 
 -- A migration starts under an order that may be given, or begins again under the one that its actor kept.
 pub record MigrationsBegin : Type 0 where
-  pub starts : (size : ℕ) (w : World) (a : ℕ) (y : Actor) (part : BlockRange) (c : CBlock) (next : Option ℕ) (migration : Migration) → slice_get w.actors a ≡ Some y → IsIdle y → NobodyIsAlone w → MayStart size w (job_under (order_on part c next) (offsets size part.extents) migration) →
+  pub starts : (size : ℕ) (w : World) (a : ℕ) (y : Actor) (part : BlockRange) (c : CBlock) (next : Option ℕ) (migration : Migration) → slice_get w.actors a ≡ Some y → IsResting y → NobodyIsAlone w → MayStart size w (job_under (order_on part c next) (offsets size part.extents) migration) →
       May size w (Start a (job_under (order_on part c next) (offsets size part.extents) migration))
       × (after_record w (Start a (job_under (order_on part c next) (offsets size part.extents) migration)) ≡ record {
         shared = reserved w.shared (job_under (order_on part c next) (offsets size part.extents) migration);
         actors = slice_set w.actors a (without_block (migrating size (order_on part c next) (offsets size part.extents) migration (first_steps (OnBlock (Migrating migration part))) AnsweredDone y.buffer));
+        waiting = aside w.waiting y.order;
       })
-  pub again : (size : ℕ) (w : World) (a : ℕ) (y : Actor) (part : BlockRange) (c : CBlock) (next : Option ℕ) (migration : Migration) → slice_get w.actors a ≡ Some y → y.task ≡ None → y.held ≡ Nothing → y.order ≡ Some (order_on part c next) → y.leads ≡ false → NobodyIsAlone w → MayAgain size w.shared (job_under (order_on part c next) (offsets size part.extents) migration) →
+  pub again : (size : ℕ) (w : World) (a : ℕ) (y : Actor) (part : BlockRange) (c : CBlock) (next : Option ℕ) (migration : Migration) → slice_get w.actors a ≡ Some y → y.task ≡ None → y.held ≡ Nothing → aside w.waiting y.order c.0 ≡ Some (order_on part c next) → y.leads ≡ false → NobodyIsAlone w → MayAgain size w.shared (job_under (order_on part c next) (offsets size part.extents) migration) →
       May size w (Again a (job_under (order_on part c next) (offsets size part.extents) migration))
       × (after_record w (Again a (job_under (order_on part c next) (offsets size part.extents) migration)) ≡ record {
         shared = w.shared;
         actors = slice_set w.actors a (without_block (migrating size (order_on part c next) (offsets size part.extents) migration (first_steps (OnBlock (Migrating migration part))) AnsweredDone y.buffer));
+        waiting = taken (aside w.waiting y.order) (Some (order_on part c next));
       })
 
 -- Each step of a migration on the words and on the desk but those that stand for nothing.

@@ -17,14 +17,15 @@ use Rattle.wb_tasks.specs.declared.step.DeskStep.TheVariants.{BeginCommit, EndCo
 use Rattle.wb_tasks.specs.declared.step.Want.{Want}
 use Rattle.wb_tasks.specs.declared.step.Want.TheVariants.{Cell, Device, Desk}
 use Rattle.wb_tasks.specs.declared.step.Got.TheVariants.{Done, Word, Fault, Refused, Began}
+use Rattle.wb_types.specs.declared.number.OBlock.{OBlock}
 use Rattle.wb_link.specs.Tables.{Got, Done as DoneThere, Begin, End_running, Flushing as FlushingFor}
 use Rattle.wb_link.specs.World.{Shared, Nothing, Actor, effect}
 use Rattle.wb_refines.specs.Translation.{script_for}
 use Rattle.wb_refines.specs.Going.{AreQuiet, shared_after, gone, MayGo}
 
 -- what is left of a flush
-abbrev pub flushing : ℕ → List Want → Answer → Plan
-flushing most steps answer = record { job = Flushing [] most; steps = steps; answer = answer }
+abbrev pub flushing : List OBlock → ℕ → List Want → Answer → Plan
+flushing serves most steps answer = record { job = Flushing serves most; steps = steps; answer = answer }
 
 -- An abstract actor is at what is left of it, and leads the commit or doesn't.
 pub record IsFlushing (size : ℕ) (content : Content) (plan : Plan) (leads : Bool) (y : Actor) : Type 0 where
@@ -61,33 +62,33 @@ IsWrittenAfter step before after = before ≡ true → after ≡ true
 
 -- Each step of a flush, with each result that it may have.
 pub record FlushStepsFollowed : Type 0 where
-  pub looks : (size most word : ℕ) (content : Content) (actors : List Actor) (a : ℕ) (s : Shared) (y : Actor) (answer : Answer) → s.fail ≡ flag word → IsFlushing size content (flushing most (Cell (Look Fail) ∷ Desk (BeginCommit false most) ∷ []) answer) false y →
-      Leads size content actors a s y s (after (flushing most (Cell (Look Fail) ∷ Desk (BeginCommit false most) ∷ []) answer) (Word word)) false
-  pub begins : (size most nodes : ℕ) (content : Content) (actors : List Actor) (a : ℕ) (s : Shared) (y : Actor) (later : List Want) (answer : Answer) → s.committing ≡ false → s.broken ≡ false → IsFlushing size content (flushing most (Desk (BeginCommit false most) ∷ later) answer) false y →
-      Leads size content actors a s y (effect s (FlushingFor None) [] (Begin None) DoneThere) (after (flushing most (Desk (BeginCommit false most) ∷ later) answer) (Began nodes)) true
-  pub is_refused : (size most : ℕ) (refusal : Refusal) (content : Content) (actors : List Actor) (a : ℕ) (s : Shared) (y : Actor) (later : List Want) (answer : Answer) → IsNoBegin refusal → IsFlushing size content (flushing most (Desk (BeginCommit false most) ∷ later) answer) false y →
-      Leads size content actors a s y s (after (flushing most (Desk (BeginCommit false most) ∷ later) answer) (Refused refusal)) false
-  pub syncs_cache : (size most : ℕ) (content : Content) (actors : List Actor) (a : ℕ) (s : Shared) (y : Actor) (later : List Want) (answer : Answer) → IsFlushing size content (flushing most (Device (Sync Cache) ∷ later) answer) true y →
-      Leads size content actors a s y (record s { cache = all_synced s.cache }) (after (flushing most (Device (Sync Cache) ∷ later) answer) Done) true
-  pub syncs_origin : (size most : ℕ) (content : Content) (actors : List Actor) (a : ℕ) (s : Shared) (y : Actor) (later : List Want) (answer : Answer) → IsFlushing size content (flushing most (Device (Sync Origin) ∷ later) answer) true y →
-      Leads size content actors a s y (record s { origin = all_synced s.origin }) (after (flushing most (Device (Sync Origin) ∷ later) answer) Done) true
+  pub looks : (size : ℕ) (serves : List OBlock) (most word : ℕ) (content : Content) (actors : List Actor) (a : ℕ) (s : Shared) (y : Actor) (answer : Answer) → s.fail ≡ flag word → IsFlushing size content (flushing serves most (Cell (Look Fail) ∷ Desk (BeginCommit false most) ∷ []) answer) false y →
+      Leads size content actors a s y s (after (flushing serves most (Cell (Look Fail) ∷ Desk (BeginCommit false most) ∷ []) answer) (Word word)) false
+  pub begins : (size : ℕ) (serves : List OBlock) (most nodes : ℕ) (content : Content) (actors : List Actor) (a : ℕ) (s : Shared) (y : Actor) (later : List Want) (answer : Answer) → s.committing ≡ false → s.broken ≡ false → IsFlushing size content (flushing serves most (Desk (BeginCommit false most) ∷ later) answer) false y →
+      Leads size content actors a s y (effect s (FlushingFor None) [] (Begin None) DoneThere) (after (flushing serves most (Desk (BeginCommit false most) ∷ later) answer) (Began nodes)) true
+  pub is_refused : (size : ℕ) (serves : List OBlock) (most : ℕ) (refusal : Refusal) (content : Content) (actors : List Actor) (a : ℕ) (s : Shared) (y : Actor) (later : List Want) (answer : Answer) → IsNoBegin refusal → IsFlushing size content (flushing serves most (Desk (BeginCommit false most) ∷ later) answer) false y →
+      Leads size content actors a s y s (after (flushing serves most (Desk (BeginCommit false most) ∷ later) answer) (Refused refusal)) false
+  pub syncs_cache : (size : ℕ) (serves : List OBlock) (most : ℕ) (content : Content) (actors : List Actor) (a : ℕ) (s : Shared) (y : Actor) (later : List Want) (answer : Answer) → IsFlushing size content (flushing serves most (Device (Sync Cache) ∷ later) answer) true y →
+      Leads size content actors a s y (record s { cache = all_synced s.cache }) (after (flushing serves most (Device (Sync Cache) ∷ later) answer) Done) true
+  pub syncs_origin : (size : ℕ) (serves : List OBlock) (most : ℕ) (content : Content) (actors : List Actor) (a : ℕ) (s : Shared) (y : Actor) (later : List Want) (answer : Answer) → IsFlushing size content (flushing serves most (Device (Sync Origin) ∷ later) answer) true y →
+      Leads size content actors a s y (record s { origin = all_synced s.origin }) (after (flushing serves most (Device (Sync Origin) ∷ later) answer) Done) true
   -- nodes and syncs of the metadata are nothing there
-  pub nodes : (size most number : ℕ) (content : Content) (actors : List Actor) (a : ℕ) (s : Shared) (y : Actor) (later : List Want) (answer : Answer) → IsFlushing size content (flushing most (Device (WriteNode number) ∷ later) answer) true y →
-      Leads size content actors a s y s (after (flushing most (Device (WriteNode number) ∷ later) answer) Done) true
-  pub syncs_metadata : (size most : ℕ) (content : Content) (actors : List Actor) (a : ℕ) (s : Shared) (y : Actor) (later : List Want) (answer : Answer) → IsFlushing size content (flushing most (Device (Sync Metadata) ∷ later) answer) true y →
-      Leads size content actors a s y s (after (flushing most (Device (Sync Metadata) ∷ later) answer) Done) true
-  pub writes_root : (size most : ℕ) (content : Content) (actors : List Actor) (a : ℕ) (s : Shared) (y : Actor) (later : List Want) (answer : Answer) → IsFlushing size content (flushing most (Device WriteRoot ∷ later) answer) true y →
-      Leads size content actors a s y (record s { root_written = true }) (after (flushing most (Device WriteRoot ∷ later) answer) Done) true
-  pub ends : (size most : ℕ) (content : Content) (actors : List Actor) (a : ℕ) (s : Shared) (y : Actor) (answer : Answer) → IsFlushing size content (flushing most (Desk EndCommit ∷ []) answer) true y →
-      Leads size content actors a s y (effect s (FlushingFor None) [] End_running DoneThere) (after (flushing most (Desk EndCommit ∷ []) answer) Done) false
+  pub nodes : (size : ℕ) (serves : List OBlock) (most number : ℕ) (content : Content) (actors : List Actor) (a : ℕ) (s : Shared) (y : Actor) (later : List Want) (answer : Answer) → IsFlushing size content (flushing serves most (Device (WriteNode number) ∷ later) answer) true y →
+      Leads size content actors a s y s (after (flushing serves most (Device (WriteNode number) ∷ later) answer) Done) true
+  pub syncs_metadata : (size : ℕ) (serves : List OBlock) (most : ℕ) (content : Content) (actors : List Actor) (a : ℕ) (s : Shared) (y : Actor) (later : List Want) (answer : Answer) → IsFlushing size content (flushing serves most (Device (Sync Metadata) ∷ later) answer) true y →
+      Leads size content actors a s y s (after (flushing serves most (Device (Sync Metadata) ∷ later) answer) Done) true
+  pub writes_root : (size : ℕ) (serves : List OBlock) (most : ℕ) (content : Content) (actors : List Actor) (a : ℕ) (s : Shared) (y : Actor) (later : List Want) (answer : Answer) → IsFlushing size content (flushing serves most (Device WriteRoot ∷ later) answer) true y →
+      Leads size content actors a s y (record s { root_written = true }) (after (flushing serves most (Device WriteRoot ∷ later) answer) Done) true
+  pub ends : (size : ℕ) (serves : List OBlock) (most : ℕ) (content : Content) (actors : List Actor) (a : ℕ) (s : Shared) (y : Actor) (answer : Answer) → IsFlushing size content (flushing serves most (Desk EndCommit ∷ []) answer) true y →
+      Leads size content actors a s y (effect s (FlushingFor None) [] End_running DoneThere) (after (flushing serves most (Desk EndCommit ∷ []) answer) Done) false
   -- a sync that fails settles these sectors
-  pub fails_cache : (size most : ℕ) (content : Content) (actors : List Actor) (a : ℕ) (s : Shared) (y : Actor) (later : List Want) (answer : Answer) (settled : ℕ → ℕ → Bool) → IsFlushing size content (flushing most (Device (Sync Cache) ∷ later) answer) true y →
-      Leads size content actors a s y (record s { cache = partly_synced settled s.cache }) (after (flushing most (Device (Sync Cache) ∷ later) answer) Fault) true
-  pub fails_origin : (size most : ℕ) (content : Content) (actors : List Actor) (a : ℕ) (s : Shared) (y : Actor) (later : List Want) (answer : Answer) (settled : ℕ → ℕ → Bool) → IsFlushing size content (flushing most (Device (Sync Origin) ∷ later) answer) true y →
-      Leads size content actors a s y (record s { origin = partly_synced settled s.origin }) (after (flushing most (Device (Sync Origin) ∷ later) answer) Fault) true
+  pub fails_cache : (size : ℕ) (serves : List OBlock) (most : ℕ) (content : Content) (actors : List Actor) (a : ℕ) (s : Shared) (y : Actor) (later : List Want) (answer : Answer) (settled : ℕ → ℕ → Bool) → IsFlushing size content (flushing serves most (Device (Sync Cache) ∷ later) answer) true y →
+      Leads size content actors a s y (record s { cache = partly_synced settled s.cache }) (after (flushing serves most (Device (Sync Cache) ∷ later) answer) Fault) true
+  pub fails_origin : (size : ℕ) (serves : List OBlock) (most : ℕ) (content : Content) (actors : List Actor) (a : ℕ) (s : Shared) (y : Actor) (later : List Want) (answer : Answer) (settled : ℕ → ℕ → Bool) → IsFlushing size content (flushing serves most (Device (Sync Origin) ∷ later) answer) true y →
+      Leads size content actors a s y (record s { origin = partly_synced settled s.origin }) (after (flushing serves most (Device (Sync Origin) ∷ later) answer) Fault) true
   -- a step on the metadata that fails may be the root's there
-  pub fails_metadata : (size most : ℕ) (step : DeviceStep) (content : Content) (actors : List Actor) (a : ℕ) (s : Shared) (y : Actor) (later : List Want) (answer : Answer) → IsOnMetadata (Device step ∷ later) → IsFlushing size content (flushing most (Device step ∷ later) answer) true y →
-      (written : Bool) × IsWrittenAfter step s.root_written written × Leads size content actors a s y (record s { root_written = written }) (after (flushing most (Device step ∷ later) answer) Fault) true
+  pub fails_metadata : (size : ℕ) (serves : List OBlock) (most : ℕ) (step : DeviceStep) (content : Content) (actors : List Actor) (a : ℕ) (s : Shared) (y : Actor) (later : List Want) (answer : Answer) → IsOnMetadata (Device step ∷ later) → IsFlushing size content (flushing serves most (Device step ∷ later) answer) true y →
+      (written : Bool) × IsWrittenAfter step s.root_written written × Leads size content actors a s y (record s { root_written = written }) (after (flushing serves most (Device step ∷ later) answer) Fault) true
   -- the failed bit breaks the commit for those who wait for it
-  pub fails : (size most : ℕ) (content : Content) (actors : List Actor) (a : ℕ) (s : Shared) (y : Actor) (answer : Answer) → IsFlushing size content (flushing most (Cell SetFailed ∷ []) answer) true y →
-      Leads size content actors a s y (record s { fail = true; broken = true }) (after (flushing most (Cell SetFailed ∷ []) answer) Done) true
+  pub fails : (size : ℕ) (serves : List OBlock) (most : ℕ) (content : Content) (actors : List Actor) (a : ℕ) (s : Shared) (y : Actor) (answer : Answer) → IsFlushing size content (flushing serves most (Cell SetFailed ∷ []) answer) true y →
+      Leads size content actors a s y (record s { fail = true; broken = true }) (after (flushing serves most (Cell SetFailed ∷ []) answer) Done) true

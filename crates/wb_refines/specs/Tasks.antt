@@ -18,7 +18,7 @@ use Rattle.wb_tasks.specs.Tables.{BlockJob, BlockRange, Reading, Writing, OnBloc
 use Rattle.wb_tasks.specs.Plan.{table, after}
 use Rattle.wb_tasks.specs.declared.step.Answer.{Answer}
 use Rattle.wb_link.specs.Tables.{Job as AbstractJob, Flushing as FlushingFor, Done as DoneThere}
-use Rattle.wb_link.specs.World.{Shared, Nothing, Actor, World, Start, May, after_record, is_alone}
+use Rattle.wb_link.specs.World.{aside, Shared, Nothing, Actor, World, Start, May, after_record, is_alone}
 use Rattle.wb_refines.specs.Translation.{job_for}
 use Rattle.wb_refines.specs.Going.{shared_after, gone, MayGo}
 use Rattle.wb_refines.specs.Models.{IsAt, IsBelow, HasStopped, plan_of}
@@ -31,6 +31,12 @@ pub record IsIdle (y : Actor) : Type 0 where
   pub order : y.order ≡ None
   pub leads : y.leads ≡ false
 
+-- one that rests may have an order, which is put aside when it begins anything
+pub record IsResting (y : Actor) : Type 0 where
+  pub task : y.task ≡ None
+  pub held : y.held ≡ Nothing
+  pub leads : y.leads ≡ false
+
 -- no task of the world has to be alone
 abbrev pub NobodyIsAlone : World → Type 0
 NobodyIsAlone w = (b : ℕ) (z : Actor) → slice_get w.actors b ≡ Some z → is_alone z.task ≡ false
@@ -40,19 +46,19 @@ abbrev pub AllInBlocks : ℕ → List Extent → Type 0
 AllInBlocks size extents = (e : Extent) → Contains extents e → e.first % size + e.count ≤ size
 
 -- The world can start this job of an actor, which is an actor of this kind then; nothing else changes.
-pub record Starts (size : ℕ) (w : World) (a : ℕ) (job : AbstractJob) (Is : Actor → Type 0) : Type 0 where
+pub record Starts (size : ℕ) (w : World) (a : ℕ) (y : Actor) (job : AbstractJob) (Is : Actor → Type 0) : Type 0 where
   pub may : May size w (Start a job)
   pub then_is : Actor
-  pub world : after_record w (Start a job) ≡ record { shared = w.shared; actors = slice_set w.actors a then_is }
+  pub world : after_record w (Start a job) ≡ record { shared = w.shared; actors = slice_set w.actors a then_is; waiting = aside w.waiting y.order }
   pub at : Is then_is
 
 pub record TasksBegin : Type 0 where
-  pub read : (size : ℕ) (content : Content) (w : World) (a : ℕ) (y : Actor) (card : Card) (part : BlockRange) → slice_get w.actors a ≡ Some y → IsIdle y → NobodyIsAlone w → AllInBlocks size part.extents → card.hold ≡ HoldsNothing →
-      Starts size w a (job_for size content (OnBlock (Reading part))) (λ z. IsAt size content (table (OnBlock (Reading part))) card z)
-  pub write : (size : ℕ) (content : Content) (w : World) (a : ℕ) (y : Actor) (card : Card) (part : BlockRange) → slice_get w.actors a ≡ Some y → IsIdle y → NobodyIsAlone w → AllInBlocks size part.extents → w.shared.mode ≡ Writeback → card.hold ≡ HoldsNothing →
-      Starts size w a (job_for size content (OnBlock (Writing part))) (λ z. IsAt size content (table (OnBlock (Writing part))) card z)
-  pub flush : (size most : ℕ) (content : Content) (w : World) (a : ℕ) (y : Actor) → slice_get w.actors a ≡ Some y → IsIdle y → NobodyIsAlone w →
-      Starts size w a (FlushingFor None) (λ z. IsFlushing size content (table (Flushing [] most)) false z)
+  pub read : (size : ℕ) (content : Content) (w : World) (a : ℕ) (y : Actor) (card : Card) (part : BlockRange) → slice_get w.actors a ≡ Some y → IsResting y → NobodyIsAlone w → AllInBlocks size part.extents → card.hold ≡ HoldsNothing →
+      Starts size w a y (job_for size content (OnBlock (Reading part))) (λ z. IsAt size content (table (OnBlock (Reading part))) card z)
+  pub write : (size : ℕ) (content : Content) (w : World) (a : ℕ) (y : Actor) (card : Card) (part : BlockRange) → slice_get w.actors a ≡ Some y → IsResting y → NobodyIsAlone w → AllInBlocks size part.extents → w.shared.mode ≡ Writeback → card.hold ≡ HoldsNothing →
+      Starts size w a y (job_for size content (OnBlock (Writing part))) (λ z. IsAt size content (table (OnBlock (Writing part))) card z)
+  pub flush : (size : ℕ) (serves : List OBlock) (most : ℕ) (content : Content) (w : World) (a : ℕ) (y : Actor) → slice_get w.actors a ≡ Some y → IsResting y → NobodyIsAlone w →
+      Starts size w a y (FlushingFor None) (λ z. IsFlushing size content (table (Flushing serves most)) false z)
 
 -- The answer may be given, and changes nothing of what is shared.
 pub record IsAnswered (actors : List Actor) (a : ℕ) (s : Shared) (y : Actor) : Type 0 where
@@ -67,7 +73,7 @@ pub record TasksEnd : Type 0 where
       IsAnswered actors a s y × IsIdle (gone y y.task (DoneThere ∷ []))
   pub stopped : (actors : List Actor) (a : ℕ) (s : Shared) (y : Actor) (words : Words) (answer : Answer) (job : TaskJob) (card : Card) → HasStopped words (record { job = job; steps = []; answer = answer }) card y →
       IsAnswered actors a s y × IsBelow (gone y y.task (DoneThere ∷ [])) card × ((gone y y.task (DoneThere ∷ [])).leads ≡ false) × (IsIdle (gone y y.task (DoneThere ∷ [])) ⊎ (flag words.fail ≡ true))
-  pub flush : (size most : ℕ) (content : Content) (actors : List Actor) (a : ℕ) (s : Shared) (y : Actor) (answer : Answer) (leads : Bool) → IsFlushing size content (flushing most [] answer) leads y →
+  pub flush : (size : ℕ) (serves : List OBlock) (most : ℕ) (content : Content) (actors : List Actor) (a : ℕ) (s : Shared) (y : Actor) (answer : Answer) (leads : Bool) → IsFlushing size content (flushing serves most [] answer) leads y →
       IsAnswered actors a s y × ((gone y y.task (DoneThere ∷ [])).leads ≡ leads) × (leads ≡ false → IsIdle (gone y y.task (DoneThere ∷ [])))
   -- a block whose number was worn is given back
   pub parts : (words : Words) (job : TaskJob) (access : Access) (block : OBlock) (answer : Answer) (card : Card) (y : Actor) → HasStopped words (record { job = job; steps = Cell (Release access block) ∷ []; answer = answer }) card y →

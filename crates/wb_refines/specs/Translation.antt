@@ -1,7 +1,7 @@
 -- The tables of reads, writes and flushes as those of the abstract world: which job each is there, and which steps of it each
 -- step stands for. A look at a lock word, the exchange and the look at the seal stand for nothing by themselves: the abstract
 -- actor takes its block, and sees the seal, where the number is looked at, after which a task can no longer find its block worn.
-use Rattle.std.specs.Prelude.{◌%◌, ◌/◌, ◌++◌, ℕ, List, [], ◌∷◌, Option, Some, None}
+use Rattle.std.specs.Prelude.{◌%◌, ◌/◌, ◌++◌, ℕ, false, List, [], ◌∷◌, Option, Some, None}
 use Rattle.wb_types.specs.declared.extent.Extent.{Extent}
 use Rattle.wb_types.specs.Extents.{rising}
 use Rattle.wb_types.specs.declared.mode.Dev.{Dev}
@@ -45,14 +45,14 @@ offsets size (e ∷ es) = offsets_in size e ++ offsets size es
 
 -- A read, a write of this content to each sector, a flush that serves nobody. No other job has one yet.
 abbrev pub job_for : ℕ → Content → TaskJob → AbstractJob
-job_for size content (OnBlock (Reading part)) = ReadingAt part.block.0 (offsets size part.extents)
-job_for size content (OnBlock (Writing part)) = WritingAt part.block.0 (offsets size part.extents) content
+job_for size content (OnBlock (Reading part)) = ReadingAt false part.block.0 (offsets size part.extents)
+job_for size content (OnBlock (Writing part)) = WritingAt false part.block.0 (offsets size part.extents) content
 job_for size content job = FlushingFor None
 
 -- the block of a read or write
 abbrev pub block_in : AbstractJob → ℕ
-block_in (ReadingAt block os) = block
-block_in (WritingAt block os content) = block
+block_in (ReadingAt past block os) = block
+block_in (WritingAt past block os content) = block
 block_in job = 0
 
 -- ---- what steps stand for, before what the later ones do

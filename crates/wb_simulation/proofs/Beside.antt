@@ -1,6 +1,7 @@
 -- What a migration has read is what its source has still, where the device was synced, or another block was written.
 use Rattle.std.proofs.Common.{◌≡◌, ◌≢◌, ◌<◌, ◌≤◌, ◌+◌, ◌*◌, ◌/◌, ◌%◌, ◌∙◌, ◌⊎◌, inl, inr, if◌then◌else◌, ℕ, zero, suc, Bool, true, false, List, [], ◌∷◌, Option, Some, None, refl, sym, ap, subst, arith, length, map, slice_get}
 use Rattle.std.proofs.lemmas.Bool.{cases_lt}
+use Rattle.std.proofs.lemmas.Nat.{mul-le}
 use Rattle.wb_types.specs.declared.extent.Extent.{Extent}
 use Rattle.wb_types.specs.declared.mode.Dev.{Dev}
 use Rattle.wb_types.specs.declared.mode.Dev.TheVariants.{Metadata, Cache, Origin}
@@ -29,14 +30,16 @@ use Rattle.wb_refines.specs.Migrations.{order_on, source}
 use Rattle.wb_refines.proofs.Holding.{is_one}
 use Rattle.wb_refines.proofs.Locks.{total_two}
 use Rattle.wb_runs.specs.declared.job.Job.{Job}
-use Rattle.wb_runs.specs.Happenings.{order_for}
 use Rattle.wb_policy.specs.declared.order.Order.{Order}
 use Rattle.wb_runs.specs.States.{Actor, with_device}
 use Rattle.wb_runs.specs.Holding.{cards_of, AllSuited, TaskSuits}
 use Rattle.wb_simulation.specs.Steps.{AreOfBlock, IsTail}
-use Rattle.wb_simulation.specs.Behind.{HasRead}
-use Rattle.wb_simulation.proofs.Places.{rows}
-use Rattle.wb_simulation.proofs.Behind.{CarriesOthers, carried_with, card_there}
+use Rattle.wb_tasks.specs.Tables.{BlockRange}
+use Rattle.wb_tasks.specs.declared.step.Answer.{Answer}
+use Rattle.wb_link.specs.World.{World, Actor as AbstractActor}
+use Rattle.wb_simulation.specs.Carried.{HasRead, IsCarried}
+use Rattle.wb_simulation.proofs.Orders.{CarriesOthers}
+use Rattle.wb_simulation.proofs.Among.{card_there}
 
 -- ---- what reads give
 
@@ -65,10 +68,15 @@ has_newest size old new at (Device (ReadMetadata left) ∷ later) buffer same r 
 has_newest size old new at (Device (WriteNode number) ∷ later) buffer same r = tt
 has_newest size old new at (Device WriteRoot ∷ later) buffer same r = tt
 
+-- what is carried is so where its source has what it has read
+with_read : (size : ℕ) (orders : List (Option Order)) (devices devices' : Devices (List History)) (migration : Migration) (block : OBlock) (part : BlockRange) (steps : List Want) (answer : Answer) (z : Actor) (u : AbstractActor) (k : IsCarried size orders devices migration block part steps answer z u) →
+    HasRead size (device_in (source_of migration) devices') (row (source (order_on part k.c k.next) migration) part.block.0) steps z.buffer → IsCarried size orders devices' migration block part steps answer z u
+with_read size orders devices devices' migration block part steps answer z u k read = record { block_is = k.block_is; is_part = k.is_part; c = k.c; small = k.small; fills = k.fills; of_block = k.of_block; paired = k.paired; next = k.next; order = k.order; of = k.of; kept = k.kept; has = k.has; at = k.at; copies = k.copies; buffer = read }
+
 -- where each sector's newest content is the same, all that are carried are so still
-pub carries_newest : (size : ℕ) (devices devices' : Devices (List History)) (orders : List (Option Order)) (actors : List Actor) (a : ℕ) → map newest devices'.origin ≡ map newest devices.origin → map newest devices'.cache ≡ map newest devices.cache → CarriesOthers size devices devices' orders actors a
-carries_newest size devices devices' orders actors a origin cache b z u c order n ez eo k =
-    carried_with size devices (record { 0 = c }) order z u k devices' order (inl refl) (has_newest size _ _ _ k.plan.steps z.buffer (side k.migration) k.buffer)
+pub carries_newest : (size : ℕ) (devices devices' : Devices (List History)) (orders : List (Option Order)) (actors : List Actor) (s : World) (a : ℕ) → map newest devices'.origin ≡ map newest devices.origin → map newest devices'.cache ≡ map newest devices.cache → CarriesOthers size orders orders devices devices' actors s a
+carries_newest size devices devices' orders actors s a origin cache b z u migration block part plan n ez eu task job k =
+    with_read size orders devices devices' migration block part plan.steps plan.answer z u k (has_newest size _ _ _ plan.steps z.buffer (side migration) k.buffer)
   where
     side : (m : Migration) → map newest (device_in (source_of m) devices') ≡ map newest (device_in (source_of m) devices)
     side (Promote p) = origin
@@ -103,6 +111,10 @@ each_beside lands device from at (c ∷ cs) contents away g = (
   each_beside lands device (suc from) at cs contents (elim away [ inl l ↦ inl (omega (arith, l)) | inr l ↦ inr (omega (arith, l)) ]) g.1,
 )
 
+-- one row more
+rows : (size p q : ℕ) → p < q → p * size + size ≤ q * size
+rows size p q l = omega (arith, mul-le (p + 1) size q size (omega (arith, l)) (omega arith))
+
 -- parts of two blocks share no sector
 parts_apart : (size p q i j m n : ℕ) → p ≢ q → i + m ≤ size → j + n ≤ size → (p * size + i + m ≤ q * size + j) ⊎ (q * size + j + n ≤ p * size + i)
 parts_apart size p q i j m n other l k = elim (cases_lt p q) [
@@ -125,45 +137,43 @@ module _ (blocks : ℕ) (words : Words) (actors : List Actor) (a b : ℕ) (x z :
       let one = lock.one in
       omega (arith, two, here, there, one)
 
--- What is written on the cache for a block is in no cache block out of which another one is copied.
-abbrev pub IsBesideCopies : ℕ → List (Option Order) → OBlock → Dev → Extent → Type 0
-IsBesideCopies size orders mine device e = (c : ℕ) (migration : Migration) (other : OBlock) → device ≡ Cache → source_of migration ≡ Cache → slice_get orders c ≡ Some (Some (order_for migration other)) → other.0 ≢ mine.0 → e.first / size ≢ c
+-- What is written on the cache for a block is in no cache block out of which another actor copies another one.
+abbrev pub IsBesideCopies : ℕ → List (Option Order) → Devices (List History) → World → ℕ → OBlock → Dev → Extent → Type 0
+IsBesideCopies size orders devices s a mine device e = (b : ℕ) (z : Actor) (u : AbstractActor) (migration : Migration) (block : OBlock) (part : BlockRange) (steps : List Want) (answer : Answer) → b ≢ a → slice_get s.actors b ≡ Some u → (k : IsCarried size orders devices migration block part steps answer z u) → ¬ IsTail steps →
+    device ≡ Cache → source_of migration ≡ Cache → part.block.0 ≢ mine.0 → k.c.0 ≢ e.first / size
 
-module _ (size blocks : ℕ) (words : Words) (devices : Devices (List History)) (orders : List (Option Order)) (actors : List Actor) (a : ℕ) (x : Actor) (mine : OBlock) (device : Dev) (e : Extent) (lands : ℕ → Bool) (contents : List Content)
-    (rule : LockRule blocks words (cards_of actors)) (suited : AllSuited blocks actors) (ex : slice_get actors a ≡ Some x) (inside : mine.0 < blocks) (own : x.card.hold ≡ Held Owned mine) (in_block : IsInBlock size mine.0 device e) (count : length contents ≡ e.count) (h : HoldsBlocks device) (beside : IsBesideCopies size orders mine device e) where
+module _ (size blocks : ℕ) (words : Words) (devices : Devices (List History)) (orders : List (Option Order)) (actors : List Actor) (s : World) (a : ℕ) (x : Actor) (mine : OBlock) (device : Dev) (e : Extent) (lands : ℕ → Bool) (contents : List Content)
+    (rule : LockRule blocks words (cards_of actors)) (suited : AllSuited blocks actors) (ex : slice_get actors a ≡ Some x) (inside : mine.0 < blocks) (own : x.card.hold ≡ Held Owned mine) (in_block : IsInBlock size mine.0 device e) (count : length contents ≡ e.count) (h : HoldsBlocks device) (beside : IsBesideCopies size orders devices s a mine device e) where
   -- the buffers of all others are what their sources have still
-  pub carries_written : CarriesOthers size devices (with_device device devices (written_where lands (device_in device devices) e.first contents)) orders actors a
-  carries_written b z u c order n ez eo k = carried_with size devices (record { 0 = c }) order z u k (new device) order (inl refl) (by k.migration refl device refl h)
+  pub carries_written : CarriesOthers size orders orders devices (with_device device devices (written_where lands (device_in device devices) e.first contents)) actors s a
+  carries_written b z u migration block part plan n ez eu task job k = with_read size orders devices (new device) migration block part plan.steps plan.answer z u k (by migration refl device refl h)
     where
       new : Dev → Devices (List History)
       new d = with_device d devices (written_where lands (device_in d devices) e.first contents)
 
       Reads : Migration → Devices (List History) → Type 0
-      Reads m ds = HasRead size (device_in (source_of m) ds) (row (source (order_on k.part (record { 0 = c }) None) m) k.part.block.0) k.plan.steps z.buffer
+      Reads m ds = HasRead size (device_in (source_of m) ds) (row (source (order_on part k.c k.next) m) part.block.0) plan.steps z.buffer
 
       -- who writes next owns another block, under an order that is live
-      other_block : (to : Dev) (r : Extent) (later : List Want) → k.plan.steps ≡ Device (Write to r) ∷ later → k.part.block.0 ≢ mine.0
-      other_block to r later s = own_apart blocks words actors a b x z mine k.part.block rule n ex ez inside own theirs
+      other_block : (to : Dev) (r : Extent) (later : List Want) → plan.steps ≡ Device (Write to r) ∷ later → part.block.0 ≢ mine.0
+      other_block to r later s = own_apart blocks words actors a b x z mine part.block rule n ex ez inside own theirs
         where
-          suits : SuitsJob blocks k.plan.job z.card k.plan.steps
-          suits = subst (λ (t : Option (Job × Plan)). TaskSuits blocks z.card t) k.task (suited b z ez)
+          suits : SuitsJob blocks plan.job z.card plan.steps
+          suits = subst (λ (t : Option (Job × Plan)). TaskSuits blocks z.card t) task (suited b z ez)
 
-          theirs : z.card.hold ≡ Held Owned k.part.block
-          theirs = (subst (λ (ws : List Want). Has (Migrating k.migration k.part) z.card ws) s (subst (λ (j : TaskJob). SuitsJob blocks j z.card k.plan.steps) k.job suits).1).0
+          theirs : z.card.hold ≡ Held Owned part.block
+          theirs = (subst (λ (ws : List Want). Has (Migrating migration part) z.card ws) s (subst (λ (j : TaskJob). SuitsJob blocks j z.card plan.steps) job suits).1).0
 
-      lives : (to : Dev) (r : Extent) (later : List Want) → k.plan.steps ≡ Device (Write to r) ∷ later → slice_get orders c ≡ Some (Some (order_for k.migration k.block))
-      lives to r later s = elim k.has [ inl l ↦ eo ∙ ap (λ (o : Option Order). Some o) l.0 | inr t ↦ absurd (subst (λ (ws : List Want). IsTail ws) s t.1) ]
-
-      copied_beside : device ≡ Cache → source_of k.migration ≡ Cache → (to : Dev) (r : Extent) (later : List Want) → k.plan.steps ≡ Device (Write to r) ∷ later → c ≢ e.first / size
-      copied_beside f source_is to r later s g = beside c k.migration k.block f source_is (lives to r later s) (λ q. other_block to r later s (ap (λ (v : OBlock). v.0) k.block_is ∙ q)) (sym g)
+      copied_beside : device ≡ Cache → source_of migration ≡ Cache → (to : Dev) (r : Extent) (later : List Want) → plan.steps ≡ Device (Write to r) ∷ later → k.c.0 ≢ e.first / size
+      copied_beside f source_is to r later e' same = beside b z u migration block part plan.steps plan.answer n eu k (λ t. subst (λ (ws : List Want). IsTail ws) e' t) f source_is (other_block to r later e') same
 
       -- it reads in another row of a device than what is written
-      reads : (list : List History) (from into : ℕ) → e.first ≡ into * size + e.first % size → ((to : Dev) (r : Extent) (later : List Want) → k.plan.steps ≡ Device (Write to r) ∷ later → from ≢ into) → (steps : List Want) → k.plan.steps ≡ steps →
+      reads : (list : List History) (from into : ℕ) → e.first ≡ into * size + e.first % size → ((to : Dev) (r : Extent) (later : List Want) → plan.steps ≡ Device (Write to r) ∷ later → from ≢ into) → (steps : List Want) → plan.steps ≡ steps →
           HasRead size list from steps z.buffer → HasRead size (written_where lands list e.first contents) from steps z.buffer
       reads list from into at other (Device (Write to r) ∷ later) s g = (g.0, each_beside lands list (from * size + r.first % size) e.first z.buffer contents away g.1)
         where
-          there : AreOfBlock size k.part.block.0 (Device (Write to r) ∷ later)
-          there = subst (λ (ws : List Want). AreOfBlock size k.part.block.0 ws) s k.of_block
+          there : AreOfBlock size part.block.0 (Device (Write to r) ∷ later)
+          there = subst (λ (ws : List Want). AreOfBlock size part.block.0 ws) s k.of_block
 
           away : (from * size + r.first % size + length z.buffer ≤ e.first) ⊎ (e.first + length contents ≤ from * size + r.first % size)
           away =
@@ -185,14 +195,14 @@ module _ (size blocks : ℕ) (words : Words) (devices : Devices (List History)) 
       reads list from into at other (Device WriteRoot ∷ later) s g = tt
 
       -- of this migration, where this device is written
-      told : (m : Migration) → k.migration ≡ m → (d : Dev) → device ≡ d → Reads m (new d) → Reads k.migration (new device)
+      told : (m : Migration) → migration ≡ m → (d : Dev) → device ≡ d → Reads m (new d) → Reads migration (new device)
       told m s d f r = subst (λ (q : Migration). Reads q (new device)) (sym s) (subst (λ (q : Dev). Reads m (new q)) (sym f) r)
 
-      by : (m : Migration) → k.migration ≡ m → (d : Dev) → device ≡ d → HoldsBlocks d → Reads k.migration (new device)
+      by : (m : Migration) → migration ≡ m → (d : Dev) → device ≡ d → HoldsBlocks d → Reads migration (new device)
       by (Promote p) s Cache f hd = told (Promote p) s Cache f (subst (λ (q : Migration). Reads q devices) s k.buffer)
-      by (Promote p) s Origin f hd = told (Promote p) s Origin f (reads devices.origin k.part.block.0 mine.0 (subst (λ (q : Dev). IsInBlock size mine.0 q e) f in_block).first other_block k.plan.steps refl (subst (λ (q : Migration). Reads q devices) s k.buffer))
-      by Demote s Cache f hd = told Demote s Cache f (reads devices.cache c (e.first / size) (subst (λ (q : Dev). IsInBlock size mine.0 q e) f in_block).first (copied_beside f (ap source_of s)) k.plan.steps refl (subst (λ (q : Migration). Reads q devices) s k.buffer))
+      by (Promote p) s Origin f hd = told (Promote p) s Origin f (reads devices.origin part.block.0 mine.0 (subst (λ (q : Dev). IsInBlock size mine.0 q e) f in_block).first other_block plan.steps refl (subst (λ (q : Migration). Reads q devices) s k.buffer))
+      by Demote s Cache f hd = told Demote s Cache f (reads devices.cache k.c.0 (e.first / size) (subst (λ (q : Dev). IsInBlock size mine.0 q e) f in_block).first (copied_beside f (ap source_of s)) plan.steps refl (subst (λ (q : Migration). Reads q devices) s k.buffer))
       by Demote s Origin f hd = told Demote s Origin f (subst (λ (q : Migration). Reads q devices) s k.buffer)
-      by Clean s Cache f hd = told Clean s Cache f (reads devices.cache c (e.first / size) (subst (λ (q : Dev). IsInBlock size mine.0 q e) f in_block).first (copied_beside f (ap source_of s)) k.plan.steps refl (subst (λ (q : Migration). Reads q devices) s k.buffer))
+      by Clean s Cache f hd = told Clean s Cache f (reads devices.cache k.c.0 (e.first / size) (subst (λ (q : Dev). IsInBlock size mine.0 q e) f in_block).first (copied_beside f (ap source_of s)) plan.steps refl (subst (λ (q : Migration). Reads q devices) s k.buffer))
       by Clean s Origin f hd = told Clean s Origin f (subst (λ (q : Migration). Reads q devices) s k.buffer)
       by m s Metadata f hd = absurd hd

@@ -37,7 +37,7 @@ pub record Acted (size : ℕ) (content : Content) (actors : List Actor) (a : ℕ
   pub same : SameElse s (shared_after s y y.task results)
   pub request : IsRequestAt size content words job_on plan card (gone y y.task results)
   pub below : IsBelow (gone y y.task results) card
-  pub order : (gone y y.task results).order ≡ None
+  pub order : (gone y y.task results).order ≡ y.order
   pub leads : (gone y y.task results).leads ≡ true → gone y y.task results ≡ y
   pub among_others : is_alone (gone y y.task results).task ≡ false
 
@@ -124,7 +124,7 @@ module _ (size : ℕ) (content : Content) (job_on : BlockRange → BlockJob) (re
           same = f.same;
           request = record { part = part; job = same_job; is_part = is_part; of_block = of_block_after words step ws answer t.1; at = elim f.at [ inl i ↦ inl i | inr k ↦ inr (inl k) ] };
           below = elim f.at [ inl i ↦ has_no_more size content plan' (card_after words step card) (gone y y.task f.results) i | inr k ↦ k.below ];
-          order = elim f.at [ inl i ↦ ap (λ (v : Actor). v.order) i.is | inr k ↦ k.order ];
+          order = elim f.at [ inl i ↦ ap (λ (v : Actor). v.order) i.is | inr k ↦ k.order ] ∙ sym (ap (λ (v : Actor). v.order) is.is);
           leads = elim f.at [
             | inl i ↦ λ l. let bad : true ≡ false = sym l ∙ ap (λ (v : Actor). v.leads) i.is in absurd (cc)
             | inr k ↦ λ l. let bad : true ≡ false = sym l ∙ k.leads in absurd (cc)
@@ -166,8 +166,8 @@ module _ (size : ℕ) (content : Content) (job_on : BlockRange → BlockJob) (re
         job_stays words SetSuspended ws = refl
 
     -- nothing is done there
-    nothing : (words' : Words) (plan' : Plan) (card' : Card) → WordsAgree words' s → IsRequestAt size content words' job_on plan' card' y → IsBelow y card' → y.order ≡ None → is_alone y.task ≡ false → Acted size content actors a s y words' job_on plan' card'
-    nothing words' plan' card' w' r below order alone = record {
+    nothing : (words' : Words) (plan' : Plan) (card' : Card) → WordsAgree words' s → IsRequestAt size content words' job_on plan' card' y → IsBelow y card' → is_alone y.task ≡ false → Acted size content actors a s y words' job_on plan' card'
+    nothing words' plan' card' w' r below alone = record {
       results = [];
       may = tt;
       quiet = quiet_none y.task;
@@ -175,7 +175,7 @@ module _ (size : ℕ) (content : Content) (job_on : BlockRange → BlockJob) (re
       same = subst (λ (t : Shared). SameElse s t) (sym (shared_stays s y y.task)) (same_else s);
       request = subst (λ (z : Actor). IsRequestAt size content words' job_on plan' card' z) (sym (gone_nowhere y y.task)) r;
       below = subst (λ (z : Actor). IsBelow z card') (sym (gone_nowhere y y.task)) below;
-      order = ap (λ (z : Actor). z.order) (gone_nowhere y y.task) ∙ order;
+      order = ap (λ (z : Actor). z.order) (gone_nowhere y y.task);
       leads = λ l. gone_nowhere y y.task;
       among_others = ap (λ (z : Actor). is_alone z.task) (gone_nowhere y y.task) ∙ alone;
     }
@@ -185,31 +185,31 @@ module _ (size : ℕ) (content : Content) (job_on : BlockRange → BlockJob) (re
     stopped (Release access b) [] alone k =
         let parted = tasks_end.parts words (OnBlock (job_on part)) access b answer card y k in
         nothing (words_after words (Release access b)) (plan_of (job_on part) [] answer) (card_after words (Release access b) card) (record { fail = w.fail; seals = w.seals })
-        (record { part = part; job = refl; is_part = is_part; of_block = tt; at = inr (inl parted) }) parted.below parted.order alone
+        (record { part = part; job = refl; is_part = is_part; of_block = tt; at = inr (inl parted) }) parted.below alone
     stopped step ws alone k = absurd k.over
 
     -- it has no task there, and finds that the target has failed
-    looks_late : (ws : List Want) → y.order ≡ None → is_alone y.task ≡ false → IsBelow y card → flag words.fail ≡ true → y.task ≡ None → Goal (Look Fail) ws
-    looks_late ws order alone below failed none = by_test (words.fail == 0) (flag_of words.fail (words.fail == 0) refl)
+    looks_late : (ws : List Want) → is_alone y.task ≡ false → IsBelow y card → flag words.fail ≡ true → y.task ≡ None → Goal (Look Fail) ws
+    looks_late ws alone below failed none = by_test (words.fail == 0) (flag_of words.fail (words.fail == 0) refl)
       where
         by_test : (t : Bool) → flag words.fail ≡ cond t false true →
             Acted size content actors a s y words job_on (if t then onward (plan_of (job_on part) (Cell (Look Fail) ∷ ws) answer) else refused (plan_of (job_on part) (Cell (Look Fail) ∷ ws) answer) [] Failed) (card_after words (Look Fail) card)
         by_test true f = let bad : true ≡ false = sym failed ∙ f in absurd (cc)
         by_test false f = nothing words (refused (plan_of (job_on part) (Cell (Look Fail) ∷ ws) answer) [] Failed) (card_after words (Look Fail) card) w
             (record { part = part; job = refl; is_part = is_part; of_block = tt; at = inr (inr (record { failed = failed; nothing = none; at = inr (refl, λ e. absurd (cc)) })) })
-            (record { owned = below.owned; shared = below.shared }) order alone
+            (record { owned = below.owned; shared = below.shared }) alone
 
-    late : (step : CellStep) (ws : List Want) → y.order ≡ None → is_alone y.task ≡ false → IsBelow y card → IsLate words (plan_of (job_on part) (Cell step ∷ ws) answer) y → Goal step ws
-    late step ws order alone below l = elim l.at [
+    late : (step : CellStep) (ws : List Want) → is_alone y.task ≡ false → IsBelow y card → IsLate words (plan_of (job_on part) (Cell step ∷ ws) answer) y → Goal step ws
+    late step ws alone below l = elim l.at [
       | inl e ↦ let steps : Cell step ∷ ws ≡ Cell (Look Fail) ∷ Cell (Look (LockWord (range_of (job_on part)).block)) ∷ [] = ap (λ (p : Plan). p.steps) e in
-          let same : step ≡ Look Fail = cc in subst (λ (v : CellStep). Goal v ws) (sym same) (looks_late ws order alone below l.failed l.nothing)
+          let same : step ≡ Look Fail = cc in subst (λ (v : CellStep). Goal v ws) (sym same) (looks_late ws alone below l.failed l.nothing)
       | inr e ↦ let bad : Cell step ∷ ws ≡ [] = e.0 in absurd (cc)
     ]
 
     -- whichever it is
-    pub acts_on_words : (cards : List Card) (step : CellStep) (ws : List Want) → LockRule blocks words cards → slice_get cards a ≡ Some card → TakesBeside step actors cards a a → IsBelow y card → y.order ≡ None → is_alone y.task ≡ false → Of (Cell step ∷ ws) → Suits blocks (plan_of (job_on part) (Cell step ∷ ws) answer) card →
+    pub acts_on_words : (cards : List Card) (step : CellStep) (ws : List Want) → LockRule blocks words cards → slice_get cards a ≡ Some card → TakesBeside step actors cards a a → IsBelow y card → is_alone y.task ≡ false → Of (Cell step ∷ ws) → Suits blocks (plan_of (job_on part) (Cell step ∷ ws) answer) card →
         IsAt size content (plan_of (job_on part) (Cell step ∷ ws) answer) card y ⊎ HasStopped words (plan_of (job_on part) (Cell step ∷ ws) answer) card y ⊎ IsLate words (plan_of (job_on part) (Cell step ∷ ws) answer) y → Goal step ws
-    acts_on_words cards step ws rule here all below order alone o suits at = elim at [
+    acts_on_words cards step ws rule here all below alone o suits at = elim at [
       | inl i ↦ at_it cards step ws rule here all o suits i
-      | inr k ↦ elim k [ inl h ↦ stopped step ws alone h | inr l ↦ late step ws order alone below l ]
+      | inr k ↦ elim k [ inl h ↦ stopped step ws alone h | inr l ↦ late step ws alone below l ]
     ]

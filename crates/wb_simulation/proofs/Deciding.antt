@@ -1,19 +1,17 @@
 -- What a migration asks of the desk is followed by the one behind.
-use Rattle.std.proofs.Common.{◌≡◌, ◌≢◌, ◌∙◌, inl, inr, ℕ, Bool, true, List, [], ◌∷◌, Option, Some, None, refl, sym, ap, subst, Contains, length, slice_get, slice_set}
-use Rattle.std.proofs.lemmas.List.{length-set}
+use Rattle.std.proofs.Common.{◌≡◌, ◌≢◌, ◌∙◌, inl, inr, ℕ, Bool, true, List, [], ◌∷◌, Option, Some, None, refl, sym, ap, subst, Contains, slice_get, slice_set}
 use Rattle.wb_types.specs.declared.number.CBlock.{CBlock}
 use Rattle.wb_types.specs.declared.number.OBlock.{OBlock}
 use Rattle.wb_types.specs.declared.refusal.Refusal.{Refusal}
-use Rattle.wb_disk.specs.Device.{Content, History}
+use Rattle.wb_disk.specs.Device.{History}
 use Rattle.wb_words.specs.SharedWords.{Words}
 use Rattle.wb_words.specs.declared.word.Access.TheVariants.{Owned}
-use Rattle.wb_words.specs.declared.card.Hold.TheVariants.{Held}
 use Rattle.wb_words.specs.declared.step.CellStep.TheVariants.{Release}
 use Rattle.wb_policy.specs.declared.order.Order.{Order}
 use Rattle.wb_tasks.specs.Tables.{Migrating}
 use Rattle.wb_tasks.specs.Plan.{Plan}
 use Rattle.wb_tasks.specs.Ready.{Has, Suits, IsRest}
-use Rattle.wb_tasks.specs.declared.step.Answer.TheVariants.{Done as Finished, Refused as Refuses}
+use Rattle.wb_tasks.specs.declared.step.Answer.TheVariants.{Refused as Refuses}
 use Rattle.wb_tasks.specs.declared.step.DeskStep.TheVariants.{Map, Unmap, ReleaseOrder}
 use Rattle.wb_tasks.specs.declared.step.Migration.{Migration}
 use Rattle.wb_tasks.specs.declared.step.Migration.TheVariants.{Promote, Demote}
@@ -21,206 +19,327 @@ use Rattle.wb_tasks.specs.declared.step.Want.{Want}
 use Rattle.wb_tasks.specs.declared.step.Want.TheVariants.{Cell, Desk}
 use Rattle.wb_stage.specs.Asking.{is_of}
 use Rattle.wb_devices.specs.declared.devices.Devices.{Devices}
-use Rattle.wb_link.specs.Tables.{Order as AbstractOrder, Answer as AbstractAnswer, Got, Done as DoneThere, Short, Map_to, Unmap_from, Give_up, Promoting, Demoting, Failed as AnsweredFailed}
+use Rattle.wb_link.specs.Tables.{Order as AbstractOrder, Got, Done as DoneThere, Short, Map_to, Unmap_from, Give_up, Promoting, Demoting, Failed as AnsweredFailed}
 use Rattle.wb_link.specs.World.{World, Shared, Nothing, effect, Actor as AbstractActor}
 use Rattle.wb_link.proofs.Lists.{get_set_same, get_set_other}
 use Rattle.wb_refines.specs.Translation.{offsets}
 use Rattle.wb_refines.specs.Models.{WordsAgree, plan_of, held_of}
-use Rattle.wb_refines.specs.Migrations.{order_on, source, migration_wants, job_under}
+use Rattle.wb_refines.specs.Migrations.{order_on, job_under}
 use Rattle.wb_refines.specs.Copies.{migrating}
 use Rattle.wb_refines.specs.Carrying.{GoesTo, without_block, under}
-use Rattle.wb_refines.specs.Carried.{AnswersAlike, IsMigrationAt}
+use Rattle.wb_refines.specs.Carried.{IsMigrationAt}
 use Rattle.wb_refines.proofs.Carrying.{carrying_followed}
-use Rattle.wb_refines.proofs.Cells.{IsPlain, held_plain, saw_plain, same_images}
+use Rattle.wb_refines.proofs.Cells.{held_plain, saw_plain, same_images}
 use Rattle.wb_refines.proofs.Followed.{rest_plain}
 use Rattle.wb_runs.specs.declared.job.Job.TheVariants.{Migrate}
 use Rattle.wb_runs.specs.Effects.{dropped}
 use Rattle.wb_runs.specs.Happenings.{order_for}
 use Rattle.wb_runs.specs.States.{Actor}
-use Rattle.wb_simulation.specs.Behind.{behind, target, AreCopiedAt}
-use Rattle.wb_simulation.specs.Steps.{AreOfBlock, ArePaired, IsNoWrite, IsOutside, IsTail, IsLettingGo}
 use Rattle.wb_simulation.specs.Worlds.{Agrees, Turn, Stays, Maps, Unmaps, GivesUp, TurnedTo, DeskTurnedTo}
-use Rattle.wb_simulation.specs.Migrating.{AreOwned, Carried, EndsOrder}
-use Rattle.wb_simulation.proofs.Behind.{StaysOutside, past, stays_past, carries_same}
-use Rattle.wb_simulation.proofs.Carrying.{Settles, settles_on, settles_over, carries_by}
-use Rattle.wb_simulation.proofs.Dropping.{is_of_its, own_orders, others_orders}
-use Rattle.wb_simulation.proofs.Found.{IsFound, only_there, own_aside, plan_is, task_at, of_block_at, paired_at, copies_at, order_lives, order_mine, no_write_read, same_plan}
-use Rattle.wb_simulation.proofs.Copying.{carry_on, at, at_again, y_is, y_has, live_is}
+use Rattle.std.proofs.Common.{Bool, true, false, eq-eqb, if◌then◌else◌, ◌&&◌, ◌||◌, ◌++◌}
+use Rattle.std.proofs.lemmas.Bool.{ne_eqb}
+use Rattle.std.proofs.lemmas.List.Elements.{Contains-append_cases, Contains-append_left, Contains-append_right}
+use Rattle.wb_types.proofs.Lists.{Contains-first, Contains-behind}
+use Rattle.wb_runs.proofs.Lists.{first_or}
+use Rattle.wb_runs.specs.Effects.{replacing}
+use Rattle.wb_desk.specs.Entries.{is_replacement}
+use Rattle.wb_contents.specs.Volume.{Locations, changed}
+use Rattle.wb_contents.proofs.Positions.{changed_same, changed_other}
+use Rattle.wb_policy.specs.declared.order.Order.TheVariants.{Promote as Promote', Replace, Demote as DemoteOrder, Clean as Clean'}
+use Rattle.wb_link.specs.World.{following}
+use Rattle.wb_simulation.specs.Carried.{held, is_at, replacement_there, order_there, live_there, IsOrderFor}
+use Rattle.wb_simulation.specs.Migrating.{LeavesFrom, TurnsOrder}
+use Rattle.wb_simulation.proofs.Orders.{turns_so}
+use Rattle.wb_simulation.proofs.Carrying.{stands_there}
+use Rattle.std.proofs.lemmas.Bool.{cases_eq}
+use Rattle.wb_types.specs.declared.number.CBlock.{CBlock}
+use Rattle.wb_tasks.specs.Tables.{BlockRange}
+use Rattle.wb_tasks.specs.Ready.{source_of}
+use Rattle.wb_tasks.specs.declared.step.Answer.{Answer}
+use Rattle.wb_tasks.specs.declared.step.Migration.TheVariants.{Clean}
+use Rattle.wb_devices.specs.Moving.{device_in}
+use Rattle.wb_refines.specs.Going.{gone}
+use Rattle.wb_refines.specs.Models.{SawSeal, held_for}
+use Rattle.wb_simulation.specs.Carried.{IsCarried}
+use Rattle.wb_simulation.specs.Steps.{IsTail}
+use Rattle.wb_simulation.specs.Migrating.{Carried, EndsOrder}
+use Rattle.wb_simulation.proofs.Orders.{CarriesOthers, carries_same, goes_so}
+use Rattle.wb_simulation.proofs.Carrying.{IsOn, is_done, carry_over, carried_job, carried_order}
+use Rattle.wb_simulation.proofs.Copying.{GoesOn, carried_with, carry_so, at_again, y_is, y_has, its_own, lives, live_is, no_write_read}
 
-module _ (size most blocks : ℕ) (words : Words) (committing : Bool) (orders : List (Option Order)) (devices : Devices (List History)) (actors : List Actor) (a : ℕ) (x : Actor) (s : World) (g : Agrees size most words committing orders devices actors s) (ex : slice_get actors a ≡ Some x)
-    (f : IsFound size most words committing orders devices actors a x s g) (ws : List Want) where
-  abbrev own : AbstractOrder
-  own = order_on f.is.part (record { 0 = f.c }) None
+-- a migration's order is of its block
+pub is_of_its : (migration : Migration) (block : OBlock) → is_of block (order_for migration block) ≡ true
+is_of_its (Promote k) block = eq-eqb block.0 block.0 refl
+is_of_its Demote block = eq-eqb block.0 block.0 refl
+is_of_its Clean block = eq-eqb block.0 block.0 refl
 
+-- ---- what lives on other cache blocks
+
+map_elsewhere : (m : Locations) (b c d : ℕ) (o : Option Order) → d ≢ c → m b ≡ None → live_there (changed m b (Some c)) d o ≡ live_there m d o
+map_elsewhere m b c d None n free = refl
+map_elsewhere m b c d (Some (Promote' x k)) n free = refl
+map_elsewhere m b c d (Some (DemoteOrder x)) n free = refl
+map_elsewhere m b c d (Some (Clean' x)) n free = refl
+map_elsewhere m b c d (Some (Replace old new k)) n free = ap (λ (t : Bool). Some (replacement_there t old.0 new.0 d)) (elim (cases_eq old.0 b) [
+  | inl e ↦ ap (λ (l : Option ℕ). is_at l d) (ap (changed m b (Some c)) e ∙ changed_same m b (Some c)) ∙ ne_eqb c d (λ q. n (sym q)) ∙ sym (ap (λ (l : Option ℕ). is_at l d) (ap m e ∙ free))
+  | inr o ↦ ap (λ (l : Option ℕ). is_at l d) (changed_other m b old.0 (Some c) o)
+])
+
+unmap_elsewhere : (m : Locations) (b c d : ℕ) (o : Option Order) → d ≢ c → m b ≡ Some c → live_there (changed m b None) d o ≡ live_there m d o
+unmap_elsewhere m b c d None n at = refl
+unmap_elsewhere m b c d (Some (Promote' x k)) n at = refl
+unmap_elsewhere m b c d (Some (DemoteOrder x)) n at = refl
+unmap_elsewhere m b c d (Some (Clean' x)) n at = refl
+unmap_elsewhere m b c d (Some (Replace old new k)) n at = ap (λ (t : Bool). Some (replacement_there t old.0 new.0 d)) (elim (cases_eq old.0 b) [
+  | inl e ↦ ap (λ (l : Option ℕ). is_at l d) (ap (changed m b None) e ∙ changed_same m b None) ∙ sym (ap (λ (l : Option ℕ). is_at l d) (ap m e ∙ at) ∙ ne_eqb c d (λ q. n (sym q)))
+  | inr o ↦ ap (λ (l : Option ℕ). is_at l d) (changed_other m b old.0 None o)
+])
+
+-- a replacement of the block is kept, and a flush is awaited for it from now on
+is_replacing : (b : OBlock) (orders : List Order) (o : Order) → is_of b o ≡ true → is_replacement o ≡ true → Contains orders o → Contains (replacing b orders) o
+is_replacing b [] o t r h = h
+is_replacing b (p ∷ orders) o t r h = by (is_of b p && is_replacement p) refl (λ later. is_replacing b orders o t r later)
+  where
+    by : (v : Bool) → (is_of b p && is_replacement p) ≡ v → (Contains orders o → Contains (replacing b orders) o) → Contains (if v then p ∷ replacing b orders else replacing b orders) o
+    by true e rest = first_or p o orders (Contains (p ∷ replacing b orders) o) h (λ same. subst (λ (q : Order). Contains (p ∷ replacing b orders) q) (sym same) (Contains-first p (replacing b orders))) (λ later. Contains-behind p (replacing b orders) o (rest later))
+    by false e rest = first_or p o orders (Contains (replacing b orders) o) h (λ same. absurd (let bad : true ≡ false = (λ i. sym t i && sym r i) ∙ ap (λ (q : Order). is_of b q && is_replacement q) same ∙ e in cc)) rest
+
+still_held : (b : OBlock) (orders awaiting : List Order) (o : Order) → is_of b o ≡ true → is_replacement o ≡ true → Contains (orders ++ awaiting) o → Contains (dropped b orders ++ (replacing b orders ++ awaiting)) o
+still_held b orders awaiting o t r h = Contains-append_right (dropped b orders) (replacing b orders ++ awaiting) o (elim (Contains-append_cases orders awaiting o h) [
+  | inl i ↦ Contains-append_left (replacing b orders) awaiting o (is_replacing b orders o t r i)
+  | inr i ↦ Contains-append_right (replacing b orders) awaiting o i
+])
+
+module _ (size most blocks : ℕ) (words : Words) (committing : Bool) (orders : List (Option Order)) (devices : Devices (List History)) (actors : List Actor) (a : ℕ) (x : Actor) (s : World) (y : AbstractActor) (g : Agrees size most words committing orders devices actors s) (ex : slice_get actors a ≡ Some x) (ey : slice_get s.actors a ≡ Some y)
+    (migration : Migration) (block : OBlock) (part : BlockRange) (ws : List Want) (answer : Answer) where
   abbrev os : List ℕ
-  os = offsets size f.is.part.extents
+  os = offsets size part.extents
 
-  abbrev its_place : ℕ
-  its_place = behind (length actors) (length orders) a f.c
+  abbrev left : Plan
+  left = plan_of (Migrating migration part) ws answer
 
   abbrev left_over : Actor
-  left_over = record x { task = Some (Migrate f.is.migration f.is.block, plan_of (Migrating f.is.migration f.is.part) ws f.is.plan.answer); orders = dropped f.is.part.block x.orders }
+  left_over = record x { task = Some (Migrate migration block, left); orders = dropped part.block x.orders }
 
-  -- its order is over then, and that of no other cache block
-  over_length : length (slice_set orders f.c None) ≡ length orders
-  over_length = length-set orders f.c None
-
-  over_beside : (d : ℕ) → d ≢ f.c → slice_get (slice_set orders f.c None) d ≡ slice_get orders d
-  over_beside d n = get_set_other orders f.c d None n
-
-  over_here : slice_get (slice_set orders f.c None) f.c ≡ Some None
-  over_here = get_set_same orders f.c f.order None f.live
-
-  -- The one behind has asked something of the desk that ends its order.
-  module _ (next : Want) (steps : f.is.plan.steps ≡ next ∷ ws) (no_tail : ¬ IsTail (next ∷ ws)) (within : ¬ IsOutside (next ∷ ws)) (owned : AreOwned orders actors) (turn : Turn) (results : List Got) (t : Shared) (z : AbstractActor) (goes : GoesTo s.actors its_place s.shared f.y results t z)
+  -- It has asked something of the desk that ends its order.
+  module _ (next : Want) (f : IsCarried size orders devices migration block part (next ∷ ws) answer x y) (no_tail : ¬ IsTail (next ∷ ws)) (turn : Turn) (results : List Got) (t : Shared) (z : AbstractActor) (goes : GoesTo s.actors a s.shared y results t z)
       (words_agree : WordsAgree words t) (origin : t.origin ≡ s.shared.origin) (cache : t.cache ≡ s.shared.cache) (mode : t.mode ≡ s.shared.mode) (commits : t.committing ≡ s.shared.committing) (broken : t.broken ≡ s.shared.broken) (turned : TurnedTo turn s.shared t) (desk : DeskTurnedTo turn s.shared t) where
-    ends_order : Settles size words devices f.c None left_over ws s.actors its_place t z → EndsOrder turn f.c size most a s words committing orders devices actors x left_over (order_for f.is.migration f.is.block)
-    ends_order settled = record {
-      live = lives;
-      mine = mine;
-      follows = carries_by size most words words (λ e. e) committing orders (slice_set orders f.c None) devices devices actors a x left_over s g ex f.c f.order None over_length over_beside f.live over_here
-          (only_there size most words committing orders devices actors a x s g ex f) (own_orders orders actors owned a f.c x ex f.is.part.block (order_for f.is.migration f.is.block) of_block lives mine left_over refl)
-          (others_orders orders actors owned a f.c x ex f.is.part.block (order_for f.is.migration f.is.block) of_block lives mine) outside turn f.y f.there results t z goes.may goes.shared goes.is ws settled
-          (λ m b p e. ap (λ (q : Plan). q.steps) (same_plan left_over.task (Migrate m b) (Migrate f.is.migration f.is.block) p left e refl))
-          words_agree (origin ∙ g.origin) (cache ∙ g.cache) mode commits broken turned desk (carries_same size devices orders actors a)
-          (own_aside size most words committing orders devices actors a x s g ex words (λ e. e) left_over f.is.migration f.is.block (plan_of (Migrating f.is.migration f.is.part) (next ∷ ws) f.is.plan.answer) left now refl outside);
+    abbrev own : AbstractOrder
+    own = order_on part f.c f.next
+
+    abbrev over : List (Option Order)
+    over = slice_set orders f.c.0 None
+
+    its : slice_get orders f.c.0 ≡ Some (Some f.order)
+    its = lives size most blocks words committing orders devices actors a x s y g ex ey migration block part next ws answer f no_tail
+
+    y_under : y.order ≡ Some own
+    y_under = carried_order size orders devices migration block part (next ∷ ws) answer x y f ∙ live_is size most blocks words committing orders devices actors a x s y g ex ey migration block part next ws answer f no_tail
+
+    pub mine : Contains x.orders f.order
+    mine = its_own size most blocks words committing orders devices actors a x s y g ex ey migration block part next ws answer f no_tail
+
+    -- no other actor has it, and it is not aside
+    alone : (b : ℕ) (v : AbstractActor) (p : AbstractOrder) → b ≢ a → slice_get s.actors b ≡ Some v → v.order ≡ Some p → p.cache ≡ f.c.0 → ⊥
+    alone b v p n ev e at = n ((g.orders_agree.once a y own ey y_under).1 b v p ev e at)
+
+    waits_not : (k : ℕ) (p : AbstractOrder) → k ≡ f.c.0 → s.waiting k ≡ Some p → ⊥
+    waits_not k p at w =
+        let r = g.orders_agree.waits k p w in
+        let there = (g.orders_agree.live f.c.0 (Some f.order) its p (r.0 ∙ at)).1 (inl (ap s.waiting r.0 ∙ w)) in
+        let here = (g.orders_agree.live f.c.0 (Some f.order) its own refl).1 (inr (a, y, ey, y_under)) in
+        let both : Some p ≡ Some own = sym there ∙ here in
+        let same : p ≡ own = cc in
+        (g.orders_agree.once a y own ey y_under).0 (ap s.waiting (sym at) ∙ w ∙ both)
+
+    -- others are at what they were at
+    carries : CarriesOthers size orders over devices devices actors s a
+    carries b v u m bl pt plan n ev eu task job k = record {
+      block_is = k.block_is;
+      is_part = k.is_part;
+      c = k.c;
+      small = k.small;
+      fills = k.fills;
+      of_block = k.of_block;
+      paired = k.paired;
+      next = k.next;
+      order = k.order;
+      of = k.of;
+      kept = k.kept;
+      has = elim k.has [
+        | inl l ↦ inl (get_set_other orders f.c.0 k.c.0 None (λ same. alone b u (order_on pt k.c k.next) n eu (carried_order size orders devices m bl pt plan.steps plan.answer v u k ∙ l.1) same) ∙ l.0, l.1, l.2)
+        | inr tail ↦ inr tail
+      ];
+      at = k.at;
+      copies = k.copies;
+      buffer = k.buffer;
     }
-      where
-        left : Plan
-        left = plan_of (Migrating f.is.migration f.is.part) ws f.is.plan.answer
 
-        now : x.task ≡ Some (Migrate f.is.migration f.is.block, plan_of (Migrating f.is.migration f.is.part) (next ∷ ws) f.is.plan.answer)
-        now = task_at size most words committing orders devices actors a x s g f next ws steps
+    over_here : slice_get (slice_set orders f.c.0 None) f.c.0 ≡ Some None
+    over_here = get_set_same orders f.c.0 (Some f.order) None its
 
-        lives : slice_get orders f.c ≡ Some (Some (order_for f.is.migration f.is.block))
-        lives = order_lives size most words committing orders devices actors a x s g f next ws steps no_tail
+    pub ends_order : ((d : ℕ) (o : Option Order) → d ≢ f.c.0 → slice_get orders d ≡ Some o → live_there t.mapping d o ≡ live_there s.shared.mapping d o) → IsMigrationAt part f.c f.next migration None left x.card z → IsTail ws → GoesOn size most blocks words committing orders devices actors a x s y g ex ey migration block part next ws answer f ws (device_in (source_of migration) devices) x.buffer →
+        EndsOrder turn f.c.0 size most a s words committing orders devices actors x left_over f.order
+    ends_order turns at tail on =
+        let none : z.order ≡ None = ap (λ (v : AbstractActor). v.order) at.is in
+        let is : IsOn size words over devices migration block part left left_over z = inl (carried_with size most blocks words committing orders devices actors a x s y g ex ey migration block part next ws answer f over devices ws answer left_over z None (inr tail) at on) in
+        let gone_on : IsOn size words over devices migration block part left left_over (gone y y.task results) = subst (λ (v : AbstractActor). IsOn size words over devices migration block part left left_over v) (sym goes.is) is in
+        let gone_none : (gone y y.task results).order ≡ None = ap (λ (v : AbstractActor). v.order) goes.is ∙ none in
+        record {
+          live = its;
+          mine = mine;
+          follows = carry_over size most words words (λ e. e) committing orders devices devices actors a x left_over s y g ex ey migration block part left refl refl (carried_job size orders devices migration block part (next ∷ ws) answer x y f) results t goes.may goes.shared words_agree (origin ∙ g.origin) (cache ∙ g.cache)
+              turn over gone_on mode commits broken turned desk
+              (goes_so size words words (λ e. e) orders over devices devices actors a x left_over s y (gone y y.task results) ex ey g.orders_agree carries (is_done size words over devices migration block part left left_over (gone y y.task results) refl gone_on refl)
+              (λ d. d ≡ f.c.0) (λ d. elim (cases_eq d f.c.0) [ inl e ↦ inl e | inr n ↦ inr n ]) (λ p e. let bad : None ≡ Some p = sym gone_none ∙ e in absurd (cc))
+              (λ p e away. absurd (let both : Some own ≡ Some p = sym y_under ∙ e in let same : own ≡ p = cc in away (ap (λ (q : AbstractOrder). q.cache) (sym same)))) (λ d n. get_set_other orders f.c.0 d None n)
+              (λ d o e eo. let both : Some None ≡ Some o = sym over_here ∙ ap (slice_get over) (sym e) ∙ eo in let same : None ≡ o = cc in sym same) waits_not alone (λ o h p e. let bad : None ≡ Some p = sym gone_none ∙ e in absurd (cc)) t turns);
+        }
 
-        mine : Contains x.orders (order_for f.is.migration f.is.block)
-        mine = order_mine size most words committing orders devices actors a x s g f next ws steps no_tail
+  module _ (c : CBlock) (f : IsCarried size orders devices migration block part (Desk (Map part.block c) ∷ ws) answer x y) (suits : Suits blocks (plan_of (Migrating migration part) (Desk (Map part.block c) ∷ ws) answer) x.card) where
+    suits_now : Has (Migrating migration part) x.card (Desk (Map part.block c) ∷ ws)
+    suits_now = suits.1
 
-        of_block : is_of f.is.part.block (order_for f.is.migration f.is.block) ≡ true
-        of_block = subst (λ (v : OBlock). is_of v (order_for f.is.migration f.is.block) ≡ true) (sym f.is.block_is) (is_of_its f.is.migration f.is.block)
-
-        outside : StaysOutside words x left_over
-        outside = stays_past words x left_over (past x (Migrate f.is.migration f.is.block) (plan_of (Migrating f.is.migration f.is.part) (next ∷ ws) f.is.plan.answer) next ws now refl within)
-
-    -- its seal and its block are left
-    ends_entry : (told : AbstractAnswer) (buffer : Content) → z ≡ under None (migrating size own os f.is.migration ws told buffer) → AnswersAlike f.is.plan.answer told → IsTail ws × IsNoWrite ws × ArePaired size ws → AreOfBlock size f.is.part.block.0 ws → AreCopiedAt size (source own f.is.migration) (target own f.is.migration) ws → ws ≢ [] →
-        IsPlain ws → x.card.hold ≡ Held Owned f.is.part.block → f.is.plan.answer ≡ Finished → EndsOrder turn f.c size most a s words committing orders devices actors x left_over (order_for f.is.migration f.is.block)
-    ends_entry told buffer z_is alike paired of_block copies some plain hold done_is = ends_order (settles_on size words devices f.c None left_over s.actors its_place t z ws (record {
-      migration = f.is.migration;
-      block = f.is.block;
-      plan = plan_of (Migrating f.is.migration f.is.part) ws f.is.plan.answer;
-      task = refl;
-      part = f.is.part;
-      job = refl;
-      block_is = f.is.block_is;
-      is_part = f.is.is_part;
-      small = f.is.small;
-      fills = f.is.fills;
-      of_block = of_block;
-      paired = paired.2;
-      unfinished = some;
-      answers = inr done_is;
-      kept = None;
-      live = refl;
-      has = inr (refl, paired.0, done_is);
-      at = at_again size most blocks words committing orders devices actors a x s g ex f next ws steps no_tail z ws told buffer None f.is.plan.answer
-          (z_is ∙ (λ i. record (under None (migrating size own os f.is.migration ws told buffer)) { held = sym (held_plain ws x.card plain ∙ ap held_of hold) i })) alike (saw_plain (plan_of (Migrating f.is.migration f.is.part) ws f.is.plan.answer) ws x.card plain);
-      copies = copies;
-      buffer = no_write_read size _ _ ws x.buffer paired.1;
-    }))
-
-  module _ (c : CBlock) (steps : f.is.plan.steps ≡ Desk (Map f.is.part.block c) ∷ ws) (suits : Suits blocks f.is.plan x.card) where
-    abbrev here : IsMigrationAt f.is.part (record { 0 = f.c }) None f.is.migration f.is.kept (plan_of (Migrating f.is.migration f.is.part) (Desk (Map f.is.part.block c) ∷ ws) f.is.plan.answer) x.card f.y
-    here = at size most blocks words committing orders devices actors a x s g ex f (Desk (Map f.is.part.block c)) ws steps (λ n. n)
-
-    suits_now : Has (Migrating f.is.migration f.is.part) x.card (Desk (Map f.is.part.block c) ∷ ws)
-    suits_now = (subst (λ (q : Plan). Suits blocks q x.card) (plan_is size most words committing orders devices actors a x s g f (Desk (Map f.is.part.block c)) ws steps) suits).1
-
-    pub promotes : f.is.migration ≡ Promote c
+    pub promotes : migration ≡ Promote c
     promotes = suits_now.1.1.0.1
 
-    rest : IsRest (Migrating f.is.migration f.is.part) suits_now.1.0 ws
+    rest : IsRest (Migrating migration part) suits_now.1.0 ws
     rest = suits_now.1.1.1
 
-    y_there : f.y ≡ migrating size own os f.is.migration (Desk (Map f.is.part.block c) ∷ ws) here.answer here.buffer
-    y_there = y_is size most blocks words committing orders devices actors a x s g ex f (Desk (Map f.is.part.block c)) ws steps (λ n. n) (ap held_of suits_now.0)
+    abbrev own_map : AbstractOrder
+    own_map = order_on part f.c f.next
+
+    y_there : y ≡ migrating size own_map os migration (Desk (Map part.block c) ∷ ws) f.at.answer f.at.buffer
+    y_there = y_is size most blocks words committing orders devices actors a x s y g ex ey migration block part (Desk (Map part.block c)) ws answer f (λ n. n) (ap held_of suits_now.0)
 
     -- without memory for the entry
-    pub map_refused : (refusal : Refusal) → Carried Stays size most a s words committing orders devices actors (record x { task = Some (Migrate f.is.migration f.is.block, plan_of (Migrating f.is.migration f.is.part) (Cell (Release Owned f.is.part.block) ∷ Desk (ReleaseOrder f.is.part.block) ∷ []) (Refuses refusal)) })
+    pub map_refused : (refusal : Refusal) → Carried Stays size most a s words committing orders devices actors (record x { task = Some (Migrate migration block, plan_of (Migrating migration part) (Cell (Release Owned part.block) ∷ Desk (ReleaseOrder part.block) ∷ []) (Refuses refusal)) })
     map_refused refusal =
-        let to = subst (λ (m : Migration). GoesTo s.actors its_place s.shared (migrating size own os m (Desk (Map f.is.part.block c) ∷ ws) here.answer here.buffer) (Short ∷ []) s.shared (migrating size own os m (Cell (Release Owned f.is.part.block) ∷ Desk (ReleaseOrder f.is.part.block) ∷ []) AnsweredFailed here.buffer)) (sym promotes)
-        (carrying_followed.has_no_room size s.actors its_place s.shared own os c f.is.part.block ws here.answer here.buffer refl) in
-        let goes = subst (λ (v : AbstractActor). GoesTo s.actors its_place s.shared v (Short ∷ []) s.shared (migrating size own os f.is.migration (Cell (Release Owned f.is.part.block) ∷ Desk (ReleaseOrder f.is.part.block) ∷ []) AnsweredFailed here.buffer)) (sym y_there) to in
-        let z = migrating size own os f.is.migration (Cell (Release Owned f.is.part.block) ∷ Desk (ReleaseOrder f.is.part.block) ∷ []) AnsweredFailed here.buffer in
-        carry_on size most blocks words committing orders devices actors a x s g ex f (Desk (Map f.is.part.block c)) ws steps (λ n. n) (λ o. o) (Cell (Release Owned f.is.part.block) ∷ Desk (ReleaseOrder f.is.part.block) ∷ []) (Refuses refusal) x.buffer devices (Short ∷ []) s.shared z
+        let back : List Want = Cell (Release Owned part.block) ∷ Desk (ReleaseOrder part.block) ∷ [] in
+        let to = subst (λ (m : Migration). GoesTo s.actors a s.shared (migrating size own_map os m (Desk (Map part.block c) ∷ ws) f.at.answer f.at.buffer) (Short ∷ []) s.shared (migrating size own_map os m back AnsweredFailed f.at.buffer)) (sym promotes)
+        (carrying_followed.has_no_room size s.actors a s.shared own_map os c part.block ws f.at.answer f.at.buffer refl) in
+        let goes = subst (λ (v : AbstractActor). GoesTo s.actors a s.shared v (Short ∷ []) s.shared (migrating size own_map os migration back AnsweredFailed f.at.buffer)) (sym y_there) to in
+        let z = migrating size own_map os migration back AnsweredFailed f.at.buffer in
+        carry_so size most blocks words committing orders devices actors a x s y g ex ey migration block part (Desk (Map part.block c)) ws answer f (λ n. n) back (Refuses refusal) x.buffer devices (Short ∷ []) s.shared z
         goes.may goes.shared goes.is
-        (at_again size most blocks words committing orders devices actors a x s g ex f (Desk (Map f.is.part.block c)) ws steps (λ n. n) z (Cell (Release Owned f.is.part.block) ∷ Desk (ReleaseOrder f.is.part.block) ∷ []) AnsweredFailed here.buffer f.is.kept (Refuses refusal)
-        (λ i. record z { held = sym (ap held_of suits_now.0) i; order = sym (live_is size most blocks words committing orders devices actors a x s g ex f (Desk (Map f.is.part.block c)) ws steps (λ n. n)) i }) (λ n. absurd (cc)) tt)
-        (record { of_block = tt; paired = (tt, (tt, tt)); some = λ n. absurd (cc); answers = inl tt; copies = tt; read = tt })
-        g.words_agree g.origin g.cache (same_images s.shared) (carries_same size devices orders actors a)
+        (at_again size most blocks words committing orders devices actors a x s y g ex ey migration block part (Desk (Map part.block c)) ws answer f z back AnsweredFailed f.at.buffer f.kept (Refuses refusal)
+        (λ i. record z { held = sym (ap held_of suits_now.0) i; order = sym (live_is size most blocks words committing orders devices actors a x s y g ex ey migration block part (Desk (Map part.block c)) ws answer f (λ n. n)) i }) (λ n. absurd (cc)) tt)
+        (record { of_block = tt; paired = (tt, (tt, tt)); copies = tt; read = tt })
+        g.words_agree g.origin g.cache (same_images s.shared) (carries_same size orders devices actors s a)
 
     -- the block is mapped, and the order is over
-    pub mapped : AreOwned orders actors → EndsOrder (Maps f.is.part.block.0 f.c) f.c size most a s words committing orders devices actors x left_over (order_for f.is.migration f.is.block)
-    mapped owned =
-        let t = effect s.shared (Promoting own os) here.buffer (Map_to own) DoneThere in
-        let z = under None (migrating size own os f.is.migration ws here.answer here.buffer) in
-        let to = subst (λ (m : Migration). GoesTo s.actors its_place s.shared (migrating size own os m (Desk (Map f.is.part.block c) ∷ ws) here.answer here.buffer) (DoneThere ∷ DoneThere ∷ []) t (under None (migrating size own os m ws here.answer here.buffer))) (sym promotes)
-        (carrying_followed.maps size s.actors its_place s.shared own os c f.is.part.block ws here.answer here.buffer) in
-        let goes = subst (λ (v : AbstractActor). GoesTo s.actors its_place s.shared v (DoneThere ∷ DoneThere ∷ []) t z) (sym y_there) to in
-        ends_entry (Desk (Map f.is.part.block c)) steps (λ n. n) (λ o. o) owned (Maps f.is.part.block.0 f.c) (DoneThere ∷ DoneThere ∷ []) t z goes
-        (record { fail = g.words_agree.fail; seals = g.words_agree.seals }) refl refl refl refl refl (refl, refl, refl) (refl, refl) here.answer here.buffer refl here.alike
-        (paired_at size most words committing orders devices actors a x s g f (Desk (Map f.is.part.block c)) ws steps) (of_block_at size most words committing orders devices actors a x s g f (Desk (Map f.is.part.block c)) ws steps) (copies_at size most words committing orders devices actors a x s g f (Desk (Map f.is.part.block c)) ws steps)
-        (λ n. subst (λ (us : List Want). IsRest (Migrating f.is.migration f.is.part) suits_now.1.0 us) n rest) (rest_plain (Migrating f.is.migration f.is.part) suits_now.1.0 ws rest) suits_now.0
-        (elim f.is.answers [ inl l ↦ absurd (subst (λ (us : List Want). IsLettingGo us) steps l) | inr q ↦ q ])
+    pub mapped : s.shared.mapping part.block.0 ≡ None → EndsOrder (Maps part.block.0 f.c.0) f.c.0 size most a s words committing orders devices actors x left_over f.order
+    mapped free =
+        let t = effect s.shared (Promoting own_map os) f.at.buffer (Map_to own_map) DoneThere in
+        let z = under None (migrating size own_map os migration ws f.at.answer f.at.buffer) in
+        let to = subst (λ (m : Migration). GoesTo s.actors a s.shared (migrating size own_map os m (Desk (Map part.block c) ∷ ws) f.at.answer f.at.buffer) (DoneThere ∷ DoneThere ∷ []) t (under None (migrating size own_map os m ws f.at.answer f.at.buffer))) (sym promotes)
+        (carrying_followed.maps size s.actors a s.shared own_map os c part.block ws f.at.answer f.at.buffer) in
+        let goes = subst (λ (v : AbstractActor). GoesTo s.actors a s.shared v (DoneThere ∷ DoneThere ∷ []) t z) (sym y_there) to in
+        let plain = rest_plain (Migrating migration part) suits_now.1.0 ws rest in
+        ends_order (Desk (Map part.block c)) f (λ n. n) (Maps part.block.0 f.c.0) (DoneThere ∷ DoneThere ∷ []) t z goes
+        (record { fail = g.words_agree.fail; seals = g.words_agree.seals }) refl refl refl refl refl (refl, refl, refl) (refl, refl) (λ d o n e. map_elsewhere s.shared.mapping part.block.0 f.c.0 d o n free)
+        (at_again size most blocks words committing orders devices actors a x s y g ex ey migration block part (Desk (Map part.block c)) ws answer f z ws f.at.answer f.at.buffer None answer
+        (λ i. record z { held = sym (held_plain ws x.card plain ∙ ap held_of suits_now.0) i }) f.at.alike (saw_plain left ws x.card plain))
+        f.paired.0 (record { of_block = f.of_block; paired = f.paired.2; copies = f.copies; read = no_write_read size _ _ ws x.buffer f.paired.1 })
 
-  module _ (steps : f.is.plan.steps ≡ Desk (Unmap f.is.part.block) ∷ ws) (suits : Suits blocks f.is.plan x.card) where
-    abbrev away : IsMigrationAt f.is.part (record { 0 = f.c }) None f.is.migration f.is.kept (plan_of (Migrating f.is.migration f.is.part) (Desk (Unmap f.is.part.block) ∷ ws) f.is.plan.answer) x.card f.y
-    away = at size most blocks words committing orders devices actors a x s g ex f (Desk (Unmap f.is.part.block)) ws steps (λ n. n)
+  module _ (f : IsCarried size orders devices migration block part (Desk (Unmap part.block) ∷ ws) answer x y) (suits : Suits blocks (plan_of (Migrating migration part) (Desk (Unmap part.block) ∷ ws) answer) x.card) where
+    suits_away : Has (Migrating migration part) x.card (Desk (Unmap part.block) ∷ ws)
+    suits_away = suits.1
 
-    suits_away : Has (Migrating f.is.migration f.is.part) x.card (Desk (Unmap f.is.part.block) ∷ ws)
-    suits_away = (subst (λ (q : Plan). Suits blocks q x.card) (plan_is size most words committing orders devices actors a x s g f (Desk (Unmap f.is.part.block)) ws steps) suits).1
-
-    pub demotes : f.is.migration ≡ Demote
+    pub demotes : migration ≡ Demote
     demotes = suits_away.1.1.0.1
 
-    leaves : IsRest (Migrating f.is.migration f.is.part) suits_away.1.0 ws
+    leaves : IsRest (Migrating migration part) suits_away.1.0 ws
     leaves = suits_away.1.1.1
 
-    y_away : f.y ≡ migrating size own os f.is.migration (Desk (Unmap f.is.part.block) ∷ ws) away.answer away.buffer
-    y_away = y_is size most blocks words committing orders devices actors a x s g ex f (Desk (Unmap f.is.part.block)) ws steps (λ n. n) (ap held_of suits_away.0)
+    abbrev own_away : AbstractOrder
+    own_away = order_on part f.c f.next
+
+    y_away : y ≡ migrating size own_away os migration (Desk (Unmap part.block) ∷ ws) f.at.answer f.at.buffer
+    y_away = y_is size most blocks words committing orders devices actors a x s y g ex ey migration block part (Desk (Unmap part.block)) ws answer f (λ n. n) (ap held_of suits_away.0)
+
+    abbrev t_away : Shared
+    t_away = effect s.shared (Demoting own_away os) f.at.buffer (Unmap_from own_away) DoneThere
+
+    abbrev z_away : AbstractActor
+    z_away = under (following f.c.0 f.next) (migrating size own_away os migration ws f.at.answer f.at.buffer)
+
+    goes_away : GoesTo s.actors a s.shared y (DoneThere ∷ []) t_away z_away
+    goes_away =
+        let to = subst (λ (m : Migration). GoesTo s.actors a s.shared (migrating size own_away os m (Desk (Unmap part.block) ∷ ws) f.at.answer f.at.buffer) (DoneThere ∷ []) t_away (under (following f.c.0 f.next) (migrating size own_away os m ws f.at.answer f.at.buffer))) (sym demotes)
+        (carrying_followed.unmaps size s.actors a s.shared own_away os part.block ws f.at.answer f.at.buffer) in
+        subst (λ (v : AbstractActor). GoesTo s.actors a s.shared v (DoneThere ∷ []) t_away z_away) (sym y_away) to
+
+    at_away : (kept : Option AbstractOrder) → following f.c.0 f.next ≡ kept → IsMigrationAt part f.c f.next migration kept left x.card z_away
+    at_away kept e =
+        let plain = rest_plain (Migrating migration part) suits_away.1.0 ws leaves in
+        at_again size most blocks words committing orders devices actors a x s y g ex ey migration block part (Desk (Unmap part.block)) ws answer f z_away ws f.at.answer f.at.buffer kept answer
+        (λ i. record z_away { held = sym (held_plain ws x.card plain ∙ ap held_of suits_away.0) i; order = e i }) f.at.alike (saw_plain left ws x.card plain)
+
+    on_away : GoesOn size most blocks words committing orders devices actors a x s y g ex ey migration block part (Desk (Unmap part.block)) ws answer f ws (device_in (source_of migration) devices) x.buffer
+    on_away = record { of_block = f.of_block; paired = f.paired.2; copies = f.copies; read = no_write_read size _ _ ws x.buffer f.paired.1 }
+
+    its_away : slice_get orders f.c.0 ≡ Some (Some f.order)
+    its_away = lives size most blocks words committing orders devices actors a x s y g ex ey migration block part (Desk (Unmap part.block)) ws answer f (λ n. n)
+
+    under_away : y.order ≡ Some own_away
+    under_away = carried_order size orders devices migration block part (Desk (Unmap part.block) ∷ ws) answer x y f ∙ live_is size most blocks words committing orders devices actors a x s y g ex ey migration block part (Desk (Unmap part.block)) ws answer f (λ n. n)
+
+    -- it stands there
+    stood_away : LeavesFrom orders s.shared.mapping block → s.shared.mapping part.block.0 ≡ Some f.c.0
+    stood_away leaving =
+        let there = (g.orders_agree.live f.c.0 (Some f.order) its_away own_away refl).1 (inr (a, y, ey, under_away)) in
+        let same : order_there s.shared.mapping f.c.0 f.order ≡ own_away = cc in
+        ap (λ (v : OBlock). s.shared.mapping v.0) f.block_is ∙ leaving f.c.0 f.next f.order its_away (subst (λ (m : Migration). IsOrderFor m block f.next f.order) demotes f.of) (λ n. stands_there s.shared.mapping f.c.0 f.order migration block f.next own_away f.of same refl n)
 
     -- the block is nowhere, its cache block quarantined, and the order is over
-    pub unmapped : AreOwned orders actors → EndsOrder (Unmaps f.is.part.block.0 f.c) f.c size most a s words committing orders devices actors x left_over (order_for f.is.migration f.is.block)
-    unmapped owned =
-        let t = effect s.shared (Demoting own os) away.buffer (Unmap_from own) DoneThere in
-        let z = under None (migrating size own os f.is.migration ws away.answer away.buffer) in
-        let to = subst (λ (m : Migration). GoesTo s.actors its_place s.shared (migrating size own os m (Desk (Unmap f.is.part.block) ∷ ws) away.answer away.buffer) (DoneThere ∷ []) t (under None (migrating size own os m ws away.answer away.buffer))) (sym demotes)
-        (carrying_followed.unmaps size s.actors its_place s.shared own os f.is.part.block ws away.answer away.buffer) in
-        let goes = subst (λ (v : AbstractActor). GoesTo s.actors its_place s.shared v (DoneThere ∷ []) t z) (sym y_away) to in
-        ends_entry (Desk (Unmap f.is.part.block)) steps (λ n. n) (λ o. o) owned (Unmaps f.is.part.block.0 f.c) (DoneThere ∷ []) t z goes
-        (record { fail = g.words_agree.fail; seals = g.words_agree.seals }) refl refl refl refl refl (refl, refl, refl) (refl, refl) away.answer away.buffer refl away.alike
-        (paired_at size most words committing orders devices actors a x s g f (Desk (Unmap f.is.part.block)) ws steps) (of_block_at size most words committing orders devices actors a x s g f (Desk (Unmap f.is.part.block)) ws steps) (copies_at size most words committing orders devices actors a x s g f (Desk (Unmap f.is.part.block)) ws steps)
-        (λ n. subst (λ (us : List Want). IsRest (Migrating f.is.migration f.is.part) suits_away.1.0 us) n leaves) (rest_plain (Migrating f.is.migration f.is.part) suits_away.1.0 ws leaves) suits_away.0
-        (elim f.is.answers [ inl l ↦ absurd (subst (λ (us : List Want). IsLettingGo us) steps l) | inr q ↦ q ])
+    pub unmapped : f.next ≡ None → LeavesFrom orders s.shared.mapping block → EndsOrder (Unmaps part.block.0 f.c.0 None) f.c.0 size most a s words committing orders devices actors x left_over f.order
+    unmapped none leaving = subst (λ (next : Option ℕ). EndsOrder (Unmaps part.block.0 f.c.0 next) f.c.0 size most a s words committing orders devices actors x left_over f.order) none
+        (ends_order (Desk (Unmap part.block)) f (λ n. n) (Unmaps part.block.0 f.c.0 f.next) (DoneThere ∷ []) t_away z_away goes_away
+        (record { fail = g.words_agree.fail; seals = g.words_agree.seals }) refl refl refl refl refl (refl, refl, refl) (refl, refl) (λ d o n e. unmap_elsewhere s.shared.mapping part.block.0 f.c.0 d o n (stood_away leaving))
+        (at_away None (ap (following f.c.0) none)) f.paired.0 on_away)
+
+    -- or another block is to follow it under that order
+    abbrev left_waiting : Actor
+    left_waiting = record x { task = Some (Migrate migration block, left); orders = dropped part.block x.orders; awaiting = replacing part.block x.orders ++ x.awaiting }
+
+    pub turned_over : (new : OBlock) (k : CBlock) → f.order ≡ Replace block new k → f.next ≡ Some new.0 → LeavesFrom orders s.shared.mapping block → TurnsOrder f.c.0 size most a s words committing orders devices actors x left_waiting block
+    turned_over new k is some leaving =
+        let own' : AbstractOrder = record { block = new.0; cache = f.c.0; next = None } in
+        let follows_is : following f.c.0 f.next ≡ Some own' = ap (following f.c.0) some in
+        let carried = carried_with size most blocks words committing orders devices actors a x s y g ex ey migration block part (Desk (Unmap part.block)) ws answer f orders devices ws answer left_waiting z_away (Some own') (inr f.paired.0) (at_away (Some own') follows_is) on_away in
+        let on_it : IsOn size words orders devices migration block part left left_waiting (gone y y.task (DoneThere ∷ [])) = subst (λ (v : AbstractActor). IsOn size words orders devices migration block part left left_waiting v) (sym goes_away.is) (inl carried) in
+        let slot = its_away in
+        let had = mine (Desk (Unmap part.block)) f (λ n. n) (Unmaps part.block.0 f.c.0 f.next) (DoneThere ∷ []) t_away z_away goes_away (record { fail = g.words_agree.fail; seals = g.words_agree.seals }) refl refl refl refl refl (refl, refl, refl) (refl, refl) in
+        let lives_now : live_there t_away.mapping f.c.0 (Some f.order) ≡ Some own' = ap (λ (o : Order). live_there t_away.mapping f.c.0 (Some o)) is ∙ ap (λ (l : Option ℕ). Some (replacement_there (is_at l f.c.0) block.0 new.0 f.c.0)) (ap (λ (v : OBlock). t_away.mapping v.0) (sym f.block_is) ∙ changed_same s.shared.mapping part.block.0 None) in
+        record {
+          new = new;
+          k = k;
+          live = slot ∙ ap (λ (o : Order). Some (Some o)) is;
+          mine = subst (λ (o : Order). Contains x.orders o) is had;
+          stood = ap (λ (v : OBlock). s.shared.mapping v.0) (sym f.block_is) ∙ stood_away leaving;
+          follows = subst (λ (v : ℕ). Carried (Unmaps v f.c.0 (Some new.0)) size most a s words committing orders devices actors left_waiting) (ap (λ (v : OBlock). v.0) f.block_is) (subst (λ (next : Option ℕ). Carried (Unmaps part.block.0 f.c.0 next) size most a s words committing orders devices actors left_waiting) some
+              (carry_over size most words words (λ e. e) committing orders devices devices actors a x left_waiting s y g ex ey migration block part left refl refl (carried_job size orders devices migration block part (Desk (Unmap part.block) ∷ ws) answer x y f) (DoneThere ∷ []) t_away goes_away.may goes_away.shared
+              (record { fail = g.words_agree.fail; seals = g.words_agree.seals }) g.origin g.cache (Unmaps part.block.0 f.c.0 f.next) orders on_it refl refl refl (refl, refl, refl) (refl, refl)
+              (turns_so size words orders devices actors a x left_waiting s y (gone y y.task (DoneThere ∷ [])) ex ey g.orders_agree (is_done size words orders devices migration block part left left_waiting (gone y y.task (DoneThere ∷ [])) refl on_it refl)
+              own_away own' under_away (ap (λ (v : AbstractActor). v.order) goes_away.is ∙ follows_is) refl t_away f.order slot lives_now (subst (λ (o : Order). Contains (held left_waiting) o) (sym is) (still_held part.block x.orders x.awaiting (Replace block new k) (ap (λ (v : OBlock). is_of v (Replace block new k)) f.block_is ∙ ap (λ (v : Bool). v || is_of block (DemoteOrder new)) (eq-eqb block.0 block.0 refl)) refl (Contains-append_left x.orders x.awaiting (Replace block new k) (subst (λ (o : Order). Contains x.orders o) is had))))
+              (λ d o n e. unmap_elsewhere s.shared.mapping part.block.0 f.c.0 d o n (stood_away leaving)))));
+        }
 
   -- the order is given up, and it has only to answer
-  module _ (steps : f.is.plan.steps ≡ Desk (ReleaseOrder f.is.part.block) ∷ ws) (suits : Suits blocks f.is.plan x.card) where
-    abbrev there : IsMigrationAt f.is.part (record { 0 = f.c }) None f.is.migration f.is.kept (plan_of (Migrating f.is.migration f.is.part) (Desk (ReleaseOrder f.is.part.block) ∷ ws) f.is.plan.answer) x.card f.y
-    there = at size most blocks words committing orders devices actors a x s g ex f (Desk (ReleaseOrder f.is.part.block)) ws steps (λ n. n)
+  module _ (f : IsCarried size orders devices migration block part (Desk (ReleaseOrder part.block) ∷ ws) answer x y) (suits : Suits blocks (plan_of (Migrating migration part) (Desk (ReleaseOrder part.block) ∷ ws) answer) x.card) where
+    abbrev own_here : AbstractOrder
+    own_here = order_on part f.c f.next
 
-    suits_here : Has (Migrating f.is.migration f.is.part) x.card (Desk (ReleaseOrder f.is.part.block) ∷ ws)
-    suits_here = (subst (λ (q : Plan). Suits blocks q x.card) (plan_is size most words committing orders devices actors a x s g f (Desk (ReleaseOrder f.is.part.block)) ws steps) suits).1
-
-    pub given_up : AreOwned orders actors → EndsOrder (GivesUp f.c) f.c size most a s words committing orders devices actors x left_over (order_for f.is.migration f.is.block)
-    given_up owned =
-        let t = effect s.shared (job_under own os f.is.migration) there.buffer (Give_up own) DoneThere in
-        let z = without_block (under None (migrating size own os f.is.migration ws there.answer there.buffer)) in
-        let is = y_has size most blocks words committing orders devices actors a x s g ex f (Desk (ReleaseOrder f.is.part.block)) ws steps (λ n. n) Nothing (ap held_of suits_here.0) in
-        let goes = subst (λ (v : AbstractActor). GoesTo s.actors its_place s.shared v (DoneThere ∷ []) t z) (sym is) (carrying_followed.gives_up size s.actors its_place s.shared own os f.is.migration f.is.part.block ws there.answer there.buffer) in
-        let nothing : ws ≡ [] = suits_here.2 in
-        ends_order (Desk (ReleaseOrder f.is.part.block)) steps (λ n. n) (λ o. o) owned (GivesUp f.c) (DoneThere ∷ []) t z goes
-        (record { fail = g.words_agree.fail; seals = g.words_agree.seals }) refl refl refl refl refl (refl, refl, refl) (refl, refl)
-        (subst (λ (us : List Want). Settles size words devices f.c None left_over us s.actors its_place t z) (sym nothing)
-        (settles_over size words devices f.c None left_over s.actors its_place t z (record { job = job_under own os f.is.migration; steps = migration_wants size own os f.is.migration ws; answer = there.answer }) refl (ap (λ (us : List Want). migration_wants size own os f.is.migration us) nothing) refl refl (inl refl)))
+    pub given_up : EndsOrder (GivesUp f.c.0) f.c.0 size most a s words committing orders devices actors x left_over f.order
+    given_up =
+        let t = effect s.shared (job_under own_here os migration) f.at.buffer (Give_up own_here) DoneThere in
+        let z = without_block (under None (migrating size own_here os migration ws f.at.answer f.at.buffer)) in
+        let is = y_has size most blocks words committing orders devices actors a x s y g ex ey migration block part (Desk (ReleaseOrder part.block)) ws answer f (λ n. n) Nothing (ap held_of suits.1.0) in
+        let goes = subst (λ (v : AbstractActor). GoesTo s.actors a s.shared v (DoneThere ∷ []) t z) (sym is) (carrying_followed.gives_up size s.actors a s.shared own_here os migration part.block ws f.at.answer f.at.buffer) in
+        let nothing : ws ≡ [] = suits.1.2 in
+        ends_order (Desk (ReleaseOrder part.block)) f (λ n. n) (GivesUp f.c.0) (DoneThere ∷ []) t z goes
+        (record { fail = g.words_agree.fail; seals = g.words_agree.seals }) refl refl refl refl refl (refl, refl, refl) (refl, refl) (λ d o n e. refl)
+        (at_again size most blocks words committing orders devices actors a x s y g ex ey migration block part (Desk (ReleaseOrder part.block)) ws answer f z ws f.at.answer f.at.buffer None answer
+        (λ i. record z { held = sym (ap (λ (us : List Want). held_for us x.card) nothing ∙ ap held_of suits.1.0) i }) f.at.alike (subst (λ (us : List Want). SawSeal left us x.card) (sym nothing) tt))
+        (subst (λ (us : List Want). IsTail us) (sym nothing) tt) (record { of_block = f.of_block; paired = f.paired.1; copies = f.copies; read = no_write_read size _ _ ws x.buffer f.paired.0 })

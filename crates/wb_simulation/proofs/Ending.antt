@@ -16,7 +16,7 @@ use Rattle.wb_link.specs.World.{World, Actor as AbstractActor, is_alone, actor_a
 use Rattle.wb_refines.specs.Going.{gone}
 use Rattle.wb_refines.specs.Translation.{job_for}
 use Rattle.wb_refines.specs.Models.{IsAt, HasStopped, IsBelow, plan_of}
-use Rattle.wb_refines.specs.Tasks.{IsIdle, IsAnswered}
+use Rattle.wb_refines.specs.Tasks.{IsResting, IsIdle, IsAnswered}
 use Rattle.wb_refines.proofs.Holding.{holds_nothing}
 use Rattle.wb_refines.proofs.Tasks.{tasks_end}
 use Rattle.wb_runs.specs.declared.job.Job.{Job}
@@ -28,9 +28,9 @@ use Rattle.wb_simulation.specs.Worlds.{Agrees, Follows}
 use Rattle.wb_simulation.specs.Laws.{AnswersFollowed, IsRequestJob, content_of}
 use Rattle.wb_simulation.proofs.Cells.{shared_stays, gone_nowhere}
 use Rattle.wb_simulation.proofs.Telling.{nothing_told, answers_at, stopped_answers, late_answers_so}
-use Rattle.wb_simulation.proofs.Behind.{IsNoMigration, none_of, stays_with, carries_same}
-use Rattle.wb_simulation.proofs.Among.{OthersStay, own_there, goes_on}
-use Rattle.wb_simulation.proofs.Followed.{doing_of, migrates_not}
+use Rattle.wb_simulation.proofs.Orders.{does_none, carries_same}
+use Rattle.wb_simulation.proofs.Among.{own_there, goes_on}
+use Rattle.wb_simulation.proofs.Followed.{doing_of}
 
 -- nothing is left of a plan whose next step is its answer
 nothing_left : (plan : Plan) (answer : Answer) → want plan ≡ End answer → ((next : Want) (later : List Want) → plan.steps ≡ next ∷ later → next ≡ End answer → ⊥) → plan.steps ≡ []
@@ -45,28 +45,29 @@ answered_order : (y : AbstractActor) (script : Script) → y.task ≡ Some scrip
 answered_order y script task nothing order = subst (λ (t : Option Script). (gone y t (DoneThere ∷ [])).order ≡ None) (sym task)
     (ap (λ (v : AbstractActor). v.order) (gone_nowhere (actor_after y script (want_there script) DoneThere) (task_after script (want_there script) DoneThere)) ∙ ap (λ ws. order_after y.order (first_of_steps ws script.answer)) nothing ∙ order)
 
-module _ (size most blocks : ℕ) (words : Words) (committing : Bool) (orders : List (Option Order)) (devices : Devices (List History)) (actors : List Actor) (a : ℕ) (x : Actor) (s : World) (y : AbstractActor) (ex : slice_get actors a ≡ Some x) (ey : slice_get s.actors a ≡ Some y) (g : Agrees size most words committing orders devices actors s) (st : StandsFor size most words x y) (before : IsNoMigration x.task) where
-  others : OthersStay size words devices devices orders actors a x (record x { task = None })
-  others = record { before = before; still = tt; ordered = refl; outside = stays_with words x None tt; carries = carries_same size devices orders actors a }
+module _ (size most blocks : ℕ) (words : Words) (committing : Bool) (orders : List (Option Order)) (devices : Devices (List History)) (actors : List Actor) (a : ℕ) (x : Actor) (s : World) (y : AbstractActor) (ex : slice_get actors a ≡ Some x) (ey : slice_get s.actors a ≡ Some y) (g : Agrees size most words committing orders devices actors s) (st : StandsFor size most words x y) where
+  rested : (z : AbstractActor) → IsIdle z ⊎ (flag words.fail ≡ true) → IsResting z ⊎ (flag words.fail ≡ true)
+  rested z (inl i) = inl (record { task = i.task; held = i.held; leads = i.leads })
+  rested z (inr f) = inr f
 
   abbrev Goal : AbstractJob → Answer → Type 0
   Goal abstract answer = Follows (Answers abstract answer) size most a s words committing orders devices (slice_set actors a (record x { task = None }))
 
   -- it answers there, too
-  answers : (abstract : AbstractJob) (answer : Answer) → AnswersSo abstract answer y.task → IsAnswered s.actors a s.shared y → IsBelow (gone y y.task (DoneThere ∷ [])) x.card → (gone y y.task (DoneThere ∷ [])).order ≡ None → (gone y y.task (DoneThere ∷ [])).leads ≡ false → (IsIdle (gone y y.task (DoneThere ∷ [])) ⊎ (flag words.fail ≡ true)) → Goal abstract answer
+  answers : (abstract : AbstractJob) (answer : Answer) → AnswersSo abstract answer y.task → IsAnswered s.actors a s.shared y → IsBelow (gone y y.task (DoneThere ∷ [])) x.card → (gone y y.task (DoneThere ∷ [])).order ≡ y.order → (gone y y.task (DoneThere ∷ [])).leads ≡ false → (IsIdle (gone y y.task (DoneThere ∷ [])) ⊎ (flag words.fail ≡ true)) → Goal abstract answer
   answers abstract answer so w below order leads rest = goes_on size most words words (λ f. f) committing orders devices actors a x (record x { task = None }) s y g ex ey (Answers abstract answer) devices (DoneThere ∷ []) s.shared (so, refl) w.may w.shared
-      (record { at = (w.over, rest); below = below; order = order; among_others = ap is_alone w.over }) (λ l. let bad : true ≡ false = sym l ∙ leads in absurd (cc)) g.words_agree g.origin g.cache refl refl refl (refl, refl, refl) (refl, refl) others
+      (record { at = (w.over, rested _ rest); below = below; among_others = ap is_alone w.over }) (λ l. let bad : true ≡ false = sym l ∙ leads in absurd (cc)) g.words_agree g.origin g.cache refl refl refl (refl, refl, refl) (refl, refl) order (λ o h. h) (carries_same size orders devices actors s a) (does_none _ _ _ _ _ _ tt)
 
   -- it has no task there
   answers_late : (abstract : AbstractJob) (answer : Answer) → AnswersSo abstract answer y.task → y.task ≡ None → flag words.fail ≡ true → Goal abstract answer
   answers_late abstract answer so none failed = goes_on size most words words (λ f. f) committing orders devices actors a x (record x { task = None }) s y g ex ey (Answers abstract answer) devices [] s.shared (so, nothing_told a y.task (DoneThere ∷ []) none) tt (shared_stays s.shared y y.task)
-      (subst (λ (z : AbstractActor). StandsFor size most words (record x { task = None }) z) (sym (gone_nowhere y y.task)) (record { at = (none, inr failed); below = st.below; order = st.order; among_others = st.among_others }))
-      (λ l. gone_nowhere y y.task) g.words_agree g.origin g.cache refl refl refl (refl, refl, refl) (refl, refl) others
+      (subst (λ (z : AbstractActor). StandsFor size most words (record x { task = None }) z) (sym (gone_nowhere y y.task)) (record { at = (none, inr failed); below = st.below; among_others = st.among_others }))
+      (λ l. gone_nowhere y y.task) g.words_agree g.origin g.cache refl refl refl (refl, refl, refl) (refl, refl) (ap (λ (v : AbstractActor). v.order) (gone_nowhere y y.task)) (λ o h. h) (carries_same size orders devices actors s a) (does_none _ _ _ _ _ _ tt)
 
   request_answers : (content : Content) (job_on : BlockRange → BlockJob) (part : BlockRange) (answer : Answer) → x.card.hold ≡ HoldsNothing →
       IsAt size content (plan_of (job_on part) [] answer) x.card y ⊎ HasStopped words (plan_of (job_on part) [] answer) x.card y ⊎ IsLate words (plan_of (job_on part) [] answer) y → Goal (job_for size content (OnBlock (job_on part))) answer
-  request_answers content job_on part answer h (inl i) = let d = tasks_end.done size content s.actors a s.shared y (job_on part) answer x.card h i in answers (job_for size content (OnBlock (job_on part))) answer (answers_at size content (OnBlock (job_on part)) answer y (ap (λ (v : AbstractActor). v.task) i.is)) d.0 (holds_nothing _ x.card d.1.held) d.1.order d.1.leads (inl d.1)
-  request_answers content job_on part answer h (inr (inl k)) = let d = tasks_end.stopped s.actors a s.shared y words answer (OnBlock (job_on part)) x.card k in answers (job_for size content (OnBlock (job_on part))) answer (stopped_answers (job_for size content (OnBlock (job_on part))) words (plan_of (job_on part) [] answer) x.card answer y refl k) d.0 d.1 (answered_order y k.script k.task k.nothing k.order) d.2 d.3
+  request_answers content job_on part answer h (inl i) = let d = tasks_end.done size content s.actors a s.shared y (job_on part) answer x.card h i in answers (job_for size content (OnBlock (job_on part))) answer (answers_at size content (OnBlock (job_on part)) answer y (ap (λ (v : AbstractActor). v.task) i.is)) d.0 (holds_nothing _ x.card d.1.held) (d.1.order ∙ sym (ap (λ (v : AbstractActor). v.order) i.is)) d.1.leads (inl d.1)
+  request_answers content job_on part answer h (inr (inl k)) = let d = tasks_end.stopped s.actors a s.shared y words answer (OnBlock (job_on part)) x.card k in answers (job_for size content (OnBlock (job_on part))) answer (stopped_answers (job_for size content (OnBlock (job_on part))) words (plan_of (job_on part) [] answer) x.card answer y refl k) d.0 d.1 (answered_order y k.script k.task k.nothing k.order ∙ sym k.order) d.2 d.3
   request_answers content job_on part answer h (inr (inr l)) = answers_late (job_for size content (OnBlock (job_on part))) answer (late_answers_so (job_for size content (OnBlock (job_on part))) words (plan_of (job_on part) [] answer) answer y refl (λ t. let bad = ap (λ (p : Plan). p.steps) t in absurd (cc)) l) l.nothing l.failed
 
   of_plan : (content : Content) (job_on : BlockRange → BlockJob) (plan : Plan) (answer : Answer) → want plan ≡ End answer → Suits blocks plan x.card → IsRequestAt size content words job_on plan x.card y → Goal (job_for size content plan.job) answer
@@ -92,4 +93,4 @@ module _ (size most blocks : ℕ) (words : Words) (committing : Bool) (orders : 
 pub answers_followed : AnswersFollowed
 answers_followed size most blocks words committing orders devices actors a x job plan answer s q ex task suits next g =
     let y = own_there size most words committing orders devices actors s g a x ex in
-    followed size most blocks words committing orders devices actors a x s y.0 ex y.1 g (g.each a x y.0 ex y.1) (none_of x job plan (migrates_not job q) task) job plan answer q task next suits
+    followed size most blocks words committing orders devices actors a x s y.0 ex y.1 g (g.each a x y.0 ex y.1) job plan answer q task next suits

@@ -1,5 +1,5 @@
 -- Each step of a flush is followed, wherever it stands.
-use Rattle.std.proofs.Common.{◌≡◌, ◌∙◌, inl, inr, ℕ, Bool, true, false, List, [], ◌∷◌, Some, None, refl, sym, ap, subst, slice_get, slice_set, Option}
+use Rattle.std.proofs.Common.{Contains, ◌++◌, ◌≡◌, ◌∙◌, inl, inr, ℕ, Bool, true, false, List, [], ◌∷◌, Some, None, refl, sym, ap, subst, slice_get, slice_set, Option}
 use Rattle.wb_types.specs.declared.mode.Dev.{Dev}
 use Rattle.wb_types.specs.declared.mode.Dev.TheVariants.{Metadata, Cache, Origin}
 use Rattle.wb_disk.specs.Device.{History, synced}
@@ -26,23 +26,23 @@ use Rattle.wb_refines.specs.Flushes.{IsFlushing, IsWrittenAfter, flushing}
 use Rattle.wb_runs.specs.declared.job.Job.TheVariants.{Flush}
 use Rattle.wb_runs.specs.States.{Actor, with_device}
 use Rattle.wb_simulation.specs.Actors.{IsFlushAt, IsOfFlush, LeadsAt, StandsFor}
-use Rattle.wb_simulation.specs.Telling.{Quietly, Answers}
-use Rattle.wb_simulation.specs.Worlds.{Agrees, Begins, Puts, Ends, FollowsBy, Follows}
+use Rattle.wb_simulation.specs.Telling.{Quietly, Answers, Releases}
+use Rattle.wb_simulation.specs.Worlds.{Agrees, Begins, Puts, Ends, GivesUp, FollowsBy, Follows}
 use Rattle.wb_simulation.specs.Laws.{FlushStepsFollowed, after_step, turn_of, went}
-use Rattle.wb_simulation.specs.Steps.{IsOutside}
-use Rattle.wb_simulation.specs.Behind.{AreOutside}
-use Rattle.wb_simulation.proofs.Behind.{IsNoMigration, StaysOutside, none_of, past, stays_looking}
+use Rattle.wb_types.specs.declared.number.OBlock.{OBlock}
+use Rattle.wb_tasks.specs.declared.step.DeskStep.TheVariants.{ReleaseOrder}
+use Rattle.wb_simulation.specs.Carried.{held}
 use Rattle.wb_simulation.proofs.Among.{own_there}
 use Rattle.wb_simulation.proofs.Followed.{doing_of, begins_by}
 use Rattle.wb_simulation.proofs.Leading.{AtFlush, at_flush}
-use Rattle.wb_simulation.proofs.Flushing.{leading, syncs_cache, syncs_origin, fails_cache, fails_origin, metadata_done, metadata_failed, is_on_metadata, is_refused, begins, ends, fails, looks, answers, late_looks, late_answers}
+use Rattle.wb_simulation.proofs.Flushing.{leading, syncs_cache, syncs_origin, fails_cache, fails_origin, metadata_done, metadata_failed, is_on_metadata, is_refused, begins, ends, releases, gives_up, fails, looks, answers, late_looks, late_answers}
 
 -- a flush that asks for a commit, of which nothing is known but that
-asks : (size most allowed : ℕ) (clean : Bool) (words : Words) (plan : Plan) (y : AbstractActor) → (k : AtFlush size most words plan (Desk (BeginCommit clean allowed)) y) →
-    (plan ≡ flushing most (Desk (BeginCommit false most) ∷ []) plan.answer) × IsFlushing size [] (flushing most (Desk (BeginCommit false most) ∷ []) plan.answer) false y
-asks size most allowed clean words plan y k =
-    let same : flushing most (Desk (BeginCommit clean allowed) ∷ k.later) plan.answer ≡ flushing most (Desk (BeginCommit false most) ∷ []) plan.answer = (λ i. flushing most (Desk (BeginCommit (k.rest.0 i) (k.rest.1 i)) ∷ k.rest.2 i) plan.answer) in
-    (k.is ∙ same, subst (λ (b : Bool). IsFlushing size [] (flushing most (Desk (BeginCommit false most) ∷ []) plan.answer) b y) k.at (subst (λ (p : Plan). IsFlushing size [] p k.leads y) same k.same))
+asks : (size most allowed : ℕ) (serves : List OBlock) (clean : Bool) (words : Words) (plan : Plan) (y : AbstractActor) → (k : AtFlush size most serves words plan (Desk (BeginCommit clean allowed)) y) →
+    (plan ≡ flushing serves most (Desk (BeginCommit false most) ∷ []) plan.answer) × IsFlushing size [] (flushing serves most (Desk (BeginCommit false most) ∷ []) plan.answer) false y
+asks size most allowed serves clean words plan y k =
+    let same : flushing serves most (Desk (BeginCommit clean allowed) ∷ k.later) plan.answer ≡ flushing serves most (Desk (BeginCommit false most) ∷ []) plan.answer = (λ i. flushing serves most (Desk (BeginCommit (k.rest.0 i) (k.rest.1 i)) ∷ k.rest.2 i) plan.answer) in
+    (k.is ∙ same, subst (λ (b : Bool). IsFlushing size [] (flushing serves most (Desk (BeginCommit false most) ∷ []) plan.answer) b y) k.at (subst (λ (p : Plan). IsFlushing size [] p k.leads y) same k.same))
 
 -- nothing is left of a flush that answers
 nothing_left : (most : ℕ) (plan : Plan) (answer : Answer) → want plan ≡ End answer → IsOfFlush most plan.steps → plan.steps ≡ []
@@ -56,52 +56,45 @@ nothing_left most plan answer e o = by_steps plan.steps refl
 
 module _ (size most : ℕ) (words : Words) (committing : Bool) (orders : List (Option Order)) (devices : Devices (List History)) (actors : List Actor) (a : ℕ) (x : Actor) (plan : Plan) (s : World) (y : AbstractActor) (ex : slice_get actors a ≡ Some x) (ey : slice_get s.actors a ≡ Some y) (g : Agrees size most words committing orders devices actors s)
     (st : StandsFor size most words x y) (f : IsFlushAt size most words plan y) (task : x.task ≡ Some (Flush, plan)) where
-  before : IsNoMigration x.task
-  before = none_of x Flush plan tt task
-
-  -- past its look at the fail word
-  past_at : (next : Want) (later : List Want) → plan ≡ flushing most (next ∷ later) plan.answer → ¬ IsOutside (next ∷ later) → ¬ AreOutside x.task
-  past_at next later is out = past x Flush plan next later task (ap (λ (p : Plan). p.steps) is) out
-
   abbrev Then : Devices (List History) → Plan → Got → Type 0
   Then ds p got = Follows Quietly size most a s words committing orders ds (slice_set actors a (after_step Flush p got x))
 
   sync : (device : Dev) → HoldsBlocks device → want plan ≡ Device (Sync device) → Then (with_device device devices (synced (device_in device devices))) plan Done
   sync Cache h e = let k = at_flush size most words plan (Device (Sync Cache)) y e (λ answer q. absurd (cc)) (λ q. absurd (cc)) f in
-      subst (λ (p : Plan). Then (with_device Cache devices (synced devices.cache)) p Done) (sym k.is) (syncs_cache size most words committing orders devices actors a x plan s y ex ey g before (past_at (Device (Sync Cache)) k.later k.is (λ o. o)) k.later plan.answer k.rest
-      (leading size most words committing orders devices actors a x plan s y ex ey g before (Device (Sync Cache)) k.later plan.answer k.leads k.at k.same))
+      subst (λ (p : Plan). Then (with_device Cache devices (synced devices.cache)) p Done) (sym k.is) (syncs_cache size most f.serves words committing orders devices actors a x plan s y ex ey g k.later plan.answer k.rest
+      (leading size most f.serves words committing orders devices actors a x plan s y ex ey g (Device (Sync Cache)) k.later plan.answer k.leads k.at k.same))
   sync Origin h e = let k = at_flush size most words plan (Device (Sync Origin)) y e (λ answer q. absurd (cc)) (λ q. absurd (cc)) f in
-      subst (λ (p : Plan). Then (with_device Origin devices (synced devices.origin)) p Done) (sym k.is) (syncs_origin size most words committing orders devices actors a x plan s y ex ey g before (past_at (Device (Sync Origin)) k.later k.is (λ o. o)) k.later plan.answer k.rest
-      (leading size most words committing orders devices actors a x plan s y ex ey g before (Device (Sync Origin)) k.later plan.answer k.leads k.at k.same))
+      subst (λ (p : Plan). Then (with_device Origin devices (synced devices.origin)) p Done) (sym k.is) (syncs_origin size most f.serves words committing orders devices actors a x plan s y ex ey g k.later plan.answer k.rest
+      (leading size most f.serves words committing orders devices actors a x plan s y ex ey g (Device (Sync Origin)) k.later plan.answer k.leads k.at k.same))
   sync Metadata h e = absurd h
 
   sync_fails : (lands : ℕ → Bool) (device : Dev) → HoldsBlocks device → want plan ≡ Device (Sync device) → Then (with_device device devices (synced_where lands (device_in device devices))) plan Fault
   sync_fails lands Cache h e = let k = at_flush size most words plan (Device (Sync Cache)) y e (λ answer q. absurd (cc)) (λ q. absurd (cc)) f in
-      subst (λ (p : Plan). Then (with_device Cache devices (synced_where lands devices.cache)) p Fault) (sym k.is) (fails_cache size most words committing orders devices actors a x plan s y ex ey g before (past_at (Device (Sync Cache)) k.later k.is (λ o. o)) lands k.later plan.answer k.rest
-      (leading size most words committing orders devices actors a x plan s y ex ey g before (Device (Sync Cache)) k.later plan.answer k.leads k.at k.same))
+      subst (λ (p : Plan). Then (with_device Cache devices (synced_where lands devices.cache)) p Fault) (sym k.is) (fails_cache size most f.serves words committing orders devices actors a x plan s y ex ey g lands k.later plan.answer k.rest
+      (leading size most f.serves words committing orders devices actors a x plan s y ex ey g (Device (Sync Cache)) k.later plan.answer k.leads k.at k.same))
   sync_fails lands Origin h e = let k = at_flush size most words plan (Device (Sync Origin)) y e (λ answer q. absurd (cc)) (λ q. absurd (cc)) f in
-      subst (λ (p : Plan). Then (with_device Origin devices (synced_where lands devices.origin)) p Fault) (sym k.is) (fails_origin size most words committing orders devices actors a x plan s y ex ey g before (past_at (Device (Sync Origin)) k.later k.is (λ o. o)) lands k.later plan.answer k.rest
-      (leading size most words committing orders devices actors a x plan s y ex ey g before (Device (Sync Origin)) k.later plan.answer k.leads k.at k.same))
+      subst (λ (p : Plan). Then (with_device Origin devices (synced_where lands devices.origin)) p Fault) (sym k.is) (fails_origin size most f.serves words committing orders devices actors a x plan s y ex ey g lands k.later plan.answer k.rest
+      (leading size most f.serves words committing orders devices actors a x plan s y ex ey g (Device (Sync Origin)) k.later plan.answer k.leads k.at k.same))
   sync_fails lands Metadata h e = absurd h
 
   look : want plan ≡ Cell (Look Fail) → Follows Quietly size most a s words committing orders devices (slice_set actors a (went words Flush plan (Look Fail) x))
   look e = elim f.at [
     | inl l ↦
         let b = begins_by plan (Cell (Look Fail)) e (λ answer q. absurd (cc)) in
-        let is : plan ≡ flushing most (Cell (Look Fail) ∷ b.0) plan.answer = (λ i. record { job = f.job i; steps = b.1 i; answer = plan.answer }) in
+        let is : plan ≡ flushing f.serves most (Cell (Look Fail) ∷ b.0) plan.answer = (λ i. record { job = f.job i; steps = b.1 i; answer = plan.answer }) in
         let none : l.leads ≡ false = subst (λ (ws : List Want). LeadsAt l.leads ws) b.1 l.at in
         subst (λ (p : Plan). Follows Quietly size most a s words committing orders devices (slice_set actors a (went words Flush p (Look Fail) x))) (sym is)
-        (looks size most words committing orders devices actors a x plan s y ex ey g before b.0 plan.answer (subst (λ (p : Plan). StaysOutside words x (went words Flush p (Look Fail) x)) is (stays_looking words x Flush plan (Look Fail) b.0 task b.1)) (subst (λ (ws : List Want). IsOfFlush most ws) b.1 f.steps)
-        (subst (λ (q : Bool). IsFlushing size [] (flushing most (Cell (Look Fail) ∷ b.0) plan.answer) q y) none (subst (λ (p : Plan). IsFlushing size [] p l.leads y) is l.is)))
-    | inr l ↦ late_looks size most words committing orders devices actors a x plan s y ex ey g before l st f.job e
+        (looks size most f.serves words committing orders devices actors a x plan s y ex ey g b.0 plan.answer (subst (λ (ws : List Want). IsOfFlush most ws) b.1 f.steps)
+        (subst (λ (q : Bool). IsFlushing size [] (flushing f.serves most (Cell (Look Fail) ∷ b.0) plan.answer) q y) none (subst (λ (p : Plan). IsFlushing size [] p l.leads y) is l.is)))
+    | inr l ↦ late_looks size most f.serves words committing orders devices actors a x plan s y ex ey g l st f.job e
   ]
 
-  answer_given : (answer : Answer) → want plan ≡ End answer → Follows (Answers (FlushingFor None) answer) size most a s words committing orders devices (slice_set actors a (record x { task = None }))
-  answer_given answer e = subst (λ (given : Answer). Follows (Answers (FlushingFor None) given) size most a s words committing orders devices (slice_set actors a (record x { task = None }))) is_given (elim f.at [
+  answer_given : (orders' awaiting' : List Order) → ((o : Order) → Contains (held x) o → Contains (orders' ++ awaiting') o) → (answer : Answer) → want plan ≡ End answer → Follows (Answers (FlushingFor None) answer) size most a s words committing orders devices (slice_set actors a (record x { task = None; orders = orders'; awaiting = awaiting' }))
+  answer_given orders' awaiting' keeps answer e = subst (λ (given : Answer). Follows (Answers (FlushingFor None) given) size most a s words committing orders devices (slice_set actors a (record x { task = None; orders = orders'; awaiting = awaiting' }))) is_given (elim f.at [
     | inl l ↦
-        let is : plan ≡ flushing most [] plan.answer = (λ i. record { job = f.job i; steps = none i; answer = plan.answer }) in
-        answers size most words committing orders devices actors a x plan s y ex ey g before plan.answer l.leads (λ q. l.failed q none) (subst (λ (p : Plan). IsFlushing size [] p l.leads y) is l.is)
-    | inr l ↦ late_answers size most words committing orders devices actors a x plan s y ex ey g before l f.job none st
+        let is : plan ≡ flushing f.serves most [] plan.answer = (λ i. record { job = f.job i; steps = none i; answer = plan.answer }) in
+        answers size most f.serves words committing orders devices actors a x plan s y ex ey g orders' awaiting' keeps plan.answer l.leads (λ q. l.failed q none) (subst (λ (p : Plan). IsFlushing size [] p l.leads y) is l.is)
+    | inr l ↦ late_answers size most f.serves words committing orders devices actors a x plan s y ex ey g orders' awaiting' keeps l f.job none st
   ])
     where
       none : plan.steps ≡ []
@@ -122,41 +115,51 @@ flush_steps_followed = record {
   looks = λ size most words committing orders devices actors a x plan s ex t e g. let y = flush_of size most words committing orders devices actors a x plan s ex g t in look size most words committing orders devices actors a x plan s y.0 ex y.1 g y.2 y.3 t e;
   begins = λ size most nodes allowed clean words orders devices actors a x plan s ex t e g.
       let y = flush_of size most words false orders devices actors a x plan s ex g t in
-      let k = asks size most allowed clean words plan y.0 (at_flush size most words plan (Desk (BeginCommit clean allowed)) y.0 e (λ answer q. absurd (cc)) (λ q. absurd (cc)) y.3) in
-      subst (λ (p : Plan). FollowsBy Begins Quietly size most a s words true orders devices (slice_set actors a (after_step Flush p (Began nodes) x))) (sym k.0) (begins size most words false orders devices actors a x plan s y.0 ex y.1 g (none_of x Flush plan tt t) (past x Flush plan (Desk (BeginCommit false most)) [] t (ap (λ (p : Plan). p.steps) k.0) (λ o. o)) nodes plan.answer refl k.1);
+      let k = asks size most allowed y.3.serves clean words plan y.0 (at_flush size most words plan (Desk (BeginCommit clean allowed)) y.0 e (λ answer q. absurd (cc)) (λ q. absurd (cc)) y.3) in
+      subst (λ (p : Plan). FollowsBy Begins Quietly size most a s words true orders devices (slice_set actors a (after_step Flush p (Began nodes) x))) (sym k.0) (begins size most y.3.serves words false orders devices actors a x plan s y.0 ex y.1 g nodes plan.answer refl k.1);
   is_refused = λ size most allowed clean refusal words committing orders devices actors a x plan s n ex t e g.
       let y = flush_of size most words committing orders devices actors a x plan s ex g t in
-      let k = asks size most allowed clean words plan y.0 (at_flush size most words plan (Desk (BeginCommit clean allowed)) y.0 e (λ answer q. absurd (cc)) (λ q. absurd (cc)) y.3) in
-      subst (λ (p : Plan). Follows Quietly size most a s words committing orders devices (slice_set actors a (after_step Flush p (Refused refusal) x))) (sym k.0) (is_refused size most words committing orders devices actors a x plan s y.0 ex y.1 g (none_of x Flush plan tt t) (past x Flush plan (Desk (BeginCommit false most)) [] t (ap (λ (p : Plan). p.steps) k.0) (λ o. o)) refusal plan.answer n k.1);
+      let k = asks size most allowed y.3.serves clean words plan y.0 (at_flush size most words plan (Desk (BeginCommit clean allowed)) y.0 e (λ answer q. absurd (cc)) (λ q. absurd (cc)) y.3) in
+      subst (λ (p : Plan). Follows Quietly size most a s words committing orders devices (slice_set actors a (after_step Flush p (Refused refusal) x))) (sym k.0) (is_refused size most y.3.serves words committing orders devices actors a x plan s y.0 ex y.1 g refusal plan.answer n k.1);
   syncs = λ size most device words committing orders devices actors a x plan s h ex t e g. let y = flush_of size most words committing orders devices actors a x plan s ex g t in sync size most words committing orders devices actors a x plan s y.0 ex y.1 g y.2 y.3 t device h e;
   sync_fails = λ size most device lands words committing orders devices actors a x plan s h ex t e g. let y = flush_of size most words committing orders devices actors a x plan s ex g t in sync_fails size most words committing orders devices actors a x plan s y.0 ex y.1 g y.2 y.3 t lands device h e;
   on_metadata = λ size most step metadata words committing orders devices actors a x plan s d ex t e g.
       let y = flush_of size most words committing orders devices actors a x plan s ex g t in
       let k = at_flush size most words plan (Device step) y.0 e (λ answer q. absurd (cc)) (λ q. absurd (cc)) y.3 in
       subst (λ (p : Plan). FollowsBy (turn_of step) Quietly size most a s words committing orders (with_device Metadata devices metadata) (slice_set actors a (after_step Flush p Done x))) (sym k.is)
-      (metadata_done size most words committing orders devices actors a x plan s y.0 ex y.1 g (none_of x Flush plan tt t) (past x Flush plan (Device step) k.later t (ap (λ (p : Plan). p.steps) k.is) (λ o. o)) metadata step k.later plan.answer d k.rest (leading size most words committing orders devices actors a x plan s y.0 ex y.1 g (none_of x Flush plan tt t) (Device step) k.later plan.answer k.leads k.at k.same));
+      (metadata_done size most y.3.serves words committing orders devices actors a x plan s y.0 ex y.1 g metadata step k.later plan.answer d k.rest (leading size most y.3.serves words committing orders devices actors a x plan s y.0 ex y.1 g (Device step) k.later plan.answer k.leads k.at k.same));
   metadata_fails = λ size most step metadata words committing orders devices actors a x plan s d ex t e g.
       let y = flush_of size most words committing orders devices actors a x plan s ex g t in
       let k = at_flush size most words plan (Device step) y.0 e (λ answer q. absurd (cc)) (λ q. absurd (cc)) y.3 in
       subst (λ (p : Plan). (written : Bool) × IsWrittenAfter step s.shared.root_written written × FollowsBy (Puts written) Quietly size most a s words committing orders (with_device Metadata devices metadata) (slice_set actors a (after_step Flush p Fault x))) (sym k.is)
-      (metadata_failed size most words committing orders devices actors a x plan s y.0 ex y.1 g (none_of x Flush plan tt t) (past x Flush plan (Device step) k.later t (ap (λ (p : Plan). p.steps) k.is) (λ o. o)) metadata step k.later plan.answer (is_on_metadata size most words committing orders devices actors a x plan s y.0 ex y.1 g (none_of x Flush plan tt t) step k.later d k.rest)
-      (leading size most words committing orders devices actors a x plan s y.0 ex y.1 g (none_of x Flush plan tt t) (Device step) k.later plan.answer k.leads k.at k.same));
+      (metadata_failed size most y.3.serves words committing orders devices actors a x plan s y.0 ex y.1 g metadata step k.later plan.answer (is_on_metadata size most y.3.serves words committing orders devices actors a x plan s y.0 ex y.1 g step k.later d k.rest)
+      (leading size most y.3.serves words committing orders devices actors a x plan s y.0 ex y.1 g (Device step) k.later plan.answer k.leads k.at k.same));
   ends = λ size most words committing orders devices actors a x plan s ex t e g.
       let y = flush_of size most words committing orders devices actors a x plan s ex g t in
       let k = at_flush size most words plan (Desk EndCommit) y.0 e (λ answer q. absurd (cc)) (λ q. absurd (cc)) y.3 in
       subst (λ (p : Plan). FollowsBy Ends Quietly size most a s words false orders devices (slice_set actors a (after_step Flush p Done x))) (sym k.is)
-      (last size most words committing orders devices actors a x plan s y.0 ex y.1 g t k.later k.is k.rest (leading size most words committing orders devices actors a x plan s y.0 ex y.1 g (none_of x Flush plan tt t) (Desk EndCommit) k.later plan.answer k.leads k.at k.same));
+      (last size most y.3.serves words committing orders devices actors a x plan s y.0 ex y.1 g t k.later k.is k.rest (leading size most y.3.serves words committing orders devices actors a x plan s y.0 ex y.1 g (Desk EndCommit) k.later plan.answer k.leads k.at k.same));
+  releases = λ size most block words committing orders devices actors a x plan s ex t e g.
+      let y = flush_of size most words committing orders devices actors a x plan s ex g t in
+      let k = at_flush size most words plan (Desk (ReleaseOrder block)) y.0 e (λ answer q. absurd (cc)) (λ q. absurd (cc)) y.3 in
+      subst (λ (p : Plan). Follows Quietly size most a s words committing orders devices (slice_set actors a (after_step Flush p Done x))) (sym k.is)
+      (releases size most y.3.serves words committing orders devices actors a x plan s y.0 ex y.1 g block k.later plan.answer k.rest (subst (λ (b : Bool). IsFlushing size [] (flushing y.3.serves most (Desk (ReleaseOrder block) ∷ k.later) plan.answer) b y.0) k.at k.same));
+  gives_up = λ size most block words committing orders devices actors a x plan c order awaiting' s ex t e slot only g.
+      let y = flush_of size most words committing orders devices actors a x plan s ex g t in
+      let k = at_flush size most words plan (Desk (ReleaseOrder block)) y.0 e (λ answer q. absurd (cc)) (λ q. absurd (cc)) y.3 in
+      subst (λ (p : Plan). FollowsBy (GivesUp c) Releases size most a s words committing (slice_set orders c None) devices (slice_set actors a (record (after_step Flush p Done x) { awaiting = awaiting' }))) (sym k.is)
+      (gives_up size most y.3.serves words committing orders devices actors a x plan s y.0 ex y.1 g block k.later plan.answer k.rest (subst (λ (b : Bool). IsFlushing size [] (flushing y.3.serves most (Desk (ReleaseOrder block) ∷ k.later) plan.answer) b y.0) k.at k.same) c order awaiting' slot only);
   fails = λ size most failures suspensions words committing orders devices actors a x plan s w ex t e g.
       let y = flush_of size most words committing orders devices actors a x plan s ex g t in
       let k = at_flush size most words plan (Cell SetFailed) y.0 e (λ answer q. absurd (cc)) (λ q. absurd (cc)) y.3 in
-      let same : flushing most (Cell SetFailed ∷ k.later) plan.answer ≡ flushing most (Cell SetFailed ∷ []) plan.answer = ap (λ (ws : List Want). flushing most (Cell SetFailed ∷ ws) plan.answer) k.rest in
-      let is = leading size most words committing orders devices actors a x plan s y.0 ex y.1 g (none_of x Flush plan tt t) (Cell SetFailed) k.later plan.answer k.leads k.at k.same in
+      let same : flushing y.3.serves most (Cell SetFailed ∷ k.later) plan.answer ≡ flushing y.3.serves most (Cell SetFailed ∷ []) plan.answer = ap (λ (ws : List Want). flushing y.3.serves most (Cell SetFailed ∷ ws) plan.answer) k.rest in
+      let is = leading size most y.3.serves words committing orders devices actors a x plan s y.0 ex y.1 g (Cell SetFailed) k.later plan.answer k.leads k.at k.same in
       subst (λ (p : Plan). Follows Quietly size most a s (words_after words SetFailed) committing orders devices (slice_set actors a (went words Flush p SetFailed x))) (sym (k.is ∙ same))
-      (fails size most words committing orders devices actors a x plan s y.0 ex y.1 g (none_of x Flush plan tt t) (past x Flush plan (Cell SetFailed) [] t (ap (λ (p : Plan). p.steps) (k.is ∙ same)) (λ o. o)) failures suspensions plan.answer w (subst (λ (p : Plan). IsFlushing size [] p true y.0) same is));
-  answers = λ size most answer words committing orders devices actors a x plan s ex t e g. let y = flush_of size most words committing orders devices actors a x plan s ex g t in answer_given size most words committing orders devices actors a x plan s y.0 ex y.1 g y.2 y.3 t answer e;
+      (fails size most y.3.serves words committing orders devices actors a x plan s y.0 ex y.1 g failures suspensions plan.answer w (subst (λ (p : Plan). IsFlushing size [] p true y.0) same is));
+  answers = λ size most answer words committing orders devices actors a x plan orders' awaiting' s ex t e keeps g. let y = flush_of size most words committing orders devices actors a x plan s ex g t in answer_given size most words committing orders devices actors a x plan s y.0 ex y.1 g y.2 y.3 t orders' awaiting' keeps answer e;
 }
   where
-    last : (size most : ℕ) (words : Words) (committing : Bool) (orders : List (Option Order)) (devices : Devices (List History)) (actors : List Actor) (a : ℕ) (x : Actor) (plan : Plan) (s : World) (y : AbstractActor) (ex : slice_get actors a ≡ Some x) (ey : slice_get s.actors a ≡ Some y) (g : Agrees size most words committing orders devices actors s) → x.task ≡ Some (Flush, plan) → (later : List Want) → plan ≡ flushing most (Desk EndCommit ∷ later) plan.answer →
-        IsOfFlush most (Desk EndCommit ∷ later) → IsFlushing size [] (flushing most (Desk EndCommit ∷ later) plan.answer) true y → FollowsBy Ends Quietly size most a s words false orders devices (slice_set actors a (after_step Flush (flushing most (Desk EndCommit ∷ later) plan.answer) Done x))
-    last size most words committing orders devices actors a x plan s y ex ey g t [] p o is = ends size most words committing orders devices actors a x plan s y ex ey g (none_of x Flush plan tt t) (past x Flush plan (Desk EndCommit) [] t (ap (λ (p : Plan). p.steps) p) (λ o. o)) plan.answer is
-    last size most words committing orders devices actors a x plan s y ex ey g t (v ∷ ws) p o is = absurd o
+    last : (size most : ℕ) (serves : List OBlock) (words : Words) (committing : Bool) (orders : List (Option Order)) (devices : Devices (List History)) (actors : List Actor) (a : ℕ) (x : Actor) (plan : Plan) (s : World) (y : AbstractActor) (ex : slice_get actors a ≡ Some x) (ey : slice_get s.actors a ≡ Some y) (g : Agrees size most words committing orders devices actors s) → x.task ≡ Some (Flush, plan) → (later : List Want) → plan ≡ flushing serves most (Desk EndCommit ∷ later) plan.answer →
+        IsOfFlush most (Desk EndCommit ∷ later) → IsFlushing size [] (flushing serves most (Desk EndCommit ∷ later) plan.answer) true y → FollowsBy Ends Quietly size most a s words false orders devices (slice_set actors a (after_step Flush (flushing serves most (Desk EndCommit ∷ later) plan.answer) Done x))
+    last size most serves words committing orders devices actors a x plan s y ex ey g t [] p o is = ends size most serves words committing orders devices actors a x plan s y ex ey g plan.answer is
+    last size most serves words committing orders devices actors a x plan s y ex ey g t (v ∷ ws) p o is = absurd o

@@ -1,12 +1,10 @@
 -- Each step of a flush is followed.
-use Rattle.std.proofs.Common.{◌≡◌, ◌≢◌, ◌+◌, ◌*◌, ◌==◌, ◌∙◌, inl, inr, cond, if◌then◌else◌, ℕ, Bool, true, false, List, [], ◌∷◌, Some, None, map, refl, sym, ap, subst, slice_get, slice_set, Option}
+use Rattle.std.proofs.Common.{Contains, ◌++◌, map, ◌≡◌, ◌≢◌, ◌+◌, ◌*◌, ◌==◌, ◌∙◌, inl, inr, cond, if◌then◌else◌, ℕ, Bool, true, false, List, [], ◌∷◌, Some, None, refl, sym, ap, subst, slice_get, slice_set, Option}
 use Rattle.wb_types.specs.declared.mode.Dev.TheVariants.{Metadata, Cache, Origin}
 use Rattle.wb_types.specs.declared.refusal.Refusal.{Refusal}
 use Rattle.wb_types.specs.declared.refusal.Refusal.TheVariants.{Failed, Busy, Memory, GenerationEnd}
-use Rattle.wb_disk.specs.Device.{History, newest, synced}
+use Rattle.wb_disk.specs.Device.{newest, History, synced}
 use Rattle.wb_disk.specs.Failing.{synced_where}
-use Rattle.wb_disk.proofs.FailedSyncs.{partly_synced as partly_synced_list}
-use Rattle.wb_disk.proofs.Leaving.{newest-synced, read-partly}
 use Rattle.wb_contents.specs.Devices.{by_block}
 use Rattle.wb_contents.proofs.Devices.{sync_is_act, failed_sync_is_act}
 use Rattle.wb_contents.specs.Acts.{all_synced, partly_synced}
@@ -42,24 +40,26 @@ use Rattle.wb_refines.proofs.Tasks.{tasks_end}
 use Rattle.wb_runs.specs.declared.job.Job.TheVariants.{Flush}
 use Rattle.wb_runs.specs.States.{Actor, with_device}
 use Rattle.wb_simulation.specs.Actors.{IsLate, IsOfFlush, LeadsAt, StandsFor}
-use Rattle.wb_simulation.specs.Telling.{Quietly, Answers}
-use Rattle.wb_simulation.specs.Worlds.{zeros, Agrees, Turn, Stays, Begins, Puts, Ends, TurnedTo, DeskTurnedTo, FollowsBy, Follows, IsUnfinished}
-use Rattle.wb_simulation.specs.Laws.{turn_of, went}
+use Rattle.wb_simulation.specs.Carried.{held}
+use Rattle.wb_simulation.specs.Telling.{Quietly, Answers, Releases}
+use Rattle.wb_simulation.specs.Worlds.{zeros, Agrees, Turn, Stays, Begins, Puts, Ends, GivesUp, TurnedTo, DeskTurnedTo, FollowsBy, Follows, IsUnfinished}
+use Rattle.wb_simulation.specs.Laws.{turn_of, went, IsOnlyOf}
 use Rattle.wb_simulation.proofs.Cells.{shared_stays, gone_nowhere}
 use Rattle.wb_simulation.proofs.Telling.{answers_at, late_answers_so, unnoted_none, nothing_told, quiet_are_unnoted}
-use Rattle.wb_simulation.specs.Behind.{AreOutside}
-use Rattle.wb_simulation.proofs.Behind.{IsNoMigration, StaysOutside, stays_past, stays_with, carries_same}
+use Rattle.wb_types.specs.declared.number.OBlock.{OBlock}
+use Rattle.wb_tasks.specs.Plan.{release_orders, lets_go_unless_busy}
+use Rattle.wb_tasks.specs.declared.step.DeskStep.TheVariants.{ReleaseOrder}
+use Rattle.wb_refines.specs.Going.{AreQuiet, shared_after}
+use Rattle.wb_simulation.specs.Actors.{AreReleases}
+use Rattle.wb_simulation.proofs.Orders.{does_none, carries_same}
+use Rattle.wb_disk.proofs.FailedSyncs.{partly_synced as partly_synced_list}
+use Rattle.wb_disk.proofs.Leaving.{newest-synced, read-partly}
 use Rattle.wb_simulation.proofs.Beside.{carries_newest}
-use Rattle.wb_simulation.proofs.Among.{OthersStay, goes_on, goes_leading}
+use Rattle.wb_simulation.proofs.Among.{goes_on, goes_leading}
+use Rattle.wb_simulation.proofs.Releasing.{released_there}
 use Rattle.wb_simulation.proofs.Leading.{nodes_on_metadata, commits_on, has_wants, stands, one_here, is_here, leads_on}
 
-module _ (size most : ℕ) (words : Words) (committing : Bool) (orders : List (Option Order)) (devices : Devices (List History)) (actors : List Actor) (a : ℕ) (x : Actor) (plan : Plan) (s : World) (y : AbstractActor) (ex : slice_get actors a ≡ Some x) (ey : slice_get s.actors a ≡ Some y) (g : Agrees size most words committing orders devices actors s)
-    (before : IsNoMigration x.task) where
-  -- all others stay, where each sector's newest content is the same
-  others : (plan' : Plan) (card' : Card) (devices' : Devices (List History)) → StaysOutside words x (record x { task = Some (Flush, plan'); card = card' }) → map newest devices'.origin ≡ map newest devices.origin → map newest devices'.cache ≡ map newest devices.cache →
-      OthersStay size words devices devices' orders actors a x (record x { task = Some (Flush, plan'); card = card' })
-  others plan' card' devices' outside origin cache = record { before = before; still = tt; ordered = refl; outside = outside; carries = carries_newest size devices devices' orders actors a origin cache }
-
+module _ (size most : ℕ) (serves : List OBlock) (words : Words) (committing : Bool) (orders : List (Option Order)) (devices : Devices (List History)) (actors : List Actor) (a : ℕ) (x : Actor) (plan : Plan) (s : World) (y : AbstractActor) (ex : slice_get actors a ≡ Some x) (ey : slice_get s.actors a ≡ Some y) (g : Agrees size most words committing orders devices actors s) where
   -- a step on a device, done, with this left
   abbrev OnBy : Turn → Devices (List History) → Plan → Type 0
   OnBy turn devices' plan' = FollowsBy turn Quietly size most a s words committing orders devices' (slice_set actors a (record x { task = Some (Flush, plan') }))
@@ -69,77 +69,76 @@ module _ (size most : ℕ) (words : Words) (committing : Bool) (orders : List (O
   On devices' plan' = Follows Quietly size most a s words committing orders devices' (slice_set actors a (record x { task = Some (Flush, plan') }))
 
   -- the same on whatever it leads to there
-  goes : (turn : Turn) (devices' : Devices (List History)) (next : Want) (later : List Want) (answer : Answer) (plan' : Plan) (t : Shared) → IsFlushing size [] (flushing most (next ∷ later) answer) true y → wants_of size (FlushingFor None) (next ∷ later) ≢ [] → Leads size [] s.actors a s.shared y t plan' true →
-      plan'.job ≡ Flushing [] most → IsOfFlush most plan'.steps → LeadsAt true plan'.steps → (plan'.steps ≢ []) → WordsAgree words t → t.origin ≡ by_block size zeros devices'.origin → t.cache ≡ by_block size zeros devices'.cache → t.mode ≡ s.shared.mode → t.committing ≡ s.shared.committing → t.broken ≡ s.shared.broken → TurnedTo turn s.shared t → DeskTurnedTo turn s.shared t →
-      ¬ AreOutside x.task → map newest devices'.origin ≡ map newest devices.origin → map newest devices'.cache ≡ map newest devices.cache → OnBy turn devices' plan'
-  goes turn devices' next later answer plan' t is some l j o at unfinished w og ca mo co br turned desk past origin cache =
-      leads_on size most words committing orders devices actors a x s y ex ey g turn words (λ f. f) devices' (flushing most (next ∷ later) answer) plan' x.card t next later answer is some l j o at (λ e n. absurd (unfinished n)) w og ca mo co br turned desk
-      (others plan' x.card devices' (stays_past words x (record x { task = Some (Flush, plan') }) past) origin cache)
+  goes : (turn : Turn) (devices' : Devices (List History)) (next : Want) (later : List Want) (answer : Answer) (plan' : Plan) (t : Shared) → IsFlushing size [] (flushing serves most (next ∷ later) answer) true y → wants_of size (FlushingFor None) (next ∷ later) ≢ [] → Leads size [] s.actors a s.shared y t plan' true →
+      plan'.job ≡ Flushing serves most → IsOfFlush most plan'.steps → LeadsAt true plan'.steps → (plan'.steps ≢ []) → WordsAgree words t → t.origin ≡ by_block size zeros devices'.origin → t.cache ≡ by_block size zeros devices'.cache → t.mode ≡ s.shared.mode → t.committing ≡ s.shared.committing → t.broken ≡ s.shared.broken → TurnedTo turn s.shared t → DeskTurnedTo turn s.shared t → t.mapping ≡ s.shared.mapping →
+      map newest devices'.origin ≡ map newest devices.origin → map newest devices'.cache ≡ map newest devices.cache → OnBy turn devices' plan'
+  goes turn devices' next later answer plan' t is some l j o at unfinished w og ca mo co br turned desk same_map nor nca =
+      leads_on size most serves words committing orders devices actors a x s y ex ey g turn words (λ f. f) devices' (flushing serves most (next ∷ later) answer) plan' x.card t next later answer is some l j o at (λ e n. absurd (unfinished n)) w og ca mo co br turned desk same_map (carries_newest size devices devices' orders actors s a nor nca)
 
   -- who leads, where that is known of the step
-  pub leading : (next : Want) (later : List Want) (answer : Answer) (leads : Bool) → leads ≡ true → IsFlushing size [] (flushing most (next ∷ later) answer) leads y → IsFlushing size [] (flushing most (next ∷ later) answer) true y
-  leading next later answer leads e is = subst (λ (b : Bool). IsFlushing size [] (flushing most (next ∷ later) answer) b y) e is
+  pub leading : (next : Want) (later : List Want) (answer : Answer) (leads : Bool) → leads ≡ true → IsFlushing size [] (flushing serves most (next ∷ later) answer) leads y → IsFlushing size [] (flushing serves most (next ∷ later) answer) true y
+  leading next later answer leads e is = subst (λ (b : Bool). IsFlushing size [] (flushing serves most (next ∷ later) answer) b y) e is
 
   -- cache and origin are synced
-  pub syncs_cache : ¬ AreOutside x.task → (later : List Want) (answer : Answer) → IsOfFlush most (Device (Sync Cache) ∷ later) → IsFlushing size [] (flushing most (Device (Sync Cache) ∷ later) answer) true y →
-      On (with_device Cache devices (synced devices.cache)) (after (flushing most (Device (Sync Cache) ∷ later) answer) Done)
-  syncs_cache past (Device (Sync Origin) ∷ ws) answer o is =
-      goes Stays (with_device Cache devices (synced devices.cache)) (Device (Sync Cache)) (Device (Sync Origin) ∷ ws) answer _ _ is (λ e. absurd (cc)) (followed_alone.syncs_cache size most [] s.actors a s.shared y (Device (Sync Origin) ∷ ws) answer is) refl o refl (λ n. absurd (cc))
-      (record { fail = g.words_agree.fail; seals = g.words_agree.seals }) g.origin (ap all_synced g.cache ∙ sym (sync_is_act size zeros devices.cache)) refl refl refl (refl, refl, refl) (refl, refl) past refl (newest-synced devices.cache)
-  syncs_cache past later answer o is = absurd o
+  pub syncs_cache : (later : List Want) (answer : Answer) → IsOfFlush most (Device (Sync Cache) ∷ later) → IsFlushing size [] (flushing serves most (Device (Sync Cache) ∷ later) answer) true y →
+      On (with_device Cache devices (synced devices.cache)) (after (flushing serves most (Device (Sync Cache) ∷ later) answer) Done)
+  syncs_cache (Device (Sync Origin) ∷ ws) answer o is =
+      goes Stays (with_device Cache devices (synced devices.cache)) (Device (Sync Cache)) (Device (Sync Origin) ∷ ws) answer _ _ is (λ e. absurd (cc)) (followed_alone.syncs_cache size serves most [] s.actors a s.shared y (Device (Sync Origin) ∷ ws) answer is) refl o refl (λ n. absurd (cc))
+      (record { fail = g.words_agree.fail; seals = g.words_agree.seals }) g.origin (ap all_synced g.cache ∙ sym (sync_is_act size zeros devices.cache)) refl refl refl (refl, refl, refl) (refl, refl) refl refl (newest-synced devices.cache)
+  syncs_cache later answer o is = absurd o
 
-  pub syncs_origin : ¬ AreOutside x.task → (later : List Want) (answer : Answer) → IsOfFlush most (Device (Sync Origin) ∷ later) → IsFlushing size [] (flushing most (Device (Sync Origin) ∷ later) answer) true y →
-      On (with_device Origin devices (synced devices.origin)) (after (flushing most (Device (Sync Origin) ∷ later) answer) Done)
-  syncs_origin past later answer o is =
-      goes Stays (with_device Origin devices (synced devices.origin)) (Device (Sync Origin)) later answer (flushing most later answer) (record s.shared { origin = all_synced s.shared.origin }) is (λ e. absurd (cc)) (followed_alone.syncs_origin size most [] s.actors a s.shared y later answer is) refl (commits_on most later o).0 (commits_on most later o).1 (on_metadata_some later o)
-      (record { fail = g.words_agree.fail; seals = g.words_agree.seals }) (ap all_synced g.origin ∙ sym (sync_is_act size zeros devices.origin)) g.cache refl refl refl (refl, refl, refl) (refl, refl) past (newest-synced devices.origin) refl
+  pub syncs_origin : (later : List Want) (answer : Answer) → IsOfFlush most (Device (Sync Origin) ∷ later) → IsFlushing size [] (flushing serves most (Device (Sync Origin) ∷ later) answer) true y →
+      On (with_device Origin devices (synced devices.origin)) (after (flushing serves most (Device (Sync Origin) ∷ later) answer) Done)
+  syncs_origin later answer o is =
+      goes Stays (with_device Origin devices (synced devices.origin)) (Device (Sync Origin)) later answer (flushing serves most later answer) (record s.shared { origin = all_synced s.shared.origin }) is (λ e. absurd (cc)) (followed_alone.syncs_origin size serves most [] s.actors a s.shared y later answer is) refl (commits_on most later o).0 (commits_on most later o).1 (on_metadata_some later o)
+      (record { fail = g.words_agree.fail; seals = g.words_agree.seals }) (ap all_synced g.origin ∙ sym (sync_is_act size zeros devices.origin)) g.cache refl refl refl (refl, refl, refl) (refl, refl) refl (newest-synced devices.origin) refl
     where
       on_metadata_some : (steps : List Want) → IsOnMetadata steps → steps ≢ []
       on_metadata_some [] m = absurd m
       on_metadata_some (v ∷ ws) m = λ e. absurd (cc)
 
   -- or one of them fails
-  pub fails_cache : ¬ AreOutside x.task → (lands : ℕ → Bool) (later : List Want) (answer : Answer) → IsOfFlush most (Device (Sync Cache) ∷ later) → IsFlushing size [] (flushing most (Device (Sync Cache) ∷ later) answer) true y →
-      On (with_device Cache devices (synced_where lands devices.cache)) (after (flushing most (Device (Sync Cache) ∷ later) answer) Fault)
-  fails_cache past lands later answer o is =
-      goes Stays (with_device Cache devices (synced_where lands devices.cache)) (Device (Sync Cache)) later answer (after (flushing most (Device (Sync Cache) ∷ later) answer) Fault) (record s.shared { cache = partly_synced (λ b o. lands (b * size + o)) s.shared.cache }) is (λ e. absurd (cc))
-      (followed_alone.fails_cache size most [] s.actors a s.shared y later answer (λ b o. lands (b * size + o)) is) refl refl refl (λ n. absurd (cc))
-      (record { fail = g.words_agree.fail; seals = g.words_agree.seals }) g.origin (ap (partly_synced (λ b o. lands (b * size + o))) g.cache ∙ sym (failed_sync_is_act size zeros lands devices.cache)) refl refl refl (refl, refl, refl) (refl, refl) past refl (read-partly devices.cache (synced_where lands devices.cache) (partly_synced_list lands devices.cache))
+  pub fails_cache : (lands : ℕ → Bool) (later : List Want) (answer : Answer) → IsOfFlush most (Device (Sync Cache) ∷ later) → IsFlushing size [] (flushing serves most (Device (Sync Cache) ∷ later) answer) true y →
+      On (with_device Cache devices (synced_where lands devices.cache)) (after (flushing serves most (Device (Sync Cache) ∷ later) answer) Fault)
+  fails_cache lands later answer o is =
+      goes Stays (with_device Cache devices (synced_where lands devices.cache)) (Device (Sync Cache)) later answer (after (flushing serves most (Device (Sync Cache) ∷ later) answer) Fault) (record s.shared { cache = partly_synced (λ b o. lands (b * size + o)) s.shared.cache }) is (λ e. absurd (cc))
+      (followed_alone.fails_cache size serves most [] s.actors a s.shared y later answer (λ b o. lands (b * size + o)) is) refl refl refl (λ n. absurd (cc))
+      (record { fail = g.words_agree.fail; seals = g.words_agree.seals }) g.origin (ap (partly_synced (λ b o. lands (b * size + o))) g.cache ∙ sym (failed_sync_is_act size zeros lands devices.cache)) refl refl refl (refl, refl, refl) (refl, refl) refl refl (read-partly devices.cache (synced_where lands devices.cache) (partly_synced_list lands devices.cache))
 
-  pub fails_origin : ¬ AreOutside x.task → (lands : ℕ → Bool) (later : List Want) (answer : Answer) → IsOfFlush most (Device (Sync Origin) ∷ later) → IsFlushing size [] (flushing most (Device (Sync Origin) ∷ later) answer) true y →
-      On (with_device Origin devices (synced_where lands devices.origin)) (after (flushing most (Device (Sync Origin) ∷ later) answer) Fault)
-  fails_origin past lands later answer o is =
-      goes Stays (with_device Origin devices (synced_where lands devices.origin)) (Device (Sync Origin)) later answer (after (flushing most (Device (Sync Origin) ∷ later) answer) Fault) (record s.shared { origin = partly_synced (λ b o. lands (b * size + o)) s.shared.origin }) is (λ e. absurd (cc))
-      (followed_alone.fails_origin size most [] s.actors a s.shared y later answer (λ b o. lands (b * size + o)) is) refl refl refl (λ n. absurd (cc))
-      (record { fail = g.words_agree.fail; seals = g.words_agree.seals }) (ap (partly_synced (λ b o. lands (b * size + o))) g.origin ∙ sym (failed_sync_is_act size zeros lands devices.origin)) g.cache refl refl refl (refl, refl, refl) (refl, refl) past (read-partly devices.origin (synced_where lands devices.origin) (partly_synced_list lands devices.origin)) refl
+  pub fails_origin : (lands : ℕ → Bool) (later : List Want) (answer : Answer) → IsOfFlush most (Device (Sync Origin) ∷ later) → IsFlushing size [] (flushing serves most (Device (Sync Origin) ∷ later) answer) true y →
+      On (with_device Origin devices (synced_where lands devices.origin)) (after (flushing serves most (Device (Sync Origin) ∷ later) answer) Fault)
+  fails_origin lands later answer o is =
+      goes Stays (with_device Origin devices (synced_where lands devices.origin)) (Device (Sync Origin)) later answer (after (flushing serves most (Device (Sync Origin) ∷ later) answer) Fault) (record s.shared { origin = partly_synced (λ b o. lands (b * size + o)) s.shared.origin }) is (λ e. absurd (cc))
+      (followed_alone.fails_origin size serves most [] s.actors a s.shared y later answer (λ b o. lands (b * size + o)) is) refl refl refl (λ n. absurd (cc))
+      (record { fail = g.words_agree.fail; seals = g.words_agree.seals }) (ap (partly_synced (λ b o. lands (b * size + o))) g.origin ∙ sym (failed_sync_is_act size zeros lands devices.origin)) g.cache refl refl refl (refl, refl, refl) (refl, refl) refl (read-partly devices.origin (synced_where lands devices.origin) (partly_synced_list lands devices.origin)) refl
 
   -- a step on the metadata is done, or fails; the data devices are as they were
-  metadata_goes : (turn : Turn) (metadata : List History) (step : DeviceStep) (later : List Want) (answer : Answer) (t : Shared) → IsOnMetadata (Device step ∷ later) → IsOnMetadata later → IsFlushing size [] (flushing most (Device step ∷ later) answer) true y → Leads size [] s.actors a s.shared y t (flushing most later answer) true →
-      WordsAgree words t → t.origin ≡ s.shared.origin → t.cache ≡ s.shared.cache → t.mode ≡ s.shared.mode → t.committing ≡ s.shared.committing → t.broken ≡ s.shared.broken → TurnedTo turn s.shared t → DeskTurnedTo turn s.shared t → ¬ AreOutside x.task → OnBy turn (with_device Metadata devices metadata) (flushing most later answer)
-  metadata_goes turn metadata step later answer t on m is l w og ca mo co br turned desk past =
-      goes turn (with_device Metadata devices metadata) (Device step) later answer (flushing most later answer) t is (has_wants size (Device step ∷ later) on) l refl (commits_on most later m).0 (commits_on most later m).1 (some later m) w (og ∙ g.origin) (ca ∙ g.cache) mo co br turned desk past refl refl
+  metadata_goes : (turn : Turn) (metadata : List History) (step : DeviceStep) (later : List Want) (answer : Answer) (t : Shared) → IsOnMetadata (Device step ∷ later) → IsOnMetadata later → IsFlushing size [] (flushing serves most (Device step ∷ later) answer) true y → Leads size [] s.actors a s.shared y t (flushing serves most later answer) true →
+      WordsAgree words t → t.origin ≡ s.shared.origin → t.cache ≡ s.shared.cache → t.mode ≡ s.shared.mode → t.committing ≡ s.shared.committing → t.broken ≡ s.shared.broken → TurnedTo turn s.shared t → DeskTurnedTo turn s.shared t → t.mapping ≡ s.shared.mapping → OnBy turn (with_device Metadata devices metadata) (flushing serves most later answer)
+  metadata_goes turn metadata step later answer t on m is l w og ca mo co br turned desk same_map =
+      goes turn (with_device Metadata devices metadata) (Device step) later answer (flushing serves most later answer) t is (has_wants size (Device step ∷ later) on) l refl (commits_on most later m).0 (commits_on most later m).1 (some later m) w (og ∙ g.origin) (ca ∙ g.cache) mo co br turned desk same_map refl refl
     where
       some : (steps : List Want) → IsOnMetadata steps → steps ≢ []
       some [] m = absurd m
       some (v ∷ ws) m = λ e. absurd (cc)
 
-  pub metadata_done : ¬ AreOutside x.task → (metadata : List History) (step : DeviceStep) (later : List Want) (answer : Answer) → device_of step ≡ Metadata → IsOfFlush most (Device step ∷ later) → IsFlushing size [] (flushing most (Device step ∷ later) answer) true y → OnBy (turn_of step) (with_device Metadata devices metadata) (after (flushing most (Device step ∷ later) answer) Done)
-  metadata_done past metadata (WriteNode number) later answer d o is = metadata_goes Stays metadata (WriteNode number) later answer s.shared o o is (followed_alone.nodes size most number [] s.actors a s.shared y later answer is) g.words_agree refl refl refl refl refl (refl, refl, refl) (refl, refl) past
-  metadata_done past metadata (Sync Metadata) later answer d o is = metadata_goes Stays metadata (Sync Metadata) later answer s.shared o o is (followed_alone.syncs_metadata size most [] s.actors a s.shared y later answer is) g.words_agree refl refl refl refl refl (refl, refl, refl) (refl, refl) past
-  metadata_done past metadata (Sync Cache) later answer d o is = absurd (cc)
-  metadata_done past metadata (Sync Origin) later answer d o is = absurd (cc)
-  metadata_done past metadata WriteRoot later answer d o is = metadata_goes (Puts true) metadata WriteRoot later answer (record s.shared { root_written = true }) o o is (followed_alone.writes_root size most [] s.actors a s.shared y later answer is) (record { fail = g.words_agree.fail; seals = g.words_agree.seals }) refl refl refl refl refl (refl, refl, refl) (refl, refl) past
-  metadata_done past metadata (ReadMetadata left) later answer d o is = absurd o
-  metadata_done past metadata (Read device e) later answer d o is = absurd o
-  metadata_done past metadata (Write device e) later answer d o is = absurd o
+  pub metadata_done : (metadata : List History) (step : DeviceStep) (later : List Want) (answer : Answer) → device_of step ≡ Metadata → IsOfFlush most (Device step ∷ later) → IsFlushing size [] (flushing serves most (Device step ∷ later) answer) true y → OnBy (turn_of step) (with_device Metadata devices metadata) (after (flushing serves most (Device step ∷ later) answer) Done)
+  metadata_done metadata (WriteNode number) later answer d o is = metadata_goes Stays metadata (WriteNode number) later answer s.shared o o is (followed_alone.nodes size serves most number [] s.actors a s.shared y later answer is) g.words_agree refl refl refl refl refl (refl, refl, refl) (refl, refl) refl
+  metadata_done metadata (Sync Metadata) later answer d o is = metadata_goes Stays metadata (Sync Metadata) later answer s.shared o o is (followed_alone.syncs_metadata size serves most [] s.actors a s.shared y later answer is) g.words_agree refl refl refl refl refl (refl, refl, refl) (refl, refl) refl
+  metadata_done metadata (Sync Cache) later answer d o is = absurd (cc)
+  metadata_done metadata (Sync Origin) later answer d o is = absurd (cc)
+  metadata_done metadata WriteRoot later answer d o is = metadata_goes (Puts true) metadata WriteRoot later answer (record s.shared { root_written = true }) o o is (followed_alone.writes_root size serves most [] s.actors a s.shared y later answer is) (record { fail = g.words_agree.fail; seals = g.words_agree.seals }) refl refl refl refl refl (refl, refl, refl) (refl, refl) refl
+  metadata_done metadata (ReadMetadata left) later answer d o is = absurd o
+  metadata_done metadata (Read device e) later answer d o is = absurd o
+  metadata_done metadata (Write device e) later answer d o is = absurd o
 
-  pub metadata_failed : ¬ AreOutside x.task → (metadata : List History) (step : DeviceStep) (later : List Want) (answer : Answer) → IsOnMetadata (Device step ∷ later) → IsFlushing size [] (flushing most (Device step ∷ later) answer) true y → (written : Bool) × IsWrittenAfter step s.shared.root_written written × OnBy (Puts written) (with_device Metadata devices metadata) (after (flushing most (Device step ∷ later) answer) Fault)
-  metadata_failed past metadata step later answer m is =
-      let l = followed_alone.fails_metadata size most step [] s.actors a s.shared y later answer m is in (
+  pub metadata_failed : (metadata : List History) (step : DeviceStep) (later : List Want) (answer : Answer) → IsOnMetadata (Device step ∷ later) → IsFlushing size [] (flushing serves most (Device step ∷ later) answer) true y → (written : Bool) × IsWrittenAfter step s.shared.root_written written × OnBy (Puts written) (with_device Metadata devices metadata) (after (flushing serves most (Device step ∷ later) answer) Fault)
+  metadata_failed metadata step later answer m is =
+      let l = followed_alone.fails_metadata size serves most step [] s.actors a s.shared y later answer m is in (
         l.0,
         l.1,
-        goes (Puts l.0) (with_device Metadata devices metadata) (Device step) later answer (after (flushing most (Device step ∷ later) answer) Fault) (record s.shared { root_written = l.0 }) is (has_wants size (Device step ∷ later) m) l.2 refl refl refl (λ n. absurd (cc))
-            (record { fail = g.words_agree.fail; seals = g.words_agree.seals }) g.origin g.cache refl refl refl (refl, refl, refl) (refl, refl) past refl refl,
+        goes (Puts l.0) (with_device Metadata devices metadata) (Device step) later answer (after (flushing serves most (Device step ∷ later) answer) Fault) (record s.shared { root_written = l.0 }) is (has_wants size (Device step ∷ later) m) l.2 refl refl refl (λ n. absurd (cc))
+            (record { fail = g.words_agree.fail; seals = g.words_agree.seals }) g.origin g.cache refl refl refl (refl, refl, refl) (refl, refl) refl refl refl,
       )
 
   pub is_on_metadata : (step : DeviceStep) (later : List Want) → device_of step ≡ Metadata → IsOfFlush most (Device step ∷ later) → IsOnMetadata (Device step ∷ later)
@@ -155,37 +154,57 @@ module _ (size most : ℕ) (words : Words) (committing : Bool) (orders : List (O
   -- ---- the desk and the words
 
   -- the flush leads no commit before it and after it
-  follows_alone : (devices' : Devices (List History)) (plan' : Plan) (card' : Card) → plan'.job ≡ Flushing [] most → IsOfFlush most plan'.steps → LeadsAt false plan'.steps → Leads size [] s.actors a s.shared y s.shared plan' false →
-      devices' ≡ devices → StaysOutside words x (record x { task = Some (Flush, plan'); card = card' }) → Follows Quietly size most a s words committing orders devices' (slice_set actors a (record x { task = Some (Flush, plan'); card = card' }))
-  follows_alone devices' plan' card' j o at l d outside = subst (λ (ds : Devices (List History)). Follows Quietly size most a s words committing orders ds (slice_set actors a (record x { task = Some (Flush, plan'); card = card' }))) (sym d)
+  follows_alone : (devices' : Devices (List History)) (plan' : Plan) (card' : Card) → plan'.job ≡ Flushing serves most → IsOfFlush most plan'.steps → LeadsAt false plan'.steps → Leads size [] s.actors a s.shared y s.shared plan' false →
+      devices' ≡ devices → y.order ≡ None → Follows Quietly size most a s words committing orders devices' (slice_set actors a (record x { task = Some (Flush, plan'); card = card' }))
+  follows_alone devices' plan' card' j o at l d own = subst (λ (ds : Devices (List History)). Follows Quietly size most a s words committing orders ds (slice_set actors a (record x { task = Some (Flush, plan'); card = card' }))) (sym d)
       (goes_on size most words words (λ f. f) committing orders devices actors a x (record x { task = Some (Flush, plan'); card = card' }) s y g ex ey Quietly devices l.results s.shared (l.results, quiet_are_unnoted y.task l.results l.quiet, refl) l.may l.shared
-      (stands size most words committing orders devices actors a x s y ex ey g words plan' card' false (gone y y.task l.results) j o at (λ e n. absurd (cc)) l.at)
-      (λ k. let bad : true ≡ false = sym k ∙ ap (λ (v : AbstractActor). v.leads) l.at.is in absurd (cc)) g.words_agree g.origin g.cache refl refl refl (refl, refl, refl) (refl, refl) (others plan' card' devices outside refl refl))
+      (stands size most serves words committing orders devices actors a x s y ex ey g words plan' card' false (gone y y.task l.results) j o at (λ e n. absurd (cc)) l.at)
+      (λ k. let bad : true ≡ false = sym k ∙ ap (λ (v : AbstractActor). v.leads) l.at.is in absurd (cc)) g.words_agree g.origin g.cache refl refl refl (refl, refl, refl) (refl, refl) (ap (λ (v : AbstractActor). v.order) l.at.is ∙ sym own) (λ o h. h) (carries_same size orders devices actors s a) (does_none _ _ _ _ _ _ tt))
 
-  refused_plan : (refusal : Refusal) (later : List Want) (answer : Answer) (clean : Bool) (nodes : ℕ) → IsNoBegin refusal → (after (flushing most (Desk (BeginCommit clean nodes) ∷ later) answer) (Refused refusal)).steps ≡ []
-  refused_plan Busy later answer clean nodes n = refl
-  refused_plan Memory later answer clean nodes n = refl
-  refused_plan GenerationEnd later answer clean nodes n = refl
-  refused_plan refusal later answer clean nodes n = absurd n
+  released : (blocks : List OBlock) → IsOfFlush most (release_orders blocks) × LeadsAt false (release_orders blocks) × AreReleases (release_orders blocks)
+  released [] = (tt, tt, tt)
+  released (b ∷ bs) = ((released bs).2, refl, (released bs).2)
 
-  pub is_refused : ¬ AreOutside x.task → (refusal : Refusal) (answer : Answer) → IsNoBegin refusal → IsFlushing size [] (flushing most (Desk (BeginCommit false most) ∷ []) answer) false y → On devices (after (flushing most (Desk (BeginCommit false most) ∷ []) answer) (Refused refusal))
-  is_refused past refusal answer n is =
-      let steps = refused_plan refusal [] answer false most n in
-      follows_alone devices (after (flushing most (Desk (BeginCommit false most) ∷ []) answer) (Refused refusal)) x.card refl
-      (subst (λ (ws : List Want). IsOfFlush most ws) (sym steps) tt) (subst (λ (ws : List Want). LeadsAt false ws) (sym steps) tt)
-      (followed_alone.is_refused size most refusal [] s.actors a s.shared y [] answer n is) refl (stays_past words x (record x { task = Some (Flush, after (flushing most (Desk (BeginCommit false most) ∷ []) answer) (Refused refusal)) }) past)
+  refused_plan : (refusal : Refusal) → IsNoBegin refusal → IsOfFlush most (lets_go_unless_busy (Flushing serves most) refusal) × LeadsAt false (lets_go_unless_busy (Flushing serves most) refusal)
+  refused_plan Busy n = (tt, tt)
+  refused_plan Memory n = ((released serves).0, (released serves).1)
+  refused_plan GenerationEnd n = ((released serves).0, (released serves).1)
+  refused_plan refusal n = absurd n
+
+  pub is_refused : (refusal : Refusal) (answer : Answer) → IsNoBegin refusal → IsFlushing size [] (flushing serves most (Desk (BeginCommit false most) ∷ []) answer) false y → On devices (after (flushing serves most (Desk (BeginCommit false most) ∷ []) answer) (Refused refusal))
+  is_refused refusal answer n is =
+      let steps = refused_plan refusal n in
+      follows_alone devices (after (flushing serves most (Desk (BeginCommit false most) ∷ []) answer) (Refused refusal)) x.card refl
+      steps.0 steps.1
+      (followed_alone.is_refused size serves most refusal [] s.actors a s.shared y [] answer n is) refl (ap (λ (v : AbstractActor). v.order) is.is)
+
+  of_releases : (ws : List Want) → AreReleases ws → IsOfFlush most ws × LeadsAt false ws
+  of_releases [] a = (tt, tt)
+  of_releases (Desk (ReleaseOrder b) ∷ ws) a = (a, refl)
+  of_releases ws a = absurd a
+
+  -- no order is given up, which is nothing there
+  pub releases : (block : OBlock) (later : List Want) (answer : Answer) → AreReleases later → IsFlushing size [] (flushing serves most (Desk (ReleaseOrder block) ∷ later) answer) false y → On devices (flushing serves most later answer)
+  releases block later answer are is = follows_alone devices (flushing serves most later answer) x.card refl (of_releases later are).0 (of_releases later are).1
+      (record { results = []; may = tt; quiet = subst (λ (v : AbstractActor). AreQuiet v.task []) (sym is.is) tt; shared = ap (λ (v : AbstractActor). shared_after s.shared v v.task []) is.is; at = record { buffer = is.buffer; is = ap (λ (v : AbstractActor). gone v v.task []) is.is } }) refl (ap (λ (v : AbstractActor). v.order) is.is)
+
+  -- an order that waits for it is given up there: it is aside
+  pub gives_up : (block : OBlock) (later : List Want) (answer : Answer) → AreReleases later → IsFlushing size [] (flushing serves most (Desk (ReleaseOrder block) ∷ later) answer) false y → (c : ℕ) (order : Order) (awaiting' : List Order) → slice_get orders c ≡ Some (Some order) → IsOnlyOf actors a order →
+      FollowsBy (GivesUp c) Releases size most a s words committing (slice_set orders c None) devices (slice_set actors a (record x { task = Some (Flush, flushing serves most later answer); awaiting = awaiting' }))
+  gives_up block later answer are is c order awaiting' slot only = released_there size most words committing orders devices actors a x (record x { task = Some (Flush, flushing serves most later answer); awaiting = awaiting' }) s y ex ey g c order slot only (ap (λ (v : AbstractActor). v.order) is.is)
+      (let r = stands size most serves words committing orders devices actors a x s y ex ey g words (flushing serves most later answer) x.card false y refl (of_releases later are).0 (of_releases later are).1 (λ e n. absurd (cc)) (record { buffer = is.buffer; is = is.is }) in record { at = r.at; below = r.below; among_others = r.among_others }) tt
 
   -- a commit begins, which nobody has led
-  pub begins : ¬ AreOutside x.task → (nodes : ℕ) (answer : Answer) → committing ≡ false → IsFlushing size [] (flushing most (Desk (BeginCommit false most) ∷ []) answer) false y →
-      FollowsBy Begins Quietly size most a s words true orders devices (slice_set actors a (record x { task = Some (Flush, after (flushing most (Desk (BeginCommit false most) ∷ []) answer) (Began nodes)) }))
-  begins past nodes answer quiet is =
-      let plan' = after (flushing most (Desk (BeginCommit false most) ∷ []) answer) (Began nodes) in
+  pub begins : (nodes : ℕ) (answer : Answer) → committing ≡ false → IsFlushing size [] (flushing serves most (Desk (BeginCommit false most) ∷ []) answer) false y →
+      FollowsBy Begins Quietly size most a s words true orders devices (slice_set actors a (record x { task = Some (Flush, after (flushing serves most (Desk (BeginCommit false most) ∷ []) answer) (Began nodes)) }))
+  begins nodes answer quiet is =
+      let plan' = after (flushing serves most (Desk (BeginCommit false most) ∷ []) answer) (Began nodes) in
       let none : s.shared.committing ≡ false = g.commits ∙ quiet in
-      let l = followed_alone.begins size most nodes [] s.actors a s.shared y [] answer none (by_broken s.shared.broken refl) is in
+      let l = followed_alone.begins size serves most nodes [] s.actors a s.shared y [] answer none (by_broken s.shared.broken refl) is in
       goes_leading size most words words (λ f. f) committing orders devices actors a x (record x { task = Some (Flush, plan') }) s y g ex ey Begins Quietly true devices l.results (effect s.shared (FlushingFor None) [] (Begin None) DoneThere) (l.results, quiet_are_unnoted y.task l.results l.quiet, refl) l.may l.shared
-      (stands size most words committing orders devices actors a x s y ex ey g words plan' x.card true (gone y y.task l.results) refl (nodes_on_metadata nodes 0) refl (λ e n. absurd (cc)) l.at)
+      (stands size most serves words committing orders devices actors a x s y ex ey g words plan' x.card true (gone y y.task l.results) refl (nodes_on_metadata nodes 0) refl (λ e n. absurd (cc)) l.at)
       (record { fail = g.words_agree.fail; seals = g.words_agree.seals }) g.origin g.cache refl refl (λ e. refl) (λ b v ev k. refl) (λ b v ev k u. by_broken s.shared.broken refl)
-      (λ b c v u ev eu k m. only b v (gone y y.task l.results) ev k ∙ sym (only c u (gone y y.task l.results) eu m)) (refl, refl, refl) (refl, refl) (others plan' x.card devices (stays_past words x (record x { task = Some (Flush, plan') }) past) refl refl)
+      (λ b c v u ev eu k m. only b v (gone y y.task l.results) ev k ∙ sym (only c u (gone y y.task l.results) eu m)) (refl, refl, refl) (refl, refl) (ap (λ (v : AbstractActor). v.order) l.at.is ∙ sym (ap (λ (v : AbstractActor). v.order) is.is)) (λ o h. h) refl (carries_same size orders devices actors s a) (does_none _ _ _ _ _ _ tt)
     where
       runs : s.shared.committing ≡ true → ⊥
       runs e = let bad : true ≡ false = sym e ∙ g.commits ∙ quiet in absurd (cc)
@@ -198,106 +217,99 @@ module _ (size most : ℕ) (words : Words) (committing : Bool) (orders : List (O
       only b v y' ev k = elim (cases_eq b a) [ inl e ↦ e | inr n ↦ absurd (runs (g.led b v (sym (get_set_other s.actors a b y' n) ∙ ev) k)) ]
 
   -- the commit ends, and nobody leads one
-  pub ends : ¬ AreOutside x.task → (answer : Answer) → IsFlushing size [] (flushing most (Desk EndCommit ∷ []) answer) true y → FollowsBy Ends Quietly size most a s words false orders devices (slice_set actors a (record x { task = Some (Flush, after (flushing most (Desk EndCommit ∷ []) answer) Done) }))
-  ends past answer is =
-      let plan' = after (flushing most (Desk EndCommit ∷ []) answer) Done in
-      let l = followed_alone.ends size most [] s.actors a s.shared y answer is in
+  pub ends : (answer : Answer) → IsFlushing size [] (flushing serves most (Desk EndCommit ∷ []) answer) true y → FollowsBy Ends Quietly size most a s words false orders devices (slice_set actors a (record x { task = Some (Flush, after (flushing serves most (Desk EndCommit ∷ []) answer) Done) }))
+  ends answer is =
+      let plan' = after (flushing serves most (Desk EndCommit ∷ []) answer) Done in
+      let l = followed_alone.ends size serves most [] s.actors a s.shared y answer is in
       let lead : y.leads ≡ true = ap (λ (v : AbstractActor). v.leads) is.is in
       let some : wants_of size (FlushingFor None) (Desk EndCommit ∷ []) ≢ [] = (λ e. absurd (cc)) in
       let whole : s.shared.broken ≡ false = g.whole a y ey lead (subst (λ (v : AbstractActor). IsUnfinished v.task) (sym is.is) some) in
       goes_leading size most words words (λ f. f) committing orders devices actors a x (record x { task = Some (Flush, plan') }) s y g ex ey Ends Quietly false devices l.results (effect s.shared (FlushingFor None) [] End_running DoneThere) (l.results, quiet_are_unnoted y.task l.results l.quiet, refl) l.may l.shared
-      (stands size most words committing orders devices actors a x s y ex ey g words plan' x.card false (gone y y.task l.results) refl tt tt (λ e n. absurd (cc)) l.at)
+      (stands size most serves words committing orders devices actors a x s y ex ey g words plan' x.card false (gone y y.task l.results) refl tt tt (λ e n. absurd (cc)) l.at)
       (record { fail = g.words_agree.fail; seals = g.words_agree.seals }) g.origin g.cache refl refl (λ e. let bad : true ≡ false = sym e ∙ whole in absurd (cc))
-      (λ b v ev k. absurd (nobody l b v ev k)) (λ b v ev k u. whole) (λ b c v u ev eu k m. absurd (nobody l b v ev k)) (refl, refl) (refl, refl) (others plan' x.card devices (stays_past words x (record x { task = Some (Flush, plan') }) past) refl refl)
+      (λ b v ev k. absurd (nobody l b v ev k)) (λ b v ev k u. whole) (λ b c v u ev eu k m. absurd (nobody l b v ev k)) (refl, refl) (refl, refl) (ap (λ (v : AbstractActor). v.order) l.at.is ∙ sym (ap (λ (v : AbstractActor). v.order) is.is)) (λ o h. h) refl (carries_same size orders devices actors s a) (does_none _ _ _ _ _ _ tt)
     where
-      nobody : (l : Leads size [] s.actors a s.shared y (effect s.shared (FlushingFor None) [] End_running DoneThere) (after (flushing most (Desk EndCommit ∷ []) answer) Done) false) (b : ℕ) (v : AbstractActor) → slice_get (slice_set s.actors a (gone y y.task l.results)) b ≡ Some v → v.leads ≡ true → ⊥
+      nobody : (l : Leads size [] s.actors a s.shared y (effect s.shared (FlushingFor None) [] End_running DoneThere) (after (flushing serves most (Desk EndCommit ∷ []) answer) Done) false) (b : ℕ) (v : AbstractActor) → slice_get (slice_set s.actors a (gone y y.task l.results)) b ≡ Some v → v.leads ≡ true → ⊥
       nobody l b v ev k =
-          let here = is_here size most words committing orders devices actors a x s y ex ey g (ap (λ (z : AbstractActor). z.leads) is.is) (gone y y.task l.results) b v ev k in
+          let here = is_here size most serves words committing orders devices actors a x s y ex ey g (ap (λ (z : AbstractActor). z.leads) is.is) (gone y y.task l.results) b v ev k in
           let bad : true ≡ false = sym k ∙ ap (λ (z : AbstractActor). z.leads) (here ∙ l.at.is) in absurd (cc)
 
   -- the failed bit is set, and the commit is broken
-  pub fails : ¬ AreOutside x.task → (failures suspensions : ℕ) (answer : Answer) → words.fail ≡ fail_word failures suspensions → IsFlushing size [] (flushing most (Cell SetFailed ∷ []) answer) true y →
-      Follows Quietly size most a s (words_after words SetFailed) committing orders devices (slice_set actors a (record x { task = Some (Flush, after (flushing most (Cell SetFailed ∷ []) answer) Done); card = card_after words SetFailed x.card }))
-  fails past f z answer e is =
-      let plan' = after (flushing most (Cell SetFailed ∷ []) answer) Done in
+  pub fails : (failures suspensions : ℕ) (answer : Answer) → words.fail ≡ fail_word failures suspensions → IsFlushing size [] (flushing serves most (Cell SetFailed ∷ []) answer) true y →
+      Follows Quietly size most a s (words_after words SetFailed) committing orders devices (slice_set actors a (record x { task = Some (Flush, after (flushing serves most (Cell SetFailed ∷ []) answer) Done); card = card_after words SetFailed x.card }))
+  fails f z answer e is =
+      let plan' = after (flushing serves most (Cell SetFailed ∷ []) answer) Done in
       let failed : flag (words_after words SetFailed).fail ≡ true = failed_flag words.fail f z e in
-      let l = followed_alone.fails size most [] s.actors a s.shared y answer is in
+      let l = followed_alone.fails size serves most [] s.actors a s.shared y answer is in
       let lead : y.leads ≡ true = ap (λ (v : AbstractActor). v.leads) is.is in
       let y' = gone y y.task l.results in
       let runs = g.led a y ey lead in
       goes_leading size most words (words_after words SetFailed) (λ k. failed) committing orders devices actors a x (record x { task = Some (Flush, plan'); card = card_after words SetFailed x.card }) s y g ex ey Stays Quietly committing devices l.results (record s.shared { fail = true; broken = true }) (l.results, quiet_are_unnoted y.task l.results l.quiet, refl) l.may l.shared
-      (stands size most words committing orders devices actors a x s y ex ey g (words_after words SetFailed) plan' (card_after words SetFailed x.card) true y' refl tt tt (λ k n. failed) l.at)
+      (stands size most serves words committing orders devices actors a x s y ex ey g (words_after words SetFailed) plan' (card_after words SetFailed x.card) true y' refl tt tt (λ k n. failed) l.at)
       (record { fail = sym failed; seals = g.words_agree.seals }) g.origin g.cache refl g.commits (λ k. runs) (λ b v ev k. runs)
-      (λ b v ev k u. absurd (subst (λ (w : AbstractActor). IsUnfinished w.task) (is_here size most words committing orders devices actors a x s y ex ey g lead y' b v ev k ∙ l.at.is) u refl))
-      (one_here size most words committing orders devices actors a x s y ex ey g lead y') (refl, refl, refl) (refl, refl) (others plan' (card_after words SetFailed x.card) devices (stays_past words x (record x { task = Some (Flush, plan'); card = card_after words SetFailed x.card }) past) refl refl)
+      (λ b v ev k u. absurd (subst (λ (w : AbstractActor). IsUnfinished w.task) (is_here size most serves words committing orders devices actors a x s y ex ey g lead y' b v ev k ∙ l.at.is) u refl))
+      (one_here size most serves words committing orders devices actors a x s y ex ey g lead y') (refl, refl, refl) (refl, refl) (ap (λ (v : AbstractActor). v.order) l.at.is ∙ sym (ap (λ (v : AbstractActor). v.order) is.is)) (λ o h. h) refl (carries_same size orders devices actors s a) (does_none _ _ _ _ _ _ tt)
 
   -- ---- its look at the fail word, and its answer
 
-  pub looks : (later : List Want) (answer : Answer) → StaysOutside words x (went words Flush (flushing most (Cell (Look Fail) ∷ later) answer) (Look Fail) x) → later ≡ Desk (BeginCommit false most) ∷ [] → IsFlushing size [] (flushing most (Cell (Look Fail) ∷ later) answer) false y →
-      Follows Quietly size most a s words committing orders devices (slice_set actors a (went words Flush (flushing most (Cell (Look Fail) ∷ later) answer) (Look Fail) x))
-  looks later answer outside n is = subst (λ (ws : List Want). Goal ws) (sym n) (by_test (words.fail == 0) refl)
+  pub looks : (later : List Want) (answer : Answer) → later ≡ Desk (BeginCommit false most) ∷ [] → IsFlushing size [] (flushing serves most (Cell (Look Fail) ∷ later) answer) false y →
+      Follows Quietly size most a s words committing orders devices (slice_set actors a (went words Flush (flushing serves most (Cell (Look Fail) ∷ later) answer) (Look Fail) x))
+  looks later answer n is = subst (λ (ws : List Want). Goal ws) (sym n) (by_test (words.fail == 0) refl)
     where
-      outside' : StaysOutside words x (went words Flush (flushing most (Cell (Look Fail) ∷ Desk (BeginCommit false most) ∷ []) answer) (Look Fail) x)
-      outside' = subst (λ (ws : List Want). StaysOutside words x (went words Flush (flushing most (Cell (Look Fail) ∷ ws) answer) (Look Fail) x)) n outside
-
       Goal : List Want → Type 0
-      Goal ws = Follows Quietly size most a s words committing orders devices (slice_set actors a (went words Flush (flushing most (Cell (Look Fail) ∷ ws) answer) (Look Fail) x))
+      Goal ws = Follows Quietly size most a s words committing orders devices (slice_set actors a (went words Flush (flushing serves most (Cell (Look Fail) ∷ ws) answer) (Look Fail) x))
 
-      is' : IsFlushing size [] (flushing most (Cell (Look Fail) ∷ Desk (BeginCommit false most) ∷ []) answer) false y
-      is' = subst (λ (ws : List Want). IsFlushing size [] (flushing most (Cell (Look Fail) ∷ ws) answer) false y) n is
+      is' : IsFlushing size [] (flushing serves most (Cell (Look Fail) ∷ Desk (BeginCommit false most) ∷ []) answer) false y
+      is' = subst (λ (ws : List Want). IsFlushing size [] (flushing serves most (Cell (Look Fail) ∷ ws) answer) false y) n is
 
       by_test : (t : Bool) → (words.fail == 0) ≡ t → Goal (Desk (BeginCommit false most) ∷ [])
       by_test true e =
-          let plan_is : after (flushing most (Cell (Look Fail) ∷ Desk (BeginCommit false most) ∷ []) answer) (Word words.fail) ≡ flushing most (Desk (BeginCommit false most) ∷ []) answer = ap (λ (t : Bool). if t then onward (flushing most (Cell (Look Fail) ∷ Desk (BeginCommit false most) ∷ []) answer) else refused (flushing most (Cell (Look Fail) ∷ Desk (BeginCommit false most) ∷ []) answer) [] Failed) e in
-          follows_alone devices (after (flushing most (Cell (Look Fail) ∷ Desk (BeginCommit false most) ∷ []) answer) (Word words.fail)) _ (ap (λ (p : Plan). p.job) plan_is)
-          (subst (λ (p : Plan). IsOfFlush most p.steps) (sym plan_is) (refl, refl, refl)) (subst (λ (p : Plan). LeadsAt false p.steps) (sym plan_is) refl) (followed_alone.looks size most words.fail [] s.actors a s.shared y answer g.words_agree.fail is') refl outside'
+          let plan_is : after (flushing serves most (Cell (Look Fail) ∷ Desk (BeginCommit false most) ∷ []) answer) (Word words.fail) ≡ flushing serves most (Desk (BeginCommit false most) ∷ []) answer = ap (λ (t : Bool). if t then onward (flushing serves most (Cell (Look Fail) ∷ Desk (BeginCommit false most) ∷ []) answer) else refused (flushing serves most (Cell (Look Fail) ∷ Desk (BeginCommit false most) ∷ []) answer) [] Failed) e in
+          follows_alone devices (after (flushing serves most (Cell (Look Fail) ∷ Desk (BeginCommit false most) ∷ []) answer) (Word words.fail)) _ (ap (λ (p : Plan). p.job) plan_is)
+          (subst (λ (p : Plan). IsOfFlush most p.steps) (sym plan_is) (refl, refl, refl)) (subst (λ (p : Plan). LeadsAt false p.steps) (sym plan_is) refl) (followed_alone.looks size serves most words.fail [] s.actors a s.shared y answer g.words_agree.fail is') refl (ap (λ (v : AbstractActor). v.order) is.is)
       by_test false e =
-          let plan_is : after (flushing most (Cell (Look Fail) ∷ Desk (BeginCommit false most) ∷ []) answer) (Word words.fail) ≡ refused (flushing most (Cell (Look Fail) ∷ Desk (BeginCommit false most) ∷ []) answer) [] Failed = ap (λ (t : Bool). if t then onward (flushing most (Cell (Look Fail) ∷ Desk (BeginCommit false most) ∷ []) answer) else refused (flushing most (Cell (Look Fail) ∷ Desk (BeginCommit false most) ∷ []) answer) [] Failed) e in
-          follows_alone devices (after (flushing most (Cell (Look Fail) ∷ Desk (BeginCommit false most) ∷ []) answer) (Word words.fail)) _ (ap (λ (p : Plan). p.job) plan_is)
-          (subst (λ (p : Plan). IsOfFlush most p.steps) (sym plan_is) tt) (subst (λ (p : Plan). LeadsAt false p.steps) (sym plan_is) tt) (followed_alone.looks size most words.fail [] s.actors a s.shared y answer g.words_agree.fail is') refl outside'
-
-  over : OthersStay size words devices devices orders actors a x (record x { task = None })
-  over = record { before = before; still = tt; ordered = refl; outside = stays_with words x None tt; carries = carries_same size devices orders actors a }
+          let plan_is : after (flushing serves most (Cell (Look Fail) ∷ Desk (BeginCommit false most) ∷ []) answer) (Word words.fail) ≡ refused (flushing serves most (Cell (Look Fail) ∷ Desk (BeginCommit false most) ∷ []) answer) [] Failed = ap (λ (t : Bool). if t then onward (flushing serves most (Cell (Look Fail) ∷ Desk (BeginCommit false most) ∷ []) answer) else refused (flushing serves most (Cell (Look Fail) ∷ Desk (BeginCommit false most) ∷ []) answer) [] Failed) e in
+          follows_alone devices (after (flushing serves most (Cell (Look Fail) ∷ Desk (BeginCommit false most) ∷ []) answer) (Word words.fail)) _ (ap (λ (p : Plan). p.job) plan_is)
+          (subst (λ (p : Plan). IsOfFlush most p.steps) (sym plan_is) tt) (subst (λ (p : Plan). LeadsAt false p.steps) (sym plan_is) tt) (followed_alone.looks size serves most words.fail [] s.actors a s.shared y answer g.words_agree.fail is') refl (ap (λ (v : AbstractActor). v.order) is.is)
 
   -- it answers; one that leads a commit still has failed
-  pub answers : (answer : Answer) (leads : Bool) → (leads ≡ true → flag words.fail ≡ true) → IsFlushing size [] (flushing most [] answer) leads y → Follows (Answers (FlushingFor None) answer) size most a s words committing orders devices (slice_set actors a (record x { task = None }))
-  answers answer false f is =
-      let d = tasks_end.flush size most [] s.actors a s.shared y answer false is in
+  pub answers : (orders' awaiting' : List Order) → ((o : Order) → Contains (held x) o → Contains (orders' ++ awaiting') o) → (answer : Answer) (leads : Bool) → (leads ≡ true → flag words.fail ≡ true) → IsFlushing size [] (flushing serves most [] answer) leads y → Follows (Answers (FlushingFor None) answer) size most a s words committing orders devices (slice_set actors a (record x { task = None; orders = orders'; awaiting = awaiting' }))
+  answers orders' awaiting' keeps answer false f is =
+      let d = tasks_end.flush size serves most [] s.actors a s.shared y answer false is in
       let idle = d.2 refl in
-      goes_on size most words words (λ k. k) committing orders devices actors a x (record x { task = None }) s y g ex ey (Answers (FlushingFor None) answer) devices (DoneThere ∷ []) s.shared (answers_at size [] (Flushing [] most) answer y (ap (λ (v : AbstractActor). v.task) is.is), refl) d.0.may d.0.shared
-      (record { at = (d.0.over, inl idle); below = holds_nothing _ x.card idle.held; order = idle.order; among_others = ap is_alone d.0.over }) (λ k. let bad : true ≡ false = sym k ∙ idle.leads in absurd (cc)) g.words_agree g.origin g.cache refl refl refl (refl, refl, refl) (refl, refl) over
-  answers answer true f is =
-      let d = tasks_end.flush size most [] s.actors a s.shared y answer true is in
+      goes_on size most words words (λ k. k) committing orders devices actors a x (record x { task = None; orders = orders'; awaiting = awaiting' }) s y g ex ey (Answers (FlushingFor None) answer) devices (DoneThere ∷ []) s.shared (answers_at size [] (Flushing serves most) answer y (ap (λ (v : AbstractActor). v.task) is.is), refl) d.0.may d.0.shared
+      (record { at = (d.0.over, inl (record { task = idle.task; held = idle.held; leads = idle.leads })); below = holds_nothing _ x.card idle.held; among_others = ap is_alone d.0.over }) (λ k. let bad : true ≡ false = sym k ∙ idle.leads in absurd (cc)) g.words_agree g.origin g.cache refl refl refl (refl, refl, refl) (refl, refl) (idle.order ∙ sym (ap (λ (v : AbstractActor). v.order) is.is)) keeps (carries_same size orders devices actors s a) (does_none _ _ _ _ _ _ tt)
+  answers orders' awaiting' keeps answer true f is =
+      let d = tasks_end.flush size serves most [] s.actors a s.shared y answer true is in
       let lead : y.leads ≡ true = ap (λ (v : AbstractActor). v.leads) is.is in
       let y' = gone y y.task (DoneThere ∷ []) in
       let held : y'.held ≡ Nothing = subst (λ (v : AbstractActor). (gone v v.task (DoneThere ∷ [])).held ≡ Nothing) (sym is.is) refl in
       let runs = g.led a y ey lead in
-      goes_leading size most words words (λ k. k) committing orders devices actors a x (record x { task = None }) s y g ex ey Stays (Answers (FlushingFor None) answer) committing devices (DoneThere ∷ []) s.shared (answers_at size [] (Flushing [] most) answer y (ap (λ (v : AbstractActor). v.task) is.is), refl) d.0.may d.0.shared
-      (record { at = (d.0.over, inr (f refl)); below = holds_nothing y' x.card held; order = subst (λ (v : AbstractActor). (gone v v.task (DoneThere ∷ [])).order ≡ None) (sym is.is) refl; among_others = ap is_alone d.0.over }) g.words_agree g.origin g.cache refl g.commits g.broken (λ b v ev k. runs)
-      (λ b v ev k u. absurd (subst (λ t. IsUnfinished t) (ap (λ (v : AbstractActor). v.task) (is_here size most words committing orders devices actors a x s y ex ey g lead y' b v ev k) ∙ d.0.over) u))
-      (one_here size most words committing orders devices actors a x s y ex ey g lead y') (refl, refl, refl) (refl, refl) over
+      goes_leading size most words words (λ k. k) committing orders devices actors a x (record x { task = None; orders = orders'; awaiting = awaiting' }) s y g ex ey Stays (Answers (FlushingFor None) answer) committing devices (DoneThere ∷ []) s.shared (answers_at size [] (Flushing serves most) answer y (ap (λ (v : AbstractActor). v.task) is.is), refl) d.0.may d.0.shared
+      (record { at = (d.0.over, inr (f refl)); below = holds_nothing y' x.card held; among_others = ap is_alone d.0.over }) g.words_agree g.origin g.cache refl g.commits g.broken (λ b v ev k. runs)
+      (λ b v ev k u. absurd (subst (λ t. IsUnfinished t) (ap (λ (v : AbstractActor). v.task) (is_here size most serves words committing orders devices actors a x s y ex ey g lead y' b v ev k) ∙ d.0.over) u))
+      (one_here size most serves words committing orders devices actors a x s y ex ey g lead y') (refl, refl, refl) (refl, refl) (subst (λ (v : AbstractActor). (gone v v.task (DoneThere ∷ [])).order ≡ None) (sym is.is) refl ∙ sym (ap (λ (v : AbstractActor). v.order) is.is)) keeps refl (carries_same size orders devices actors s a) (does_none _ _ _ _ _ _ tt)
 
   -- one that is late has no task there
-  pub late_looks : IsLate words plan y → StandsFor size most words x y → plan.job ≡ Flushing [] most → want plan ≡ Cell (Look Fail) → Follows Quietly size most a s words committing orders devices (slice_set actors a (went words Flush plan (Look Fail) x))
+  pub late_looks : IsLate words plan y → StandsFor size most words x y → plan.job ≡ Flushing serves most → want plan ≡ Cell (Look Fail) → Follows Quietly size most a s words committing orders devices (slice_set actors a (went words Flush plan (Look Fail) x))
   late_looks l st j e = elim l.at [
     | inl t ↦
-        let is : plan ≡ flushing most (Cell (Look Fail) ∷ Desk (BeginCommit false most) ∷ []) Finished = t ∙ ap (λ k. table k) j in
+        let is : plan ≡ flushing serves most (Cell (Look Fail) ∷ Desk (BeginCommit false most) ∷ []) Finished = t ∙ ap (λ k. table k) j in
         subst (λ (p : Plan). Follows Quietly size most a s words committing orders devices (slice_set actors a (went words Flush p (Look Fail) x))) (sym is) (by_test (words.fail == 0) (flag_of words.fail (words.fail == 0) refl) refl)
     | inr n ↦ absurd (let end : want plan ≡ End plan.answer = ap (λ (ws : List Want). first_step ws plan.answer) n.0 in let bad : Cell (Look Fail) ≡ End plan.answer = sym e ∙ end in cc)
   ]
     where
-      by_test : (t : Bool) → flag words.fail ≡ cond t false true → (words.fail == 0) ≡ t → Follows Quietly size most a s words committing orders devices (slice_set actors a (went words Flush (flushing most (Cell (Look Fail) ∷ Desk (BeginCommit false most) ∷ []) Finished) (Look Fail) x))
+      by_test : (t : Bool) → flag words.fail ≡ cond t false true → (words.fail == 0) ≡ t → Follows Quietly size most a s words committing orders devices (slice_set actors a (went words Flush (flushing serves most (Cell (Look Fail) ∷ Desk (BeginCommit false most) ∷ []) Finished) (Look Fail) x))
       by_test true f k = absurd (let bad : true ≡ false = sym l.failed ∙ f in cc)
       by_test false f k =
-          let plan_is : after (flushing most (Cell (Look Fail) ∷ Desk (BeginCommit false most) ∷ []) Finished) (Word words.fail) ≡ flushing most [] (Refuses Failed) = ap (λ (t : Bool). if t then onward (flushing most (Cell (Look Fail) ∷ Desk (BeginCommit false most) ∷ []) Finished) else refused (flushing most (Cell (Look Fail) ∷ Desk (BeginCommit false most) ∷ []) Finished) [] Failed) k in
+          let plan_is : after (flushing serves most (Cell (Look Fail) ∷ Desk (BeginCommit false most) ∷ []) Finished) (Word words.fail) ≡ flushing serves most [] (Refuses Failed) = ap (λ (t : Bool). if t then onward (flushing serves most (Cell (Look Fail) ∷ Desk (BeginCommit false most) ∷ []) Finished) else refused (flushing serves most (Cell (Look Fail) ∷ Desk (BeginCommit false most) ∷ []) Finished) [] Failed) k in
           subst (λ (p : Plan). Follows Quietly size most a s words committing orders devices (slice_set actors a (record x { task = Some (Flush, p); card = card_after words (Look Fail) x.card }))) (sym plan_is)
-          (goes_on size most words words (λ q. q) committing orders devices actors a x (record x { task = Some (Flush, flushing most [] (Refuses Failed)); card = card_after words (Look Fail) x.card }) s y g ex ey Quietly devices [] s.shared ([], unnoted_none y.task, refl) tt (shared_stays s.shared y y.task)
-          (subst (λ (z : AbstractActor). StandsFor size most words (record x { task = Some (Flush, flushing most [] (Refuses Failed)); card = card_after words (Look Fail) x.card }) z) (sym (gone_nowhere y y.task))
-          (record { at = record { job = refl; steps = tt; at = inr (record { failed = l.failed; nothing = l.nothing; at = inr (refl, λ e. absurd (cc)) }) }; below = record { owned = st.below.owned; shared = st.below.shared }; order = st.order; among_others = st.among_others }))
-          (λ q. gone_nowhere y y.task) g.words_agree g.origin g.cache refl refl refl (refl, refl, refl) (refl, refl)
-          (others (flushing most [] (Refuses Failed)) (card_after words (Look Fail) x.card) devices (λ f o. (tt, λ u below. record { owned = below.owned; shared = below.shared })) refl refl))
+          (goes_on size most words words (λ q. q) committing orders devices actors a x (record x { task = Some (Flush, flushing serves most [] (Refuses Failed)); card = card_after words (Look Fail) x.card }) s y g ex ey Quietly devices [] s.shared ([], unnoted_none y.task, refl) tt (shared_stays s.shared y y.task)
+          (subst (λ (z : AbstractActor). StandsFor size most words (record x { task = Some (Flush, flushing serves most [] (Refuses Failed)); card = card_after words (Look Fail) x.card }) z) (sym (gone_nowhere y y.task))
+          (record { at = record { serves = serves; job = refl; steps = tt; at = inr (record { failed = l.failed; nothing = l.nothing; at = inr (refl, λ e. absurd (cc)) }) }; below = record { owned = st.below.owned; shared = st.below.shared }; among_others = st.among_others }))
+          (λ q. gone_nowhere y y.task) g.words_agree g.origin g.cache refl refl refl (refl, refl, refl) (refl, refl) (ap (λ (v : AbstractActor). v.order) (gone_nowhere y y.task)) (λ o h. h) (carries_same size orders devices actors s a) (does_none _ _ _ _ _ _ tt))
 
-  pub late_answers : IsLate words plan y → plan.job ≡ Flushing [] most → plan.steps ≡ [] → StandsFor size most words x y → Follows (Answers (FlushingFor None) plan.answer) size most a s words committing orders devices (slice_set actors a (record x { task = None }))
-  late_answers l j none st = goes_on size most words words (λ q. q) committing orders devices actors a x (record x { task = None }) s y g ex ey (Answers (FlushingFor None) plan.answer) devices [] s.shared (late_answers_so (FlushingFor None) words plan plan.answer y refl (λ t. let bad : [] ≡ Cell (Look Fail) ∷ Desk (BeginCommit false most) ∷ [] = sym none ∙ ap (λ (p : Plan). p.steps) t ∙ ap (λ k. (table k).steps) j in absurd (cc)) l, nothing_told a y.task (DoneThere ∷ []) l.nothing) tt (shared_stays s.shared y y.task)
-      (subst (λ (z : AbstractActor). StandsFor size most words (record x { task = None }) z) (sym (gone_nowhere y y.task)) (record { at = (l.nothing, inr l.failed); below = st.below; order = st.order; among_others = st.among_others }))
-      (λ q. gone_nowhere y y.task) g.words_agree g.origin g.cache refl refl refl (refl, refl, refl) (refl, refl) over
+  pub late_answers : (orders' awaiting' : List Order) → ((o : Order) → Contains (held x) o → Contains (orders' ++ awaiting') o) → IsLate words plan y → plan.job ≡ Flushing serves most → plan.steps ≡ [] → StandsFor size most words x y → Follows (Answers (FlushingFor None) plan.answer) size most a s words committing orders devices (slice_set actors a (record x { task = None; orders = orders'; awaiting = awaiting' }))
+  late_answers orders' awaiting' keeps l j none st = goes_on size most words words (λ q. q) committing orders devices actors a x (record x { task = None; orders = orders'; awaiting = awaiting' }) s y g ex ey (Answers (FlushingFor None) plan.answer) devices [] s.shared (late_answers_so (FlushingFor None) words plan plan.answer y refl (λ t. let bad : [] ≡ Cell (Look Fail) ∷ Desk (BeginCommit false most) ∷ [] = sym none ∙ ap (λ (p : Plan). p.steps) t ∙ ap (λ k. (table k).steps) j in absurd (cc)) l, nothing_told a y.task (DoneThere ∷ []) l.nothing) tt (shared_stays s.shared y y.task)
+      (subst (λ (z : AbstractActor). StandsFor size most words (record x { task = None; orders = orders'; awaiting = awaiting' }) z) (sym (gone_nowhere y y.task)) (record { at = (l.nothing, inr l.failed); below = st.below; among_others = st.among_others }))
+      (λ q. gone_nowhere y y.task) g.words_agree g.origin g.cache refl refl refl (refl, refl, refl) (refl, refl) (ap (λ (v : AbstractActor). v.order) (gone_nowhere y y.task)) keeps (carries_same size orders devices actors s a) (does_none _ _ _ _ _ _ tt)

@@ -31,20 +31,12 @@ use Rattle.wb_simulation.specs.Laws.{CellStepsFollowed, IsRequestJob, went}
 use Rattle.wb_simulation.proofs.Telling.{quiet_are_unnoted}
 use Rattle.wb_simulation.proofs.Steps.{read_of_block, write_of_block}
 use Rattle.wb_simulation.proofs.Cells.{Acted, acts_on_words}
-use Rattle.wb_simulation.proofs.Behind.{MigratesNot, IsNoMigration, no_migration, none_of, past, card_there, stays_looking, carries_same}
-use Rattle.wb_simulation.proofs.Among.{own_there, below_beside, failed_stays, goes_on}
+use Rattle.wb_simulation.proofs.Orders.{MigratesNot, does_none, carries_same}
+use Rattle.wb_simulation.proofs.Among.{card_there, own_there, below_beside, failed_stays, goes_on}
 
 -- who does a read or write is at it
 pub doing_of : (size most : ℕ) (words : Words) (x : Actor) (y : AbstractActor) (job : Job) (plan : Plan) → StandsFor size most words x y → x.task ≡ Some (job, plan) → IsDoing size most words job plan x.card y
 doing_of size most words x y job plan st e = subst (λ (t : Option (Job × Plan)). IsBusyAt size most words t x.card y) e st.at
-
-pub migrates_not : (job : Job) → IsRequestJob job → MigratesNot job
-migrates_not (Read extent) q = tt
-migrates_not (Write extent content) q = tt
-migrates_not Flush q = tt
-migrates_not (Open mode) q = tt
-migrates_not (Migrate migration block) q = q
-migrates_not (Replace old new) q = absurd q
 
 -- the step is the first of what is left
 pub begins_by : (plan : Plan) (next : Want) → want plan ≡ next → ((answer : Answer) → next ≢ End answer) → (ws : List Want) × (plan.steps ≡ next ∷ ws)
@@ -54,14 +46,16 @@ begins_by plan next e n = by_steps plan.steps refl
     by_steps [] k = absurd (n plan.answer (sym (sym (ap (λ (us : List Want). first_step us plan.answer) k) ∙ e)))
     by_steps (v ∷ ws) k = (ws, k ∙ ap (λ (u : Want). u ∷ ws) (sym (ap (λ (us : List Want). first_step us plan.answer) k) ∙ e))
 
+-- a request is no migration
+no_request : (job : Job) → IsRequestJob job → MigratesNot job
+no_request (Migrate migration block) r = absurd r
+no_request job r = tt
+
 module _ (size most blocks : ℕ) (words : Words) (committing : Bool) (orders : List (Option Order)) (devices : Devices (List History)) (actors : List Actor) (a : ℕ) (x : Actor) (plan : Plan) (step : CellStep) (s : World) (y : AbstractActor)
     (rule : LockRule blocks words (cards_of actors)) (ex : slice_get actors a ≡ Some x) (ey : slice_get s.actors a ≡ Some y) (job : Job) (request_job : IsRequestJob job) (task : x.task ≡ Some (job, plan)) (suits : Suits blocks plan x.card) (next : want plan ≡ Cell step) (g : Agrees size most words committing orders devices actors s) (st : StandsFor size most words x y) where
-  none : IsNoMigration x.task
-  none = none_of x job plan (migrates_not job request_job) task
-
   -- where it takes its block, no other one counts on its card
   takes : (q : CellStep) (ws : List Want) → plan.steps ≡ Cell q ∷ ws → TakesBeside q s.actors (cards_of actors) a a
-  takes (Look (Number b)) ws e = below_beside size most words committing orders devices actors s g a a x ex (past x job plan (Cell (Look (Number b))) ws task e (λ o. o)) (λ n. absurd (n refl)) (λ c away w migration block p k. no_migration x.task migration block p none k)
+  takes (Look (Number b)) ws e = below_beside size most words committing orders devices actors s g a
   takes (Look Fail) ws e = tt
   takes (Look (LockWord b)) ws e = tt
   takes (Look (SealWord b)) ws e = tt
@@ -90,7 +84,7 @@ module _ (size most blocks : ℕ) (words : Words) (committing : Bool) (orders : 
           let is : plan ≡ plan_of (job_on r.part) (Cell step ∷ ws) plan.answer = (λ i. record { job = r.job i; steps = (e ∙ ap (λ (u : Want). u ∷ ws) first) i; answer = plan.answer }) in
           let r' = subst (λ (p : Plan). IsRequestAt size content words job_on p x.card y) is r in
           subst Of_plan (sym is) (acts_on_words size content job_on request range works among r.part r.is_part blocks words s.actors a x.card s.shared y plan.answer g.words_agree (cards_of actors) step ws rule (card_there actors a x ex)
-          (takes step ws (e ∙ ap (λ (u : Want). u ∷ ws) first)) st.below st.order st.among_others (subst (λ (ws' : List Want). AreOfBlock size r.part.block.0 ws') (e ∙ ap (λ (u : Want). u ∷ ws) first) r.of_block)
+          (takes step ws (e ∙ ap (λ (u : Want). u ∷ ws) first)) st.below st.among_others (subst (λ (ws' : List Want). AreOfBlock size r.part.block.0 ws') (e ∙ ap (λ (u : Want). u ∷ ws) first) r.of_block)
           (subst (λ (p : Plan). Suits blocks p x.card) is suits) (subst (λ (p : Plan). At p) is r.at))
         where
           At : Plan → Type 0
@@ -105,8 +99,7 @@ module _ (size most blocks : ℕ) (words : Words) (committing : Bool) (orders : 
       let k = acted.same.images in
       let b = begins_by plan (Cell step) next (λ answer q. absurd (cc)) in
       goes_on size most words (words_after words step) (failed_stays words step _ _ rule.logs.fail) committing orders devices actors a x (went words job plan step x) s y g ex ey Quietly devices acted.results t (acted.results, quiet_are_unnoted y.task acted.results acted.quiet, refl) acted.may refl
-      (record { at = doing; below = acted.below; order = acted.order; among_others = acted.among_others }) acted.leads acted.words_agree (acted.same.origin ∙ g.origin) (acted.same.cache ∙ g.cache) k.mode k.committing k.broken (k.committed, k.running, k.root_written) (k.mapping, k.blocks)
-      (record { before = none; still = migrates_not job request_job; outside = stays_looking words x job plan step b.0 task b.1; ordered = refl; carries = carries_same size devices orders actors a })
+      (record { at = doing; below = acted.below; among_others = acted.among_others }) acted.leads acted.words_agree (acted.same.origin ∙ g.origin) (acted.same.cache ∙ g.cache) k.mode k.committing k.broken (k.committed, k.running, k.root_written) (k.mapping, k.blocks) acted.order (λ o h. h) (carries_same size orders devices actors s a) (does_none _ _ _ _ _ _ (no_request job request_job))
 
 followed : (size most blocks : ℕ) (words : Words) (committing : Bool) (orders : List (Option Order)) (devices : Devices (List History)) (actors : List Actor) (a : ℕ) (x : Actor) (plan : Plan) (step : CellStep) (s : World) (y : AbstractActor) →
     LockRule blocks words (cards_of actors) → slice_get actors a ≡ Some x → slice_get s.actors a ≡ Some y → (job : Job) → IsRequestJob job → x.task ≡ Some (job, plan) → Suits blocks plan x.card → want plan ≡ Cell step → Agrees size most words committing orders devices actors s → StandsFor size most words x y →

@@ -11,10 +11,10 @@ use Rattle.wb_refines.specs.Models.{HasStopped, IsFree}
 use Rattle.wb_runs.specs.declared.job.Job.{Job}
 use Rattle.wb_runs.specs.declared.job.Job.TheVariants.{Read, Write, Flush, Open, Migrate, Replace}
 use Rattle.wb_runs.specs.States.{Actor}
-use Rattle.wb_simulation.specs.Actors.{IsLate, IsRequestAt, IsFlushAt, IsAside, IsDoing, IsBusyAt, StandsFor}
+use Rattle.wb_simulation.specs.Actors.{IsLate, IsRequestAt, IsFlushAt, IsDoing, IsBusyAt, StandsFor}
 
 module _ (size most : ℕ) (words words' : Words) (up : flag words.fail ≡ true → flag words'.fail ≡ true) (y : AbstractActor) where
-  late_on : (plan : Plan) → IsLate words plan y → IsLate words' plan y
+  pub late_on : (plan : Plan) → IsLate words plan y → IsLate words' plan y
   late_on plan l = record { failed = up l.failed; nothing = l.nothing; at = l.at }
 
   free_on : (steps : List Want) → IsFree words steps y → IsFree words' steps y
@@ -47,6 +47,7 @@ module _ (size most : ℕ) (words words' : Words) (up : flag words.fail ≡ true
 
   flush_on : (plan : Plan) → IsFlushAt size most words plan y → IsFlushAt size most words' plan y
   flush_on plan f = record {
+    serves = f.serves;
     job = f.job;
     steps = f.steps;
     at = elim f.at [
@@ -54,9 +55,6 @@ module _ (size most : ℕ) (words words' : Words) (up : flag words.fail ≡ true
       | inr l ↦ inr (late_on plan l)
     ];
   }
-
-  aside_on : (plan : Plan) → IsAside words plan y → IsAside words' plan y
-  aside_on plan d = record { nothing = d.nothing; rests = elim d.rests [ inl i ↦ inl i | inr f ↦ inr (up f.0, f.1) ] }
 
   busy_on : (task : Option (Job × Plan)) (card : Card) → IsBusyAt size most words task card y → IsBusyAt size most words' task card y
   busy_on None card b = (b.0, elim b.1 [ inl i ↦ inl i | inr e ↦ inr (up e) ])
@@ -67,8 +65,8 @@ module _ (size most : ℕ) (words words' : Words) (up : flag words.fail ≡ true
       by_job (Write extent content) plan d = request_on content _ plan card d
       by_job Flush plan d = flush_on plan d
       by_job (Open mode) plan d = absurd d
-      by_job (Migrate migration block) plan d = aside_on plan d
+      by_job (Migrate migration block) plan d = d
       by_job (Replace old new) plan d = absurd d
 
   pub stands_on : (x : Actor) → StandsFor size most words x y → StandsFor size most words' x y
-  stands_on x s = record { at = busy_on x.task x.card s.at; below = s.below; order = s.order; among_others = s.among_others }
+  stands_on x s = record { at = busy_on x.task x.card s.at; below = s.below; among_others = s.among_others }

@@ -31,7 +31,9 @@ use Rattle.wb_simulation.specs.Actors.{IsFlushAt, IsOfFlush, LeadsAt, StandsFor}
 use Rattle.wb_simulation.specs.Telling.{Quietly}
 use Rattle.wb_simulation.specs.Worlds.{zeros, Agrees, Turn, TurnedTo, DeskTurnedTo, FollowsBy, IsUnfinished}
 use Rattle.wb_simulation.proofs.Telling.{quiet_are_unnoted}
-use Rattle.wb_simulation.proofs.Among.{OthersStay, goes_leading}
+use Rattle.wb_simulation.proofs.Orders.{does_none, CarriesOthers}
+use Rattle.wb_simulation.proofs.Among.{goes_leading}
+use Rattle.wb_types.specs.declared.number.OBlock.{OBlock}
 use Rattle.wb_simulation.proofs.Followed.{begins_by}
 
 -- ---- what is left of a commit
@@ -57,18 +59,18 @@ has_wants size steps m = absurd m
 -- ---- where a flush stands
 
 -- its next step is this one, and it is at the same there
-pub record AtFlush (size most : ℕ) (words : Words) (plan : Plan) (next : Want) (y : AbstractActor) : Type 0 where
+pub record AtFlush (size most : ℕ) (serves : List OBlock) (words : Words) (plan : Plan) (next : Want) (y : AbstractActor) : Type 0 where
   pub later : List Want
-  pub is : plan ≡ flushing most (next ∷ later) plan.answer
+  pub is : plan ≡ flushing serves most (next ∷ later) plan.answer
   pub rest : IsOfFlush most (next ∷ later)
   pub leads : Bool
   pub at : LeadsAt leads (next ∷ later)
-  pub same : IsFlushing size [] (flushing most (next ∷ later) plan.answer) leads y
+  pub same : IsFlushing size [] (flushing serves most (next ∷ later) plan.answer) leads y
 
-pub at_flush : (size most : ℕ) (words : Words) (plan : Plan) (next : Want) (y : AbstractActor) → want plan ≡ next → ((answer : Answer) → next ≢ End answer) → (next ≢ Cell (Look Fail)) → IsFlushAt size most words plan y → AtFlush size most words plan next y
+pub at_flush : (size most : ℕ) (words : Words) (plan : Plan) (next : Want) (y : AbstractActor) → want plan ≡ next → ((answer : Answer) → next ≢ End answer) → (next ≢ Cell (Look Fail)) → (f : IsFlushAt size most words plan y) → AtFlush size most f.serves words plan next y
 at_flush size most words plan next y e not_end not_look f =
     let b = begins_by plan next e not_end in
-    let is : plan ≡ flushing most (next ∷ b.0) plan.answer = (λ i. record { job = f.job i; steps = b.1 i; answer = plan.answer }) in
+    let is : plan ≡ flushing f.serves most (next ∷ b.0) plan.answer = (λ i. record { job = f.job i; steps = b.1 i; answer = plan.answer }) in
     elim f.at [
       | inl l ↦ record { later = b.0; is = is; rest = subst (λ (ws : List Want). IsOfFlush most ws) b.1 f.steps; leads = l.leads; at = subst (λ (ws : List Want). LeadsAt l.leads ws) b.1 l.at; same = subst (λ (p : Plan). IsFlushing size [] p l.leads y) is l.is }
       | inr l ↦ absurd (elim l.at [
@@ -77,14 +79,13 @@ at_flush size most words plan next y e not_end not_look f =
       ])
     ]
 
-module _ (size most : ℕ) (words : Words) (committing : Bool) (orders : List (Option Order)) (devices : Devices (List History)) (actors : List Actor) (a : ℕ) (x : Actor) (s : World) (y : AbstractActor) (ex : slice_get actors a ≡ Some x) (ey : slice_get s.actors a ≡ Some y) (g : Agrees size most words committing orders devices actors s) where
+module _ (size most : ℕ) (serves : List OBlock) (words : Words) (committing : Bool) (orders : List (Option Order)) (devices : Devices (List History)) (actors : List Actor) (a : ℕ) (x : Actor) (s : World) (y : AbstractActor) (ex : slice_get actors a ≡ Some x) (ey : slice_get s.actors a ≡ Some y) (g : Agrees size most words committing orders devices actors s) where
   -- who stands there now
-  pub stands : (words' : Words) (plan' : Plan) (card' : Card) (leads' : Bool) (z : AbstractActor) → plan'.job ≡ Flushing [] most → IsOfFlush most plan'.steps → LeadsAt leads' plan'.steps → (leads' ≡ true → plan'.steps ≡ [] → flag words'.fail ≡ true) → IsFlushing size [] plan' leads' z →
+  pub stands : (words' : Words) (plan' : Plan) (card' : Card) (leads' : Bool) (z : AbstractActor) → plan'.job ≡ Flushing serves most → IsOfFlush most plan'.steps → LeadsAt leads' plan'.steps → (leads' ≡ true → plan'.steps ≡ [] → flag words'.fail ≡ true) → IsFlushing size [] plan' leads' z →
       StandsFor size most words' (record x { task = Some (Flush, plan'); card = card' }) z
   stands words' plan' card' leads' z j o l f is = record {
-    at = record { job = j; steps = o; at = inl (record { leads = leads'; at = l; failed = f; is = is }) };
+    at = record { serves = serves; job = j; steps = o; at = inl (record { leads = leads'; at = l; failed = f; is = is }) };
     below = holds_nothing z card' (ap (λ (v : AbstractActor). v.held) is.is);
-    order = ap (λ (v : AbstractActor). v.order) is.is;
     among_others = ap (λ (v : AbstractActor). is_alone v.task) is.is ∙ ap (λ k. job_alone (job_for size [] k)) j;
   }
 
@@ -106,13 +107,13 @@ module _ (size most : ℕ) (words : Words) (committing : Bool) (orders : List (O
         let same : y' ≡ v = cc in sym same
 
   -- a flush that leads goes on, and its commit stays whole
-  pub leads_on : (turn : Turn) (words' : Words) (up : flag words.fail ≡ true → flag words'.fail ≡ true) (devices' : Devices (List History)) (plan plan' : Plan) (card' : Card) (t : Shared) (next : Want) (later : List Want) (answer : Answer) → IsFlushing size [] (flushing most (next ∷ later) answer) true y → wants_of size (FlushingFor None) (next ∷ later) ≢ [] →
-      Leads size [] s.actors a s.shared y t plan' true → plan'.job ≡ Flushing [] most → IsOfFlush most plan'.steps → LeadsAt true plan'.steps → (true ≡ true → plan'.steps ≡ [] → flag words'.fail ≡ true) → WordsAgree words' t → t.origin ≡ by_block size zeros devices'.origin → t.cache ≡ by_block size zeros devices'.cache → t.mode ≡ s.shared.mode →
-      t.committing ≡ s.shared.committing → t.broken ≡ s.shared.broken → TurnedTo turn s.shared t → DeskTurnedTo turn s.shared t → OthersStay size words devices devices' orders actors a x (record x { task = Some (Flush, plan'); card = card' }) → FollowsBy turn Quietly size most a s words' committing orders devices' (slice_set actors a (record x { task = Some (Flush, plan'); card = card' }))
-  leads_on turn words' up devices' plan plan' card' t next later answer is some l j o at f w og ca mo co br turned desk others =
+  pub leads_on : (turn : Turn) (words' : Words) (up : flag words.fail ≡ true → flag words'.fail ≡ true) (devices' : Devices (List History)) (plan plan' : Plan) (card' : Card) (t : Shared) (next : Want) (later : List Want) (answer : Answer) → IsFlushing size [] (flushing serves most (next ∷ later) answer) true y → wants_of size (FlushingFor None) (next ∷ later) ≢ [] →
+      Leads size [] s.actors a s.shared y t plan' true → plan'.job ≡ Flushing serves most → IsOfFlush most plan'.steps → LeadsAt true plan'.steps → (true ≡ true → plan'.steps ≡ [] → flag words'.fail ≡ true) → WordsAgree words' t → t.origin ≡ by_block size zeros devices'.origin → t.cache ≡ by_block size zeros devices'.cache → t.mode ≡ s.shared.mode →
+      t.committing ≡ s.shared.committing → t.broken ≡ s.shared.broken → TurnedTo turn s.shared t → DeskTurnedTo turn s.shared t → t.mapping ≡ s.shared.mapping → CarriesOthers size orders orders devices devices' actors s a → FollowsBy turn Quietly size most a s words' committing orders devices' (slice_set actors a (record x { task = Some (Flush, plan'); card = card' }))
+  leads_on turn words' up devices' plan plan' card' t next later answer is some l j o at f w og ca mo co br turned desk same_map carries =
       let lead : y.leads ≡ true = ap (λ (v : AbstractActor). v.leads) is.is in
       let y' = gone y y.task l.results in
       let runs = g.led a y ey lead in
       let whole : s.shared.broken ≡ false = g.whole a y ey lead (subst (λ (v : AbstractActor). IsUnfinished v.task) (sym is.is) some) in
       goes_leading size most words words' up committing orders devices actors a x (record x { task = Some (Flush, plan'); card = card' }) s y g ex ey turn Quietly committing devices' l.results t (l.results, quiet_are_unnoted y.task l.results l.quiet, refl) l.may l.shared
-      (stands words' plan' card' true y' j o at f l.at) w og ca mo (co ∙ g.commits) (λ e. co ∙ runs) (λ b v ev k. co ∙ runs) (λ b v ev k u. br ∙ whole) (one_here lead y') turned desk others
+      (stands words' plan' card' true y' j o at f l.at) w og ca mo (co ∙ g.commits) (λ e. co ∙ runs) (λ b v ev k. co ∙ runs) (λ b v ev k u. br ∙ whole) (one_here lead y') turned desk (ap (λ (v : AbstractActor). v.order) l.at.is ∙ sym (ap (λ (v : AbstractActor). v.order) is.is)) (λ o h. h) same_map carries (does_none _ _ _ _ _ _ tt)

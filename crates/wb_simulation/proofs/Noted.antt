@@ -10,7 +10,7 @@ use Rattle.wb_contents.specs.Volume.{changed}
 use Rattle.wb_contents.specs.Devices.{by_block}
 use Rattle.wb_contents.proofs.Positions.{changed_same, changed_other}
 use Rattle.wb_link.specs.Tables.{Script, Job as AbstractJob, Reading, Writing, Writing_through, Promoting, Demoting, Cleaning, Flushing, Suspending, Want, Write_at, End, Got, Gave, Fault, Done, Answer as AbstractAnswer, Finished as AnsweredDone, want, after, table, read_each, write_each}
-use Rattle.wb_link.specs.World.{World, Shared, Record, Start, Again, Step, Actor as AbstractActor, resting, after_all, after_record, actor_after, task_after, start_actor, again_actor, step_actor, step_task, reserved, given, effect}
+use Rattle.wb_link.specs.World.{Release, release_order, World, Shared, Record, Start, Again, Actor as AbstractActor, resting, after_all, after_record, actor_after, task_after, start_actor, again_actor, reserved, given, effect}
 use Rattle.wb_link.specs.Clerk.{Notes as AbstractNotes, Entry, histories_after, entered_after, finished_after, floors_after, job_noted, note, noted_step, opened, raised as raised_there}
 use Rattle.wb_link.specs.Openings.{On, AllRight}
 use Rattle.wb_link.proofs.Lists.{get_set_same, get_set_other, replicated}
@@ -19,10 +19,13 @@ use Rattle.wb_refines.specs.Going.{records, shared_after, gone}
 use Rattle.wb_refines.proofs.Going.{with_own, set_twice, set_same, step_own}
 use Rattle.wb_runs.specs.declared.job.Job.{Job}
 use Rattle.wb_runs.specs.Clerk.{Notes, Doing, Position, Entering, begins, begun, put, nobody, entering, enter, enter_each, write_note, all_raised, greater_of}
-use Rattle.wb_simulation.specs.Noting.{counts_by_block, AreEntries, DoesAlike, IsNotedSo, IsOfNoAccount, NotesAgree}
+use Rattle.wb_simulation.specs.Noting.{counts_by_block, AreEntries, DoesAlike, IsNotedSo, NotesAgree}
 use Rattle.wb_simulation.specs.Noted.{told, AreNewest, NotesFollowed}
-use Rattle.wb_simulation.proofs.Behind.{is_inside}
-use Rattle.wb_simulation.specs.Telling.{IsMigrating, IsFromBehind, AreFromBehind, AreUnnoted, AreWrites, AnswersSo, reading, writing}
+use Rattle.wb_simulation.proofs.Among.{is_inside}
+use Rattle.wb_link.specs.Tables.{Flag, Order as AbstractOrder}
+use Rattle.wb_link.specs.World.{Again, again_actor, after_record, aside, taken, order_of}
+use Rattle.std.proofs.Common.{true}
+use Rattle.wb_simulation.specs.Telling.{IsMigrating, IsResumed, Given, Kept, Failing, Nowhere, Rested, AreCarried, IsNoEnd, AreUnnoted, AreWrites, AnswersSo, reading, writing}
 use Rattle.wb_simulation.specs.Worlds.{zeros}
 use Rattle.wb_simulation.proofs.Counts.{everywhere, all_raised-length, no_entries_alike, greater_counts, greater-length}
 use Rattle.wb_simulation.proofs.Telling.{reads_unnoted}
@@ -31,21 +34,16 @@ use Rattle.wb_simulation.proofs.Told.{until_written, IsJob, after_job, untold, r
 -- ---- where an actor's own steps lead
 
 own_steps : (gots : List Got) (w : World) (a : ℕ) (y : AbstractActor) (task : Option Script) → slice_get w.actors a ≡ Some y → y.task ≡ task → after_all w (records a task gots) ≡ with_own w a (shared_after w.shared y task gots) (gone y task gots)
-own_steps [] w a y None e t = ap (λ (ys : List AbstractActor). record { shared = w.shared; actors = ys }) (sym (set_same w.actors a y e))
-own_steps [] w a y (Some script) e t = ap (λ (ys : List AbstractActor). record { shared = w.shared; actors = ys }) (sym (set_same w.actors a y e))
-own_steps (got ∷ gots) w a y None e t = ap (λ (ys : List AbstractActor). record { shared = w.shared; actors = ys }) (sym (set_same w.actors a y e))
+own_steps [] w a y None e t = ap (λ (ys : List AbstractActor). record { shared = w.shared; actors = ys; waiting = w.waiting }) (sym (set_same w.actors a y e))
+own_steps [] w a y (Some script) e t = ap (λ (ys : List AbstractActor). record { shared = w.shared; actors = ys; waiting = w.waiting }) (sym (set_same w.actors a y e))
+own_steps (got ∷ gots) w a y None e t = ap (λ (ys : List AbstractActor). record { shared = w.shared; actors = ys; waiting = w.waiting }) (sym (set_same w.actors a y e))
 own_steps (got ∷ gots) w a y (Some script) e t =
     let y' = actor_after y script (want script) got in
     let s' = effect w.shared script.job y.buffer (want script) got in
     let is = step_own w a y script got e t in
     let later = own_steps gots (with_own w a s' y') a y' (task_after script (want script) got) (get_set_same w.actors a y y' e) refl in
     ap (λ (v : World). after_all v (records a (task_after script (want script) got) gots)) is ∙ later
-    ∙ (λ i. record { shared = shared_after s' y' (task_after script (want script) got) gots; actors = set_twice w.actors a y' (gone y' (task_after script (want script) got) gots) i })
-
--- none of the steps answers
-abbrev IsNoEnd : Want → Type 0
-IsNoEnd (End answer) = ⊥
-IsNoEnd next = Unit {0}
+    ∙ (λ i. record { shared = shared_after s' y' (task_after script (want script) got) gots; actors = set_twice w.actors a y' (gone y' (task_after script (want script) got) gots) i; waiting = w.waiting })
 
 abbrev AreGoing : Option Script → List Got → Type 0
 AreGoing None gots = Unit {0}
@@ -112,17 +110,17 @@ refused_note m a job answer undone = λ i. record {
 }
   where
     histories_end : (h : ℕ → ℕ → History) (job : AbstractJob) (answer : AbstractAnswer) → histories_after h job (End answer) ≡ h
-    histories_end h (Writing b os c) answer = refl
+    histories_end h (Writing past b os c) answer = refl
     histories_end h (Writing_through b os c) answer = refl
     histories_end h job answer = refl
 
     entered_end : (h : ℕ → ℕ → History) (job : AbstractJob) (answer : AbstractAnswer) (es : List Entry) → entered_after h job (End answer) es ≡ es
-    entered_end h (Writing b os c) answer es = refl
+    entered_end h (Writing past b os c) answer es = refl
     entered_end h (Writing_through b os c) answer es = refl
     entered_end h job answer es = refl
 
     finished_end : (job : AbstractJob) (answer : AbstractAnswer) (es : List Entry) (f : ℕ → ℕ → ℕ) → answer ≢ AnsweredDone → finished_after job (End answer) es f ≡ f
-    finished_end (Writing b os c) AnsweredDone es f undone = absurd (undone refl)
+    finished_end (Writing past b os c) AnsweredDone es f undone = absurd (undone refl)
     finished_end (Writing_through b os c) AnsweredDone es f undone = absurd (undone refl)
     finished_end job answer es f undone = refl
 
@@ -141,11 +139,11 @@ pub record IsOver (job : AbstractJob) (task : Option Script) : Type 0 where
 
 -- Who has done something is another one now, and of others nothing has changed.
 module _ (size a : ℕ) (s : World) (y : AbstractActor) (n : Notes) (m : AbstractNotes) (ey : slice_get s.actors a ≡ Some y) (among : a < length n.doings) (g : NotesAgree size n s m) where
-  agree_after : (n' : Notes) (m' : AbstractNotes) (t : Shared) (y' : AbstractActor) → m'.histories ≡ by_block size zeros n'.histories → m'.finished ≡ counts_by_block size n'.finished → m'.floors ≡ counts_by_block size n'.floors →
+  agree_waiting : (waiting : ℕ → Option AbstractOrder) (n' : Notes) (m' : AbstractNotes) (t : Shared) (y' : AbstractActor) → m'.histories ≡ by_block size zeros n'.histories → m'.finished ≡ counts_by_block size n'.finished → m'.floors ≡ counts_by_block size n'.floors →
       length n'.histories ≡ length n.histories → length n'.finished ≡ length n.finished → length n'.floors ≡ length n.floors →
       ((b : ℕ) → b ≢ a → slice_get n'.doings b ≡ slice_get n.doings b) → length n'.doings ≡ length n.doings → ((b : ℕ) → b ≢ a → m'.jobs b ≡ m.jobs b) → ((b : ℕ) → b ≢ a → m'.entered b ≡ m.entered b) → ((b : ℕ) → b ≢ a → m'.asked b ≡ m.asked b) →
-      IsNotedSo size (length n.histories) y'.task (slice_get n'.doings a) a m' → NotesAgree size n' (with_own s a t y') m'
-  agree_after n' m' t y' h f l long finished_long floors_long doings many jobs entered asked here = record {
+      IsNotedSo size (length n.histories) y'.task (slice_get n'.doings a) a m' → NotesAgree size n' (record { shared = t; actors = slice_set s.actors a y'; waiting = waiting }) m'
+  agree_waiting waiting n' m' t y' h f l long finished_long floors_long doings many jobs entered asked here = record {
     histories = h;
     finished = f;
     floors = l;
@@ -154,8 +152,13 @@ module _ (size a : ℕ) (s : World) (y : AbstractActor) (n : Notes) (m : Abstrac
     each = λ b z l e. in_set s.actors a y y' ey (λ b z. b < length n'.doings → IsNotedSo size (length n'.histories) z.task (slice_get n'.doings b) b m') (λ k. subst (λ (k : ℕ). IsNotedSo size k y'.task (slice_get n'.doings a) a m') (sym long) here)
         (λ b z ne e k. subst (λ (k : ℕ). IsNotedSo size k z.task (slice_get n'.doings b) b m') (sym long) (subst (λ (o : Option (Option Doing)). IsNotedSo size (length n.histories) z.task o b m') (sym (doings b ne))
         (noted_beside size (length n.histories) z.task (slice_get n.doings b) b m m' (jobs b ne) (entered b ne) (asked b ne) (g.each b z (omega (arith, k, many)) e)))) b z e l;
-    behind = λ b l. subst (λ (j : Option AbstractJob). IsOfNoAccount j) (sym (jobs b (λ e. absurd (omega (arith, among, l, many, e))))) (g.behind b (omega (arith, l, many)));
   }
+
+  agree_after : (n' : Notes) (m' : AbstractNotes) (t : Shared) (y' : AbstractActor) → m'.histories ≡ by_block size zeros n'.histories → m'.finished ≡ counts_by_block size n'.finished → m'.floors ≡ counts_by_block size n'.floors →
+      length n'.histories ≡ length n.histories → length n'.finished ≡ length n.finished → length n'.floors ≡ length n.floors →
+      ((b : ℕ) → b ≢ a → slice_get n'.doings b ≡ slice_get n.doings b) → length n'.doings ≡ length n.doings → ((b : ℕ) → b ≢ a → m'.jobs b ≡ m.jobs b) → ((b : ℕ) → b ≢ a → m'.entered b ≡ m.entered b) → ((b : ℕ) → b ≢ a → m'.asked b ≡ m.asked b) →
+      IsNotedSo size (length n.histories) y'.task (slice_get n'.doings a) a m' → NotesAgree size n' (with_own s a t y') m'
+  agree_after n' m' t y' h f l long finished_long floors_long doings many jobs entered asked here = agree_waiting s.waiting n' m' t y' h f l long finished_long floors_long doings many jobs entered asked here
 
   -- by these steps
   abbrev After : List Got → Notes → Type 0
@@ -189,7 +192,7 @@ module _ (size a : ℕ) (s : World) (y : AbstractActor) (n : Notes) (m : Abstrac
       let k = suc count in (
         tt,
         subst (λ (ws : List Want). AreGoing (Some (writing b all content ws Rattle.wb_link.specs.Tables.Io)) gots)
-            (sym (ap (λ (t : Bool). Rattle.wb_link.specs.Tables.steps_after_fault (Writing b all content) t (write_each location b (rising (o + 1) k) rest)) w.0 ∙ until_written location b (rising (o + 1) k) rest))
+            (sym (ap (λ (t : Bool). Rattle.wb_link.specs.Tables.steps_after_fault (Writing false b all content) t (write_each location b (rising (o + 1) k) rest)) w.0 ∙ until_written location b (rising (o + 1) k) rest))
             (writes_go location b all content (Rattle.wb_link.specs.Tables.until_failed rest) Rattle.wb_link.specs.Tables.Io k gots (o + 1) w.1),
       )
   writes_go location b all content rest answer (suc count) (got ∷ gots) o w = absurd w
@@ -202,7 +205,7 @@ module _ (size a : ℕ) (s : World) (y : AbstractActor) (n : Notes) (m : Abstrac
       slice_get n.doings a ≡ Some (Some doing) → offset + count ≤ size → block * size + offset + count ≤ length n.histories → After gots (write_note n a doing (enter_each content (rising (block * size + offset) count) (entering n doing)))
   write_after block offset count content location all rest answer gots doing are at here l inside =
       let script = writing block all content (write_each location block (rising offset count) rest) answer in
-      let d : DoesAlike size (length n.histories) doing (Writing block all content) a m = subst (λ (t : Option Script). IsNotedSo size (length n.histories) t (Some (Some doing)) a m) at (subst (λ (o : Option (Option Doing)). IsNotedSo size (length n.histories) y.task o a m) here (g.each a y among ey)) in
+      let d : DoesAlike size (length n.histories) doing (Writing false block all content) a m = subst (λ (t : Option Script). IsNotedSo size (length n.histories) t (Some (Some doing)) a m) at (subst (λ (o : Option (Option Doing)). IsNotedSo size (length n.histories) y.task o a m) here (g.each a y among ey)) in
       let e = enter_each content (rising (block * size + offset) count) (entering n doing) in
       let m' = told m (records a y.task gots) in
       let w : Wrote size (length n.histories) a m m' e = subst (λ (t : Option Script). Wrote size (length n.histories) a m (told m (records a t gots)) e) (sym at)
@@ -239,20 +242,20 @@ module _ (size a : ℕ) (s : World) (y : AbstractActor) (n : Notes) (m : Abstrac
   abbrev over : AbstractActor
   over = record y { task = None }
 
-  read_answers : (block : ℕ) (os : List ℕ) (script : Script) → y.task ≡ Some script → script.steps ≡ [] → script.answer ≡ AnsweredDone → script.job ≡ Reading block os → After (Done ∷ []) (put n a None)
-  read_answers block os script at none ans is = answered (put n a None) script (Reading block os) AnsweredDone at none ans is
-      (agree_after (put n a None) (noted_step m a (Some (Reading block os)) (End AnsweredDone)) s.shared over g.histories g.finished g.floors refl refl refl (put_others None) (length-set n.doings a None) (λ b ne. changed_other m.jobs a b None ne) (λ b ne. changed_other m.entered a b (m.entered a) ne) (λ b ne. refl) tt)
+  read_answers : (block : ℕ) (os : List ℕ) (script : Script) → y.task ≡ Some script → script.steps ≡ [] → script.answer ≡ AnsweredDone → script.job ≡ Reading false block os → After (Done ∷ []) (put n a None)
+  read_answers block os script at none ans is = answered (put n a None) script (Reading false block os) AnsweredDone at none ans is
+      (agree_after (put n a None) (noted_step m a (Some (Reading false block os)) (End AnsweredDone)) s.shared over g.histories g.finished g.floors refl refl refl (put_others None) (length-set n.doings a None) (λ b ne. changed_other m.jobs a b None ne) (λ b ne. changed_other m.entered a b (m.entered a) ne) (λ b ne. refl) tt)
 
   does_alike : (job : AbstractJob) (script : Script) (doing : Doing) → y.task ≡ Some script → script.job ≡ job → slice_get n.doings a ≡ Some (Some doing) → DoesAlike size (length n.histories) doing job a m
   does_alike job script doing at is here = subst (λ (j : AbstractJob). DoesAlike size (length n.histories) doing j a m) is
       (subst (λ (t : Option Script). IsNotedSo size (length n.histories) t (Some (Some doing)) a m) at (subst (λ (o : Option (Option Doing)). IsNotedSo size (length n.histories) y.task o a m) here (g.each a y among ey)))
 
-  write_answers : (block : ℕ) (os : List ℕ) (content : Content) (script : Script) (doing : Doing) → y.task ≡ Some script → script.steps ≡ [] → script.answer ≡ AnsweredDone → script.job ≡ Writing block os content → slice_get n.doings a ≡ Some (Some doing) →
+  write_answers : (block : ℕ) (os : List ℕ) (content : Content) (script : Script) (doing : Doing) → y.task ≡ Some script → script.steps ≡ [] → script.answer ≡ AnsweredDone → script.job ≡ Writing false block os content → slice_get n.doings a ≡ Some (Some doing) →
       After (Done ∷ []) (put (record n { finished = all_raised n.finished doing.entered }) a None)
   write_answers block os content script doing at none ans is here =
-      let d = does_alike (Writing block os content) script doing at is here in
-      answered (put (record n { finished = all_raised n.finished doing.entered }) a None) script (Writing block os content) AnsweredDone at none ans is
-      (agree_after (put (record n { finished = all_raised n.finished doing.entered }) a None) (noted_step m a (Some (Writing block os content)) (End AnsweredDone)) s.shared over g.histories
+      let d = does_alike (Writing false block os content) script doing at is here in
+      answered (put (record n { finished = all_raised n.finished doing.entered }) a None) script (Writing false block os content) AnsweredDone at none ans is
+      (agree_after (put (record n { finished = all_raised n.finished doing.entered }) a None) (noted_step m a (Some (Writing false block os content)) (End AnsweredDone)) s.shared over g.histories
       (ap (raised_there (m.entered a)) g.finished ∙ d.entered n.finished g.as_many) g.floors refl (all_raised-length n.finished doing.entered) refl (put_others None) (length-set n.doings a None) (λ b ne. changed_other m.jobs a b None ne) (λ b ne. changed_other m.entered a b (m.entered a) ne) (λ b ne. refl) tt)
 
   flush_answers : (script : Script) (doing : Doing) → y.task ≡ Some script → script.steps ≡ [] → script.answer ≡ AnsweredDone → script.job ≡ Flushing None → slice_get n.doings a ≡ Some (Some doing) → length doing.then_finished ≡ length n.floors →
@@ -273,15 +276,18 @@ module _ (size a : ℕ) (s : World) (y : AbstractActor) (n : Notes) (m : Abstrac
 
   -- ---- starts
 
-  start_after : (abstract_job : AbstractJob) (job : Job) (was : Option Doing) → slice_get n.doings a ≡ Some was → NotesAgree size (put n a (Some (begun n job))) (after_all s (Start a abstract_job ∷ [])) (told m (Start a abstract_job ∷ []))
-  start_after abstract_job job was here = subst (λ (v : World). NotesAgree size (put n a (Some (begun n job))) v (note m (Start a abstract_job))) (sym (ap (λ o. start_actor s a o abstract_job) ey))
-      (agree_after (put n a (Some (begun n job))) (note m (Start a abstract_job)) (reserved s.shared abstract_job) (given y abstract_job) g.histories g.finished g.floors refl refl refl (put_others (Some (begun n job))) (length-set n.doings a (Some (begun n job)))
+  -- its job is given to it, under whatever order
+  began_after : (waiting : ℕ → Option AbstractOrder) (t : Shared) (abstract_job : AbstractJob) (job : Job) (was : Option Doing) → slice_get n.doings a ≡ Some was → NotesAgree size (put n a (Some (begun n job))) (record { shared = t; actors = slice_set s.actors a (given y abstract_job); waiting = waiting }) (note m (Start a abstract_job))
+  began_after waiting t abstract_job job was here = agree_waiting waiting (put n a (Some (begun n job))) (note m (Start a abstract_job)) t (given y abstract_job) g.histories g.finished g.floors refl refl refl (put_others (Some (begun n job))) (length-set n.doings a (Some (begun n job)))
       (λ b ne. changed_other m.jobs a b (Some abstract_job) ne) (λ b ne. changed_other m.entered a b [] ne) (λ b ne. changed_other m.asked a b m.finished ne)
       (subst (λ (o : Option (Option Doing)). IsNotedSo size (length n.histories) (Some (table abstract_job)) o a (note m (Start a abstract_job))) (sym (set_here (Some (begun n job)) was here)) (record {
         job_is = changed_same m.jobs a (Some abstract_job);
         entered = subst (λ (es : List Entry). AreEntries size (length n.histories) [] es) (sym (changed_same m.entered a [])) (no_entries_alike size (length n.histories));
         asked = changed_same m.asked a m.finished ∙ g.finished;
-      })))
+      }))
+
+  start_after : (abstract_job : AbstractJob) (job : Job) (was : Option Doing) → slice_get n.doings a ≡ Some was → NotesAgree size (put n a (Some (begun n job))) (after_all s (Start a abstract_job ∷ [])) (told m (Start a abstract_job ∷ []))
+  start_after abstract_job job was here = subst (λ (v : World). NotesAgree size (put n a (Some (begun n job))) v (note m (Start a abstract_job))) (sym (ap (λ o. start_actor s a o abstract_job) ey)) (began_after (aside s.waiting y.order) (reserved s.shared abstract_job) abstract_job job was here)
 
   late_after : (gots : List Got) (job : Job) → y.task ≡ None → After gots (put n a (Some (begun n job)))
   late_after gots job e = absent gots (put n a (Some (begun n job))) e (agree_after (put n a (Some (begun n job))) m s.shared y g.histories g.finished g.floors refl refl refl (put_others (Some (begun n job))) (length-set n.doings a (Some (begun n job))) (λ b ne. refl) (λ b ne. refl) (λ b ne. refl)
@@ -305,17 +311,7 @@ none_counted_in false at shown = refl
 no_counts : (size : ℕ) (shown : List Content) → (λ (b o : ℕ). zero) ≡ counts_by_block size (map (λ (c : Content). zero) shown)
 no_counts size shown = sym (everywhere (counts_by_block size (map (λ (c : Content). zero) shown)) (λ b o. zero) (λ b o. none_counted_in (nat_lt o size) (b * size + o) shown))
 
--- ---- of those behind nothing is noted
-
--- each of the notes stays, and so is of no account what is done behind
-pub record SameNotes (many : ℕ) (m m' : AbstractNotes) : Type 0 where
-  pub histories : m'.histories ≡ m.histories
-  pub finished : m'.finished ≡ m.finished
-  pub floors : m'.floors ≡ m.floors
-  pub jobs : (b : ℕ) → b < many → m'.jobs b ≡ m.jobs b
-  pub entered : (b : ℕ) → b < many → m'.entered b ≡ m.entered b
-  pub asked : (b : ℕ) → b < many → m'.asked b ≡ m.asked b
-  pub behind : (b : ℕ) → many ≤ b → IsOfNoAccount (m'.jobs b)
+-- ---- migrations
 
 -- a migration's steps are noted as nothing, whatever they are
 migrating_note : (m : AbstractNotes) (a : ℕ) (job : AbstractJob) (next : Want) → IsMigrating job → noted_step m a (Some job) next ≡ record m { jobs = changed m.jobs a (job_noted job next) }
@@ -324,110 +320,47 @@ migrating_note m a (Demoting order os) next i = λ k. record { histories = m.his
 migrating_note m a (Cleaning order os) next i = λ k. record { histories = m.histories; finished = m.finished; floors = λ b o. m.floors b o; jobs = changed m.jobs a (job_noted (Cleaning order os) next); entered = changed_nothing m.entered a (m.entered a) refl k; asked = m.asked }
 migrating_note m a job next i = absurd i
 
-noted_account : (job : AbstractJob) (next : Want) → IsMigrating job → IsOfNoAccount (job_noted job next)
-noted_account job (End answer) i = tt
-noted_account job next i = i
+carried_goes : (task : Option Script) (gots : List Got) → AreCarried task gots → AreGoing task gots
+carried_goes None gots c = tt
+carried_goes (Some script) [] c = tt
+carried_goes (Some script) (got ∷ gots) c = (c.1, carried_goes (task_after script (want script) got) gots c.2)
 
-module _ (many : ℕ) where
-  -- what is noted at one behind
-  changed_behind : {X : Type 0} (f : ℕ → X) (b : ℕ) (x : X) → many ≤ b → (c : ℕ) → c < many → changed f b x c ≡ f c
-  changed_behind f b x l c k = changed_other f b c x (λ e. absurd (omega (arith, l, k, e)))
+-- a step that is no answer is noted as nothing
+migrating_nothing : (m : AbstractNotes) (a : ℕ) (job : AbstractJob) (next : Want) → m.jobs a ≡ Some job → IsMigrating job → IsNoEnd next → noted_step m a (m.jobs a) next ≡ m
+migrating_nothing m a job next own i no_end = ap (λ (o : Option AbstractJob). noted_step m a o next) own ∙ migrating_note m a job next i ∙ (λ k. record m { jobs = changed_nothing m.jobs a (job_noted job next) (own ∙ sym (stays next no_end)) k })
+  where
+    stays : (w : Want) → IsNoEnd w → job_noted job w ≡ Some job
+    stays (End answer) n = absurd n
+    stays w n = refl
 
-  job_behind : (m : AbstractNotes) (b : ℕ) (j : Option AbstractJob) → IsOfNoAccount j → ((c : ℕ) → many ≤ c → IsOfNoAccount (m.jobs c)) → (c : ℕ) → many ≤ c → IsOfNoAccount (changed m.jobs b j c)
-  job_behind m b j i h c l = elim (cases_eq c b) [
-    | inl e ↦ subst (λ (k : ℕ). IsOfNoAccount (changed m.jobs b j k)) (sym e) (subst (λ (k : Option AbstractJob). IsOfNoAccount k) (sym (changed_same m.jobs b j)) i)
-    | inr n ↦ subst (λ (k : Option AbstractJob). IsOfNoAccount k) (sym (changed_other m.jobs b c j n)) (h c l)
-  ]
+carried_untold : (gots : List Got) (task : Option Script) (m : AbstractNotes) (a : ℕ) → IsJob m a task → AreCarried task gots → told m (records a task gots) ≡ m
+carried_untold [] None m a j c = refl
+carried_untold [] (Some script) m a j c = refl
+carried_untold (got ∷ gots) None m a j c = refl
+carried_untold (got ∷ gots) (Some script) m a j c =
+    let is = task_goes script (want script) got c.1 in
+    let later : IsJob m a (task_after script (want script) got) = subst (λ (t : Option Script). IsJob m a t) (sym is) (j ∙ ap (λ (k : AbstractJob). Some k) (sym (after_job script got))) in
+    ap (λ (k : AbstractNotes). told k (records a (task_after script (want script) got) gots)) (migrating_nothing m a script.job (want script) j c.0 c.1) ∙ carried_untold gots (task_after script (want script) got) m a later c.2
 
-  begun_behind : (m : AbstractNotes) (b : ℕ) (job : AbstractJob) → many ≤ b → IsMigrating job → ((c : ℕ) → many ≤ c → IsOfNoAccount (m.jobs c)) →
-      SameNotes many m (record m { jobs = changed m.jobs b (Some job); entered = changed m.entered b []; asked = changed m.asked b m.finished })
-  begun_behind m b job l i h = record {
-    histories = refl;
-    finished = refl;
-    floors = refl;
-    jobs = changed_behind m.jobs b (Some job) l;
-    entered = changed_behind m.entered b [] l;
-    asked = changed_behind m.asked b m.finished l;
-    behind = job_behind m b (Some job) i h;
-  }
+module _ (size a : ℕ) (s : World) (y : AbstractActor) (n : Notes) (m : AbstractNotes) (ey : slice_get s.actors a ≡ Some y) (among : a < length n.doings) (g : NotesAgree size n s m) where
+  carried_after : (gots : List Got) → AreCarried y.task gots → NotesAgree size n (after_all s (records a y.task gots)) (told m (records a y.task gots))
+  carried_after gots u = to_world size a s y n m ey among g gots n (subst (λ (k : AbstractNotes). NotesAgree size n (with_own s a (shared_after s.shared y y.task gots) (gone y y.task gots)) k)
+      (sym (carried_untold gots y.task m a (is_job size (length n.histories) y.task (slice_get n.doings a) a m (g.each a y among ey)) u))
+      (agree_after size a s y n m ey among g n m (shared_after s.shared y y.task gots) (gone y y.task gots) g.histories g.finished g.floors refl refl refl (λ b e. refl) refl (λ b e. refl) (λ b e. refl) (λ b e. refl)
+      (noted_job size (length n.histories) y.task (gone y y.task gots).task (slice_get n.doings a) a m (gone_job gots y y.task refl (carried_goes y.task gots u)) (g.each a y among ey))))
 
-  step_behind : (m : AbstractNotes) (b : ℕ) (next : Want) (job : Option AbstractJob) → many ≤ b → IsOfNoAccount job → ((c : ℕ) → many ≤ c → IsOfNoAccount (m.jobs c)) → SameNotes many m (noted_step m b job next)
-  step_behind m b next None l i h = record { histories = refl; finished = refl; floors = refl; jobs = λ c k. refl; entered = λ c k. refl; asked = λ c k. refl; behind = h }
-  step_behind m b next (Some job) l i h = subst (λ (k : AbstractNotes). SameNotes many m k) (sym (migrating_note m b job next i)) (record {
-    histories = refl;
-    finished = refl;
-    floors = refl;
-    jobs = changed_behind m.jobs b (job_noted job next) l;
-    entered = λ c k. refl;
-    asked = λ c k. refl;
-    behind = job_behind m b (job_noted job next) (noted_account job next i) h;
-  })
+  -- its answer
+  rests_after : (task : Option Script) → y.task ≡ task → Rested y.task → NotesAgree size (put n a None) (after_all s (records a y.task (Done ∷ []))) (told m (records a y.task (Done ∷ [])))
+  rests_after None e r = absent_answers size a s y n m ey among g e
+  rests_after (Some script) e r = let k = subst (λ (t : Option Script). Rested t) e r in
+      answered size a s y n m ey among g (put n a None) script script.job script.answer e k.0 refl refl
+      (subst (λ (k : AbstractNotes). NotesAgree size (put n a None) (with_own s a s.shared (record y { task = None })) k) (sym (migrating_note m a script.job (End script.answer) k.1))
+      (agree_after size a s y n m ey among g (put n a None) (record m { jobs = changed m.jobs a None }) s.shared (record y { task = None }) g.histories g.finished g.floors refl refl refl (put_others size a s y n m ey among g None) (length-set n.doings a None) (λ b ne. changed_other m.jobs a b None ne) (λ b ne. refl) (λ b ne. refl) tt))
 
-  note_behind : (m : AbstractNotes) (r : Record) → IsFromBehind many r → ((c : ℕ) → many ≤ c → IsOfNoAccount (m.jobs c)) → SameNotes many m (note m r)
-  note_behind m (Start b job) from h = begun_behind m b job from.0 from.1 h
-  note_behind m (Again b job) from h = begun_behind m b job from.0 from.1 h
-  note_behind m (Step b next got) from h = step_behind m b next (m.jobs b) from (h b from) h
-
-  notes_behind : (rs : List Record) (m : AbstractNotes) → AreFromBehind many rs → ((c : ℕ) → many ≤ c → IsOfNoAccount (m.jobs c)) → SameNotes many m (told m rs)
-  notes_behind [] m from h = record { histories = refl; finished = refl; floors = refl; jobs = λ c k. refl; entered = λ c k. refl; asked = λ c k. refl; behind = h }
-  notes_behind (r ∷ rs) m from h =
-      let first = note_behind m r from.0 h in
-      let later = notes_behind rs (note m r) from.1 first.behind in
-      record {
-        histories = later.histories ∙ first.histories;
-        finished = later.finished ∙ first.finished;
-        floors = later.floors ∙ first.floors;
-        jobs = λ c k. later.jobs c k ∙ first.jobs c k;
-        entered = λ c k. later.entered c k ∙ first.entered c k;
-        asked = λ c k. later.asked c k ∙ first.asked c k;
-        behind = later.behind;
-      }
-
-  -- and none of the actors before them is another one then
-  record_beside : (s : World) (r : Record) → IsFromBehind many r → (b : ℕ) → b < many → slice_get (after_record s r).actors b ≡ slice_get s.actors b
-  record_beside s (Start c job) from b l = started (slice_get s.actors c)
-    where
-      started : (o : Option AbstractActor) → slice_get (start_actor s c o job).actors b ≡ slice_get s.actors b
-      started None = refl
-      started (Some x) = get_set_other s.actors c b (given x job) (λ e. let k = from.0 in absurd (omega (arith, l, k, e)))
-  record_beside s (Again c job) from b l = started (slice_get s.actors c)
-    where
-      started : (o : Option AbstractActor) → slice_get (again_actor s c o job).actors b ≡ slice_get s.actors b
-      started None = refl
-      started (Some x) = get_set_other s.actors c b (given x job) (λ e. let k = from.0 in absurd (omega (arith, l, k, e)))
-  record_beside s (Step c next got) from b l = stepped (slice_get s.actors c)
-    where
-      by_task : (x : AbstractActor) (task : Option Script) → slice_get (step_task s c x task got).actors b ≡ slice_get s.actors b
-      by_task x None = refl
-      by_task x (Some script) = get_set_other s.actors c b (actor_after x script (want script) got) (λ e. absurd (omega (arith, l, from, e)))
-
-      stepped : (o : Option AbstractActor) → slice_get (step_actor s c o got).actors b ≡ slice_get s.actors b
-      stepped None = refl
-      stepped (Some x) = by_task x x.task
-
-  records_beside : (rs : List Record) (s : World) → AreFromBehind many rs → (b : ℕ) → b < many → slice_get (after_all s rs).actors b ≡ slice_get s.actors b
-  records_beside [] s from b l = refl
-  records_beside (r ∷ rs) s from b l = records_beside rs (after_record s r) from.1 b l ∙ record_beside s r from.0 b l
-
-from_behind : (many from : ℕ) (rs : List Record) → many ≤ from → AreFromBehind from rs → AreFromBehind many rs
-from_behind many from [] l a = tt
-from_behind many from (Start b job ∷ rs) l a = ((let k = a.0.0 in omega (arith, k, l), a.0.1), from_behind many from rs l a.1)
-from_behind many from (Again b job ∷ rs) l a = ((let k = a.0.0 in omega (arith, k, l), a.0.1), from_behind many from rs l a.1)
-from_behind many from (Step b next got ∷ rs) l a = ((let k = a.0 in omega (arith, k, l)), from_behind many from rs l a.1)
-
-carried_noted : (size : ℕ) (n : Notes) (from : ℕ) → length n.doings ≤ from → (rs : List Record) (s : World) (m : AbstractNotes) → AreFromBehind from rs → NotesAgree size n s m → NotesAgree size n (after_all s rs) (told m rs)
-carried_noted size n from out rs s m are g =
-    let all = from_behind (length n.doings) from rs out are in
-    let k = notes_behind (length n.doings) rs m all g.behind in
-    record {
-      histories = k.histories ∙ g.histories;
-      finished = k.finished ∙ g.finished;
-      floors = k.floors ∙ g.floors;
-      as_many = g.as_many;
-      floors_as_many = g.floors_as_many;
-      each = λ b z l e. noted_beside size (length n.histories) z.task (slice_get n.doings b) b m (told m rs) (k.jobs b l) (k.entered b l) (k.asked b l) (g.each b z l (sym (records_beside (length n.doings) rs s all b l) ∙ e));
-      behind = k.behind;
-    }
+  -- it begins once more
+  again_after : (abstract_job : AbstractJob) (job : Job) (was : Option Doing) → slice_get n.doings a ≡ Some was → NotesAgree size (put n a (Some (begun n job))) (after_all s (Again a abstract_job ∷ [])) (told m (Again a abstract_job ∷ []))
+  again_after abstract_job job was here = subst (λ (v : World). NotesAgree size (put n a (Some (begun n job))) v (note m (Again a abstract_job))) (sym (ap (λ o. again_actor s a o abstract_job) ey))
+      (began_after size a s y n m ey among g (taken (aside s.waiting y.order) (order_of abstract_job)) s.shared abstract_job job was here)
 
 -- who has no task there is of no account
 set_aside : (size : ℕ) (n : Notes) (s : World) (m : AbstractNotes) (a : ℕ) (y : AbstractActor) (doing : Option Doing) → NotesAgree size n s m → slice_get s.actors a ≡ Some y → y.task ≡ None → NotesAgree size (put n a doing) s m
@@ -444,8 +377,70 @@ set_aside size n s m a y doing g ey none = record {
         subst (λ (t : Option Script). IsNotedSo size (length n.histories) t (slice_get (slice_set n.doings a doing) b) b m) (sym none ∙ ap (λ (v : AbstractActor). v.task) is) tt
     | inr ne ↦ subst (λ (o : Option (Option Doing)). IsNotedSo size (length n.histories) z.task o b m) (sym (get_set_other n.doings a b doing ne)) (g.each b z (subst (λ (k : ℕ). b < k) (length-set n.doings a doing) l) e)
   ];
-  behind = λ b l. g.behind b (subst (λ (k : ℕ). k ≤ b) (length-set n.doings a doing) l);
 }
+
+-- an order that is given up is no actor's
+release_after : (size : ℕ) (n : Notes) (s : World) (m : AbstractNotes) (k : ℕ) → NotesAgree size n s m → NotesAgree size n (after_all s (Release k ∷ [])) (told m (Release k ∷ []))
+release_after size n s m k g = by (s.waiting k)
+  where
+    by : (o : Option AbstractOrder) → NotesAgree size n (release_order s k o) m
+    by None = g
+    by (Some p) = record { histories = g.histories; finished = g.finished; floors = g.floors; as_many = g.as_many; floors_as_many = g.floors_as_many; each = g.each }
+
+-- it begins, and is refused at once
+module _ (size a : ℕ) (s : World) (y : AbstractActor) (n : Notes) (m : AbstractNotes) (ey : slice_get s.actors a ≡ Some y) (among : a < length n.doings) (g : NotesAgree size n s m) (abstract_job : AbstractJob) (migrates : IsMigrating abstract_job) (job : Job) (was : Option Doing) (here : slice_get n.doings a ≡ Some was) where
+  abbrev n1 : Notes
+  n1 = put n a (Some (begun n job))
+
+  abbrev s1 : World
+  s1 = after_record s (Start a abstract_job)
+
+  abbrev y1 : AbstractActor
+  y1 = given y abstract_job
+
+  ey1 : slice_get s1.actors a ≡ Some y1
+  ey1 = subst (λ (w : World). slice_get w.actors a ≡ Some y1) (sym (ap (λ o. start_actor s a o abstract_job) ey)) (get_set_same s.actors a y y1 ey)
+
+  among1 : a < length n1.doings
+  among1 = subst (λ (k : ℕ). a < k) (sym (length-set n.doings a (Some (begun n job)))) among
+
+  abbrev s2 : World
+  s2 = after_all s1 (records a (Some (table abstract_job)) (Flag true ∷ []))
+
+  abbrev y2 : AbstractActor
+  y2 = gone y1 (Some (table abstract_job)) (Flag true ∷ [])
+
+  abbrev looked : Script
+  looked = after (table abstract_job) (Flag true)
+
+  ey2 : slice_get s2.actors a ≡ Some y2
+  ey2 = subst (λ (w : World). slice_get w.actors a ≡ Some y2) (sym (own_steps (Flag true ∷ []) s1 a y1 (Some (table abstract_job)) ey1 refl)) (get_set_same s1.actors a y1 y2 ey1)
+
+  g2 : NotesAgree size n1 s2 (told (note m (Start a abstract_job)) (records a (Some (table abstract_job)) (Flag true ∷ [])))
+  g2 = carried_after size a s1 y1 n1 (note m (Start a abstract_job)) ey1 among1 (start_after size a s y n m ey among g abstract_job job was here) (Flag true ∷ []) (migrates, tt, tt)
+
+  stops : (j : AbstractJob) → IsMigrating j → ((after (table j) (Flag true)).steps ≡ []) × IsMigrating (after (table j) (Flag true)).job
+  stops (Promoting order os) i = (refl, tt)
+  stops (Demoting order os) i = (refl, tt)
+  stops (Cleaning order os) i = (refl, tt)
+  stops j i = absurd i
+
+  abbrev s3 : World
+  s3 = after_all s2 (records a (Some looked) (Done ∷ []))
+
+  ends : (script : Script) → y2.task ≡ Some script → script.steps ≡ [] → (gone y2 (Some script) (Done ∷ [])).task ≡ None
+  ends script e n' = ap (λ (w : Script). (gone y2 (Some w) (Done ∷ [])).task) (λ i. record { job = script.job; steps = n' i; answer = script.answer })
+
+  ey3 : slice_get s3.actors a ≡ Some (gone y2 (Some looked) (Done ∷ []))
+  ey3 = subst (λ (w : World). slice_get w.actors a ≡ Some (gone y2 (Some looked) (Done ∷ []))) (sym (own_steps (Done ∷ []) s2 a y2 (Some looked) ey2 refl)) (get_set_same s2.actors a y2 (gone y2 (Some looked) (Done ∷ [])) ey2)
+
+  failing_after : NotesAgree size n1 (after_all s (Start a abstract_job ∷ records a (Some (table abstract_job)) (Flag true ∷ Done ∷ []))) (told m (Start a abstract_job ∷ records a (Some (table abstract_job)) (Flag true ∷ Done ∷ [])))
+  failing_after =
+      let k = stops abstract_job migrates in
+      let g3 = rests_after size a s2 y2 n1 (told (note m (Start a abstract_job)) (records a (Some (table abstract_job)) (Flag true ∷ []))) ey2 among1 g2 (Some looked) refl k in
+      let g4 = set_aside size (put n1 a None) s3 _ a (gone y2 (Some looked) (Done ∷ [])) (Some (begun n job)) g3 ey3 (ends looked refl k.0) in
+      subst (λ (ds : List (Option Doing)). NotesAgree size (record n { doings = ds }) s3 (told m (Start a abstract_job ∷ records a (Some (table abstract_job)) (Flag true ∷ Done ∷ []))))
+      (set_twice (slice_set n.doings a (Some (begun n job))) a None (Some (begun n job)) ∙ set_twice n.doings a (Some (begun n job)) (Some (begun n job))) g4
 
 pub notes_followed : NotesFollowed
 notes_followed = record {
@@ -462,10 +457,10 @@ notes_followed = record {
       subst (λ (rs : List Record). NotesAgree size n' (after_all s rs) (told m rs)) (sym t.told_is)
       (write_after size a s y n m ey among g block offset count content t.location t.all t.rest t.answer t.results doing t.are t.at here l inside);
   read_answered = λ block os turn size most a s words committing orders devices actors f y n m ey among g.
-      let t = f.told y ey in let k = script_of (Reading block os) y.task t.0 in
+      let t = f.told y ey in let k = script_of (Reading false block os) y.task t.0 in
       subst (λ (rs : List Record). NotesAgree size (put n a None) (after_all s rs) (told m rs)) (sym t.1) (read_answers size a s y n m ey among g block os k.script k.at k.none k.done k.is);
   write_answered = λ block os content turn size most a s words committing orders devices actors f y n m ey among g doing here.
-      let t = f.told y ey in let k = script_of (Writing block os content) y.task t.0 in
+      let t = f.told y ey in let k = script_of (Writing false block os content) y.task t.0 in
       subst (λ (rs : List Record). NotesAgree size (put (record n { finished = all_raised n.finished doing.entered }) a None) (after_all s rs) (told m rs)) (sym t.1)
       (write_answers size a s y n m ey among g block os content k.script doing k.at k.none k.done k.is here);
   flush_answered = λ turn size most a s words committing orders devices actors f y n m ey among g doing here long.
@@ -480,8 +475,16 @@ notes_followed = record {
   starts_late = λ job turn size most a s words committing orders devices actors f y n m ey among g none.
       let t = f.told y ey in
       subst (λ (rs : List Record). NotesAgree size (put n a (Some (begun n job))) (after_all s rs) (told m rs)) (sym t.2) (late_after size a s y n m ey among g t.0 job none);
-  carries = λ from turn size most a s words committing orders devices actors f y n m ey among g out. carried_noted size n from out f.records s m (f.told y ey) g;
-  aside = λ size n s m a y doing g ey none. set_aside size n s m a y doing g ey none;
+  resumes = λ job turn size most a s words committing orders devices actors f y n m ey among g was here. resumed size a s y n m ey among g job was here f.records (f.told y ey);
+  carries = λ turn size most a s words committing orders devices actors f y n m ey among g.
+      let t = f.told y ey in
+      subst (λ (rs : List Record). NotesAgree size n (after_all s rs) (told m rs)) (sym t.2) (carried_after size a s y n m ey among g t.0 t.1);
+  released = λ turn size most a s words committing orders devices actors f y n m ey among g.
+      let t = f.told y ey in
+      subst (λ (rs : List Record). NotesAgree size n (after_all s rs) (told m rs)) (sym t.1) (release_after size n s m t.0 g);
+  rests = λ turn size most a s words committing orders devices actors f y n m ey among g.
+      let t = f.told y ey in
+      subst (λ (rs : List Record). NotesAgree size (put n a None) (after_all s rs) (told m rs)) (sym t.1) (rests_after size a s y n m ey among g y.task refl t.0);
   redone = λ size n s m a doing doing' g here e f. record {
     histories = g.histories;
     finished = g.finished;
@@ -494,7 +497,6 @@ notes_followed = record {
           (redone_so size (length n.histories) z.task doing doing' a m e f (subst (λ (o : Option (Option Doing)). IsNotedSo size (length n.histories) z.task o a m) here (g.each a z (is_inside n.doings a (Some doing) here) (ap (slice_get s.actors) (sym same) ∙ ez)))))
       | inr ne ↦ subst (λ (o : Option (Option Doing)). IsNotedSo size (length n.histories) z.task o b m) (sym (get_set_other n.doings a b (Some doing') ne)) (g.each b z (subst (λ (k : ℕ). b < k) (length-set n.doings a (Some doing')) l) ez)
     ];
-    behind = λ b l. g.behind b (subst (λ (k : ℕ). k ≤ b) (length-set n.doings a (Some doing')) l);
   };
   ended = λ size n s t m g. record {
     histories = g.histories;
@@ -503,7 +505,6 @@ notes_followed = record {
     as_many = g.as_many;
     floors_as_many = g.floors_as_many;
     each = λ b z l e. subst (λ (v : AbstractActor). IsNotedSo size (length n.histories) v.task (slice_get (nobody n.doings) b) b m) (replicated (length s.actors) b resting z e) tt;
-    behind = λ b l. g.behind b (subst (λ (k : ℕ). k ≤ b) (length-map n.doings (λ (d : Option Doing). None)) l);
   };
   anew = λ size many shown view s t same. record {
     histories = sym same;
@@ -511,7 +512,6 @@ notes_followed = record {
     floors = no_counts size shown;
     as_many = length-map shown (λ (c : Content). 0) ∙ sym (length-map shown only);
     floors_as_many = length-map shown (λ (c : Content). 0) ∙ sym (length-map shown only);
-    behind = λ b l. tt;
     each = λ b z l e. subst (λ (v : AbstractActor). IsNotedSo size (length (map only shown)) v.task (slice_get (begins many shown).doings b) b (opened view)) (replicated (length s.actors) b resting z e) tt;
   };
   newest_read = λ turn size most a block offset contents s words committing orders devices actors f y n m ey among g right.
@@ -530,3 +530,9 @@ notes_followed = record {
         NotesAgree size (put n a None) (after_all s (records a y.task (Done ∷ []))) (told m (records a y.task (Done ∷ [])))
     by_task size a s y n m ey among g job refusal None e so = absent_answers size a s y n m ey among g e
     by_task size a s y n m ey among g job refusal (Some script) e so = let so' = subst (λ (t : Option Script). AnswersSo job (Refuses refusal) t) e so in refusal_answers size a s y n m ey among g script e so'.0 so'.1
+
+    resumed : (size a : ℕ) (s : World) (y : AbstractActor) (n : Notes) (m : AbstractNotes) (ey : slice_get s.actors a ≡ Some y) (among : a < length n.doings) (g : NotesAgree size n s m) (job : Job) (was : Option Doing) → slice_get n.doings a ≡ Some was → (rs : List Record) → IsResumed a y.task rs → NotesAgree size (put n a (Some (begun n job))) (after_all s rs) (told m rs)
+    resumed size a s y n m ey among g job was here rs (Given j i e) = subst (λ (qs : List Record). NotesAgree size (put n a (Some (begun n job))) (after_all s qs) (told m qs)) (sym e) (start_after size a s y n m ey among g j job was here)
+    resumed size a s y n m ey among g job was here rs (Kept j i e) = subst (λ (qs : List Record). NotesAgree size (put n a (Some (begun n job))) (after_all s qs) (told m qs)) (sym e) (again_after size a s y n m ey among g j job was here)
+    resumed size a s y n m ey among g job was here rs (Failing j i none e) = subst (λ (qs : List Record). NotesAgree size (put n a (Some (begun n job))) (after_all s qs) (told m qs)) (sym e) (failing_after size a s y n m ey among g j i job was here)
+    resumed size a s y n m ey among g job was here rs (Nowhere none e) = subst (λ (qs : List Record). NotesAgree size (put n a (Some (begun n job))) (after_all s qs) (told m qs)) (sym e) (set_aside size n s m a y (Some (begun n job)) g ey none)

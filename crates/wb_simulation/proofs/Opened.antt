@@ -1,5 +1,5 @@
 -- The words of a target that an opening has made tell what the tree that it read has.
-use Rattle.std.proofs.Common.{◌≡◌, ◌≢◌, ◌<◌, ◌≤◌, ◌+◌, ◌*◌, ◌^◌, ◌==◌, ◌∙◌, inl, ℕ, zero, suc, Bool, true, false, cond, if◌then◌else◌, List, [], ◌∷◌, Option, Some, None, length, replicate, refl, sym, ap, subst, arith, slice_get, slice_set, slice_index_or, unwrap_or}
+use Rattle.std.proofs.Common.{◌≡◌, ◌≢◌, ◌<◌, ◌≤◌, ◌+◌, ◌^◌, ◌==◌, ◌∙◌, inl, ℕ, zero, suc, Bool, true, false, cond, if◌then◌else◌, List, [], ◌∷◌, Option, Some, None, length, replicate, refl, sym, ap, subst, arith, slice_get, slice_set, slice_index_or, unwrap_or}
 use Rattle.std.proofs.lemmas.Bool.{eqb-true, eq-eqb}
 use Rattle.std.proofs.lemmas.List.{length-replicate, length-set}
 use Rattle.wb_types.specs.declared.entry.Entry.{Entry}
@@ -9,7 +9,7 @@ use Rattle.wb_words.specs.declared.step.CellStep.TheVariants.{Take, Seal as Seal
 use Rattle.wb_words.specs.SharedWords.{Words, word_at, fresh_words, seal_word, flag, with_cell, taken}
 use Rattle.wb_words.specs.Effects.{words_after}
 use Rattle.wb_tree.specs.Mapping.{IsMapping}
-use Rattle.wb_link.specs.World.{Actor as AbstractActor, resting as idle}
+use Rattle.wb_link.specs.World.{Shared, Actor as AbstractActor, resting as idle}
 use Rattle.wb_link.proofs.Lists.{replicated}
 use Rattle.wb_refines.specs.Models.{SealAgrees}
 use Rattle.wb_refines.specs.Translation.{number_of}
@@ -19,9 +19,16 @@ use Rattle.wb_runs.specs.Effects.{sealing_steps, words_by}
 use Rattle.wb_runs.specs.Headline.{cached_from, place_of}
 use Rattle.wb_simulation.specs.Actors.{StandsFor, IsBusyAt}
 use Rattle.wb_runs.specs.declared.job.Job.TheVariants.{Migrate}
-use Rattle.wb_policy.specs.declared.order.Order.{Order}
-use Rattle.wb_simulation.specs.Behind.{behind, HasLive, StandsBehind}
-use Rattle.wb_simulation.proofs.Carrying.{stands_unused}
+use Rattle.wb_link.specs.Tables.{Order as AbstractOrder}
+use Rattle.wb_simulation.specs.Carried.{live_there}
+use Rattle.wb_simulation.specs.Worlds.{OrdersAgree, IsThere}
+use Rattle.wb_runs.specs.States.{Actor}
+use Rattle.wb_runs.specs.declared.job.Job.TheVariants.{Migrate}
+use Rattle.std.proofs.Common.{inr}
+use Rattle.wb_disk.specs.Device.{History}
+use Rattle.wb_devices.specs.declared.devices.Devices.{Devices}
+use Rattle.wb_link.specs.Openings.{opened_on}
+use Rattle.wb_types.specs.declared.mode.Mode.TheVariants.{Writeback}
 use Rattle.wb_simulation.specs.Opened.{OpenedFollowed}
 use Rattle.wb_simulation.proofs.Steps.{place_told}
 
@@ -202,6 +209,23 @@ module _ (origin_blocks cache_blocks : ℕ) (clean : Bool) (entries : List (Opti
             dirty = λ c place. sym (tells_dirty (Some (record { 0 = k })) s.dirty ∙ s.unclean (unclean clean k refl e));
           })
 
+-- nobody has an order, nor is any aside, and none lives
+pub no_orders : (size : ℕ) (words : Words) (devices : Devices (List History)) (actors : List Actor) (caches many : ℕ) (t : Shared) → ((a : ℕ) (x : Actor) → slice_get actors a ≡ Some x → x.task ≡ None) → OrdersAgree size words (replicate caches None) devices actors (record { shared = t; actors = replicate many idle; waiting = λ k. None })
+no_orders size words devices actors caches many t rest = record {
+  live = λ c o e p at. let none = replicated caches c None o e in (λ l. let bad : None ≡ Some p = ap (live_there t.mapping c) none ∙ l in absurd (cc), λ h. absurd (nothing p h));
+  once = λ a y p e f. absurd (nobody a y p e f);
+  waits = λ k p w. absurd (let bad : None ≡ Some p = w in cc);
+  ours = λ a x y p e f h. absurd (nobody a y p f h);
+  carried = λ a x y migration block plan e f t. absurd (let bad : None ≡ Some (Migrate migration block, plan) = sym (rest a x e) ∙ t in cc);
+}
+  where
+    nobody : (a : ℕ) (y : AbstractActor) (p : AbstractOrder) → slice_get (replicate many idle) a ≡ Some y → y.order ≡ Some p → ⊥
+    nobody a y p e h = let bad : None ≡ Some p = ap (λ (v : AbstractActor). v.order) (replicated many a idle y e) ∙ h in absurd (cc)
+
+    nothing : (p : AbstractOrder) → IsThere (record { shared = t; actors = replicate many idle; waiting = λ k. None }) p → ⊥
+    nothing p (inl w) = let bad : None ≡ Some p = w in absurd (cc)
+    nothing p (inr h) = nobody h.0 h.1 p h.2 h.3
+
 pub opened_followed : OpenedFollowed
 opened_followed size most origin_blocks cache_blocks clean entries learnt blocks s devices actors mapping few bare located unclean origin cache rest = record {
   words_agree = record {
@@ -219,22 +243,17 @@ opened_followed size most origin_blocks cache_blocks clean entries learnt blocks
   led = λ a y e l. absurd (nobody a y e l);
   whole = λ a y e l u. absurd (nobody a y e l);
   one_leads = λ a b y z e f l m. absurd (nobody a y e l);
-  many = length-replicate (length actors + length actors * cache_blocks) idle ∙ ap (λ (n : ℕ). length actors + length actors * n) (sym (length-replicate {A = Option Order} cache_blocks None));
-  each = λ a x y e f. subst (λ (v : AbstractActor). StandsFor size most words x v) (replicated (length actors + length actors * cache_blocks) a idle y f) (record {
-    at = subst (λ t. IsBusyAt size most words t x.card idle) (sym (rest a x e)) (refl, inl (record { task = refl; held = refl; order = refl; leads = refl }));
+  many = length-replicate (length actors) idle;
+  each = λ a x y e f. subst (λ (v : AbstractActor). StandsFor size most words x v) (replicated (length actors) a idle y f) (record {
+    at = subst (λ t. IsBusyAt size most words t x.card idle) (sym (rest a x e)) (refl, inl (record { task = refl; held = refl; leads = refl }));
     below = holds_nothing idle x.card refl;
-    order = refl;
     among_others = refl;
   });
-  at = λ a. None;
-  behind_each = λ a c x order y e o f. subst (λ (v : AbstractActor). StandsBehind size words devices c order None x v) (replicated (length actors + length actors * cache_blocks) (behind (length actors) (length (replicate {A = Option Order} cache_blocks None)) a c) idle y f)
-      (stands_unused size words devices c order x idle (record { task = refl; live = subst (λ (k : Option Order). HasLive x.orders c k None) (replicated cache_blocks c None order o) refl; leads = refl; holds = inl refl }));
-  within = λ a c e. absurd (cc);
-  carried = λ a x migration block plan e t. absurd (let bad : None ≡ Some (Migrate migration block, plan) = sym (rest a x e) ∙ t in cc);
+  orders_agree = no_orders size words devices actors cache_blocks (length actors) (opened_on s Writeback learnt blocks) rest;
 }
   where
     words : Words
     words = words_by (fresh_words origin_blocks) (sealing_steps clean 0 entries)
 
-    nobody : (a : ℕ) (y : AbstractActor) → slice_get (replicate (length actors + length actors * cache_blocks) idle) a ≡ Some y → y.leads ≡ true → ⊥
-    nobody a y e l = let same = replicated (length actors + length actors * cache_blocks) a idle y e in let bad : true ≡ false = sym l ∙ ap (λ (v : AbstractActor). v.leads) (sym same) in absurd (cc)
+    nobody : (a : ℕ) (y : AbstractActor) → slice_get (replicate (length actors) idle) a ≡ Some y → y.leads ≡ true → ⊥
+    nobody a y e l = let same = replicated (length actors) a idle y e in let bad : true ≡ false = sym l ∙ ap (λ (v : AbstractActor). v.leads) (sym same) in absurd (cc)

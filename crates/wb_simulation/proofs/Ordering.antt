@@ -1,8 +1,8 @@
 -- A migration's start is followed: under an order that is given, or once more under the one that its actor keeps.
-use Rattle.std.proofs.Common.{◌≡◌, ◌≢◌, ◌<◌, ◌^◌, ◌∙◌, inl, inr, ℕ, Bool, true, List, [], ◌∷◌, Option, Some, None, refl, sym, ap, subst, arith, length, slice_get, slice_set, Contains}
+use Rattle.std.proofs.Common.{◌++◌, false, ◌⊎◌, ◌≡◌, ◌≢◌, ◌<◌, ◌^◌, ◌∙◌, inl, inr, ℕ, Bool, true, List, [], ◌∷◌, Option, Some, None, refl, sym, ap, subst, slice_get, slice_set, Contains}
 use Rattle.std.proofs.lemmas.Bool.{cases_eq}
 use Rattle.std.proofs.lemmas.List.{length-set}
-use Rattle.wb_types.proofs.Lists.{Contains-first, Contains-behind}
+use Rattle.wb_types.proofs.Lists.{Contains-first}
 use Rattle.wb_types.specs.declared.extent.Extent.{Extent}
 use Rattle.wb_types.specs.declared.number.OBlock.{OBlock}
 use Rattle.wb_types.specs.declared.number.CBlock.{CBlock}
@@ -10,10 +10,8 @@ use Rattle.wb_types.specs.declared.mode.Mode.TheVariants.{Writeback, Passthrough
 use Rattle.wb_types.specs.Extents.{IsCutInto}
 use Rattle.wb_disk.specs.Device.{History}
 use Rattle.wb_words.specs.SharedWords.{Words, flag}
-use Rattle.wb_words.specs.declared.card.Card.{Card}
 use Rattle.wb_words.specs.declared.card.Hold.TheVariants.{Nothing as HoldsNothing}
 use Rattle.wb_policy.specs.declared.order.Order.{Order}
-use Rattle.wb_policy.specs.declared.order.Order.TheVariants.{Promote as PromoteOrder, Replace as ReplaceOrder, Demote as DemoteOrder, Clean as CleanOrder}
 use Rattle.wb_tasks.specs.Tables.{BlockRange, whole_block}
 use Rattle.wb_tasks.specs.Plan.{Plan}
 use Rattle.wb_tasks.specs.declared.step.Migration.{Migration}
@@ -22,131 +20,79 @@ use Rattle.wb_devices.specs.declared.devices.Devices.{Devices}
 use Rattle.wb_link.specs.Tables.{Job as AbstractJob, Order as AbstractOrder, Finished as AnsweredDone}
 use Rattle.wb_link.specs.World.{World, Shared, Start, Again, Apart, Ungiven, MayStart, MayAgain, Actor as AbstractActor, Nothing, reserved}
 use Rattle.wb_link.proofs.Lists.{get_set_same, get_set_other}
-use Rattle.wb_refines.specs.Tasks.{IsIdle, AllInBlocks}
-use Rattle.wb_refines.specs.Models.{held_of, IsBelow, WordsAgree}
+use Rattle.wb_refines.specs.Tasks.{AllInBlocks}
+use Rattle.wb_refines.specs.Models.{held_of, WordsAgree}
 use Rattle.wb_refines.specs.Translation.{offsets}
 use Rattle.wb_refines.specs.Migrations.{order_on, job_under, Fills}
 use Rattle.wb_refines.specs.Copies.{migrating}
 use Rattle.wb_refines.specs.Carrying.{without_block}
 use Rattle.wb_refines.proofs.Carrying.{migrations_begin}
 use Rattle.wb_refines.proofs.Tasks.{within_offsets}
-use Rattle.wb_runs.specs.declared.job.Job.{Job}
 use Rattle.wb_runs.specs.declared.job.Job.TheVariants.{Migrate}
-use Rattle.wb_runs.specs.Happenings.{order_for}
 use Rattle.wb_runs.specs.States.{Actor}
-use Rattle.wb_runs.proofs.Lists.{first_or}
-use Rattle.wb_simulation.specs.Steps.{IsPart, IsOutside}
 use Rattle.wb_simulation.specs.Actors.{IsBusyAt, StandsFor}
-use Rattle.wb_simulation.specs.Behind.{behind, HasLive, IsCarried, IsUnused, StandsBehind, order_there}
-use Rattle.wb_simulation.specs.Telling.{IsMigrating}
-use Rattle.wb_simulation.specs.Worlds.{Agrees, Stays, TurnedTo, DeskTurnedTo}
-use Rattle.wb_simulation.specs.Migrating.{AreOwned, Carried, IsUngiven, MayBeGiven, MayBeKept, given_by, migrates, begun}
-use Rattle.wb_simulation.proofs.Behind.{IsNotOf, OthersOrdersStay, KeepsLive, cases_at, carries_same, orders_same}
 use Rattle.wb_simulation.proofs.Cut.{whole_part, whole_covered}
-use Rattle.wb_simulation.proofs.Among.{behind_there, at_place, stands_at, nobody_alone}
-use Rattle.wb_simulation.proofs.Carrying.{agrees_then, carries_nothing, stands_carried}
-use Rattle.wb_simulation.proofs.Found.{found, same_plan}
+use Rattle.wb_contents.proofs.Positions.{changed_same, changed_other}
+use Rattle.wb_link.specs.Tables.{Script, Flag, Done as DoneThere, table as table_there}
+use Rattle.wb_link.specs.World.{aside, taken, given, after_all, start_actor}
+use Rattle.wb_link.proofs.Aside.{aside_cases}
+use Rattle.wb_refines.specs.Going.{records, shared_after, gone, MayGo}
+use Rattle.wb_refines.specs.Tasks.{IsResting}
+use Rattle.wb_refines.proofs.Going.{goes, set_twice}
+use Rattle.wb_simulation.specs.Steps.{IsPart}
+use Rattle.wb_simulation.specs.Carried.{held, order_there, live_there, IsOf, IsOrderFor, IsCarried}
+use Rattle.wb_simulation.specs.Telling.{IsMigrating, Resumes, IsResumed, Given, Kept, Failing, Nowhere}
+use Rattle.wb_simulation.specs.Worlds.{Agrees, OrdersAgree, IsThere, IsUnfinished, Stays, TurnedTo, DeskTurnedTo}
+use Rattle.wb_simulation.specs.Migrating.{order_of, Goes, IsUngiven, MayBeGiven, MayBeKept, given_by, migrates, begun}
+use Rattle.wb_simulation.proofs.Cells.{shared_stays, gone_nowhere}
+use Rattle.std.proofs.lemmas.List.Elements.{Contains-append_left}
+use Rattle.wb_simulation.specs.Laws.{IsOnlyOf}
+use Rattle.wb_simulation.proofs.Orders.{CarriesOthers, IsDone, carries_same, begins_so, is_aside, who}
+use Rattle.wb_simulation.proofs.Among.{whose, nobody_alone, goes_on, each_on, led_on, whole_on, one_on}
+use Rattle.wb_simulation.proofs.Carrying.{is_done, late_done, on_stands}
 
--- no task is one
-nobody_does : (task : Option (Job × Plan)) (doing : Job × Plan) → task ≡ None → task ≡ Some doing → ⊥
-nobody_does task doing n e = let bad : None ≡ Some doing = sym n ∙ e in absurd (cc)
+-- ---- what lives there
 
-module _ (size most : ℕ) (words : Words) (committing : Bool) (orders : List (Option Order)) (devices : Devices (List History)) (actors : List Actor) (a : ℕ) (x : Actor) (s : World) (g : Agrees size most words committing orders devices actors s) (ex : slice_get actors a ≡ Some x) (none : x.task ≡ None) where
-  -- who has no task is at no migration
-  pub at_none : (c : ℕ) → g.at a ≢ Some c
-  at_none c here =
-      let f = found size most words committing orders devices actors a x s g ex c here in
-      absurd (nobody_does x.task (Migrate f.is.migration f.is.block, f.is.plan) none f.is.task)
+module _ (size most : ℕ) (words : Words) (committing : Bool) (orders : List (Option Order)) (devices : Devices (List History)) (actors : List Actor) (s : World) (g : Agrees size most words committing orders devices actors s) where
+  -- an actor's order is that of its cache block
+  its_slot : (b : ℕ) (v : AbstractActor) (p : AbstractOrder) → slice_get s.actors b ≡ Some v → v.order ≡ Some p → (z : Actor) × (slice_get actors b ≡ Some z) × IsOf orders (held z) p
+  its_slot b v p ev e = let z = whose size most words committing orders devices actors s g b v ev in (z.0, z.1, g.orders_agree.ours b z.0 v p z.1 ev e)
 
-  at_nowhere : g.at a ≡ None
-  at_nowhere = by (g.at a) refl
-    where
-      by : (at : Option ℕ) → g.at a ≡ at → g.at a ≡ None
-      by None e = e
-      by (Some c) e = absurd (at_none c e)
+  apart_of : (own p : AbstractOrder) (q : Order) → IsUngiven s.shared.mapping orders own → slice_get orders p.cache ≡ Some (Some q) → IsThere s p → Apart p own
+  apart_of own p q free e there =
+      let both : Some (order_there s.shared.mapping p.cache q) ≡ Some p = (g.orders_agree.live p.cache (Some q) e p refl).1 there in
+      let same : order_there s.shared.mapping p.cache q ≡ p = cc in
+      subst (λ (r : AbstractOrder). Apart r own) same (free p.cache q e)
 
-  -- at its own number it is aside from the start
-  pub begins_aside : (x' : Actor) (migration : Migration) (block : OBlock) (plan : Plan) → x'.task ≡ Some (Migrate migration block, plan) → x'.card ≡ x.card → IsOutside plan.steps → (own : AbstractActor) → slice_get s.actors a ≡ Some own → StandsFor size most words x' own
-  begins_aside x' migration block plan task card out own e =
-      let st = g.each a x own ex e in
-      let rests = subst (λ (t : Option (Job × Plan)). IsBusyAt size most words t x.card own) none st.at in
-      record {
-        at = subst (λ (t : Option (Job × Plan)). IsBusyAt size most words t x'.card own) (sym task) (record { nothing = rests.0; rests = elim rests.1 [ inl i ↦ inl i | inr f ↦ inr (f, out) ] });
-        below = subst (λ (k : Card). IsBelow own k) (sym card) st.below;
-        order = st.order;
-        among_others = st.among_others;
-      }
+  ungiven : (own : AbstractOrder) → IsUngiven s.shared.mapping orders own → Ungiven s own
+  ungiven own free = (
+    λ b v p ev e. let o = its_slot b v p ev e in apart_of own p o.2.0 free o.2.1 (inr (b, v, ev, e)),
+    λ k p w. let o = g.orders_agree.waits k p w in apart_of own p o.1.0 free (ap (slice_get orders) o.0 ∙ o.1.1) (inl (ap s.waiting o.0 ∙ w)),
+  )
 
--- ---- what is live
+  -- nothing is there of a cache block without an order
+  module _ (c : ℕ) (no_order : slice_get orders c ≡ Some None) where
+    none_at : (k : ℕ) (q : Order) → k ≡ c → slice_get orders k ≡ Some (Some q) → ⊥
+    none_at k q e f = let bad : Some (Some q) ≡ Some None = sym f ∙ ap (slice_get orders) e ∙ no_order in absurd (cc)
 
--- who keeps an order has one that is live
-live_is : (orders : List Order) (c : ℕ) (live : Option Order) (o : AbstractOrder) → HasLive orders c live (Some o) → (p : Order) × (live ≡ Some p) × (o ≡ order_there c p)
-live_is orders c None o h = absurd (cc)
-live_is orders c (Some p) o h = elim h [
-  | inl k ↦ (p, refl, (let both : Some o ≡ Some (order_there c p) = k.1 in let same : o ≡ order_there c p = cc in same))
-  | inr n ↦ absurd (let bad : Some o ≡ None = n.1 in cc)
-]
+    nobody_has : (b : ℕ) (v : AbstractActor) (p : AbstractOrder) → slice_get s.actors b ≡ Some v → v.order ≡ Some p → p.cache ≡ c → ⊥
+    nobody_has b v p ev e at = let o = its_slot b v p ev e in none_at p.cache o.2.0 at o.2.1
 
--- no order that an abstract actor has shares a block with one that shares none with the desk's
-ungiven : (size most : ℕ) (words : Words) (committing : Bool) (orders : List (Option Order)) (devices : Devices (List History)) (actors : List Actor) (s : World) → Agrees size most words committing orders devices actors s → (order : AbstractOrder) → IsUngiven orders order → Ungiven s.actors order
-ungiven size most words committing orders devices actors s g order free b y o e h = elim (at_place size most words committing orders devices actors s g b y e).place [
-  | inl x ↦ (let bad : None ≡ Some o = sym (g.each b x.0 y x.1 e).order ∙ h in absurd (cc))
-  | inr k ↦
-      let p = live_is k.x.orders k.c k.order o (subst (λ (q : Option AbstractOrder). HasLive k.x.orders k.c k.order q) h (has_live k.c k.order (g.at k.a) k.x (stands_at size most words committing orders devices actors s g b y e k))) in
-      subst (λ (q : AbstractOrder). Apart q order) (sym p.2) (free k.c p.0 (k.live ∙ ap (λ (q : Option Order). Some q) p.1))
-]
-  where
-    has_live : (c : ℕ) (live : Option Order) (at : Option ℕ) (x : Actor) → StandsBehind size words devices c live at x y → HasLive x.orders c live y.order
-    has_live c live at x st = elim (cases_at at c) [
-      | inl f ↦ (let k = st.carried f in subst (λ (q : Option AbstractOrder). HasLive x.orders c live q) (sym (ap (λ (v : AbstractActor). v.order) k.at.is)) k.live)
-      | inr n ↦ (st.unused n).live
+    not_aside : (b : ℕ) (y : AbstractActor) → slice_get s.actors b ≡ Some y → (k : ℕ) (p : AbstractOrder) → k ≡ c → aside s.waiting y.order k ≡ Some p → ⊥
+    not_aside b y ey k p e w = elim (aside_cases s.waiting y.order k p w) [
+      | inl o ↦ nobody_has b y p ey o.0 (o.1 ∙ e)
+      | inr o ↦ let r = g.orders_agree.waits k p o.0 in none_at k r.1.0 e r.1.1
     ]
-
--- of one block, wherever it is live
-same_block : (c d : ℕ) (order : Order) → (order_there c order).block ≡ (order_there d order).block
-same_block c d (PromoteOrder b k) = refl
-same_block c d (ReplaceOrder v b k) = refl
-same_block c d (DemoteOrder b) = refl
-same_block c d (CleanOrder b) = refl
-
--- An order is given, which is live nowhere.
-module _ (orders : List (Option Order)) (actors : List Actor) (a c : ℕ) (x : Actor) (order : Order) (no_order : slice_get orders c ≡ Some None) (apart : IsUngiven orders (order_there c order)) where
-  not_live : (d : ℕ) (p : Order) → slice_get orders d ≡ Some (Some p) → p ≢ order
-  not_live d p e same = (apart d p e).0 (order_there d p).block (inl refl) (inl (same_block c d order ∙ ap (λ (q : Order). (order_there d q).block) (sym same)))
-
-  more_orders : (x' : Actor) → x'.orders ≡ order ∷ x.orders → (d : ℕ) (o : Option Order) → d ≢ c → slice_get orders d ≡ Some o → KeepsLive x x' d o
-  more_orders x' is d None n e kept h = h
-  more_orders x' is d (Some p) n e kept h = elim h [
-    | inl k ↦ inl (subst (λ (os : List Order). Contains os p) (sym is) (Contains-behind order x.orders p k.0), k.1)
-    | inr k ↦ inr ((λ had. first_or order p x.orders ⊥ (subst (λ (os : List Order). Contains os p) is had) (not_live d p e) k.0), k.1)
-  ]
-
-  others_none : AreOwned orders actors → OthersOrdersStay orders (slice_set orders c (Some order)) actors a
-  others_none owned b z d o o' n ez eo eo' = elim (cases_eq d c) [
-    | inl same ↦
-        let was : Some None ≡ Some o = sym no_order ∙ ap (λ (i : ℕ). slice_get orders i) (sym same) ∙ eo in
-        let had : None ≡ o = cc in
-        let now : Some (Some order) ≡ Some o' = sym (get_set_same orders c None (Some order) no_order) ∙ ap (λ (i : ℕ). slice_get (slice_set orders c (Some order)) i) (sym same) ∙ eo' in
-        let new : Some order ≡ o' = cc in
-        inr (subst (λ (q : Option Order). IsNotOf z.orders q) had tt, subst (λ (q : Option Order). IsNotOf z.orders q) new (λ has. let l = owned.live b z order ez has in not_live l.0 order l.1 refl))
-    | inr m ↦
-        let both : Some o' ≡ Some o = sym eo' ∙ get_set_other orders c d (Some order) m ∙ eo in
-        let same : o' ≡ o = cc in
-        inl same
-  ]
 
 -- ---- what it is there
 
-module _ (size most : ℕ) (words : Words) (committing : Bool) (orders : List (Option Order)) (devices : Devices (List History)) (actors : List Actor) (a : ℕ) (x : Actor) (migration : Migration) (block : OBlock) (c : CBlock) (cut : List Extent) (s : World) (g : Agrees size most words committing orders devices actors s) (ex : slice_get actors a ≡ Some x) (none : x.task ≡ None)
-    (hold : x.card.hold ≡ HoldsNothing) (some : 0 < size) (small : c.0 < 2 ^ 32) (is_cut : IsCutInto (whole_block size block) cut) where
+module _ (size most : ℕ) (words : Words) (committing : Bool) (orders : List (Option Order)) (devices : Devices (List History)) (actors : List Actor) (a : ℕ) (x : Actor) (migration : Migration) (block : OBlock) (c : CBlock) (next : Option ℕ) (order : Order) (cut : List Extent) (s : World) (y : AbstractActor) (g : Agrees size most words committing orders devices actors s) (ex : slice_get actors a ≡ Some x) (ey : slice_get s.actors a ≡ Some y) (none : x.task ≡ None)
+    (hold : x.card.hold ≡ HoldsNothing) (some : 0 < size) (small : c.0 < 2 ^ 32) (is_cut : IsCutInto (whole_block size block) cut) (of : IsOrderFor migration block next order) (order_is : order_there s.shared.mapping c.0 order ≡ order_of block c next) where
   abbrev part : BlockRange
   part = record { block_sectors = size; block = block; extents = cut }
 
   abbrev own : AbstractOrder
-  own = order_on part c None
-
-  abbrev order : Order
-  order = order_for migration block
+  own = order_on part c next
 
   abbrev job : AbstractJob
   job = job_under own (offsets size cut) migration
@@ -154,50 +100,31 @@ module _ (size most : ℕ) (words : Words) (committing : Bool) (orders : List (O
   abbrev plan : Plan
   plan = migrates size migration block cut
 
-  abbrev its_place : ℕ
-  its_place = behind (length actors) (length orders) a c.0
-
-  order_is : (m : Migration) → order_there c.0 (order_for m block) ≡ own
-  order_is (Promote k) = refl
-  order_is Demote = refl
-  order_is Clean = refl
-
   is_part : IsPart size part
   is_part = whole_part size block some cut is_cut
 
   inside : AllInBlocks size cut
   inside e h = (is_part.each e h).room
 
-  -- the one behind, once it has begun
-  abbrev begun_there : AbstractActor → AbstractActor
-  begun_there y = without_block (migrating size own (offsets size cut) migration plan.steps AnsweredDone y.buffer)
+  -- its abstract actor, once it has begun
+  abbrev begun_there : AbstractActor
+  begun_there = without_block (migrating size own (offsets size cut) migration plan.steps AnsweredDone y.buffer)
 
-  carried_then : (y : AbstractActor) (x' : Actor) → x'.task ≡ Some (Migrate migration block, plan) → x'.card ≡ x.card → Contains x'.orders order → Fills migration c → IsCarried size devices c (Some order) x' (begun_there y)
-  carried_then y x' task card has fills = record {
-    migration = migration;
-    block = block;
-    plan = plan;
-    task = task;
-    part = part;
-    job = refl;
+  carried_then : (orders' : List (Option Order)) (its : List Order) → slice_get orders' c.0 ≡ Some (Some order) → Contains its order → Fills migration c → IsCarried size orders' devices migration block part plan.steps plan.answer (record x { task = Some (Migrate migration block, plan); orders = its }) begun_there
+  carried_then orders' its slot its_own fills = record {
     block_is = refl;
     is_part = is_part;
+    c = c;
     small = small;
     fills = fills;
     of_block = tt;
     paired = (tt, (tt, tt));
-    unfinished = λ n. absurd (cc);
-    answers = inr refl;
+    next = next;
+    order = order;
+    of = of;
     kept = Some own;
-    live = inl (has, ap (λ (o : AbstractOrder). Some o) (sym (order_is migration)));
-    has = inl (refl, refl);
-    at = record {
-      answer = AnsweredDone;
-      buffer = y.buffer;
-      is = λ i. record (begun_there y) { held = held_of (sym (ap (λ (k : Card). k.hold) card ∙ hold) i) };
-      alike = refl;
-      saw = tt;
-    };
+    has = inl (slot, refl, its_own);
+    at = record { answer = AnsweredDone; buffer = y.buffer; is = λ i. record begun_there { held = held_of (sym hold i) }; alike = refl; saw = tt };
     copies = tt;
     buffer = tt;
   }
@@ -216,10 +143,10 @@ module _ (size most : ℕ) (words : Words) (committing : Bool) (orders : List (O
   fills_kept Demote may = tt
   fills_kept Clean may = tt
 
-  may_start : (m : Migration) → MayBeGiven m block.0 c.0 s.shared → Ungiven s.actors own → MayStart size s (job_under own (offsets size cut) m)
-  may_start (Promote k) may free = (within_offsets size cut inside, whole_covered size block some cut is_cut, free, writes_back, may.1, may.2, λ b e. absurd (cc))
-  may_start Demote may free = (within_offsets size cut inside, whole_covered size block some cut is_cut, free, writes_back, may.0, may.1, λ b e. absurd (cc))
-  may_start Clean may free = (within_offsets size cut inside, whole_covered size block some cut is_cut, free, writes_back, may.0, may.1, λ b e. absurd (cc))
+  may_start : (m : Migration) → MayBeGiven m block.0 c.0 s.shared → Ungiven s own → ((b : ℕ) → next ≡ Some b → s.shared.mapping b ≡ None) → MayStart size s (job_under own (offsets size cut) m)
+  may_start (Promote k) may free waits = (within_offsets size cut inside, whole_covered size block some cut is_cut, free, writes_back, may.1, may.2, waits)
+  may_start Demote may free waits = (within_offsets size cut inside, whole_covered size block some cut is_cut, free, writes_back, may.0, may.1, waits)
+  may_start Clean may free waits = (within_offsets size cut inside, whole_covered size block some cut is_cut, free, writes_back, may.0, may.1, waits)
 
   may_again : (m : Migration) → MayBeKept m c.0 s.shared → MayAgain size s.shared (job_under own (offsets size cut) m)
   may_again (Promote k) may = (within_offsets size cut inside, whole_covered size block some cut is_cut, may.1)
@@ -242,77 +169,230 @@ module _ (size most : ℕ) (words : Words) (committing : Bool) (orders : List (O
   is_given Demote = record { words_agree = g.words_agree; origin = refl; cache = refl; mode = refl; commits = refl; broken = refl; turned = (refl, refl, refl); desk = (refl, refl) }
   is_given Clean = record { words_agree = g.words_agree; origin = refl; cache = refl; mode = refl; commits = refl; broken = refl; turned = (refl, refl, refl); desk = (refl, refl) }
 
+  map_given : (m : Migration) → (reserved s.shared (job_under own (offsets size cut) m)).mapping ≡ s.shared.mapping
+  map_given (Promote k) = refl
+  map_given Demote = refl
+  map_given Clean = refl
+
   is_migrating : (m : Migration) → IsMigrating (job_under own (offsets size cut) m)
   is_migrating (Promote k) = tt
   is_migrating Demote = tt
   is_migrating Clean = tt
 
-  -- what stands behind the actor for the cache block is unused
-  unused_there : (live : Option Order) (y : AbstractActor) → slice_get orders c.0 ≡ Some live → slice_get s.actors its_place ≡ Some y → IsUnused words c.0 live x y
-  unused_there live y eo ey = (g.behind_each a c.0 x live y ex eo ey).unused (at_none size most words committing orders devices actors a x s g ex none c.0)
+  st : StandsFor size most words x y
+  st = g.each a x y ex ey
 
-  module _ (no_order : slice_get orders c.0 ≡ Some None) (apart : IsUngiven orders (order_there c.0 order)) (owned : AreOwned orders actors) (may : MayBeGiven migration block.0 c.0 s.shared) where
-    -- the one behind is idle
-    idle_there : (y : AbstractActor) → slice_get s.actors its_place ≡ Some y → IsIdle y
-    idle_there y ey = let u = unused_there None y no_order ey in record { task = u.task; held = elim u.holds [ inl h ↦ h | inr k ↦ absurd (k.ordered u.live) ]; order = u.live; leads = u.leads }
+  rests : (y.task ≡ None) × (IsResting y ⊎ (flag words.fail ≡ true))
+  rests = subst (λ t. IsBusyAt size most words t x.card y) none st.at
 
-    abbrev orders' : List (Option Order)
-    orders' = slice_set orders c.0 (Some order)
+  -- The order is at the actor then, which lives on the cache block.
+  module _ (orders' : List (Option Order)) (its : List Order) (slot : slice_get orders' c.0 ≡ Some (Some order)) (mine : Contains its order) (beside : (d : ℕ) → d ≢ c.0 → slice_get orders' d ≡ slice_get orders d) (waiting : ℕ → Option AbstractOrder) (put : (d : ℕ) → d ≢ c.0 → waiting d ≡ aside s.waiting y.order d) (gone_from : (d : ℕ) (p : AbstractOrder) → d ≡ c.0 → waiting d ≡ Some p → ⊥)
+      (alone : (b : ℕ) (v : AbstractActor) (p : AbstractOrder) → b ≢ a → slice_get s.actors b ≡ Some v → v.order ≡ Some p → p.cache ≡ c.0 → ⊥) (t : Shared) (same_map : t.mapping ≡ s.shared.mapping) where
+    abbrev x' : Actor
+    x' = record x { task = Some (Migrate migration block, plan); orders = its }
+
+    same_own : (p : AbstractOrder) → Some own ≡ Some p → own ≡ p
+    same_own p e = cc
+
+    carries : CarriesOthers size orders orders' devices devices actors s a
+    carries b v u m bl pt q n ev eu task of k = record {
+      block_is = k.block_is;
+      is_part = k.is_part;
+      c = k.c;
+      small = k.small;
+      fills = k.fills;
+      of_block = k.of_block;
+      paired = k.paired;
+      next = k.next;
+      order = k.order;
+      of = k.of;
+      kept = k.kept;
+      has = elim k.has [
+        | inl l ↦ inl (beside k.c.0 (λ same. alone b u (order_on pt k.c k.next) n eu (ap (λ (w : AbstractActor). w.order) k.at.is ∙ l.1) same) ∙ l.0, l.1, l.2)
+        | inr tail ↦ inr tail
+      ];
+      at = k.at;
+      copies = k.copies;
+      buffer = k.buffer;
+    }
+
+    ordered : (y' : AbstractActor) → y'.order ≡ Some own → IsDone size words orders' devices x' y' → OrdersAgree size words orders' devices (slice_set actors a x') (record { shared = t; actors = slice_set s.actors a y'; waiting = waiting })
+    ordered y' has done = begins_so size words words (λ e. e) orders orders' devices devices actors a x x' s y y' ex ey g.orders_agree carries done (λ d. d ≡ c.0) (λ d. elim (cases_eq d c.0) [ inl e ↦ inl e | inr n ↦ inr n ]) waiting
+        (λ p e. subst (λ (q : AbstractOrder). (q.cache ≡ c.0) × ((o : Option Order) → slice_get orders' q.cache ≡ Some o → live_there s.shared.mapping q.cache o ≡ Some q) × IsOf orders' (its ++ x.awaiting) q) (same_own p (sym has ∙ e)) (refl, lives_so, (order, slot, Contains-append_left its x.awaiting order mine)))
+        (λ d o p e eo l. has ∙ sym (lives_so o (ap (slice_get orders') (sym e) ∙ eo)) ∙ ap (λ k. live_there s.shared.mapping k o) (sym e) ∙ l) beside put gone_from alone t same_map
+      where
+        lives_so : (o : Option Order) → slice_get orders' c.0 ≡ Some o → live_there s.shared.mapping c.0 o ≡ Some own
+        lives_so o e = let both : Some (Some order) ≡ Some o = sym slot ∙ e in let same : Some order ≡ o = cc in ap (live_there s.shared.mapping c.0) (sym same) ∙ ap (λ (p : AbstractOrder). Some p) order_is
+
+    done : Fills migration c → IsDone size words orders' devices x' begun_there
+    done fills = is_done size words orders' devices migration block part plan x' begun_there refl (inl (carried_then orders' its slot mine fills)) refl
+
+    -- the whole state agrees, where it has begun there
+    agrees_then : Fills migration c → IsGiven migration t ⊎ (t ≡ s.shared) → Agrees size most words committing orders' devices (slice_set actors a x') (record { shared = t; actors = slice_set s.actors a begun_there; waiting = waiting })
+    agrees_then fills k = record {
+      words_agree = elim k [ inl i ↦ i.words_agree | inr e ↦ subst (λ (u : Shared). WordsAgree words u) (sym e) g.words_agree ];
+      origin = elim k [ inl i ↦ i.origin | inr e ↦ ap (λ (u : Shared). u.origin) e ] ∙ g.origin;
+      cache = elim k [ inl i ↦ i.cache | inr e ↦ ap (λ (u : Shared). u.cache) e ] ∙ g.cache;
+      mode = elim k [ inl i ↦ i.mode | inr e ↦ ap (λ (u : Shared). u.mode) e ] ∙ g.mode;
+      commits = commits ∙ g.commits;
+      broken = λ e. commits ∙ g.broken (sym broken ∙ e);
+      led = led_on size most words words (λ e. e) committing orders devices actors a x x' s y g ex ey begun_there (λ l. let bad : false ≡ true = l in absurd (cc)) t commits;
+      whole = whole_on size most words words (λ e. e) committing orders devices actors a x x' s y g ex ey begun_there (λ l. let bad : false ≡ true = l in absurd (cc)) t broken;
+      one_leads = one_on size most words words (λ e. e) committing orders devices actors a x x' s y g ex ey begun_there (λ l. let bad : false ≡ true = l in absurd (cc));
+      many = length-set s.actors a begun_there ∙ g.many ∙ sym (length-set actors a x');
+      each = each_on size most words words (λ e. e) committing orders devices actors a x x' s y g ex ey begun_there (on_stands size words orders' devices migration block part plan x' begun_there most (inl (carried_then orders' its slot mine fills)) refl);
+      orders_agree = ordered begun_there refl (done fills);
+    }
+      where
+        commits : t.committing ≡ s.shared.committing
+        commits = elim k [ inl i ↦ i.commits | inr e ↦ ap (λ (u : Shared). u.committing) e ]
+
+        broken : t.broken ≡ s.shared.broken
+        broken = elim k [ inl i ↦ i.broken | inr e ↦ ap (λ (u : Shared). u.broken) e ]
+
+    -- one that has kept something has found there that the target has failed, and has the order
+    abbrev fallen : AbstractActor
+    fallen = record y { task = None; order = Some own }
+
+    fallen_was : (b : ℕ) (v : AbstractActor) → slice_get (slice_set s.actors a fallen) b ≡ Some v → v.leads ≡ true → (u : AbstractActor) × (slice_get s.actors b ≡ Some u) × (u.leads ≡ true)
+    fallen_was b v ev l = elim (who s.actors a y fallen ey b v ev) [
+      | inl one ↦ (y, ap (slice_get s.actors) one.0 ∙ ey, ap (λ (u : AbstractActor). u.leads) one.1 ∙ l)
+      | inr one ↦ (v, one.1, l)
+    ]
+
+    fallen_agrees : flag words.fail ≡ true → IsGiven migration t → Agrees size most words committing orders' devices (slice_set actors a x') (record { shared = t; actors = slice_set s.actors a fallen; waiting = waiting })
+    fallen_agrees failed i = record {
+      words_agree = i.words_agree;
+      origin = i.origin ∙ g.origin;
+      cache = i.cache ∙ g.cache;
+      mode = i.mode ∙ g.mode;
+      commits = i.commits ∙ g.commits;
+      broken = λ e. i.commits ∙ g.broken (sym i.broken ∙ e);
+      led = λ b v ev l. let u = fallen_was b v ev l in i.commits ∙ g.led b u.0 u.1 u.2;
+      whole = λ b v ev l unfinished. elim (who s.actors a y fallen ey b v ev) [
+        | inl one ↦ absurd (subst (λ (u : AbstractActor). IsUnfinished u.task) (sym one.1) unfinished)
+        | inr one ↦ i.broken ∙ g.whole b v one.1 l unfinished
+      ];
+      one_leads = λ b d v u ev eu l m. let p = fallen_was b v ev l in let q = fallen_was d u eu m in g.one_leads b d p.0 q.0 p.1 q.1 p.2 q.2;
+      many = length-set s.actors a fallen ∙ g.many ∙ sym (length-set actors a x');
+      each = each_on size most words words (λ e. e) committing orders devices actors a x x' s y g ex ey fallen (record { at = tt; below = record { owned = st.below.owned; shared = st.below.shared }; among_others = refl });
+      orders_agree = ordered fallen refl (late_done size words orders' devices migration block part plan x' fallen refl refl (record { failed = failed; nothing = refl; at = inl refl }));
+    }
+
+  falls : (ys : List AbstractActor) (m : Migration) (u : Shared) (v : AbstractActor) → u.fail ≡ true → MayGo ys a u v (Some (table_there (job_under own (offsets size cut) m))) (Flag true ∷ DoneThere ∷ []) × (shared_after u v (Some (table_there (job_under own (offsets size cut) m))) (Flag true ∷ DoneThere ∷ []) ≡ u) × (gone v (Some (table_there (job_under own (offsets size cut) m))) (Flag true ∷ DoneThere ∷ []) ≡ record v { task = None })
+  falls ys (Promote k) u v f = ((sym f, tt, (tt, tt, tt)), refl, refl)
+  falls ys Demote u v f = ((sym f, tt, (tt, tt, tt)), refl, refl)
+  falls ys Clean u v f = ((sym f, tt, (tt, tt, tt)), refl, refl)
+
+  under_is : (m : Migration) → Rattle.wb_link.specs.World.order_of (job_under own (offsets size cut) m) ≡ Some own
+  under_is (Promote k) = refl
+  under_is Demote = refl
+  under_is Clean = refl
+
+  module _ (no_order : slice_get orders c.0 ≡ Some None) (apart : IsUngiven s.shared.mapping orders own) (waits : (b : ℕ) → next ≡ Some b → s.shared.mapping b ≡ None) (may : MayBeGiven migration block.0 c.0 s.shared) where
+    abbrev orders_then : List (Option Order)
+    orders_then = slice_set orders c.0 (Some order)
 
     abbrev starting : Actor
     starting = record x { task = Some (Migrate migration block, plan); orders = order ∷ x.orders }
 
-    pub starts : Carried (given_by migration c.0) size most a s words committing orders' devices actors starting
-    starts =
-        let y = behind_there size most words committing orders devices actors s g a c.0 x None ex no_order in
-        let t = reserved s.shared job in
+    abbrev Goal : Type 0
+    Goal = Goes Resumes (given_by migration c.0) size most a s words committing orders_then devices actors starting
+
+    free : Ungiven s own
+    free = ungiven size most words committing orders devices actors s g own apart
+
+    alone : (b : ℕ) (v : AbstractActor) (p : AbstractOrder) → b ≢ a → slice_get s.actors b ≡ Some v → v.order ≡ Some p → p.cache ≡ c.0 → ⊥
+    alone b v p n ev e at = nobody_has size most words committing orders devices actors s g c.0 no_order b v p ev e at
+
+    starts_so : IsResting y → Goal
+    starts_so idle =
         let k = is_given migration in
-        let free = ungiven size most words committing orders devices actors s g own (subst (λ (o : AbstractOrder). IsUngiven orders o) (order_is migration) apart) in
-        let start = migrations_begin.starts size s its_place y.0 part c None migration y.1 (idle_there y.0 y.1) (nobody_alone size most words committing orders devices actors s g) (may_start migration may free) in
+        let start = migrations_begin.starts size s a y part c next migration ey idle (nobody_alone size most words committing orders devices actors s g) (may_start migration may free waits) in
         record {
-          records = Start its_place job ∷ [];
+          records = Start a job ∷ [];
           run = (start.0, tt);
-          agrees = subst (λ (v : World). Agrees size most words committing orders' devices (slice_set actors a starting) v) (sym start.1)
-              (agrees_then size most words words (λ e. e) committing orders orders' devices devices actors a x starting s g ex c.0 None (Some order) (length-set orders c.0 (Some order)) (λ d n. get_set_other orders c.0 d (Some order) n)
-              no_order (get_set_same orders c.0 None (Some order) no_order) (λ d n e. at_none size most words committing orders devices actors a x s g ex none d e) (more_orders orders actors a c.0 x order no_order apart starting refl) (others_none orders actors a c.0 x order no_order apart owned) (λ f was. (tt, λ u below. below))
-              y.0 y.1 (Some c.0) (λ d e. (let same : c.0 ≡ d = cc in sym same)) t (begun_there y.0) (stands_carried size words devices c.0 (Some order) starting (begun_there y.0) (carried_then y.0 starting refl refl (Contains-first order x.orders) (fills_given migration may)))
-              k.words_agree (k.origin ∙ g.origin) (k.cache ∙ g.cache) k.mode k.commits k.broken (carries_same size devices orders actors a)
-              (begins_aside size most words committing orders devices actors a x s g ex none starting migration block plan refl refl tt) (λ m b p e. inr refl));
+          agrees = subst (λ (v : World). Agrees size most words committing orders_then devices (slice_set actors a starting) v) (sym start.1)
+              (agrees_then orders_then (order ∷ x.orders) (get_set_same orders c.0 None (Some order) no_order) (Contains-first order x.orders) (λ d n. get_set_other orders c.0 d (Some order) n) (aside s.waiting y.order) (λ d n. refl)
+              (λ d p e w. not_aside size most words committing orders devices actors s g c.0 no_order a y ey d p e w) alone (reserved s.shared job) (map_given migration) (fills_given migration may) (inl k));
           turned = subst (λ (v : World). TurnedTo (given_by migration c.0) s.shared v.shared) (sym start.1) k.turned;
           desk = subst (λ (v : World). DeskTurnedTo (given_by migration c.0) s.shared v.shared) (sym start.1) k.desk;
-          told = λ v e. ((omega arith, is_migrating migration), tt);
+          told = λ v e. Given job (is_migrating migration) refl;
         }
 
-  module _ (live : slice_get orders c.0 ≡ Some (Some order)) (mine : Contains x.orders order) (may : MayBeKept migration c.0 s.shared) where
-    abbrev x' : Actor
-    x' = begun (Migrate migration block) plan x
+    -- it has kept something at a failure, and is refused there at once
+    starts_failing : flag words.fail ≡ true → Goal
+    starts_failing failed =
+        let k = is_given migration in
+        let t = reserved s.shared job in
+        let y1 = given y job in
+        let results = Flag true ∷ DoneThere ∷ [] in
+        let w1 : World = record { shared = t; actors = slice_set s.actors a y1; waiting = aside s.waiting y.order } in
+        let begun_is : start_actor s a (slice_get s.actors a) job ≡ w1 = ap (λ (o : Option AbstractActor). start_actor s a o job) ey in
+        let stopped : t.fail ≡ true = k.words_agree.fail ∙ failed in
+        let f = falls (slice_set s.actors a y1) migration t y1 stopped in
+        let went = goes size results w1 a y1 (Some (table_there job)) (get_set_same s.actors a y y1 ey) refl f.0 in
+        let w2 : World = record { shared = t; actors = slice_set s.actors a (record y { task = None; order = Some own }); waiting = aside s.waiting y.order } in
+        let then_is : after_all w1 (records a (Some (table_there job)) results) ≡ w2 = went.is ∙ (λ i. record { shared = f.1 i; actors = slice_set (slice_set s.actors a y1) a (f.2 i); waiting = aside s.waiting y.order }) ∙ (λ i. record { shared = t; actors = set_twice s.actors a y1 (record y { task = None; order = under_is migration i }) i; waiting = aside s.waiting y.order }) in
+        let all : after_all (start_actor s a (slice_get s.actors a) job) (records a (Some (table_there job)) results) ≡ w2 = ap (λ (w : World). after_all w (records a (Some (table_there job)) results)) begun_is ∙ then_is in
+        record {
+          records = Start a job ∷ records a (Some (table_there job)) results;
+          run = (
+            (y, record { actor = ey; task = rests.0; free = inr (g.words_agree.fail ∙ failed); nobody_alone = nobody_alone size most words committing orders devices actors s g; may = may_start migration may free waits }),
+            subst (λ (w : World). Rattle.wb_link.specs.World.IsRun size w (records a (Some (table_there job)) results)) (sym begun_is) went.run,
+          );
+          agrees = subst (λ (v : World). Agrees size most words committing orders_then devices (slice_set actors a starting) v) (sym all)
+              (fallen_agrees orders_then (order ∷ x.orders) (get_set_same orders c.0 None (Some order) no_order) (Contains-first order x.orders) (λ d n. get_set_other orders c.0 d (Some order) n) (aside s.waiting y.order) (λ d n. refl)
+              (λ d p e w. not_aside size most words committing orders devices actors s g c.0 no_order a y ey d p e w) alone t (map_given migration) failed k);
+          turned = subst (λ (v : World). TurnedTo (given_by migration c.0) s.shared v.shared) (sym all) k.turned;
+          desk = subst (λ (v : World). DeskTurnedTo (given_by migration c.0) s.shared v.shared) (sym all) k.desk;
+          told = λ v e. let both : Some y ≡ Some v = sym ey ∙ e in let same : y ≡ v = cc in Failing job (is_migrating migration) (ap (λ (u : AbstractActor). u.task) (sym same) ∙ rests.0) refl;
+        }
+
+    pub starts : Goal
+    starts = elim rests.1 [ inl idle ↦ starts_so idle | inr failed ↦ starts_failing failed ]
+
+  module _ (live : slice_get orders c.0 ≡ Some (Some order)) (mine : Contains x.orders order) (only : IsOnlyOf actors a order) (may : MayBeKept migration c.0 s.shared) where
+    abbrev resuming : Actor
+    resuming = begun (Migrate migration block) plan x
+
+    abbrev Again_goal : Type 0
+    Again_goal = Goes Resumes Stays size most a s words committing orders devices actors resuming
 
     -- it has kept something at a failure, and nothing is begun there
-    late : flag words.fail ≡ true → Carried Stays size most a s words committing orders devices actors x'
-    late failed = carries_nothing size most words words (λ e. e) committing orders devices actors a x x' s g ex (at_nowhere size most words committing orders devices actors a x s g ex none) refl (λ f was. (tt, λ u below. below)) g.words_agree
-        (begins_aside size most words committing orders devices actors a x s g ex none x' migration block plan refl refl tt)
-        (λ m b p e. inr (failed, subst (λ (q : Plan). IsOutside q.steps) (same_plan x'.task (Migrate migration block) (Migrate m b) plan p refl e) tt))
+    late : flag words.fail ≡ true → Again_goal
+    late failed = goes_on size most words words (λ q. q) committing orders devices actors a x resuming s y g ex ey Resumes devices [] s.shared (subst (λ (t : Option Script). IsResumed a t (records a t [])) (sym rests.0) (Nowhere refl refl)) tt (shared_stays s.shared y y.task)
+        (subst (λ (z : AbstractActor). StandsFor size most words resuming z) (sym (gone_nowhere y y.task)) (record { at = tt; below = st.below; among_others = st.among_others }))
+        (λ q. gone_nowhere y y.task) g.words_agree g.origin g.cache refl refl refl (refl, refl, refl) (refl, refl) (ap (λ (v : AbstractActor). v.order) (gone_nowhere y y.task)) (λ o h. h) (carries_same size orders devices actors s a)
+        (subst (λ (z : AbstractActor). IsDone size words orders devices resuming z) (sym (gone_nowhere y y.task)) (late_done size words orders devices migration block part plan resuming y refl refl (record { failed = failed; nothing = rests.0; at = inl refl })))
 
-    anew : (y : AbstractActor) → slice_get s.actors its_place ≡ Some y → IsUnused words c.0 (Some order) x y → y.held ≡ Nothing → Carried Stays size most a s words committing orders devices actors x'
-    anew y ey u held =
-        let its : y.order ≡ Some own = (elim u.live [ inl k ↦ k.1 ∙ ap (λ (o : AbstractOrder). Some o) (order_is migration) | inr n ↦ absurd (n.0 mine) ]) in
-        let start = migrations_begin.again size s its_place y part c None migration ey u.task held its u.leads (nobody_alone size most words committing orders devices actors s g) (may_again migration may) in
+    -- no other actor has it
+    nobody_else : (b : ℕ) (v : AbstractActor) (p : AbstractOrder) → b ≢ a → slice_get s.actors b ≡ Some v → v.order ≡ Some p → p.cache ≡ c.0 → ⊥
+    nobody_else b v p n ev e at =
+        let o = its_slot size most words committing orders devices actors s g b v p ev e in
+        let both : Some (Some o.2.0) ≡ Some (Some order) = sym o.2.1 ∙ ap (slice_get orders) at ∙ live in
+        let same : o.2.0 ≡ order = cc in
+        n (only b o.0 o.1 (subst (λ (q : Order). Contains (held o.0) q) same o.2.2))
+
+    there : IsThere s own
+    there = (g.orders_agree.live c.0 (Some order) live own refl).0 (ap (λ (o : AbstractOrder). Some o) order_is)
+
+    is_put : aside s.waiting y.order c.0 ≡ Some own
+    is_put = is_aside size words orders devices actors a s y ey g.orders_agree c.0 (Some order) live own refl there (λ b v n ev e. nobody_else b v own n ev e refl)
+
+    again_so : IsResting y → Again_goal
+    again_so idle =
+        let start = migrations_begin.again size s a y part c next migration ey idle.task idle.held is_put idle.leads (nobody_alone size most words committing orders devices actors s g) (may_again migration may) in
         record {
-          records = Again its_place job ∷ [];
+          records = Again a job ∷ [];
           run = (start.0, tt);
-          agrees = subst (λ (v : World). Agrees size most words committing orders devices (slice_set actors a x') v) (sym start.1)
-              (agrees_then size most words words (λ e. e) committing orders orders devices devices actors a x x' s g ex c.0 (Some order) (Some order) refl (λ d n. refl)
-              live live (λ d n e. at_none size most words committing orders devices actors a x s g ex none d e) (λ d o n e kept h. h) (orders_same orders actors a) (λ f was. (tt, λ v below. below))
-              y ey (Some c.0) (λ d e. (let same : c.0 ≡ d = cc in sym same)) s.shared (begun_there y) (stands_carried size words devices c.0 (Some order) x' (begun_there y) (carried_then y x' refl refl mine (fills_kept migration may)))
-              g.words_agree g.origin g.cache refl refl refl (carries_same size devices orders actors a)
-              (begins_aside size most words committing orders devices actors a x s g ex none x' migration block plan refl refl tt) (λ m b p e. inr refl));
+          agrees = subst (λ (v : World). Agrees size most words committing orders devices (slice_set actors a resuming) v) (sym start.1)
+              (agrees_then orders x.orders live mine (λ d n. refl) (taken (aside s.waiting y.order) (Some own)) (λ d n. changed_other (aside s.waiting y.order) c.0 d None n)
+              (λ d p e w. let bad : None ≡ Some p = sym (changed_same (aside s.waiting y.order) c.0 None) ∙ ap (taken (aside s.waiting y.order) (Some own)) (sym e) ∙ w in absurd (cc)) nobody_else s.shared refl (fills_kept migration may) (inr refl));
           turned = subst (λ (v : World). TurnedTo Stays s.shared v.shared) (sym start.1) (refl, refl, refl);
           desk = subst (λ (v : World). DeskTurnedTo Stays s.shared v.shared) (sym start.1) (refl, refl);
-          told = λ v e. ((omega arith, is_migrating migration), tt);
+          told = λ v e. Kept job (is_migrating migration) refl;
         }
 
-    pub again : Carried Stays size most a s words committing orders devices actors x'
-    again =
-        let y = behind_there size most words committing orders devices actors s g a c.0 x (Some order) ex live in
-        let u = unused_there (Some order) y.0 live y.1 in
-        elim u.holds [ inl h ↦ anew y.0 y.1 u h | inr k ↦ late k.failed ]
+    pub again : Again_goal
+    again = elim rests.1 [ inl idle ↦ again_so idle | inr failed ↦ late failed ]

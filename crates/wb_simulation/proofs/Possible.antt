@@ -1,21 +1,17 @@
 -- A target that was just made agrees with the abstract world that begins.
-use Rattle.std.proofs.Common.{◌≡◌, ◌+◌, ◌*◌, ◌∙◌, inl, ℕ, zero, suc, Bool, true, false, cond, nat_lt, unwrap_or, Some, None, length, replicate, refl, sym, ap, subst, slice_get, Option, []}
+use Rattle.std.proofs.Common.{◌≡◌, ◌+◌, ◌*◌, ◌∙◌, inl, ℕ, zero, suc, Bool, true, false, cond, nat_lt, unwrap_or, Some, None, replicate, refl, sym, ap, subst, slice_get, []}
 use Rattle.std.proofs.lemmas.List.{length-replicate}
 use Rattle.wb_disk.specs.Device.{Content, only}
 use Rattle.wb_contents.specs.Devices.{by_block}
 use Rattle.wb_words.specs.SharedWords.{fresh_words}
-use Rattle.wb_link.specs.World.{Actor as AbstractActor, resting as idle}
+use Rattle.wb_link.specs.World.{begins as world_begins, Actor as AbstractActor, resting as idle}
 use Rattle.wb_link.proofs.Lists.{replicated}
 use Rattle.wb_refines.specs.Models.{SealAgrees}
 use Rattle.wb_refines.proofs.Holding.{holds_nothing}
 use Rattle.wb_runs.specs.States.{Actor, resting}
-use Rattle.wb_runs.specs.declared.job.Job.TheVariants.{Migrate}
-use Rattle.wb_policy.specs.declared.order.Order.{Order}
-use Rattle.wb_simulation.specs.Behind.{behind, HasLive, StandsBehind}
 use Rattle.wb_simulation.specs.Actors.{StandsFor}
 use Rattle.wb_simulation.specs.Laws.{CanAgree}
-use Rattle.wb_simulation.proofs.Opened.{fresh_at, nowhere}
-use Rattle.wb_simulation.proofs.Carrying.{stands_unused}
+use Rattle.wb_simulation.proofs.Opened.{fresh_at, nowhere, no_orders}
 use Rattle.wb_simulation.specs.Worlds.{zeros}
 
 -- an empty device is empty wherever it is looked at
@@ -32,7 +28,7 @@ empty_device c size count = λ i b o. here (nat_lt o size) (b * size + o) i
     here false at = refl
 
 rests : (size most blocks : ℕ) → StandsFor size most (fresh_words blocks) resting idle
-rests size most blocks = record { at = (refl, inl (record { task = refl; held = refl; order = refl; leads = refl })); below = holds_nothing idle resting.card refl; order = refl; among_others = refl }
+rests size most blocks = record { at = (refl, inl (record { task = refl; held = refl; leads = refl })); below = holds_nothing idle resting.card refl; among_others = refl }
 
 pub can_agree : CanAgree
 can_agree size most blocks caches cache origin many = record {
@@ -45,15 +41,12 @@ can_agree size most blocks caches cache origin many = record {
   led = λ a y e l. absurd (nobody a y e l);
   whole = λ a y e l u. absurd (nobody a y e l);
   one_leads = λ a b y z e f l m. absurd (nobody a y e l);
-  many = length-replicate (many + many * caches) idle ∙ (λ i. sym (length-replicate many resting) i + sym (length-replicate many resting) i * sym (length-replicate {A = Option Order} caches None) i);
+  many = length-replicate many idle ∙ sym (length-replicate many resting);
   each = λ a x y e f. subst (λ (v : Actor). StandsFor size most (fresh_words blocks) v y) (replicated many a resting x e)
-      (subst (λ (v : AbstractActor). StandsFor size most (fresh_words blocks) resting v) (replicated (many + many * caches) a idle y f) (rests size most blocks));
-  at = λ a. None;
-  behind_each = λ a c x order y e o f. subst (λ (v : AbstractActor). StandsBehind size (fresh_words blocks) (record { metadata = []; cache = replicate cache (only zeros); origin = replicate origin (only zeros) }) c order None x v) (replicated (many + many * caches) (behind (length (replicate many resting)) (length (replicate {A = Option Order} caches None)) a c) idle y f)
-      (stands_unused size (fresh_words blocks) (record { metadata = []; cache = replicate cache (only zeros); origin = replicate origin (only zeros) }) c order x idle (record { task = refl; live = subst (λ (k : Option Order). HasLive x.orders c k None) (replicated caches c None order o) refl; leads = refl; holds = inl refl }));
-  within = λ a c e. absurd (cc);
-  carried = λ a x migration block plan e t. absurd (let idle_is : resting ≡ x = replicated many a resting x e in let bad : None ≡ Some (Migrate migration block, plan) = ap (λ (v : Actor). v.task) idle_is ∙ t in cc);
+      (subst (λ (v : AbstractActor). StandsFor size most (fresh_words blocks) resting v) (replicated many a idle y f) (rests size most blocks));
+  orders_agree = no_orders size (fresh_words blocks) (record { metadata = []; cache = replicate cache (only zeros); origin = replicate origin (only zeros) }) (replicate many resting) caches many (world_begins many zeros).shared
+      (λ a x e. ap (λ (v : Actor). v.task) (sym (replicated many a resting x e)));
 }
   where
-    nobody : (a : ℕ) (y : AbstractActor) → slice_get (replicate (many + many * caches) idle) a ≡ Some y → y.leads ≡ true → ⊥
-    nobody a y e l = let bad : false ≡ true = ap (λ (v : AbstractActor). v.leads) (replicated (many + many * caches) a idle y e) ∙ l in absurd (cc)
+    nobody : (a : ℕ) (y : AbstractActor) → slice_get (replicate (many) idle) a ≡ Some y → y.leads ≡ true → ⊥
+    nobody a y e l = let bad : false ≡ true = ap (λ (v : AbstractActor). v.leads) (replicated (many) a idle y e) ∙ l in absurd (cc)

@@ -1,5 +1,5 @@
 -- Starts are followed.
-use Rattle.std.proofs.Common.{◌≡◌, ◌∙◌, ◌⊎◌, inl, inr, ℕ, Bool, true, false, List, [], ◌∷◌, Option, Some, None, ◌+◌, ◌*◌, length, refl, sym, ap, subst, slice_get, slice_set}
+use Rattle.std.proofs.Common.{◌≡◌, ◌∙◌, ◌⊎◌, inl, inr, ℕ, Bool, true, false, List, [], ◌∷◌, Option, Some, None, refl, sym, ap, subst, slice_get, slice_set}
 use Rattle.std.proofs.lemmas.List.{length-set}
 use Rattle.wb_disk.specs.Device.{History}
 use Rattle.wb_words.specs.SharedWords.{Words, flag}
@@ -12,35 +12,32 @@ use Rattle.wb_link.specs.World.{World, Start, Actor as AbstractActor, is_alone}
 use Rattle.wb_refines.specs.Translation.{job_for}
 use Rattle.wb_refines.specs.Models.{IsAt}
 use Rattle.wb_refines.specs.Flushes.{IsFlushing}
-use Rattle.wb_refines.specs.Tasks.{IsIdle, AllInBlocks, Starts as CanStart}
+use Rattle.wb_refines.specs.Tasks.{IsResting, AllInBlocks, Starts as CanStart}
 use Rattle.wb_refines.proofs.Holding.{holds_nothing}
 use Rattle.wb_refines.proofs.Locks.{has_no_more}
 use Rattle.wb_refines.proofs.Tasks.{tasks_begin}
 use Rattle.wb_runs.specs.declared.job.Job.{Job}
 use Rattle.wb_runs.specs.declared.job.Job.TheVariants.{Read, Write, Flush}
 use Rattle.wb_runs.specs.States.{Actor}
-use Rattle.wb_simulation.specs.Steps.{IsPart, IsOutside}
+use Rattle.wb_simulation.specs.Steps.{IsPart}
 use Rattle.wb_simulation.specs.Actors.{IsLate, IsBusyAt, IsDoing, StandsFor}
 use Rattle.wb_simulation.specs.Telling.{Quietly, Starts}
 use Rattle.wb_simulation.specs.Worlds.{Agrees, Stays, TurnedTo, DeskTurnedTo, Follows}
 use Rattle.wb_simulation.specs.Laws.{StartsFollowed}
 use Rattle.wb_simulation.proofs.Cells.{shared_stays, gone_nowhere}
 use Rattle.wb_simulation.proofs.Telling.{unnoted_none}
-use Rattle.wb_simulation.proofs.Behind.{MigratesNot, IsNoMigration, stays_with, carries_same}
-use Rattle.wb_simulation.proofs.Among.{OthersStay, own_there, nobody_alone, behind_on, uncarried_then, goes_on, each_on, led_on, whole_on, one_on}
+use Rattle.wb_simulation.proofs.Orders.{MigratesNot, does_none, carries_same, orders_begun}
+use Rattle.wb_simulation.proofs.Among.{own_there, nobody_alone, goes_on, each_on, led_on, whole_on, one_on}
 
 all_inside : (size : ℕ) (part : BlockRange) → IsPart size part → AllInBlocks size part.extents
 all_inside size part is e c = (is.each e c).room
 
-module _ (size most : ℕ) (words : Words) (committing : Bool) (orders : List (Option Order)) (devices : Devices (List History)) (actors : List Actor) (a : ℕ) (x : Actor) (job : Job) (plan : Plan) (s : World) (ex : slice_get actors a ≡ Some x) (none : x.task ≡ None) (migrates : MigratesNot job) (begins : IsOutside plan.steps) (g : Agrees size most words committing orders devices actors s) where
-  others : OthersStay size words devices devices orders actors a x (record x { task = Some (job, plan) })
-  others = record { before = subst (λ (t : Option (Job × Plan)). IsNoMigration t) (sym none) tt; still = migrates; ordered = refl; outside = stays_with words x (Some (job, plan)) begins; carries = carries_same size devices orders actors a }
-
+module _ (size most : ℕ) (words : Words) (committing : Bool) (orders : List (Option Order)) (devices : Devices (List History)) (actors : List Actor) (a : ℕ) (x : Actor) (job : Job) (plan : Plan) (other : MigratesNot job) (s : World) (ex : slice_get actors a ≡ Some x) (g : Agrees size most words committing orders devices actors s) where
   abbrev Goal : Type 0
   Goal = Follows Quietly size most a s words committing orders devices (slice_set actors a (record x { task = Some (job, plan) }))
 
   -- the same job is started there
-  starts : (y : AbstractActor) (abstract_job : AbstractJob) (Is : AbstractActor → Type 0) → slice_get s.actors a ≡ Some y → CanStart size s a abstract_job Is → ((z : AbstractActor) → Is z → StandsFor size most words (record x { task = Some (job, plan) }) z × (z.leads ≡ false)) → Follows (Starts abstract_job) size most a s words committing orders devices (slice_set actors a (record x { task = Some (job, plan) }))
+  starts : (y : AbstractActor) (abstract_job : AbstractJob) (Is : AbstractActor → Type 0) → slice_get s.actors a ≡ Some y → CanStart size s a y abstract_job Is → ((z : AbstractActor) → Is z → StandsFor size most words (record x { task = Some (job, plan) }) z × (z.leads ≡ false) × (z.order ≡ None)) → Follows (Starts abstract_job) size most a s words committing orders devices (slice_set actors a (record x { task = Some (job, plan) }))
   starts y abstract_job Is ey st stands = record {
     records = Start a abstract_job ∷ [];
     run = (st.may, tt);
@@ -54,12 +51,9 @@ module _ (size most : ℕ) (words : Words) (committing : Bool) (orders : List (O
       led = led_on size most words words (λ f. f) committing orders devices actors a x (record x { task = Some (job, plan) }) s y g ex ey st.then_is leads s.shared refl;
       whole = whole_on size most words words (λ f. f) committing orders devices actors a x (record x { task = Some (job, plan) }) s y g ex ey st.then_is leads s.shared refl;
       one_leads = one_on size most words words (λ f. f) committing orders devices actors a x (record x { task = Some (job, plan) }) s y g ex ey st.then_is leads;
-      many = length-set s.actors a st.then_is ∙ g.many ∙ ap (λ (n : ℕ). n + n * length orders) (sym (length-set actors a (record x { task = Some (job, plan) })));
+      many = length-set s.actors a st.then_is ∙ g.many ∙ sym (length-set actors a (record x { task = Some (job, plan) }));
       each = each_on size most words words (λ f. f) committing orders devices actors a x (record x { task = Some (job, plan) }) s y g ex ey st.then_is (stands st.then_is st.at).0;
-      at = g.at;
-      behind_each = behind_on size most words words (λ f. f) committing orders devices actors a x (record x { task = Some (job, plan) }) s y g ex ey st.then_is devices others;
-      within = g.within;
-      carried = uncarried_then size most words words (λ f. f) committing orders devices actors a x (record x { task = Some (job, plan) }) s y g ex ey migrates;
+      orders_agree = orders_begun size words orders devices actors a x (record x { task = Some (job, plan) }) s y st.then_is s.shared ex ey g.orders_agree (stands st.then_is st.at).2 refl (does_none _ _ _ _ _ _ other);
     });
     turned = subst (λ (v : World). TurnedTo Stays s.shared v.shared) (sym st.world) (refl, refl, refl);
     desk = subst (λ (v : World). DeskTurnedTo Stays s.shared v.shared) (sym st.world) (refl, refl);
@@ -72,10 +66,10 @@ module _ (size most : ℕ) (words : Words) (committing : Bool) (orders : List (O
   -- nothing is started there, since the actor has kept something
   begins_late : (y : AbstractActor) → slice_get s.actors a ≡ Some y → StandsFor size most words x y → IsDoing size most words job plan x.card y → Goal
   begins_late y ey st doing = goes_on size most words words (λ f. f) committing orders devices actors a x (record x { task = Some (job, plan) }) s y g ex ey Quietly devices [] s.shared ([], unnoted_none y.task, refl) tt (shared_stays s.shared y y.task)
-      (subst (λ (z : AbstractActor). StandsFor size most words (record x { task = Some (job, plan) }) z) (sym (gone_nowhere y y.task)) (record { at = doing; below = st.below; order = st.order; among_others = st.among_others }))
-      (λ l. gone_nowhere y y.task) g.words_agree g.origin g.cache refl refl refl (refl, refl, refl) (refl, refl) others
+      (subst (λ (z : AbstractActor). StandsFor size most words (record x { task = Some (job, plan) }) z) (sym (gone_nowhere y y.task)) (record { at = doing; below = st.below; among_others = st.among_others }))
+      (λ l. gone_nowhere y y.task) g.words_agree g.origin g.cache refl refl refl (refl, refl, refl) (refl, refl) (ap (λ (v : AbstractActor). v.order) (gone_nowhere y y.task)) (λ o h. h) (carries_same size orders devices actors s a) (does_none _ _ _ _ _ _ other)
 
-rests : (size most : ℕ) (words : Words) (x : Actor) (y : AbstractActor) → StandsFor size most words x y → x.task ≡ None → (y.task ≡ None) × (IsIdle y ⊎ (flag words.fail ≡ true))
+rests : (size most : ℕ) (words : Words) (x : Actor) (y : AbstractActor) → StandsFor size most words x y → x.task ≡ None → (y.task ≡ None) × (IsResting y ⊎ (flag words.fail ≡ true))
 rests size most words x y st e = subst (λ t. IsBusyAt size most words t x.card y) e st.at
 
 late : (words : Words) (plan : Plan) (y : AbstractActor) → flag words.fail ≡ true → y.task ≡ None → plan ≡ table plan.job → IsLate words plan y
@@ -89,10 +83,10 @@ starts_followed = record {
       let r = rests size most words x y.0 st none in
       let plan = table (OnBlock (Reading part)) in
       elim r.1 [
-        | inl idle ↦ inl (starts size most words committing orders devices actors a x (Read extent) plan s ex none tt tt g y.0 (job_for size [] (OnBlock (Reading part))) (λ z. IsAt size [] plan x.card z) y.1
+        | inl idle ↦ inl (starts size most words committing orders devices actors a x (Read extent) plan tt s ex g y.0 (job_for size [] (OnBlock (Reading part))) (λ z. IsAt size [] plan x.card z) y.1
             (tasks_begin.read size [] s a y.0 x.card part y.1 idle (nobody_alone size most words committing orders devices actors s g) (all_inside size part is) hold)
-            (λ z at. (record { at = record { part = part; job = refl; is_part = is; of_block = tt; at = inl at }; below = has_no_more size [] plan x.card z at; order = ap (λ (v : AbstractActor). v.order) at.is; among_others = ap (λ (v : AbstractActor). is_alone v.task) at.is }, ap (λ (v : AbstractActor). v.leads) at.is)))
-        | inr f ↦ inr (begins_late size most words committing orders devices actors a x (Read extent) plan s ex none tt tt g y.0 y.1 st (record { part = part; job = refl; is_part = is; of_block = tt; at = inr (inr (late words plan y.0 f r.0 refl)) }))
+            (λ z at. (record { at = record { part = part; job = refl; is_part = is; of_block = tt; at = inl at }; below = has_no_more size [] plan x.card z at; among_others = ap (λ (v : AbstractActor). is_alone v.task) at.is }, ap (λ (v : AbstractActor). v.leads) at.is, ap (λ (v : AbstractActor). v.order) at.is)))
+        | inr f ↦ inr (begins_late size most words committing orders devices actors a x (Read extent) plan tt s ex g y.0 y.1 st (record { part = part; job = refl; is_part = is; of_block = tt; at = inr (inr (late words plan y.0 f r.0 refl)) }))
       ];
   write = λ size most words committing orders devices actors a x extent content part s ex none hold is g.
       let y = own_there size most words committing orders devices actors s g a x ex in
@@ -100,28 +94,28 @@ starts_followed = record {
       let r = rests size most words x y.0 st none in
       let plan = table (OnBlock (Writing part)) in
       elim r.1 [
-        | inl idle ↦ inl (starts size most words committing orders devices actors a x (Write extent content) plan s ex none tt tt g y.0 (job_for size content (OnBlock (Writing part))) (λ z. IsAt size content plan x.card z) y.1
+        | inl idle ↦ inl (starts size most words committing orders devices actors a x (Write extent content) plan tt s ex g y.0 (job_for size content (OnBlock (Writing part))) (λ z. IsAt size content plan x.card z) y.1
             (tasks_begin.write size content s a y.0 x.card part y.1 idle (nobody_alone size most words committing orders devices actors s g) (all_inside size part is) g.mode hold)
-            (λ z at. (record { at = record { part = part; job = refl; is_part = is; of_block = tt; at = inl at }; below = has_no_more size content plan x.card z at; order = ap (λ (v : AbstractActor). v.order) at.is; among_others = ap (λ (v : AbstractActor). is_alone v.task) at.is }, ap (λ (v : AbstractActor). v.leads) at.is)))
-        | inr f ↦ inr (begins_late size most words committing orders devices actors a x (Write extent content) plan s ex none tt tt g y.0 y.1 st (record { part = part; job = refl; is_part = is; of_block = tt; at = inr (inr (late words plan y.0 f r.0 refl)) }))
+            (λ z at. (record { at = record { part = part; job = refl; is_part = is; of_block = tt; at = inl at }; below = has_no_more size content plan x.card z at; among_others = ap (λ (v : AbstractActor). is_alone v.task) at.is }, ap (λ (v : AbstractActor). v.leads) at.is, ap (λ (v : AbstractActor). v.order) at.is)))
+        | inr f ↦ inr (begins_late size most words committing orders devices actors a x (Write extent content) plan tt s ex g y.0 y.1 st (record { part = part; job = refl; is_part = is; of_block = tt; at = inr (inr (late words plan y.0 f r.0 refl)) }))
       ];
-  flush = λ size most words committing orders devices actors a x s ex none g.
+  flush = λ size most words committing orders devices actors a x serves s ex none g.
       let y = own_there size most words committing orders devices actors s g a x ex in
       let st = g.each a x y.0 ex y.1 in
       let r = rests size most words x y.0 st none in
-      let plan = table (Flushing [] most) in
+      let plan = table (Flushing serves most) in
       elim r.1 [
-        | inl idle ↦ inl (starts size most words committing orders devices actors a x Flush plan s ex none tt tt g y.0 (FlushingFor None) (λ z. IsFlushing size [] plan false z) y.1
-            (tasks_begin.flush size most [] s a y.0 y.1 idle (nobody_alone size most words committing orders devices actors s g))
+        | inl idle ↦ inl (starts size most words committing orders devices actors a x Flush plan tt s ex g y.0 (FlushingFor None) (λ z. IsFlushing size [] plan false z) y.1
+            (tasks_begin.flush size serves most [] s a y.0 y.1 idle (nobody_alone size most words committing orders devices actors s g))
             (λ z at. (
               record {
-                at = record { job = refl; steps = refl; at = inl (record { leads = false; at = refl; failed = λ e n. absurd (cc); is = at }) };
+                at = record { serves = serves; job = refl; steps = refl; at = inl (record { leads = false; at = refl; failed = λ e n. absurd (cc); is = at }) };
                 below = holds_nothing z x.card (ap (λ (v : AbstractActor). v.held) at.is);
-                order = ap (λ (v : AbstractActor). v.order) at.is;
                 among_others = ap (λ (v : AbstractActor). is_alone v.task) at.is;
               },
               ap (λ (v : AbstractActor). v.leads) at.is,
+              ap (λ (v : AbstractActor). v.order) at.is,
             )))
-        | inr f ↦ inr (begins_late size most words committing orders devices actors a x Flush plan s ex none tt tt g y.0 y.1 st (record { job = refl; steps = refl; at = inr (late words plan y.0 f r.0 refl) }))
+        | inr f ↦ inr (begins_late size most words committing orders devices actors a x Flush plan tt s ex g y.0 y.1 st (record { serves = serves; job = refl; steps = refl; at = inr (late words plan y.0 f r.0 refl) }))
       ];
 }

@@ -27,7 +27,7 @@ use Rattle.wb_refines.specs.Data.{IsInBlock}
 use Rattle.wb_refines.specs.Translation.{location_at}
 use Rattle.wb_refines.proofs.Tables.{at_place}
 use Rattle.wb_refines.specs.Migrations.{order_on, source, Fills, IsWhere}
-use Rattle.wb_simulation.specs.Behind.{target, AreCopiedAt}
+use Rattle.wb_simulation.specs.Carried.{target, AreCopiedAt}
 use Rattle.wb_simulation.specs.Steps.{IsOfBlock, IsPart, AreOfBlock, ArePaired, IsNoWrite}
 
 -- a seal of a cache block tells it
@@ -177,9 +177,9 @@ module _ (size : ℕ) (part : BlockRange) (is : IsPart size part) where
   cleaning_works c small false = ((place_told c.0 false small, tt), (tt, (tt, (tt, tt))), tt, tt)
 
   -- what a migration does once it has its block, where it is to find it
-  pub migration_works : (migration : Migration) (c : CBlock) → Fills migration c → c.0 < 2 ^ 32 → (seal : ℕ) → IsWhere migration c (place_in seal) →
-      Copies (source (order_on part c None) migration) (target (order_on part c None) migration) (work_of (OnBlock (Migrating migration part)) seal)
-  migration_works (Promote k) c fills small seal where_is = subst (λ (v : ℕ). Copies None (Some v) (work (Migrating (Promote k) part) (place_in seal) (dirty_in seal))) (ap (λ (v : CBlock). v.0) fills)
+  pub migration_works : (migration : Migration) (c : CBlock) (next : Option ℕ) → Fills migration c → c.0 < 2 ^ 32 → (seal : ℕ) → IsWhere migration c (place_in seal) →
+      Copies (source (order_on part c next) migration) (target (order_on part c next) migration) (work_of (OnBlock (Migrating migration part)) seal)
+  migration_works (Promote k) c next fills small seal where_is = subst (λ (v : ℕ). Copies None (Some v) (work (Migrating (Promote k) part) (place_in seal) (dirty_in seal))) (ap (λ (v : CBlock). v.0) fills)
       (promotion_works k (subst (λ (v : CBlock). v.0 < 2 ^ 32) (sym fills) small) (place_in seal) (dirty_in seal))
-  migration_works Demote c fills small seal where_is = subst (λ (place : Option CBlock). Copies (Some c.0) None (work (Migrating Demote part) place (dirty_in seal))) (sym where_is) (demotion_works c (dirty_in seal))
-  migration_works Clean c fills small seal where_is = subst (λ (place : Option CBlock). Copies (Some c.0) None (work (Migrating Clean part) place (dirty_in seal))) (sym where_is) (cleaning_works c small (dirty_in seal))
+  migration_works Demote c next fills small seal where_is = subst (λ (place : Option CBlock). Copies (Some c.0) None (work (Migrating Demote part) place (dirty_in seal))) (sym where_is) (demotion_works c (dirty_in seal))
+  migration_works Clean c next fills small seal where_is = subst (λ (place : Option CBlock). Copies (Some c.0) None (work (Migrating Clean part) place (dirty_in seal))) (sym where_is) (cleaning_works c small (dirty_in seal))

@@ -33,17 +33,17 @@ changed_nothing f a v e = λ i b. at b i
 -- ---- steps of which nothing is noted
 
 histories_stay : (h : ℕ → ℕ → History) (job : Job) (w : Want) → IsUnnoted w → histories_after h job w ≡ h
-histories_stay h (Writing b os c) (Write_at location b' o) u = absurd u
+histories_stay h (Writing past b os c) (Write_at location b' o) u = absurd u
 histories_stay h (Writing_through b os c) (Write_at location b' o) u = absurd u
 histories_stay h job w u = refl
 
 entered_stay : (h : ℕ → ℕ → History) (job : Job) (w : Want) (es : List Entry) → IsUnnoted w → entered_after h job w es ≡ es
-entered_stay h (Writing b os c) (Write_at location b' o) es u = absurd u
+entered_stay h (Writing past b os c) (Write_at location b' o) es u = absurd u
 entered_stay h (Writing_through b os c) (Write_at location b' o) es u = absurd u
 entered_stay h job w es u = refl
 
 finished_stay : (job : Job) (w : Want) (es : List Entry) (f : ℕ → ℕ → ℕ) → IsUnnoted w → finished_after job w es f ≡ f
-finished_stay (Writing b os c) (End answer) es f u = absurd u
+finished_stay (Writing past b os c) (End answer) es f u = absurd u
 finished_stay (Writing_through b os c) (End answer) es f u = absurd u
 finished_stay job w es f u = refl
 
@@ -106,14 +106,14 @@ untold (got ∷ gots) (Some script) m a j u =
 -- ---- reads
 
 -- what a read is given is right, each sector by itself
-pub reads_newest : (location : Option ℕ) (b : ℕ) (all : List ℕ) (rest : List Want) (answer : Answer) (contents : List Content) (o : ℕ) (m : Notes) (a : ℕ) → m.jobs a ≡ Some (Reading b all) →
+pub reads_newest : (location : Option ℕ) (b : ℕ) (all : List ℕ) (rest : List Want) (answer : Answer) (contents : List Content) (o : ℕ) (m : Notes) (a : ℕ) → m.jobs a ≡ Some (Reading false b all) →
     AllRight m (map (λ (r : Record). On r) (records a (Some (reading b all (read_each location b (rising o (length contents)) rest) answer)) (map Gave contents))) → AreNewest m.histories b o contents
 reads_newest location b all rest answer [] o m a j r = tt
 reads_newest location b all rest answer (c ∷ contents) o m a j r = (
   subst (λ (k : Option Job). GivesLatest m.histories k (Read_at location b o) (Gave c)) j r.0,
   reads_newest location b all rest answer contents (o + 1) m a j
       (subst (λ (k : Notes). AllRight k (map (λ (r : Record). On r) (records a (Some (reading b all (read_each location b (rising (o + 1) (length contents)) rest) answer)) (map Gave contents))))
-      (unnoted m a (Reading b all) (Read_at location b o) (Gave c) j tt) r.1),
+      (unnoted m a (Reading false b all) (Read_at location b o) (Gave c) j tt) r.1),
 )
 
 -- ---- writes
@@ -149,16 +149,16 @@ length-written (x ∷ xs) (suc at) c = by (slice_get xs at) (length-written xs a
     by (Some h) e = ap suc e
 
 -- the notes after one sector's write, whatever came of it
-one_written : (size : ℕ) (to : Option ℕ) (b : ℕ) (all : List ℕ) (c : Content) (o : ℕ) (got : Got) (m : Notes) (a : ℕ) (h : List History) (entered : List Position) → m.jobs a ≡ Some (Writing b all c) → m.histories ≡ by_block size zeros h → AreEntries size (length h) entered (m.entered a) →
+one_written : (size : ℕ) (to : Option ℕ) (b : ℕ) (all : List ℕ) (c : Content) (o : ℕ) (got : Got) (m : Notes) (a : ℕ) (h : List History) (entered : List Position) → m.jobs a ≡ Some (Writing false b all c) → m.histories ≡ by_block size zeros h → AreEntries size (length h) entered (m.entered a) →
     o < size → b * size + o < length h → Wrote size (length h) a m (note m (Step a (Write_at to b o) got)) (enter c (b * size + o) (record { histories = h; entered = entered }))
 one_written size to b all c o got m a h entered j here are l inside = subst (λ (m' : Notes). Wrote size (length h) a m m' (enter c (b * size + o) (record { histories = h; entered = entered }))) (sym (ap (λ (k : Option Job). noted_step m a k (Write_at to b o)) j)) (record {
   histories = ap (λ (f : ℕ → ℕ → History). changed_at f b o (added (f b o) c)) here ∙ sym (write_is_act size zeros h b o c l inside);
-  entered = subst (λ (es : List Entry). AreEntries size (length h) (entered ++ record { sector = b * size + o; position = next_position (slice_get h (b * size + o)) } ∷ []) es) (sym (changed_same m.entered a (entered_after m.histories (Writing b all c) (Write_at to b o) (m.entered a))))
+  entered = subst (λ (es : List Entry). AreEntries size (length h) (entered ++ record { sector = b * size + o; position = next_position (slice_get h (b * size + o)) } ∷ []) es) (sym (changed_same m.entered a (entered_after m.histories (Writing false b all c) (Write_at to b o) (m.entered a))))
       (subst (λ (p : ℕ). AreEntries size (length h) (entered ++ record { sector = b * size + o; position = next_position (slice_get h (b * size + o)) } ∷ []) (record { block = b; offset = o; position = p } ∷ m.entered a))
       (sym (ap (λ (f : ℕ → ℕ → History). length (f b o).later + 1) here ∙ next_there size h b o l inside))
       (one_entry_more size (length h) b o (next_position (slice_get h (b * size + o))) entered (m.entered a) l inside are));
-  others = λ k n. changed_other m.entered a k (entered_after m.histories (Writing b all c) (Write_at to b o) (m.entered a)) n;
-  jobs = changed_nothing m.jobs a (Some (Writing b all c)) j;
+  others = λ k n. changed_other m.entered a k (entered_after m.histories (Writing false b all c) (Write_at to b o) (m.entered a)) n;
+  jobs = changed_nothing m.jobs a (Some (Writing false b all c)) j;
   asked = refl;
   finished = refl;
   floors = refl;
@@ -176,7 +176,7 @@ both_written size sectors a m m' m'' e e' v w = record {
 }
 
 -- one sector, and then those after it
-module _ (size : ℕ) (to : Option ℕ) (b : ℕ) (all : List ℕ) (c : Content) (a o count : ℕ) (got : Got) (m : Notes) (h : List History) (entered : List Position) (j : m.jobs a ≡ Some (Writing b all c)) (here : m.histories ≡ by_block size zeros h) (are : AreEntries size (length h) entered (m.entered a))
+module _ (size : ℕ) (to : Option ℕ) (b : ℕ) (all : List ℕ) (c : Content) (a o count : ℕ) (got : Got) (m : Notes) (h : List History) (entered : List Position) (j : m.jobs a ≡ Some (Writing false b all c)) (here : m.histories ≡ by_block size zeros h) (are : AreEntries size (length h) entered (m.entered a))
     (l : o + suc count ≤ size) (inside : b * size + o + suc count ≤ length h) where
   abbrev m1 : Notes
   m1 = note m (Step a (Write_at to b o) got)
@@ -190,7 +190,7 @@ module _ (size : ℕ) (to : Option ℕ) (b : ℕ) (all : List ℕ) (c : Content)
   as_long : length e1.histories ≡ length h
   as_long = length-written h (b * size + o) c
 
-  job_then : m1.jobs a ≡ Some (Writing b all c)
+  job_then : m1.jobs a ≡ Some (Writing false b all c)
   job_then = ap (λ (f : ℕ → Option Job). f a) one.jobs ∙ j
 
   entries_then : AreEntries size (length e1.histories) e1.entered (m1.entered a)
@@ -206,7 +206,7 @@ module _ (size : ℕ) (to : Option ℕ) (b : ℕ) (all : List ℕ) (c : Content)
       (subst (λ (k : ℕ). Wrote size (length h) a m1 m2 (enter_each c (rising k count) e1)) next (subst (λ (k : ℕ). Wrote size k a m1 m2 (enter_each c (rising (b * size + (o + 1)) count) e1)) as_long w))
 
 pub writes_told : (size : ℕ) (to : Option ℕ) (b : ℕ) (all : List ℕ) (c : Content) (a : ℕ) (count : ℕ) (gots : List Got) (rest : List Want) (answer : Answer) (o : ℕ) (m : Notes) (h : List History) (entered : List Position) → AreWrites count gots →
-    m.jobs a ≡ Some (Writing b all c) → m.histories ≡ by_block size zeros h → AreEntries size (length h) entered (m.entered a) → o + count ≤ size → b * size + o + count ≤ length h →
+    m.jobs a ≡ Some (Writing false b all c) → m.histories ≡ by_block size zeros h → AreEntries size (length h) entered (m.entered a) → o + count ≤ size → b * size + o + count ≤ length h →
     Wrote size (length h) a m (told m (records a (Some (writing b all c (write_each to b (rising o count) rest) answer)) gots)) (enter_each c (rising (b * size + o) count) (record { histories = h; entered = entered }))
 writes_told size to b all c a zero [] rest answer o m h entered w j here are l inside = record { histories = here; entered = are; others = λ k n. refl; jobs = refl; asked = refl; finished = refl; floors = refl }
 writes_told size to b all c a zero (got ∷ gots) rest answer o m h entered w j here are l inside = absurd w
@@ -224,7 +224,7 @@ writes_told size to b all c a (suc zero) (Fault choice ∷ got ∷ gots) rest an
 writes_told size to b all c a (suc (suc count)) (Fault choice ∷ gots) rest answer o m h entered w j here are l inside =
     let g = Fault choice in
     let k = suc count in
-    let steps_are : steps_after_fault (Writing b all c) choice.more (write_each to b (rising (o + 1) k) rest) ≡ write_each to b (rising (o + 1) k) (until_failed rest) = ap (λ (t : Bool). steps_after_fault (Writing b all c) t (write_each to b (rising (o + 1) k) rest)) w.0 ∙ until_written to b (rising (o + 1) k) rest in
+    let steps_are : steps_after_fault (Writing false b all c) choice.more (write_each to b (rising (o + 1) k) rest) ≡ write_each to b (rising (o + 1) k) (until_failed rest) = ap (λ (t : Bool). steps_after_fault (Writing false b all c) t (write_each to b (rising (o + 1) k) rest)) w.0 ∙ until_written to b (rising (o + 1) k) rest in
     subst (λ (ws : List Want). Wrote size (length h) a m (told (note m (Step a (Write_at to b o) g)) (records a (Some (writing b all c ws Io)) gots)) (enter_each c (rising (b * size + o) (suc k)) (record { histories = h; entered = entered }))) (sym steps_are)
     (after_one size to b all c a o k g m h entered j here are l inside _
     (writes_told size to b all c a k gots (until_failed rest) Io (o + 1) (m1 size to b all c a o k g m h entered j here are l inside) (e1 size to b all c a o k g m h entered j here are l inside).histories (e1 size to b all c a o k g m h entered j here are l inside).entered w.1

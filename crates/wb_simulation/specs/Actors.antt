@@ -12,15 +12,16 @@ use Rattle.wb_tasks.specs.declared.step.Want.{Want}
 use Rattle.wb_tasks.specs.declared.step.Want.TheVariants.{Cell, Device, Desk}
 use Rattle.wb_tasks.specs.declared.step.DeviceStep.TheVariants.{Sync}
 use Rattle.wb_types.specs.declared.mode.Dev.TheVariants.{Cache, Origin}
-use Rattle.wb_tasks.specs.declared.step.DeskStep.TheVariants.{BeginCommit}
+use Rattle.wb_tasks.specs.declared.step.DeskStep.TheVariants.{BeginCommit, ReleaseOrder}
+use Rattle.wb_types.specs.declared.number.OBlock.{OBlock}
 use Rattle.wb_link.specs.World.{Actor as AbstractActor, is_alone}
 use Rattle.wb_refines.specs.Models.{IsAt, HasStopped, IsBelow}
 use Rattle.wb_refines.specs.Flushes.{IsFlushing, IsOnMetadata}
-use Rattle.wb_refines.specs.Tasks.{IsIdle}
+use Rattle.wb_refines.specs.Tasks.{IsResting}
 use Rattle.wb_runs.specs.declared.job.Job.{Job}
 use Rattle.wb_runs.specs.declared.job.Job.TheVariants.{Read, Write, Flush, Open, Migrate, Replace}
 use Rattle.wb_runs.specs.States.{Actor}
-use Rattle.wb_simulation.specs.Steps.{IsPart, AreOfBlock, IsOutside}
+use Rattle.wb_simulation.specs.Steps.{IsPart, AreOfBlock}
 
 -- A task that began though its actor has still what it kept at a failure: there it has none, and it ends at its look at the fail word.
 pub record IsLate (words : Words) (plan : Plan) (y : AbstractActor) : Type 0 where
@@ -36,11 +37,18 @@ pub record IsRequestAt (size : ℕ) (content : Content) (words : Words) (job_on 
   pub of_block : AreOfBlock size part.block.0 plan.steps
   pub at : IsAt size content plan card y ⊎ HasStopped words plan card y ⊎ IsLate words plan y
 
+-- orders are given up, and nothing else is left
+abbrev pub AreReleases : List Want → Type 0
+AreReleases [] = Unit {0}
+AreReleases (Desk (ReleaseOrder block) ∷ later) = AreReleases later
+AreReleases steps = ⊥
+
 -- what may be left of a flush
 abbrev pub IsOfFlush : ℕ → List Want → Type 0
 IsOfFlush most [] = Unit {0}
 IsOfFlush most (Cell (Look Fail) ∷ later) = later ≡ Desk (BeginCommit false most) ∷ []
 IsOfFlush most (Desk (BeginCommit clean nodes) ∷ later) = (clean ≡ false) × (nodes ≡ most) × (later ≡ [])
+IsOfFlush most (Desk (ReleaseOrder block) ∷ later) = AreReleases later
 IsOfFlush most (Cell SetFailed ∷ later) = later ≡ []
 IsOfFlush most (Device (Sync Cache) ∷ Device (Sync Origin) ∷ later) = IsOnMetadata later
 IsOfFlush most (Device (Sync Origin) ∷ later) = IsOnMetadata later
@@ -51,6 +59,7 @@ abbrev pub LeadsAt : Bool → List Want → Type 0
 LeadsAt leads [] = Unit {0}
 LeadsAt leads (Cell (Look Fail) ∷ later) = leads ≡ false
 LeadsAt leads (Desk (BeginCommit clean most) ∷ later) = leads ≡ false
+LeadsAt leads (Desk (ReleaseOrder block) ∷ later) = leads ≡ false
 LeadsAt leads steps = leads ≡ true
 
 -- it is at the same there; where it leads a commit still when it answers, the target has failed
@@ -61,33 +70,27 @@ pub record IsLeading (size : ℕ) (words : Words) (plan : Plan) (y : AbstractAct
   pub is : IsFlushing size [] plan leads y
 
 pub record IsFlushAt (size most : ℕ) (words : Words) (plan : Plan) (y : AbstractActor) : Type 0 where
-  pub job : plan.job ≡ Flushing [] most
+  pub serves : List OBlock
+  pub job : plan.job ≡ Flushing serves most
   pub steps : IsOfFlush most plan.steps
   pub at : IsLeading size words plan y ⊎ IsLate words plan y
 
--- Its migration is done by another one there, so it rests. What it has kept at a failure it has from an earlier task: this one has still to
--- look at the fail word, or has only to answer.
-pub record IsAside (words : Words) (plan : Plan) (y : AbstractActor) : Type 0 where
-  pub nothing : y.task ≡ None
-  pub rests : IsIdle y ⊎ ((flag words.fail ≡ true) × IsOutside plan.steps)
-
--- what an actor with this job is there
+-- what an actor with this job is there; of a migration `Carried` speaks
 abbrev pub IsDoing : (size most : ℕ) → Words → Job → Plan → Card → AbstractActor → Type 0
 IsDoing size most words (Read extent) plan card y = IsRequestAt size [] words Reading plan card y
 IsDoing size most words (Write extent content) plan card y = IsRequestAt size content words Writing plan card y
 IsDoing size most words Flush plan card y = IsFlushAt size most words plan y
 IsDoing size most words (Open mode) plan card y = ⊥
-IsDoing size most words (Migrate migration block) plan card y = IsAside words plan y
+IsDoing size most words (Migrate migration block) plan card y = Unit {0}
 IsDoing size most words (Replace old new) plan card y = ⊥
 
 -- one without a task is idle, or has kept something at a failure
 abbrev pub IsBusyAt : (size most : ℕ) → Words → Option (Job × Plan) → Card → AbstractActor → Type 0
-IsBusyAt size most words None card y = (y.task ≡ None) × (IsIdle y ⊎ (flag words.fail ≡ true))
+IsBusyAt size most words None card y = (y.task ≡ None) × (IsResting y ⊎ (flag words.fail ≡ true))
 IsBusyAt size most words (Some doing) card y = IsDoing size most words doing.0 doing.1 card y
 
--- An actor of a run is this one there, which has no block that the card does not count, no order, and no task that has to be alone.
+-- An actor of a run is this one there, which has no block that the card does not count, and no task that has to be alone.
 pub record StandsFor (size most : ℕ) (words : Words) (x : Actor) (y : AbstractActor) : Type 0 where
   pub at : IsBusyAt size most words x.task x.card y
   pub below : IsBelow y x.card
-  pub order : y.order ≡ None
   pub among_others : is_alone y.task ≡ false

@@ -1,5 +1,5 @@
 -- How what actors of a run do is followed in the abstract world, where a target stands.
-use Rattle.std.specs.Prelude.{◌%◌, ◌/◌, ◌*◌, ◌≡◌, ◌≤◌, ◌+◌, ◌⊎◌, ℕ, Bool, true, false, List, [], Some, None, length, replicate, slice_get, slice_set, Option}
+use Rattle.std.specs.Prelude.{◌++◌, Contains, ◌%◌, ◌/◌, ◌≡◌, ◌≤◌, ◌+◌, ◌⊎◌, ℕ, Bool, true, false, List, [], Some, None, length, replicate, slice_get, slice_set, Option}
 use Rattle.wb_types.specs.declared.extent.Extent.{Extent}
 use Rattle.wb_types.specs.declared.mode.Dev.{Dev}
 use Rattle.wb_types.specs.declared.mode.Dev.TheVariants.{Metadata, Cache}
@@ -22,7 +22,7 @@ use Rattle.wb_tasks.specs.declared.step.Answer.{Answer}
 use Rattle.wb_words.specs.declared.card.Hold.TheVariants.{Nothing}
 use Rattle.wb_tasks.specs.Ready.{Suits, HoldsBlocks}
 use Rattle.wb_tasks.specs.declared.step.Want.TheVariants.{Cell, Device, Desk, End}
-use Rattle.wb_tasks.specs.declared.step.DeskStep.TheVariants.{BeginCommit, EndCommit}
+use Rattle.wb_tasks.specs.declared.step.DeskStep.TheVariants.{BeginCommit, EndCommit, ReleaseOrder}
 use Rattle.wb_tasks.specs.declared.step.DeviceStep.{DeviceStep}
 use Rattle.wb_tasks.specs.declared.step.DeviceStep.TheVariants.{Read as ReadExtent, Write as WriteExtent, Sync, WriteRoot}
 use Rattle.wb_tasks.specs.declared.step.Got.{Got}
@@ -37,9 +37,10 @@ use Rattle.wb_runs.specs.declared.job.Job.{Job}
 use Rattle.wb_runs.specs.declared.job.Job.TheVariants.{Read, Write, Flush}
 use Rattle.wb_runs.specs.States.{Actor, resting, with_device}
 use Rattle.wb_runs.specs.Holding.{cards_of, AllSuited}
+use Rattle.wb_simulation.specs.Carried.{held}
 use Rattle.wb_simulation.specs.Steps.{IsPart}
-use Rattle.wb_simulation.specs.Telling.{Quietly, Reads, Writes, Answers, Starts}
-use Rattle.wb_simulation.specs.Worlds.{zeros, Agrees, Turn, Stays, Begins, Puts, Ends, FollowsBy, Follows}
+use Rattle.wb_simulation.specs.Telling.{Quietly, Reads, Writes, Answers, Starts, Releases}
+use Rattle.wb_simulation.specs.Worlds.{zeros, Agrees, Turn, Stays, Begins, Puts, Ends, GivesUp, FollowsBy, Follows}
 
 abbrev pub IsRequestJob : Job → Type 0
 IsRequestJob (Read extent) = Unit {0}
@@ -100,9 +101,9 @@ pub record StartsFollowed : Type 0 where
   pub write : (size most : ℕ) (words : Words) (committing : Bool) (orders : List (Option Order)) (devices : Devices (List History)) (actors : List Actor) (a : ℕ) (x : Actor) (extent : Extent) (content : Content) (part : BlockRange) (s : World) →
       slice_get actors a ≡ Some x → x.task ≡ None → x.card.hold ≡ Nothing → IsPart size part → Agrees size most words committing orders devices actors s →
       Begun (job_for size content (OnBlock (Writing part))) size most a s words committing orders devices (slice_set actors a (record x { task = Some (Write extent content, table (OnBlock (Writing part))) }))
-  pub flush : (size most : ℕ) (words : Words) (committing : Bool) (orders : List (Option Order)) (devices : Devices (List History)) (actors : List Actor) (a : ℕ) (x : Actor) (s : World) →
+  pub flush : (size most : ℕ) (words : Words) (committing : Bool) (orders : List (Option Order)) (devices : Devices (List History)) (actors : List Actor) (a : ℕ) (x : Actor) (serves : List OBlock) (s : World) →
       slice_get actors a ≡ Some x → x.task ≡ None → Agrees size most words committing orders devices actors s →
-      Begun (FlushingFor None) size most a s words committing orders devices (slice_set actors a (record x { task = Some (Flush, table (Flushing [] most)) }))
+      Begun (FlushingFor None) size most a s words committing orders devices (slice_set actors a (record x { task = Some (Flush, table (Flushing serves most)) }))
 
 -- what a job writes to each of its sectors
 abbrev pub content_of : Job → Content
@@ -119,6 +120,10 @@ AnswersFollowed = (size most blocks : ℕ) (words : Words) (committing : Bool) (
 abbrev pub turn_of : DeviceStep → Turn
 turn_of WriteRoot = Puts true
 turn_of step = Stays
+
+-- no other actor has this order
+abbrev pub IsOnlyOf : List Actor → ℕ → Order → Type 0
+IsOnlyOf actors a order = (b : ℕ) (z : Actor) → slice_get actors b ≡ Some z → Contains (held z) order → b ≡ a
 
 -- Each step of a flush, with each result that it may have: on the words, on the desk, and on the devices, done or failing.
 pub record FlushStepsFollowed : Type 0 where
@@ -147,14 +152,21 @@ pub record FlushStepsFollowed : Type 0 where
   pub ends : (size most : ℕ) (words : Words) (committing : Bool) (orders : List (Option Order)) (devices : Devices (List History)) (actors : List Actor) (a : ℕ) (x : Actor) (plan : Plan) (s : World) →
       slice_get actors a ≡ Some x → x.task ≡ Some (Flush, plan) → want plan ≡ Desk EndCommit → Agrees size most words committing orders devices actors s →
       FollowsBy Ends Quietly size most a s words false orders devices (slice_set actors a (after_step Flush plan Done x))
+  -- an order that waits for it is given up, or none is
+  pub gives_up : (size most : ℕ) (block : OBlock) (words : Words) (committing : Bool) (orders : List (Option Order)) (devices : Devices (List History)) (actors : List Actor) (a : ℕ) (x : Actor) (plan : Plan) (c : ℕ) (order : Order) (awaiting' : List Order) (s : World) →
+      slice_get actors a ≡ Some x → x.task ≡ Some (Flush, plan) → want plan ≡ Desk (ReleaseOrder block) → slice_get orders c ≡ Some (Some order) → IsOnlyOf actors a order → Agrees size most words committing orders devices actors s →
+      FollowsBy (GivesUp c) Releases size most a s words committing (slice_set orders c None) devices (slice_set actors a (record (after_step Flush plan Done x) { awaiting = awaiting' }))
+  pub releases : (size most : ℕ) (block : OBlock) (words : Words) (committing : Bool) (orders : List (Option Order)) (devices : Devices (List History)) (actors : List Actor) (a : ℕ) (x : Actor) (plan : Plan) (s : World) →
+      slice_get actors a ≡ Some x → x.task ≡ Some (Flush, plan) → want plan ≡ Desk (ReleaseOrder block) → Agrees size most words committing orders devices actors s →
+      Follows Quietly size most a s words committing orders devices (slice_set actors a (after_step Flush plan Done x))
   pub fails : (size most failures suspensions : ℕ) (words : Words) (committing : Bool) (orders : List (Option Order)) (devices : Devices (List History)) (actors : List Actor) (a : ℕ) (x : Actor) (plan : Plan) (s : World) → words.fail ≡ fail_word failures suspensions →
       slice_get actors a ≡ Some x → x.task ≡ Some (Flush, plan) → want plan ≡ Cell SetFailed → Agrees size most words committing orders devices actors s →
       Follows Quietly size most a s (words_after words SetFailed) committing orders devices (slice_set actors a (went words Flush plan SetFailed x))
-  pub answers : (size most : ℕ) (answer : Answer) (words : Words) (committing : Bool) (orders : List (Option Order)) (devices : Devices (List History)) (actors : List Actor) (a : ℕ) (x : Actor) (plan : Plan) (s : World) →
-      slice_get actors a ≡ Some x → x.task ≡ Some (Flush, plan) → want plan ≡ End answer → Agrees size most words committing orders devices actors s →
-      Follows (Answers (FlushingFor None) answer) size most a s words committing orders devices (slice_set actors a (record x { task = None }))
+  pub answers : (size most : ℕ) (answer : Answer) (words : Words) (committing : Bool) (orders : List (Option Order)) (devices : Devices (List History)) (actors : List Actor) (a : ℕ) (x : Actor) (plan : Plan) (orders' awaiting' : List Order) (s : World) →
+      slice_get actors a ≡ Some x → x.task ≡ Some (Flush, plan) → want plan ≡ End answer → ((o : Order) → Contains (held x) o → Contains (orders' ++ awaiting') o) → Agrees size most words committing orders devices actors s →
+      Follows (Answers (FlushingFor None) answer) size most a s words committing orders devices (slice_set actors a (record x { task = None; orders = orders'; awaiting = awaiting' }))
 
 -- a target that was just made over empty devices of these sizes, with so many actors who have nothing to do, and no order
 abbrev pub CanAgree : Type 0
 CanAgree = (size most blocks caches cache origin many : ℕ) →
-    Agrees size most (fresh_words blocks) false (replicate caches None) (record { metadata = []; cache = replicate cache (only zeros); origin = replicate origin (only zeros) }) (replicate many resting) (world_begins (many + many * caches) zeros)
+    Agrees size most (fresh_words blocks) false (replicate caches None) (record { metadata = []; cache = replicate cache (only zeros); origin = replicate origin (only zeros) }) (replicate many resting) (world_begins many zeros)

@@ -1,6 +1,6 @@
 pub mod Steps
 pub mod Actors
-pub mod Behind
+pub mod Carried
 pub mod Telling
 pub mod Worlds
 pub mod Sites

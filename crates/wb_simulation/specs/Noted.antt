@@ -1,5 +1,5 @@
 -- How the two clerks' notes stay alike by what the abstract one is told, and what it says of reads.
-use Rattle.std.specs.Prelude.{◌≡◌, ◌<◌, ◌≤◌, ◌+◌, ◌*◌, ℕ, Bool, List, [], ◌∷◌, Option, Some, None, length, map, slice_get}
+use Rattle.std.specs.Prelude.{false, ◌≡◌, ◌<◌, ◌≤◌, ◌+◌, ◌*◌, ℕ, Bool, List, [], ◌∷◌, Option, Some, None, length, map, slice_get}
 use Rattle.wb_types.specs.Extents.{rising}
 use Rattle.wb_disk.specs.Device.{Content, History, newest, only}
 use Rattle.wb_contents.specs.Devices.{by_block}
@@ -16,7 +16,7 @@ use Rattle.wb_runs.specs.declared.job.Job.{Job}
 use Rattle.wb_runs.specs.Clerk.{Notes, Doing, begins, begun, put, nobody, entering, enter_each, write_note, all_raised, greater_of}
 use Rattle.wb_runs.specs.States.{Actor}
 use Rattle.wb_simulation.specs.Noting.{NotesAgree}
-use Rattle.wb_simulation.specs.Telling.{Telling, Quietly, Reads, Writes, Answers, Starts, Carries}
+use Rattle.wb_simulation.specs.Telling.{Telling, Quietly, Reads, Writes, Answers, Starts, Resumes, Carries, Rests, Releases}
 use Rattle.wb_simulation.specs.Worlds.{zeros, Turn, FollowsBy}
 
 -- the abstract notes after these records
@@ -42,17 +42,19 @@ pub record NotesFollowed : Type 0 where
   pub write : (block offset count : ℕ) (content : Content) → Kept (Writes block offset count content) (λ size n a y Then. (doing : Doing) → slice_get n.doings a ≡ Some (Some doing) → offset + count ≤ size → block * size + offset + count ≤ length n.histories →
       Then (write_note n a doing (enter_each content (rising (block * size + offset) count) (entering n doing))))
   -- what a write entered is finished when it is answered done, and what was finished when a flush began is durable then
-  pub read_answered : (block : ℕ) (os : List ℕ) → Kept (Answers (Reading block os) Finished) (λ size n a y Then. Then (put n a None))
-  pub write_answered : (block : ℕ) (os : List ℕ) (content : Content) → Kept (Answers (Writing block os content) Finished) (λ size n a y Then. (doing : Doing) → slice_get n.doings a ≡ Some (Some doing) → Then (put (record n { finished = all_raised n.finished doing.entered }) a None))
+  pub read_answered : (block : ℕ) (os : List ℕ) → Kept (Answers (Reading false block os) Finished) (λ size n a y Then. Then (put n a None))
+  pub write_answered : (block : ℕ) (os : List ℕ) (content : Content) → Kept (Answers (Writing false block os content) Finished) (λ size n a y Then. (doing : Doing) → slice_get n.doings a ≡ Some (Some doing) → Then (put (record n { finished = all_raised n.finished doing.entered }) a None))
   pub flush_answered : Kept (Answers (Flushing None) Finished) (λ size n a y Then. (doing : Doing) → slice_get n.doings a ≡ Some (Some doing) → length doing.then_finished ≡ length n.floors → Then (put (record n { floors = greater_of n.floors doing.then_finished }) a None))
   pub refused : (job : AbstractJob) (refusal : Refusal) → Kept (Answers job (Refuses refusal)) (λ size n a y Then. Then (put n a None))
   -- who starts, or starts late, is noted to have entered nothing
   pub starts : (abstract_job : AbstractJob) (job : Job) → Kept (Starts abstract_job) (λ size n a y Then. (was : Option Doing) → slice_get n.doings a ≡ Some was → Then (put n a (Some (begun n job))))
   pub starts_late : (job : Job) → Kept Quietly (λ size n a y Then. y.task ≡ None → Then (put n a (Some (begun n job))))
-  -- of those behind nothing is noted
-  pub carries : (from : ℕ) → Kept (Carries from) (λ size n a y Then. length n.doings ≤ from → Then n)
-  -- nor, where it has no task there, of who has one here
-  pub aside : (size : ℕ) (n : Notes) (s : World) (m : AbstractNotes) (a : ℕ) (y : AbstractActor) (doing : Option Doing) → NotesAgree size n s m → slice_get s.actors a ≡ Some y → y.task ≡ None → NotesAgree size (put n a doing) s m
+  -- of a migration nothing is noted but that it is at work
+  pub resumes : (job : Job) → Kept Resumes (λ size n a y Then. (was : Option Doing) → slice_get n.doings a ≡ Some was → Then (put n a (Some (begun n job))))
+  pub carries : Kept Carries (λ size n a y Then. Then n)
+  -- nor of an order that is given up
+  pub released : Kept Releases (λ size n a y Then. Then n)
+  pub rests : Kept Rests (λ size n a y Then. Then (put n a None))
   -- what it has read, and on which devices it failed, is of no account there
   pub redone : (size : ℕ) (n : Notes) (s : World) (m : AbstractNotes) (a : ℕ) (doing doing' : Doing) → NotesAgree size n s m → slice_get n.doings a ≡ Some (Some doing) → doing'.entered ≡ doing.entered → doing'.then_finished ≡ doing.then_finished → NotesAgree size (put n a (Some doing')) s m
   -- a crash and an opening's start end what all are at

@@ -1,11 +1,10 @@
 -- When the notes of a run's clerk are those of the abstract world's.
-use Rattle.std.specs.Prelude.{◌≡◌, ◌<◌, ◌≤◌, ◌+◌, ◌*◌, ℕ, List, Option, Some, None, cond, nat_lt, length, slice_get, unwrap_or}
+use Rattle.std.specs.Prelude.{◌≡◌, ◌<◌, ◌+◌, ◌*◌, ℕ, List, Option, Some, None, cond, nat_lt, length, slice_get, unwrap_or}
 use Rattle.wb_contents.specs.Devices.{by_block}
 use Rattle.wb_link.specs.Tables.{Script, Job as AbstractJob}
 use Rattle.wb_link.specs.World.{World, Actor as AbstractActor}
 use Rattle.wb_link.specs.Clerk.{Notes as AbstractNotes, Entry, raised as raised_there}
 use Rattle.wb_runs.specs.Clerk.{Notes, Doing, Position, all_raised}
-use Rattle.wb_simulation.specs.Telling.{IsMigrating}
 use Rattle.wb_simulation.specs.Worlds.{zeros}
 
 -- numbers of sectors, seen by block and offset; behind a block's last offset, and where there is no such sector, 0
@@ -27,13 +26,8 @@ IsNotedSo size sectors None noted a m = Unit {0}
 IsNotedSo size sectors (Some script) (Some (Some doing)) a m = DoesAlike size sectors doing script.job a m
 IsNotedSo size sectors (Some script) noted a m = ⊥
 
--- nothing is noted of who does this, if anything
-abbrev pub IsOfNoAccount : Option AbstractJob → Type 0
-IsOfNoAccount None = Unit {0}
-IsOfNoAccount (Some job) = IsMigrating job
-
 -- Histories, what is finished of each sector, and how far a crash may go back are the same by block and offset; and so is what is noted
--- of each of the run's actors that has a task there. Those behind them enter nothing and finish nothing.
+-- of each actor that has a task there.
 pub record NotesAgree (size : ℕ) (n : Notes) (s : World) (m : AbstractNotes) : Type 0 where
   pub histories : m.histories ≡ by_block size zeros n.histories
   pub finished : m.finished ≡ counts_by_block size n.finished
@@ -41,4 +35,3 @@ pub record NotesAgree (size : ℕ) (n : Notes) (s : World) (m : AbstractNotes) :
   pub as_many : length n.finished ≡ length n.histories
   pub floors_as_many : length n.floors ≡ length n.histories
   pub each : (a : ℕ) (y : AbstractActor) → a < length n.doings → slice_get s.actors a ≡ Some y → IsNotedSo size (length n.histories) y.task (slice_get n.doings a) a m
-  pub behind : (a : ℕ) → length n.doings ≤ a → IsOfNoAccount (m.jobs a)

@@ -1,5 +1,5 @@
 -- What a target that an opening has made is in the abstract world.
-use Rattle.std.specs.Prelude.{◌≡◌, ◌≤◌, ◌+◌, ◌*◌, ◌^◌, ℕ, Bool, true, false, List, Option, Some, None, length, replicate, slice_get}
+use Rattle.std.specs.Prelude.{◌≡◌, ◌≤◌, ◌^◌, ℕ, Bool, true, false, List, Option, Some, None, length, replicate, slice_get}
 use Rattle.wb_types.specs.declared.entry.Entry.{Entry}
 use Rattle.wb_types.specs.declared.mode.Mode.TheVariants.{Writeback}
 use Rattle.wb_disk.specs.Device.{History}
@@ -28,4 +28,4 @@ abbrev pub OpenedFollowed : Type 0
 OpenedFollowed = (size most origin_blocks cache_blocks : ℕ) (clean : Bool) (entries : List (Option Entry)) (learnt : Learnt) (blocks : ℕ → Block) (s : Shared) (devices : Devices (List History)) (actors : List Actor) →
     IsMapping cache_blocks origin_blocks entries → cache_blocks ≤ 2 ^ 32 → (clean ≡ true → (block : ℕ) → located entries block ≡ None) → learnt.locations ≡ located entries → ((block : ℕ) → learnt.clean block ≡ false) →
     s.origin ≡ by_block size zeros devices.origin → s.cache ≡ by_block size zeros devices.cache → AreAtRest actors →
-    Agrees size most (words_by (fresh_words origin_blocks) (sealing_steps clean 0 entries)) false (replicate cache_blocks None) devices actors (record { shared = opened_on s Writeback learnt blocks; actors = replicate (length actors + length actors * cache_blocks) idle })
+    Agrees size most (words_by (fresh_words origin_blocks) (sealing_steps clean 0 entries)) false (replicate cache_blocks None) devices actors (record { shared = opened_on s Writeback learnt blocks; actors = replicate (length actors) idle; waiting = λ k. None })

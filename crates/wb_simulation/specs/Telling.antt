@@ -1,12 +1,12 @@
 -- What the abstract world's clerk is told, who sees the records of one actor.
-use Rattle.std.specs.Prelude.{◌≡◌, ◌≢◌, ◌≤◌, ℕ, zero, suc, List, [], ◌∷◌, Option, Some, None, length, map}
+use Rattle.std.specs.Prelude.{false, true, ◌≡◌, ◌≢◌, ℕ, zero, suc, List, [], ◌∷◌, Option, Some, None, length, map}
 use Rattle.wb_types.specs.Extents.{rising}
 use Rattle.wb_disk.specs.Device.{Content}
 use Rattle.wb_words.specs.SharedWords.{flag}
 use Rattle.wb_tasks.specs.declared.step.Answer.{Answer}
 use Rattle.wb_tasks.specs.declared.step.Answer.TheVariants.{Done as Finished, Refused as Refuses}
-use Rattle.wb_link.specs.Tables.{Script, Job, Reading, Writing, Promoting, Demoting, Cleaning, Want, Write_at, End, Got, Gave, Done, Fault, Finished as AnsweredDone, Answer as AbstractAnswer, want, read_each, write_each}
-use Rattle.wb_link.specs.World.{Record, Start, Again, Step, task_after}
+use Rattle.wb_link.specs.Tables.{Script, Flag, table, Job, Reading, Writing, Promoting, Demoting, Cleaning, Want, Write_at, End, Got, Gave, Done, Fault, Finished as AnsweredDone, Answer as AbstractAnswer, want, read_each, write_each}
+use Rattle.wb_link.specs.World.{Release, Record, Start, Again, task_after}
 use Rattle.wb_refines.specs.Going.{records}
 
 -- A step of which nothing is noted: no write, and no answer.
@@ -30,10 +30,10 @@ AreWrites count gots = ⊥
 
 -- a job of one block
 abbrev pub reading : ℕ → List ℕ → List Want → AbstractAnswer → Script
-reading block all steps answer = record { job = Reading block all; steps = steps; answer = answer }
+reading block all steps answer = record { job = Reading false block all; steps = steps; answer = answer }
 
 abbrev pub writing : ℕ → List ℕ → Content → List Want → AbstractAnswer → Script
-writing block all content steps answer = record { job = Writing block all content; steps = steps; answer = answer }
+writing block all content steps answer = record { job = Writing false block all content; steps = steps; answer = answer }
 
 -- a job of which nothing is noted: a migration writes nothing new, and its answer makes nothing finished or durable
 abbrev pub IsMigrating : Job → Type 0
@@ -42,25 +42,30 @@ IsMigrating (Demoting order os) = Unit {0}
 IsMigrating (Cleaning order os) = Unit {0}
 IsMigrating job = ⊥
 
--- a record of one of the actors from this one on, who do migrations alone
-abbrev pub IsFromBehind : ℕ → Record → Type 0
-IsFromBehind from (Start b job) = (from ≤ b) × IsMigrating job
-IsFromBehind from (Again b job) = (from ≤ b) × IsMigrating job
-IsFromBehind from (Step b next got) = from ≤ b
+-- none of the steps answers
+abbrev pub IsNoEnd : Want → Type 0
+IsNoEnd (End answer) = ⊥
+IsNoEnd next = Unit {0}
 
-abbrev pub AreFromBehind : ℕ → List Record → Type 0
-AreFromBehind from [] = Unit {0}
-AreFromBehind from (r ∷ rs) = IsFromBehind from r × AreFromBehind from rs
+-- steps of a migration, before its answer
+abbrev pub AreCarried : Option Script → List Got → Type 0
+AreCarried None gots = Unit {0}
+AreCarried (Some script) [] = Unit {0}
+AreCarried (Some script) (got ∷ gots) = IsMigrating script.job × IsNoEnd (want script) × AreCarried (task_after script (want script) got) gots
 
 -- It is told nothing that it notes; that a read is given these contents of a block's sectors from an offset on; that a write writes
--- this content to so many of them, done or failing; that a task of this job is answered; that the actor is given a job; or something of those from this actor on, who migrate.
+-- this content to so many of them, done or failing; that a task of this job is answered; that the actor is given a job; and of a migration,
+-- that it begins or begins again, goes on, and answers; or that an order that is aside is given up.
 pub data Telling : Type 0 where
   Quietly : Telling
   Reads : (block offset : ℕ) → List Content → Telling
   Writes : (block offset count : ℕ) → Content → Telling
   Answers : Job → Answer → Telling
   Starts : Job → Telling
-  Carries : (from : ℕ) → Telling
+  Resumes : Telling
+  Carries : Telling
+  Rests : Telling
+  Releases : Telling
 
 -- the next steps of a read are these
 pub record IsReading (a block offset : ℕ) (contents : List Content) (task : Option Script) (told : List Record) : Type 0 where
@@ -89,10 +94,25 @@ AnswersSo job Finished (Some script) = (script.steps ≡ []) × (script.answer �
 AnswersSo job (Refuses refusal) None = Unit {0}
 AnswersSo job (Refuses refusal) (Some script) = (script.steps ≡ []) × (script.answer ≢ AnsweredDone)
 
+-- a migration is begun; begins, and finds at once that the target has failed; or is begun by nobody
+pub data IsResumed (a : ℕ) (task : Option Script) (told : List Record) : Type 0 where
+  Given : (job : Job) → IsMigrating job → told ≡ Start a job ∷ [] → IsResumed a task told
+  Kept : (job : Job) → IsMigrating job → told ≡ Again a job ∷ [] → IsResumed a task told
+  Failing : (job : Job) → IsMigrating job → task ≡ None → told ≡ Start a job ∷ records a (Some (table job)) (Flag true ∷ Done ∷ []) → IsResumed a task told
+  Nowhere : task ≡ None → told ≡ [] → IsResumed a task told
+
+-- nothing is left of a migration but its answer, or it is there no more
+abbrev pub Rested : Option Script → Type 0
+Rested None = Unit {0}
+Rested (Some script) = (script.steps ≡ []) × IsMigrating script.job
+
 abbrev pub IsTold : Telling → ℕ → Option Script → List Record → Type 0
 IsTold Quietly a task told = (results : List Got) × AreUnnoted task results × (told ≡ records a task results)
 IsTold (Reads block offset contents) a task told = IsReading a block offset contents task told
 IsTold (Writes block offset count content) a task told = IsWriting a block offset count content task told
 IsTold (Answers job answer) a task told = AnswersSo job answer task × (told ≡ records a task (Done ∷ []))
 IsTold (Starts job) a task told = told ≡ Start a job ∷ []
-IsTold (Carries from) a task told = AreFromBehind from told
+IsTold Resumes a task told = IsResumed a task told
+IsTold Carries a task told = (results : List Got) × AreCarried task results × (told ≡ records a task results)
+IsTold Releases a task told = (k : ℕ) × (told ≡ Release k ∷ [])
+IsTold Rests a task told = Rested task × (told ≡ records a task (Done ∷ []))

@@ -1,22 +1,22 @@
 -- When a state of a run, where a target stands, is a state of the abstract world; and when what happens there is a run of that world.
-use Rattle.std.specs.Prelude.{◌≡◌, ◌≢◌, ◌⊎◌, ◌<◌, ◌+◌, ◌*◌, ℕ, Bool, true, false, List, [], Option, Some, None, length, replicate, slice_get}
+use Rattle.std.specs.Prelude.{◌≡◌, ◌≢◌, ◌⊎◌, ℕ, Bool, true, false, List, [], Option, Some, None, length, replicate, slice_get}
 use Rattle.wb_types.specs.declared.mode.Mode.TheVariants.{Writeback}
-use Rattle.wb_types.specs.declared.number.OBlock.{OBlock}
 use Rattle.wb_disk.specs.Device.{Content, History}
 use Rattle.wb_contents.specs.Devices.{by_block}
 use Rattle.wb_contents.specs.Volume.{Locations, changed}
 use Rattle.wb_words.specs.SharedWords.{Words}
 use Rattle.wb_policy.specs.declared.order.Order.{Order}
 use Rattle.wb_devices.specs.declared.devices.Devices.{Devices}
-use Rattle.wb_link.specs.Tables.{Script}
-use Rattle.wb_link.specs.World.{World, Shared, Block, Mapped, Reserved, Quarantined, begun, ended, given_back, Record, IsRun, after_all, Actor as AbstractActor}
-use Rattle.wb_refines.specs.Models.{WordsAgree}
+use Rattle.wb_link.specs.Tables.{Script, Order as AbstractOrder}
+use Rattle.wb_types.specs.declared.number.OBlock.{OBlock}
 use Rattle.wb_tasks.specs.Plan.{Plan}
 use Rattle.wb_tasks.specs.declared.step.Migration.{Migration}
 use Rattle.wb_runs.specs.declared.job.Job.TheVariants.{Migrate}
+use Rattle.wb_simulation.specs.Carried.{held, live_there, IsOf, IsAtMigration}
+use Rattle.wb_link.specs.World.{World, Shared, Block, Mapped, Reserved, removed, begun, ended, given_back, Record, IsRun, after_all, Actor as AbstractActor}
+use Rattle.wb_refines.specs.Models.{WordsAgree}
 use Rattle.wb_runs.specs.States.{Actor}
 use Rattle.wb_simulation.specs.Actors.{StandsFor}
-use Rattle.wb_simulation.specs.Behind.{behind, StandsBehind, IsUncarried}
 use Rattle.wb_simulation.specs.Telling.{Telling, IsTold}
 
 -- a sector before anything was written; behind the end of a device there is nothing else
@@ -28,9 +28,24 @@ abbrev pub IsUnfinished : Option Script → Type 0
 IsUnfinished None = ⊥
 IsUnfinished (Some script) = script.steps ≢ []
 
+-- an order is at an actor or aside
+abbrev pub IsThere : World → AbstractOrder → Type 0
+IsThere s p = (s.waiting p.cache ≡ Some p) ⊎ ((b : ℕ) × (z : AbstractActor) × (slice_get s.actors b ≡ Some z) × (z.order ≡ Some p))
+
+-- Which orders live, whose they are, and which migrations are done under them, as it is there.
+pub record OrdersAgree (size : ℕ) (words : Words) (orders : List (Option Order)) (devices : Devices (List History)) (actors : List Actor) (s : World) : Type 0 where
+  -- an order that lives on a cache block is there somebody's, or aside
+  pub live : (c : ℕ) (order : Option Order) → slice_get orders c ≡ Some order → (p : AbstractOrder) → p.cache ≡ c → ((live_there s.shared.mapping c order ≡ Some p) → IsThere s p) × (IsThere s p → live_there s.shared.mapping c order ≡ Some p)
+  -- nobody else's, and not aside too
+  pub once : (a : ℕ) (y : AbstractActor) (p : AbstractOrder) → slice_get s.actors a ≡ Some y → y.order ≡ Some p → (s.waiting p.cache ≢ Some p) × ((b : ℕ) (z : AbstractActor) (q : AbstractOrder) → slice_get s.actors b ≡ Some z → z.order ≡ Some q → q.cache ≡ p.cache → b ≡ a)
+  -- one that is aside is on its cache block
+  pub waits : (k : ℕ) (p : AbstractOrder) → s.waiting k ≡ Some p → (p.cache ≡ k) × ((order : Order) × (slice_get orders k ≡ Some (Some order)))
+  -- an actor's is one of the run's actor's
+  pub ours : (a : ℕ) (x : Actor) (y : AbstractActor) (p : AbstractOrder) → slice_get actors a ≡ Some x → slice_get s.actors a ≡ Some y → y.order ≡ Some p → IsOf orders (held x) p
+  pub carried : (a : ℕ) (x : Actor) (y : AbstractActor) (migration : Migration) (block : OBlock) (plan : Plan) → slice_get actors a ≡ Some x → slice_get s.actors a ≡ Some y → x.task ≡ Some (Migrate migration block, plan) → IsAtMigration size words orders devices migration block plan x y
+
 -- These words, devices, actors, and whether the desk has a commit that runs, are those of the world. Blocks have so many sectors,
--- and images at most so many nodes. Behind those of the run there is an abstract actor for each of them and each cache block, which has the
--- order that is live there, if that is its actor's, and does the migration under it.
+-- and images at most so many nodes. Each actor of the run is one of the world.
 pub record Agrees (size most : ℕ) (words : Words) (committing : Bool) (orders : List (Option Order)) (devices : Devices (List History)) (actors : List Actor) (s : World) : Type 0 where
   pub words_agree : WordsAgree words s.shared
   pub origin : s.shared.origin ≡ by_block size zeros devices.origin
@@ -43,13 +58,9 @@ pub record Agrees (size most : ℕ) (words : Words) (committing : Bool) (orders 
   pub led : (a : ℕ) (y : AbstractActor) → slice_get s.actors a ≡ Some y → y.leads ≡ true → s.shared.committing ≡ true
   pub whole : (a : ℕ) (y : AbstractActor) → slice_get s.actors a ≡ Some y → y.leads ≡ true → IsUnfinished y.task → s.shared.broken ≡ false
   pub one_leads : (a b : ℕ) (y z : AbstractActor) → slice_get s.actors a ≡ Some y → slice_get s.actors b ≡ Some z → y.leads ≡ true → z.leads ≡ true → a ≡ b
-  pub many : length s.actors ≡ length actors + length actors * length orders
+  pub many : length s.actors ≡ length actors
   pub each : (a : ℕ) (x : Actor) (y : AbstractActor) → slice_get actors a ≡ Some x → slice_get s.actors a ≡ Some y → StandsFor size most words x y
-  -- of which cache block, if of any, each of the run's actors is at a migration
-  pub at : ℕ → Option ℕ
-  pub behind_each : (a c : ℕ) (x : Actor) (order : Option Order) (y : AbstractActor) → slice_get actors a ≡ Some x → slice_get orders c ≡ Some order → slice_get s.actors (behind (length actors) (length orders) a c) ≡ Some y → StandsBehind size words devices c order (at a) x y
-  pub within : (a c : ℕ) → at a ≡ Some c → c < length orders
-  pub carried : (a : ℕ) (x : Actor) (migration : Migration) (block : OBlock) (plan : Plan) → slice_get actors a ≡ Some x → x.task ≡ Some (Migrate migration block, plan) → (IsUncarried words plan.steps × (at a ≡ None)) ⊎ ((c : ℕ) × (at a ≡ Some c))
+  pub orders_agree : OrdersAgree size words orders devices actors s
 
 -- What comes of the desk and of the images that the metadata stand for: they stay; a commit begins, from the desk's mapping; its root is
 -- written, or not; it ends; a cache block is reserved for an order; an order ends by an entry of the mapping that comes, or by one that goes;
@@ -61,7 +72,7 @@ pub data Turn : Type 0 where
   Ends : Turn
   Reserves : (cache : ℕ) → Turn
   Maps : (block cache : ℕ) → Turn
-  Unmaps : (block cache : ℕ) → Turn
+  Unmaps : (block cache : ℕ) (next : Option ℕ) → Turn
   GivesUp : (cache : ℕ) → Turn
 
 abbrev pub TurnedTo : Turn → (s t : Shared) → Type 0
@@ -73,7 +84,7 @@ TurnedTo turn s t = (t.committed ≡ s.committed) × (t.running ≡ s.running) �
 -- where each block is then
 abbrev pub mapping_by : Turn → Shared → Locations
 mapping_by (Maps block cache) s = changed s.mapping block (Some cache)
-mapping_by (Unmaps block cache) s = changed s.mapping block None
+mapping_by (Unmaps block cache next) s = changed s.mapping block None
 mapping_by turn s = s.mapping
 
 -- and the state of each cache block
@@ -82,14 +93,14 @@ blocks_by Begins s = λ c. begun (s.blocks c)
 blocks_by Ends s = λ c. ended (s.blocks c)
 blocks_by (Reserves cache) s = changed s.blocks cache Reserved
 blocks_by (Maps block cache) s = changed s.blocks cache Mapped
-blocks_by (Unmaps block cache) s = changed s.blocks cache (Quarantined false)
+blocks_by (Unmaps block cache next) s = changed s.blocks cache (removed next)
 blocks_by (GivesUp cache) s = changed s.blocks cache (given_back (s.blocks cache))
 blocks_by turn s = s.blocks
 
 abbrev pub DeskTurnedTo : Turn → (s t : Shared) → Type 0
 DeskTurnedTo turn s t = (t.mapping ≡ mapping_by turn s) × (t.blocks ≡ blocks_by turn s)
 
--- The world can go on by some records of this actor, or of one behind, so that these are its state then, and this comes of its desk and images.
+-- The world can go on by some records of this actor, so that these are its state then, and this comes of its desk and images.
 pub record FollowsBy (turn : Turn) (telling : Telling) (size most a : ℕ) (s : World) (words : Words) (committing : Bool) (orders : List (Option Order)) (devices : Devices (List History)) (actors : List Actor) : Type 0 where
   pub records : List Record
   pub run : IsRun size s records

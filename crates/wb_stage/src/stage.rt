@@ -12,11 +12,11 @@ use crate::asking;
 use std::alloc::Global;
 use wb_cells::Crew;
 use wb_desk::Desk;
-use wb_devices::{Devices, RunningCommit, put, sync_metadata};
+use wb_devices::{Devices, RunningCommit};
 use wb_disk::Disk;
 use wb_policy::{Order, Policy};
 use wb_tasks::{DeskStep, DeviceStep, Got};
-use wb_types::{Content, Dev};
+use wb_types::Content;
 
 /// Where an actor of a crew performs its tasks: the words, three devices, and a desk of its own. What is copied, the image of
 /// a commit and the orders that the actor has taken are here too.
@@ -51,24 +51,8 @@ impl<D: Disk, P: Policy> CacheStage<D, P> {
         ensures held { self.new.held ≡ self.old.held }
         ensures desk { self.new.desk ≡ self.old.desk }
     {
-        match step {
-            DeviceStep::Read(device, extent) => {
-                self.devices
-                    .read(device, extent, self.buffer.as_mut_slice())
-            }
-            DeviceStep::Write(device, extent) => {
-                self.devices.write(device, extent, self.buffer.as_slice())
-            }
-            DeviceStep::Sync(Dev::Metadata) => {
-                sync_metadata(&mut self.commit, &mut self.devices.metadata)
-            }
-            DeviceStep::Sync(Dev::Cache) => self.devices.sync(Dev::Cache),
-            DeviceStep::Sync(Dev::Origin) => self.devices.sync(Dev::Origin),
-            DeviceStep::ReadMetadata(_) => Got::Fault,
-            DeviceStep::WriteNode(_) | DeviceStep::WriteRoot => {
-                put(&mut self.commit, &mut self.devices.metadata, step)
-            }
-        }
+        self.devices
+            .perform(&mut self.commit, step, self.buffer.as_mut_slice())
     }
 
     /// A step on the desk.

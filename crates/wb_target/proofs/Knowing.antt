@@ -16,9 +16,9 @@ same_origin : (x y : OBlock) → x.0 ≡ y.0 → x ≡ y
 same_origin x y e = ap (λ (n : ℕ). let b : OBlock = record { 0 = n } in b) e
 
 -- no block stands twice, so it is a mapping to the policy too
-pub known_mapping : (knows : Holdings → Type 0) (n m : ℕ) (told entries : List (Option Entry)) → told ≡ entries → IsMapping n m entries → (IsPolicyMapping (origins told) → knows (origins told)) → knows (origins entries)
+pub known_mapping : (knows : Holdings → Type 0) (n m : ℕ) (told entries : List (Option Entry)) → origins told ≡ origins entries → IsMapping n m entries → (IsPolicyMapping (origins told) → knows (origins told)) → knows (origins entries)
 known_mapping knows n m told entries same mapping told_of =
-    subst (λ (xs : List (Option Entry)). knows (origins xs)) same (told_of (subst (λ (xs : List (Option Entry)). IsPolicyMapping (origins xs)) (sym same) once))
+    subst knows same (told_of (subst IsPolicyMapping (sym same) once))
   where
     once : IsPolicyMapping (origins entries)
     once block at other p q =

@@ -1,4 +1,5 @@
 pub mod Readying
+pub mod Committing
 pub mod Tasks
 pub mod Tries
 pub mod Busy
@@ -10,3 +11,5 @@ pub mod Knowing
 pub mod Written
 pub mod Sending
 pub mod Turns
+mod Hinting
+mod Leading

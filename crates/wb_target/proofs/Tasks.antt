@@ -2,20 +2,22 @@
 use Rattle.std.proofs.Common.{◌≡◌, ℕ, Bool, List, [], ◌∷◌, sym, ap, ◌∙◌, subst}
 use Rattle.wb_disk.specs.Device.{History}
 use Rattle.wb_words.specs.declared.card.Hold.TheVariants.{Nothing}
-use Rattle.wb_tasks.specs.Tables.{TaskJob}
-use Rattle.wb_tasks.specs.Ready.{AreFirst, MayTake, left_by}
+use Rattle.wb_port.specs.Moves.{IsDurable}
+use Rattle.wb_tasks.specs.Tables.{TaskJob, OnBlock, Flushing, Opening}
+use Rattle.wb_tasks.specs.Ready.{AreFirst, MayTake, IsOwnStep, left_by}
 use Rattle.wb_tasks.specs.Plan.{Plan, table, want}
 use Rattle.wb_tasks.specs.Run.{IsRunOf, Leads}
 use Rattle.wb_tasks.specs.declared.step.Answer.{Answer}
 use Rattle.wb_tasks.specs.declared.step.Want.{Want}
 use Rattle.wb_tasks.specs.declared.step.Got.{Got}
 use Rattle.wb_stage.specs.Jobs.{MayRun}
-use Rattle.wb_target.specs.Works.{WorkState, WorkStep, WorkLed, WasPerformed, IsReadyToWork}
+use Rattle.wb_target.specs.Works.{WorkState, WorkStep, WorkLed, WasPerformed, IsReadyToWork, MayWork, MayMigrate, MayCommit}
 use Rattle.wb_target.specs.declared.gate.Point.{Point}
 use Rattle.wb_target.specs.declared.working.WorkStage.{WorkStage}
 use Rattle.wb_port.proofs.Passing.{made_by_pass, same_table}
 use Rattle.wb_port.proofs.Readying.{kept_by}
-use Rattle.wb_target.proofs.Readying.{work_ready, work_idle}
+use Rattle.wb_target.proofs.Readying.{work_ready, work_idle, work_moves, work_own}
+use Rattle.wb_target.proofs.Committing.{CommitsFrom, IsRunning, commits_there, block_commits}
 
 abbrev working_at : {R D P G : Type 0} → WorkStage R D P G → WorkState D
 working_at x = record { hand = x.hand.now; buffer = x.buffer.now; commit = x.commit.now }
@@ -40,10 +42,35 @@ module _ {R D P G : Type 0} (tells : Type 0) (size : D → ℕ) (contents : D �
   pub at_words : new.hand.now.pass.table ≡ old.hand.now.pass.table
   at_words = kept_by led (λ x. x.hand.now.pass.table) (λ x w g y h. same_table x.cells.now.blocks x.hand.now.pass y.hand.now.pass w g h.by_pass) old steps new leads
 
-  pub ready : MayRun old.cells.now.blocks job → old.hand.now.pass.table ≡ old.cells.now.table → old.hand.now.pass.card.hold ≡ Nothing → AreFirst s steps → IsReadyToWork new (want (left_by s steps))
-  ready may at idle f =
+  same_held : new.held ≡ old.held
+  same_held = kept_by led (λ x. x.held) (λ x w g y h. h.held) old steps new leads
+
+  pub same_size : new.hand.now.block_sectors ≡ old.hand.now.block_sectors
+  same_size = kept_by led (λ x. x.hand.now.block_sectors) (λ x w g y h. h.sized) old steps new leads
+
+  moves : MayRun old.cells.now.blocks job → MayMigrate old.hand.now.block_sectors old.held.now job → old.hand.now.pass.card.hold ≡ Nothing → AreFirst s steps → MayWork new.hand.now.block_sectors new.held.now new.hand.now.pass.card (want (left_by s steps))
+  moves may migrates idle f =
+      subst (λ (n : ℕ). MayWork n new.held.now new.hand.now.pass.card (want (left_by s steps))) (sym same_size)
+      (subst (λ h. MayWork old.hand.now.block_sectors h.now new.hand.now.pass.card (want (left_by s steps))) (sym same_held)
+      (work_moves led (λ x. x.hand.now.pass.card) (λ x w g y h. made_by_pass x.cells.now.blocks x.hand.now.pass y.hand.now.pass w g h.by_pass) old.cells.now.blocks s job old begun may idle old.hand.now.block_sectors old.held.now migrates steps new f leads))
+
+  commits : MayRun old.cells.now.blocks job → old.hand.now.pass.card.hold ≡ Nothing → AreFirst s steps → MayCommit tells contents new.hand.now.devices new.commit.now (want (left_by s steps))
+  commits may idle f = by_job job begun may
+    where
+      own : (job : TaskJob) → s ≡ table job → MayRun old.cells.now.blocks job → (done : List (Want × Got)) (at : WorkStage R D P G) → AreFirst s done → Leads led old done at → IsOwnStep job (want (left_by s done))
+      own job b m done at g l = work_own led (λ x. x.hand.now.pass.card) (λ x w g y h. made_by_pass x.cells.now.blocks x.hand.now.pass y.hand.now.pass w g h.by_pass) old.cells.now.blocks s job old b m idle done at g l
+
+      by_job : (job : TaskJob) → s ≡ table job → MayRun old.cells.now.blocks job → MayCommit tells contents new.hand.now.devices new.commit.now (want (left_by s steps))
+      by_job (OnBlock block_job) b m = block_commits tells contents new.hand.now.devices new.commit.now block_job (want (left_by s steps)) (own (OnBlock block_job) b m steps new f leads)
+      by_job (Flushing serves most) b m =
+          commits_there tells size contents faults (λ (x : WorkStage R D P G). x.hand.now.devices) (λ x. x.buffer.now) (λ x. x.commit.now) led (λ x w g y h. h.works) serves most s old steps new (ap (λ (t : Plan). t.job) b) (own (Flushing serves most) b m)
+          (subst (λ (t : Plan). CommitsFrom (tells → IsDurable (contents old.hand.now.devices.cache)) (tells → IsDurable (contents old.hand.now.devices.origin)) (IsRunning old.commit.now) t.steps) (sym b) tt) f leads
+      by_job (Opening left) b m = absurd m
+
+  pub ready : MayRun old.cells.now.blocks job → MayMigrate old.hand.now.block_sectors old.held.now job → old.hand.now.pass.table ≡ old.cells.now.table → old.hand.now.pass.card.hold ≡ Nothing → AreFirst s steps → IsReadyToWork tells contents new (want (left_by s steps))
+  ready may migrates at idle f =
       let both = work_ready led (λ x. x.hand.now.pass.card) (λ x w g y h. made_by_pass x.cells.now.blocks x.hand.now.pass y.hand.now.pass w g h.by_pass) old.cells.now.blocks s job old begun may idle steps new f leads in
-      ((at_words ∙ (at ∙ ap (λ x. x.now.table) (sym same_cells)), subst (λ x. MayTake x.now.blocks new.hand.now.pass.card (want (left_by s steps))) (sym same_cells) both.0), both.1)
+      ((at_words ∙ (at ∙ ap (λ x. x.now.table) (sym same_cells)), subst (λ x. MayTake x.now.blocks new.hand.now.pass.card (want (left_by s steps))) (sym same_cells) both.0), both.1, moves may migrates idle f, commits may idle f)
 
   pub idle_then : (answer : Answer) → MayRun old.cells.now.blocks job → old.hand.now.pass.card.hold ≡ Nothing → IsRunOf s steps answer → new.hand.now.pass.card.hold ≡ Nothing
   idle_then answer may idle run = work_idle led (λ x. x.hand.now.pass.card) (λ x w g y h. made_by_pass x.cells.now.blocks x.hand.now.pass y.hand.now.pass w g h.by_pass) old.cells.now.blocks s job old begun may idle steps answer new run leads

@@ -1,4 +1,5 @@
 -- What an opening of a target keeps: its reading, where it is still there, and that what was read fits the root that is written.
+use Rattle.wb_disk.specs.Device.{History}
 use Rattle.std.proofs.Common.{◌≡◌, ◌≤◌, ℕ, List, [], ◌∷◌, Option, Some, length, sym, subst}
 use Rattle.std.specs.Prelude.{IfSome}
 use Rattle.std.specs.Global.{Global}
@@ -34,7 +35,7 @@ pub fits_written : (sectors : ℕ) (reading : Option (ReadSteps Global)) (state 
     → FitsDevice root.geometry.meta_sectors root state.tree state.used.items
 fits_written sectors reading state root is steps same = same_fits sectors state root same (subst (λ (r : Option (ReadSteps Global)). IfSome r (AreStepsOn sectors)) is steps)
 
-pub goes_on_making : {D P : Type 0} (size : D → ℕ) (old : MakingStage D P) (steps : List (Want × Got)) (new : MakingStage D P) → MayGoOn (size old.stage.devices.metadata) old.stage.opening → Leads (GoesOn size) old steps new
+pub goes_on_making : {D P : Type 0} (tells : Type 0) (size : D → ℕ) (contents : D → List History) (faults : D → ℕ) (old : MakingStage D P) (steps : List (Want × Got)) (new : MakingStage D P) → MayGoOn (size old.stage.devices.metadata) old.stage.opening → Leads (GoesOn tells size contents faults) old steps new
     → MayGoOn (size new.stage.devices.metadata) new.stage.opening
-goes_on_making {D} {P} size old [] new h e = subst (λ (s : MakingStage D P). MayGoOn (size s.stage.devices.metadata) s.stage.opening) e h
-goes_on_making size old (step ∷ steps) new h l = goes_on_making size l.0 steps new l.1 l.2
+goes_on_making {D} {P} tells size contents faults old [] new h e = subst (λ (s : MakingStage D P). MayGoOn (size s.stage.devices.metadata) s.stage.opening) e h
+goes_on_making tells size contents faults old (step ∷ steps) new h l = goes_on_making tells size contents faults l.0 steps new l.1.0 l.2

@@ -4,3 +4,4 @@ pub mod Carried
 pub mod Blocking
 pub mod Making
 pub mod Workers
+pub mod Opening

@@ -1,5 +1,9 @@
 -- What an opening of a target keeps from step to step.
-use Rattle.std.specs.Prelude.{ℕ}
+use Rattle.std.specs.Prelude.{◌≡◌, ◌⊎◌, ℕ, List}
+use Rattle.wb_disk.specs.Device.{History}
+use Rattle.wb_tasks.specs.declared.step.Got.TheVariants.{Fault}
+use Rattle.wb_devices.specs.OpeningLed.{LedOpening}
+use Rattle.wb_devices.specs.declared.opening_stage.OpeningStage.{OpeningStage}
 use Rattle.wb_tasks.specs.Ready.{IsOpenings}
 use Rattle.wb_tasks.specs.declared.step.Want.{Want}
 use Rattle.wb_tasks.specs.declared.step.Got.{Got}
@@ -10,6 +14,11 @@ use Rattle.wb_target.specs.declared.making.MakingStage.{MakingStage}
 abbrev pub IsReadyToMake : {D P : Type 0} → (D → ℕ) → MakingStage D P → Want → Type 0
 IsReadyToMake size making want = IsOpenings want × MayGoOn (size making.stage.devices.metadata) making.stage.opening
 
--- what was read so far, where it is still there, is of the metadata device
-abbrev pub GoesOn : {D P : Type 0} → (D → ℕ) → MakingStage D P → Want → Got → MakingStage D P → Type 0
-GoesOn size old want got new = MayGoOn (size new.stage.devices.metadata) new.stage.opening
+-- A step is one of the opening, over what was read or, where that was taken for the target, without it; or it failed, and no
+-- device was asked. What was read so far, where it is still there, is of the metadata device.
+abbrev pub GoesOn : {D P : Type 0} → Type 0 → (D → ℕ) → (D → List History) → (D → ℕ) → MakingStage D P → Want → Got → MakingStage D P → Type 0
+GoesOn {D} tells size contents faults old want got new =
+    MayGoOn (size new.stage.devices.metadata) new.stage.opening
+    × (((before : OpeningStage D) × (before.devices ≡ old.stage.devices) × (before.opening.commit ≡ old.stage.opening.commit)
+        × (before.opening.geometry ≡ old.stage.opening.geometry) × LedOpening tells size contents faults before want got new.stage)
+    ⊎ ((got ≡ Fault) × (new.stage.devices ≡ old.stage.devices)))

@@ -1,7 +1,17 @@
 -- What a step of a migration or a flush does to a client's stage. Of the desk, under its lock, it tells the kind of the answer.
-use Rattle.std.specs.Prelude.{◌≡◌, ℕ, Bool, true, false, List, Option, Some, None, length}
+use Rattle.std.specs.Prelude.{◌≡◌, ◌<◌, ◌⊎◌, ℕ, Bool, true, false, List, [], ◌∷◌, Option, Some, None, length}
 use Rattle.wb_disk.specs.Device.{History, Content as Bytes}
 use Rattle.wb_meta.specs.declared.commit_steps.CommitSteps.TheVariants.{NodesWritten}
+use Rattle.wb_types.specs.Extents.{pieces}
+use Rattle.wb_types.specs.declared.number.OBlock.{OBlock}
+use Rattle.wb_types.specs.declared.number.CBlock.{CBlock}
+use Rattle.wb_words.specs.declared.card.Card.{Card}
+use Rattle.wb_policy.specs.declared.order.Order.{Order}
+use Rattle.wb_policy.specs.declared.order.Order.TheVariants.{Promote, Replace}
+use Rattle.wb_port.specs.declared.moving.TheConstants.{LONGEST}
+use Rattle.wb_port.specs.Moves.{MayCopyFrom, MayCopyTo, MayPut, copied_to}
+use Rattle.wb_tasks.specs.Tables.{TaskJob, OnBlock, Migrating, whole_block}
+use Rattle.wb_tasks.specs.declared.step.DeviceStep.TheVariants.{Read, Write, WriteNode, WriteRoot}
 use Rattle.wb_tasks.specs.Plan.{Plan, device_of}
 use Rattle.wb_tasks.specs.Run.{IsRunOf, Leads}
 use Rattle.wb_tasks.specs.declared.step.Answer.{Answer}
@@ -64,8 +74,44 @@ pub record WasPerformed {D : Type 0} (tells : Type 0) (size : D → ℕ) (conten
   pub run : IsRunOf plan steps answer
   pub leads : Leads (WorkStep tells size contents faults blocks) old steps new
 
-abbrev pub IsReadyToWork : {R D P G : Type 0} → WorkStage R D P G → Want → Type 0
-IsReadyToWork stage want = IsReadyOn stage.cells.now stage.hand.now.pass want × IsServed want
+-- ---- what it may move
+
+-- an order copies this block to this cache block
+abbrev pub CopiesTo : Order → OBlock → CBlock → Type 0
+CopiesTo (Promote b to) block c = (b ≡ block) × (to ≡ c)
+CopiesTo (Replace victim b to) block c = (b ≡ block) × (to ≡ c)
+CopiesTo order block c = ⊥
+
+abbrev pub AmongCopies : List Order → OBlock → CBlock → Type 0
+AmongCopies [] block c = ⊥
+AmongCopies (order ∷ orders) block c = CopiesTo order block c ⊎ AmongCopies orders block c
+
+-- one of these orders copies it, where it is copied to the cache at all
+abbrev pub IsOrdered : List Order → OBlock → Option CBlock → Type 0
+IsOrdered held block None = Unit {0}
+IsOrdered held block (Some c) = AmongCopies held block c
+
+-- An extent is copied from or to the block that the pass owns, in the cache where its seal tells or to where an order has it
+-- copied; any other step is free.
+abbrev pub MayWork : ℕ → List Order → Card → Want → Type 0
+MayWork size held card (Device (Read device e)) = MayCopyFrom size card device e
+MayWork size held card (Device (Write device e)) = (may : MayCopyTo size card device e) × IsOrdered held may.block may.to
+MayWork size held card want = Unit {0}
+
+-- A migration is of a whole block of this size, and one of these orders copies it; no request is served here.
+abbrev pub MayMigrate : ℕ → List Order → TaskJob → Type 0
+MayMigrate size held (OnBlock (Migrating migration part)) = (size ≡ part.block_sectors) × (0 < part.block_sectors) × (part.extents ≡ pieces LONGEST (whole_block part.block_sectors part.block)) × IsOrdered held part.block (copied_to migration)
+MayMigrate size held (OnBlock job) = ⊥
+MayMigrate size held job = Unit {0}
+
+-- A node or root is written by a commit that runs, once cache and origin are durable.
+abbrev pub MayCommit : {D : Type 0} → Type 0 → (D → List History) → Devices D → Option RunningCommit → Want → Type 0
+MayCommit tells contents devices commit (Device (WriteNode number)) = MayPut tells contents devices commit
+MayCommit tells contents devices commit (Device WriteRoot) = MayPut tells contents devices commit
+MayCommit tells contents devices commit want = Unit {0}
+
+abbrev pub IsReadyToWork : {R D P G : Type 0} → Type 0 → (D → List History) → WorkStage R D P G → Want → Type 0
+IsReadyToWork tells contents stage want = IsReadyOn stage.cells.now stage.hand.now.pass want × IsServed want × MayWork stage.hand.now.block_sectors stage.held.now stage.hand.now.pass.card want × MayCommit tells contents stage.hand.now.devices stage.commit.now want
 
 -- the gate was asked before a step on a device
 abbrev pub IsAsked : {G : Type 0} → (G → Point → Bool → Type 0) → G → Want → Type 0
@@ -80,5 +126,6 @@ pub record WorkLed {R D P G : Type 0} (tells : Type 0) (size : D → ℕ) (conte
   pub same_hand : new.hand.ghost_name ≡ old.hand.ghost_name
   pub same_buffer : new.buffer.ghost_name ≡ old.buffer.ghost_name
   pub same_commit : new.commit.ghost_name ≡ old.commit.ghost_name
+  pub sized : new.hand.now.block_sectors ≡ old.hand.now.block_sectors
   pub by_pass : DoneByPass old.cells.now.blocks old.hand.now.pass want got new.hand.now.pass
   pub works : WorksOn tells size contents faults old.hand.now.devices old.buffer.now old.commit.now want got new.hand.now.devices new.buffer.now new.commit.now

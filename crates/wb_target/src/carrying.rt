@@ -1,11 +1,12 @@
 //! Orders carried out, and flushes, by a client on its own thread.
 
-ghost use Rattle.std.specs.Prelude.{◌≡◌, ◌<◌, ◌⊎◌, ℕ, OnOk, OnErr, IfOk, IfErr, IfSome, IfNone, Some, None, length};
+ghost use Rattle.std.specs.Prelude.{◌≡◌, ◌<◌, ◌⊎◌, [], ◌∷◌, ℕ, OnOk, OnErr, IfOk, IfErr, IfSome, IfNone, Some, None, length};
 ghost use Rattle.std.specs.Bool.{OnTrue, OnFalse};
 ghost use Rattle.wb_tasks.specs.Tables.{TaskJob};
 ghost use Rattle.wb_tasks.specs.Plan.{table};
 ghost use Rattle.wb_stage.specs.Jobs.{MayRun};
-ghost use Rattle.wb_target.specs.Works.{WasPerformed};
+ghost use Rattle.wb_port.specs.Moves.{copied_to};
+ghost use Rattle.wb_target.specs.Works.{WasPerformed, IsOrdered, MayMigrate};
 ghost use Rattle.wb_target.specs.Carried.{state_of, looked_at_fail, HasBegun, Runs, WasDone, WereDone, migration_of, serving, flush_of, jobs_of, IsThere, AreSynced};
 ghost use Rattle.wb_target.specs.Workers.{WasRefused, DidNotBegin, GaveUpAmong, OrderRefused, FlushRefused, TickRefused};
 
@@ -39,7 +40,7 @@ fn work<R: Wait, D: Disk + Drop, P: Policy, G: Gate, T: Task>(
     held: &[Order],
     task: &mut T,
 ) -> Answer
-    requires begun { (job : TaskJob) × (T.plan task.old ≡ table job) × MayRun port.old.geometry.origin_blocks job }
+    requires begun { (job : TaskJob) × (T.plan task.old ≡ table job) × MayRun port.old.geometry.origin_blocks job × MayMigrate port.old.geometry.block held.now job }
     ensures performed { WasPerformed D.tells D.size D.contents D.faults port.old.geometry.origin_blocks (T.plan task.old) (state_of port.old) result (state_of port.new) }
     ensures geometry { port.new.geometry ≡ port.old.geometry }
 {
@@ -91,7 +92,8 @@ fn migrate<R: Wait, D: Disk + Drop, P: Policy, G: Gate>(
     migration: Migration,
     block: OBlock,
 ) -> Result<(), Refusal>
-    requires { block.0 < port.old.geometry.origin_blocks }
+    requires there { block.0 < port.old.geometry.origin_blocks }
+    requires ordered { IsOrdered (order ∷ []) block (copied_to migration) }
     ensures done { OnOk result (WasDone (Runs D.tells D.size D.contents D.faults port.old.geometry.origin_blocks) (migration_of port.old.geometry migration block) (state_of port.old) (state_of port.new)) }
     ensures refused { IfErr result (λ refusal. WasRefused (Runs D.tells D.size D.contents D.faults port.old.geometry.origin_blocks) (migration_of port.old.geometry migration block) refusal (state_of port.old) (state_of port.new)) }
     ensures geometry { port.new.geometry ≡ port.old.geometry }

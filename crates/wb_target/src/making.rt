@@ -59,7 +59,9 @@ impl<'k, D: Disk + Drop, P: Policy> MakingStage<'k, D, P> {
     }
 
     /// The devices, and the target, or why there is none: why it could not be made, else why the opening was refused.
-    pub(crate) fn finish(self, answer: Answer) -> (Devices<D>, Result<Target<P>, Refusal>) {
+    pub(crate) fn finish(self, answer: Answer) -> (Devices<D>, Result<Target<P>, Refusal>)
+        ensures devices { result.0 ≡ self.entry.stage.devices }
+    {
         let MakingStage { stage, made, .. } = self;
         let (devices, _) = stage.finish();
         let opened = match made {
@@ -80,6 +82,8 @@ impl<'k, D: Disk + Drop, P: Policy> MakingStage<'k, D, P> {
     fn make(&mut self) -> bool
         requires { MayGoOn (D.size self.old.stage.devices.metadata) self.old.stage.opening }
         ensures devices { self.new.stage.devices ≡ self.old.stage.devices }
+        ensures commit { self.new.stage.opening.commit ≡ self.old.stage.opening.commit }
+        ensures geometry { self.new.stage.opening.geometry ≡ self.old.stage.opening.geometry }
         ensures goes_on { MayGoOn (D.size self.new.stage.devices.metadata) self.new.stage.opening }
     {
         let Some(commit) = &self.stage.opening.commit else {
@@ -109,7 +113,7 @@ impl<'k, D: Disk + Drop, P: Policy> MakingStage<'k, D, P> {
 impl<'k, D: Disk + Drop, P: Policy> Stage for MakingStage<'k, D, P> {
     ghost ready = { IsReadyToMake D.size };
 
-    ghost led = { GoesOn D.size };
+    ghost led = { GoesOn D.tells D.size D.contents D.faults };
 
     fn perform(&mut self, want: &Want) -> Got {
         if let Want::Device(DeviceStep::WriteRoot) = want {

@@ -1,7 +1,7 @@
 //! What lies under a target's lock.
 
-ghost use Rattle.std.specs.Prelude.{◌≡◌, ◌<◌, IfOk, IfErr, IfSome};
-ghost use Rattle.wb_desk.specs.Desks.{holdings};
+ghost use Rattle.std.specs.Prelude.{◌≡◌, ◌<◌, ◌++◌, ◌∷◌, [], IfOk, IfErr, IfSome, length, vec_capacity};
+ghost use Rattle.wb_desk.specs.Desks.{holdings, mapped_now};
 ghost use Rattle.wb_desk.proofs.Seen.{AreSeen};
 ghost use Rattle.wb_policy.specs.Law.{IsMappedAt};
 
@@ -25,14 +25,19 @@ pub(crate) struct Office<P: Policy> {
 
 impl<P: Policy> Office<P> {
     /// A seat that a client gave back. There is room for each that was given out.
-    pub(crate) fn give_back(&mut self, seat: Seat) {
+    pub(crate) fn give_back(&mut self, seat: Seat)
+        ensures back { length self.old.seats.items < vec_capacity self.old.seats → self.new.seats.items ≡ self.old.seats.items ++ seat ∷ [] }
+        ensures desk { self.new.desk ≡ self.old.desk }
+    {
         if self.seats.len() < self.seats.capacity() {
             self.seats.push_reserved(seat);
         }
     }
 
     /// What the status line tells, as the words and the desk are now.
-    pub(crate) fn fields(&mut self) -> Fields<'static> {
+    pub(crate) fn fields(&mut self) -> Fields<'static>
+        ensures mapped { result.mapped ≡ mapped_now self.old.desk }
+    {
         let counts = self.desk.counts();
         let geometry = self.desk.geometry();
         let mode = self.desk.mode();

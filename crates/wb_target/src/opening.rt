@@ -4,6 +4,7 @@ ghost use Rattle.std.specs.Prelude.{◌≡◌, ◌≤◌, ◌<◌, IfOk, IfErr, 
 ghost use Rattle.wb_words.specs.declared.card.Hold.TheVariants.{Nothing};
 ghost use Rattle.wb_tree.specs.Mapping.{IsMapping};
 ghost use Rattle.wb_meta.specs.Reads.{FitsDevice};
+ghost use Rattle.wb_target.specs.Opening.{opened_mapping, opened_entry};
 
 use crate::making::MakingStage;
 use crate::office::Office;
@@ -75,7 +76,8 @@ pub(crate) fn over<P: Policy>(
 {
     let geometry = state.root.geometry;
     let entries = entries_of(alloc, &state.tree, &geometry)?;
-    let policy = P::new(alloc, &geometry, entries.as_slice())?;
+    let told = told_of(alloc, &entries, clean)?;
+    let policy = P::new(alloc, &geometry, told.as_slice())?;
     let mut seat = Seat::new(alloc, geometry)?;
     let lent = &mut seat;
     seal_all(
@@ -114,6 +116,41 @@ fn entries_of(
         entries[c as usize] = tree.get(CBlock(c));
     }
     Ok(entries)
+}
+
+/// The entries as an opening goes by them.
+fn told_of(
+    alloc: Global,
+    entries: &Vec<Option<Entry>>,
+    clean: bool,
+) -> Result<Vec<Option<Entry>>, Refusal>
+    ensures { IfOk result (λ v. v.items ≡ opened_mapping clean entries.now.items) }
+{
+    let mut told = vec![in alloc; None; entries.len()]?;
+    for c in 0..entries.len() {
+        told[c] = opened(clean, entries[c]);
+    }
+    Ok(told)
+}
+
+/// An entry as it is opened: without the clean flag it counts as dirty, and has no hint.
+fn opened(clean: bool, entry: Option<Entry>) -> Option<Entry>
+    ensures { result ≡ opened_entry clean entry }
+{
+    match entry {
+        None => None,
+        Some(entry) => {
+            if clean {
+                Some(entry)
+            } else {
+                Some(Entry {
+                    origin: entry.origin,
+                    dirty: true,
+                    hint: 0,
+                })
+            }
+        }
+    }
 }
 
 /// Seals each mapped block at its place: dirty as its entry says, and each without the clean flag.

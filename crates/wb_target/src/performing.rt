@@ -2,21 +2,23 @@
 
 ghost use Rattle.std.specs.Prelude.{◌≡◌, ◌≤◌, false, length, IfOk, IfErr};
 ghost use Rattle.wb_tasks.specs.Plan.{Fits, MayBeRefused, device_of};
-ghost use Rattle.wb_tasks.specs.declared.step.Want.TheVariants.{Desk as AskDesk};
+ghost use Rattle.wb_tasks.specs.declared.step.Want.TheVariants.{Desk as AskDesk, Device as OnDevice};
 ghost use Rattle.wb_tasks.specs.declared.step.DeskStep.TheVariants.{Map, BeginCommit};
 ghost use Rattle.wb_meta.specs.declared.commit_steps.CommitSteps.TheVariants.{NodesWritten};
 ghost use Rattle.wb_devices.specs.Moving.{IsOutcome, DidRead, DidWrite, OthersStay, device_in};
 ghost use Rattle.wb_devices.specs.Stepping.{CommitGoes, DidStep, BufferStays};
 ghost use Rattle.wb_stage.specs.Stages.{IsServed, is_all_done};
-ghost use Rattle.wb_target.specs.Works.{IsReadyToWork, DidAskDesk, EndsIf, WorkLed};
+ghost use Rattle.wb_port.specs.Moves.{MayCopyFrom, MayCopyTo};
+ghost use Rattle.wb_target.specs.Works.{IsReadyToWork, MayWork, MayCommit, DidAskDesk, EndsIf, WorkLed};
 
 use crate::gate::{Gate, Point};
 use crate::target::Target;
 use crate::working::WorkStage;
 use std::sync::Wait;
-use wb_devices::{Devices, RunningCommit, put, sync_metadata};
+use wb_devices::RunningCommit;
 use wb_disk::Disk;
 use wb_policy::{Order, Policy};
+use wb_port::Hand;
 use wb_stage::asking;
 use wb_tasks::{DeskStep, DeviceStep, Got, Stage, Want};
 use wb_types::{CBlock, Content, Dev, Extent, OBlock, Refusal};
@@ -58,6 +60,8 @@ impl<P: Policy> Target<P> {
 impl<'a, R: Wait, D: Disk, P: Policy, G: Gate> WorkStage<'a, R, D, P, G> {
     /// A step on a device.
     fn device_step(&mut self, step: DeviceStep) -> Got
+        requires may { MayWork self.old.hand.now.block_sectors self.old.held.now self.old.hand.now.pass.card (OnDevice step) }
+        requires commits { MayCommit D.tells D.contents self.old.hand.now.devices self.old.commit.now (OnDevice step) }
         ensures kind { IsOutcome result }
         ensures cells { self.new.cells ≡ self.old.cells }
         ensures held { self.new.held ≡ self.old.held }
@@ -66,6 +70,7 @@ impl<'a, R: Wait, D: Disk, P: Policy, G: Gate> WorkStage<'a, R, D, P, G> {
         ensures same_commit { self.new.commit.ghost_name ≡ self.old.commit.ghost_name }
         ensures same_buffer { self.new.buffer.ghost_name ≡ self.old.buffer.ghost_name }
         ensures pass { self.new.hand.now.pass ≡ self.old.hand.now.pass }
+        ensures block { self.new.hand.now.block_sectors ≡ self.old.hand.now.block_sectors }
         ensures others { OthersStay (device_of step) self.old.hand.now.devices self.new.hand.now.devices }
         ensures size { D.size (device_in (device_of step) self.new.hand.now.devices) ≡ D.size (device_in (device_of step) self.old.hand.now.devices) }
         ensures buffer { BufferStays step self.old.buffer.now self.new.buffer.now }
@@ -74,20 +79,17 @@ impl<'a, R: Wait, D: Disk, P: Policy, G: Gate> WorkStage<'a, R, D, P, G> {
     {
         match step {
             DeviceStep::Read(device, extent) => {
-                read_front(&mut self.hand.devices, device, extent, self.buffer)
+                read_front(self.hand, device, extent, self.buffer)
             }
             DeviceStep::Write(device, extent) => {
-                write_front(&mut self.hand.devices, device, extent, self.buffer)
+                write_front(self.hand, device, extent, self.buffer)
             }
-            DeviceStep::Sync(Dev::Metadata) => {
-                sync_metadata(self.commit, &mut self.hand.devices.metadata)
-            }
-            DeviceStep::Sync(Dev::Cache) => self.hand.devices.sync(Dev::Cache),
-            DeviceStep::Sync(Dev::Origin) => self.hand.devices.sync(Dev::Origin),
+            DeviceStep::Sync(Dev::Metadata) => { self.hand.sync_metadata(self.commit) }
+            DeviceStep::Sync(Dev::Cache) => self.hand.sync(Dev::Cache),
+            DeviceStep::Sync(Dev::Origin) => self.hand.sync(Dev::Origin),
             DeviceStep::ReadMetadata(_) => Got::Fault,
-            DeviceStep::WriteNode(_) | DeviceStep::WriteRoot => {
-                put(self.commit, &mut self.hand.devices.metadata, step)
-            }
+            DeviceStep::WriteNode(_) => self.hand.put(self.commit, step),
+            DeviceStep::WriteRoot => self.hand.put(self.commit, step),
         }
     }
 
@@ -170,14 +172,14 @@ impl<'a, R: Wait, D: Disk, P: Policy, G: Gate> WorkStage<'a, R, D, P, G> {
 }
 
 impl<'a, R: Wait, D: Disk, P: Policy, G: Gate> Stage for WorkStage<'a, R, D, P, G> {
-    ghost ready = { IsReadyToWork };
+    ghost ready = { IsReadyToWork D.tells D.contents };
 
     ghost led = { WorkLed D.tells D.size D.contents D.faults G.answers };
 
     #[tactic(auto, using(wb_devices::proofs::Going::outcome_fits))]
     fn perform(&mut self, want: &Want) -> Got {
         match want {
-            Want::Cell(step) => Got::from(self.cells.step(&mut self.hand.pass, *step)),
+            Want::Cell(step) => Got::from(self.hand.step(self.cells, *step)),
             Want::Device(step) => {
                 self.gate.go_on(Point::Device);
                 self.device_step(*step)
@@ -190,32 +192,38 @@ impl<'a, R: Wait, D: Disk, P: Policy, G: Gate> Stage for WorkStage<'a, R, D, P, 
 
 /// Reads an extent to the front of a buffer.
 fn read_front<D: Disk>(
-    devices: &mut Devices<D>,
+    hand: &mut Hand<D>,
     device: Dev,
     extent: Extent,
     buffer: &mut [Content],
 ) -> Got
+    requires owned { MayCopyFrom hand.old.block_sectors hand.old.pass.card device extent }
     ensures kind { IsOutcome result }
     ensures many { length buffer.new ≡ length buffer.old }
-    ensures others { OthersStay device devices.old devices.new }
-    ensures size { D.size (device_in device devices.new) ≡ D.size (device_in device devices.old) }
-    ensures did { D.tells → DidRead extent result (D.size (device_in device devices.old)) (D.contents (device_in device devices.old)) (D.faults (device_in device devices.old)) buffer.new (D.contents (device_in device devices.new)) (D.faults (device_in device devices.new)) }
+    ensures pass { hand.new.pass ≡ hand.old.pass }
+    ensures block { hand.new.block_sectors ≡ hand.old.block_sectors }
+    ensures others { OthersStay device hand.old.devices hand.new.devices }
+    ensures size { D.size (device_in device hand.new.devices) ≡ D.size (device_in device hand.old.devices) }
+    ensures did { D.tells → DidRead extent result (D.size (device_in device hand.old.devices)) (D.contents (device_in device hand.old.devices)) (D.faults (device_in device hand.old.devices)) buffer.new (D.contents (device_in device hand.new.devices)) (D.faults (device_in device hand.new.devices)) }
 {
-    devices.read(device, extent, buffer)
+    hand.copy_from(device, extent, buffer)
 }
 
 /// Writes an extent from the front of a buffer, which stays.
 fn write_front<D: Disk>(
-    devices: &mut Devices<D>,
+    hand: &mut Hand<D>,
     device: Dev,
     extent: Extent,
     buffer: &mut [Content],
 ) -> Got
+    requires owned { MayCopyTo hand.old.block_sectors hand.old.pass.card device extent }
     ensures kind { IsOutcome result }
     ensures same { buffer.new ≡ buffer.old }
-    ensures others { OthersStay device devices.old devices.new }
-    ensures size { D.size (device_in device devices.new) ≡ D.size (device_in device devices.old) }
-    ensures did { D.tells → DidWrite extent result (D.size (device_in device devices.old)) buffer.old (D.contents (device_in device devices.old)) (D.faults (device_in device devices.old)) (D.contents (device_in device devices.new)) (D.faults (device_in device devices.new)) }
+    ensures pass { hand.new.pass ≡ hand.old.pass }
+    ensures block { hand.new.block_sectors ≡ hand.old.block_sectors }
+    ensures others { OthersStay device hand.old.devices hand.new.devices }
+    ensures size { D.size (device_in device hand.new.devices) ≡ D.size (device_in device hand.old.devices) }
+    ensures did { D.tells → DidWrite extent result (D.size (device_in device hand.old.devices)) buffer.old (D.contents (device_in device hand.old.devices)) (D.faults (device_in device hand.old.devices)) (D.contents (device_in device hand.new.devices)) (D.faults (device_in device hand.new.devices)) }
 {
-    devices.write(device, extent, buffer)
+    hand.copy_to(device, extent, buffer)
 }

@@ -1,4 +1,6 @@
 use Rattle.std.proofs.Common.{◌≡◌, ◌≤◌, ◌∙◌, [], None, ap, arith, refl, subst}
+use Rattle.std.proofs.Common.{List}
+use Rattle.wb_disk.specs.Device.{History}
 use Rattle.wb_tasks.specs.Plan.{want}
 use Rattle.wb_tasks.specs.declared.step.DeviceStep.TheVariants.{Sync, ReadMetadata, WriteRoot}
 use Rattle.wb_tasks.specs.declared.step.Got.TheVariants.{Done}
@@ -12,7 +14,8 @@ use Rattle.wb_machine.specs.Life.{Happens, contents_of, shape_of, state_of}
 use Rattle.wb_machine.specs.Making.{reading_by, reading_of}
 use Rattle.wb_machine.specs.Standing.{IsReading}
 use Rattle.wb_machine.proofs.Openings.{at_commit, is_device_step, reads}
-use Rattle.wb_machine.proofs.Wherever.{puts_there, syncs_there}
+use Rattle.wb_machine.specs.Serving.{RootComes}
+use Rattle.wb_machine.proofs.Wherever.{puts_there, root_comes, sync_comes, syncs_there}
 use Rattle.wb_machine.proofs.Standing.{does_read, read_stands, reads_at, synced_stands, under_way, written_stands}
 use Rattle.wb_machine.proofs.opener.Opener.perform.Goals as goal
 
@@ -83,7 +86,7 @@ returns-in-ReadMetadata-clause-does c =
     at_commit ACTORS c.args.devices.now self (λ w. Happens shape w (Step self.actor) (Stepped (Device c.args.step) c.read.result) [] (state_of ACTORS after (Underway new))) None u.commit_is
     (reads shape ACTORS c.args.devices.now after self new c.requires.there did.actor left u.was c.read.result (Stepped (Device c.args.step) c.read.result) next (ap (λ s. Stepped (Device s) c.read.result) c.in-ReadMetadata.is)
     (ap (λ m. reading_by m self.opening.reading) at.none ∙ u.is)
-    (does_read g left u.was device c.read.result (reading_of new) new.opening.commit two c.requires.whole u.not_done u.left_is told) did.task (ap (λ m. contents_of (record c.args.devices.now { metadata = m })) did.device))
+    (does_read g left u.was device c.read.result (reading_of new) new.opening.commit two c.requires.whole u.not_done u.left_is told) did.task (ap (λ (m : List History). record (contents_of c.args.devices.now) { metadata = m }) did.contents))
 
 pub returns-in_ok-write_root-in-WriteRoot-clause-stands : goal.returns-in_ok-write_root-in-WriteRoot-clause-stands
 returns-in_ok-write_root-in-WriteRoot-clause-stands c =
@@ -96,7 +99,17 @@ pub returns-in_ok-write_root-in-WriteRoot-clause-does : goal.returns-in_ok-write
 returns-in_ok-write_root-in-WriteRoot-clause-does c =
     let self = c.args.self.now in
     let new = c.write_root.new.self in
-    let after = record c.args.devices.now { metadata = c.write_root.new.metadata } in
+    let after = c.write_root.new.devices in
     let next : want self.task ≡ Device WriteRoot = is_device_step (want self.task) c.args.step c.requires.next ∙ ap (λ s. Device s) c.in-WriteRoot.is in
     let done = c.in_ok-write_root-in-WriteRoot.ensures in
-    puts_there (shape_of c.args.geometry.now ACTORS) ACTORS c.args.devices.now after self new c.requires.there done.actor c.requires.whole c.requires.stands (Stepped (Device c.args.step) Done) next (ap (λ s. Stepped (Device s) Done) c.in-WriteRoot.is) done.task done.reading done.commit done.puts refl
+    puts_there (shape_of c.args.geometry.now ACTORS) ACTORS c.args.devices.now after self new c.requires.there done.actor c.requires.whole c.requires.stands (Stepped (Device c.args.step) Done) next (ap (λ s. Stepped (Device s) Done) c.in-WriteRoot.is) done.task done.reading done.commit done.puts done.others
+
+pub write_root-requires-clause-comes : goal.write_root-requires-clause-comes
+write_root-requires-clause-comes c =
+    let self = c.args.self.now in
+    subst (λ s. RootComes s self.opening.commit c.args.devices.now.metadata.contents) c.in-WriteRoot.is (root_comes c.args.geometry.now ACTORS c.args.devices.now self c.args.step c.requires.whole c.requires.stands c.requires.next)
+
+pub sync-requires-clause-comes : goal.sync-requires-clause-comes
+sync-requires-clause-comes c =
+    let self = c.args.self.now in
+    sync_comes c.args.geometry.now ACTORS c.args.devices.now self c.in-Sync.device c.requires.whole c.requires.stands (is_device_step (want self.task) c.args.step c.requires.next ∙ ap (λ s. Device s) c.in-Sync.is)

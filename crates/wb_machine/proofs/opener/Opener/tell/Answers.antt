@@ -1,4 +1,4 @@
-use Rattle.std.proofs.Common.{◌≡◌, ◌≤◌, ◌∙◌, None, arith, sym, subst}
+use Rattle.std.proofs.Common.{◌≡◌, ◌≤◌, ◌∙◌, None, arith, length, sym, subst}
 use Rattle.wb_meta.specs.declared.commit_steps.CommitSteps.TheVariants.{NodesSynced}
 use Rattle.wb_types.specs.declared.refusal.Refusal.TheVariants.{Memory}
 use Rattle.wb_tasks.specs.declared.step.Got.TheVariants.{Refused}
@@ -14,25 +14,25 @@ prepare-requires-clause-all c =
     let self = c.args.self.now in
     let g = c.args.geometry.now in
     let device = c.args.metadata.now.contents in
-    let new = c.tell.new.self in
+    let new = c.read.new.self in
     let u = under_way g c.args.left self.opening.reading self.opening.commit c.requires.reads in
     let two : 2 ≤ g.meta_sectors = omega (arith, c.node_count-two_slots.ensures.two_images_fit) in
-    let raw = c.tell.ensures.did u.was device u.is (record { size = sym c.sectors-sectors.ensures; here = λ place comes. c.content_of-content.ensures.shown place (c.coming_of.ensures u.was u.is ∙ comes) }) in
-    let did = subst (λ x. DidTell x g.meta_sectors c.args.left u.was device None c.tell.result new.reading new.commit) c.requires.geometry
-    (subst (λ n. DidTell self.opening.geometry n c.args.left u.was device None c.tell.result new.reading new.commit) (c.sectors-sectors.ensures ∙ c.requires.size)
-    (subst (λ x. DidTell self.opening.geometry c.sectors-sectors.result c.args.left u.was device x c.tell.result new.reading new.commit) u.commit_is raw)) in
-    subst (λ x. HasReadAll x NodesSynced new.reading new.commit) (sym (c.tell.ensures.geometry ∙ c.requires.geometry))
-    (all_told g c.args.left u.was device c.tell.result new.reading new.commit two c.requires.size u.not_done u.left_is did c.in-Done.is)
+    let raw = c.read.ensures.told u.was tt (λ may. may.1) u.is in
+    let did = subst (λ x. DidTell x g.meta_sectors c.args.left u.was device None c.read.result new.reading new.commit) c.requires.geometry
+    (subst (λ n. DidTell self.opening.geometry n c.args.left u.was device None c.read.result new.reading new.commit) c.requires.size
+    (subst (λ x. DidTell self.opening.geometry (length device) c.args.left u.was device x c.read.result new.reading new.commit) u.commit_is raw)) in
+    subst (λ x. HasReadAll x NodesSynced new.reading new.commit) (sym (c.read.ensures.geometry ∙ c.requires.geometry))
+    (all_told g c.args.left u.was device c.read.result new.reading new.commit two c.requires.size u.not_done u.left_is did c.in-Done.is)
 
 pub returns-in-Ok-clause-did : goal.returns-in-Ok-clause-did
 returns-in-Ok-clause-did c was present =
     let self = c.args.self.now in
     let g = c.args.geometry.now in
     let device = c.args.metadata.now.contents in
-    let new = c.tell.new.self in
-    let raw = c.tell.ensures.did was device present (record { size = sym c.sectors-sectors.ensures; here = λ place comes. c.content_of-content.ensures.shown place (c.coming_of.ensures was present ∙ comes) }) in
-    let did = subst (λ x. DidTell x g.meta_sectors c.args.left was device self.opening.commit c.tell.result new.reading new.commit) c.requires.geometry
-    (subst (λ n. DidTell self.opening.geometry n c.args.left was device self.opening.commit c.tell.result new.reading new.commit) (c.sectors-sectors.ensures ∙ c.requires.size) raw) in
+    let new = c.read.new.self in
+    let raw = c.read.ensures.told was tt (λ may. may.1) present in
+    let did = subst (λ x. DidTell x g.meta_sectors c.args.left was device self.opening.commit c.read.result new.reading new.commit) c.requires.geometry
+    (subst (λ n. DidTell self.opening.geometry n c.args.left was device self.opening.commit c.read.result new.reading new.commit) c.requires.size raw) in
     rw (c.in-Ok.ensures.reading, c.in-Ok.ensures.commit) (subst (λ got. DidTell g g.meta_sectors c.args.left was device self.opening.commit got new.reading new.commit) c.in-Done.is did)
 
 pub returns-in-Err-clause-did : goal.returns-in-Err-clause-did
@@ -40,15 +40,15 @@ returns-in-Err-clause-did c was present =
     let self = c.args.self.now in
     let g = c.args.geometry.now in
     let device = c.args.metadata.now.contents in
-    let new = c.tell.new.self in
+    let new = c.read.new.self in
     let u = under_way g c.args.left self.opening.reading self.opening.commit c.requires.reads in
     let same : u.was ≡ was = let e = sym u.is ∙ present in cc in
     let two : 2 ≤ g.meta_sectors = omega (arith, c.node_count-two_slots.ensures.two_images_fit) in
-    let raw = c.tell.ensures.did u.was device u.is (record { size = sym c.sectors-sectors.ensures; here = λ place comes. c.content_of-content.ensures.shown place (c.coming_of.ensures u.was u.is ∙ comes) }) in
-    let did = subst (λ x. DidTell x g.meta_sectors c.args.left u.was device None c.tell.result new.reading new.commit) c.requires.geometry
-    (subst (λ n. DidTell self.opening.geometry n c.args.left u.was device None c.tell.result new.reading new.commit) (c.sectors-sectors.ensures ∙ c.requires.size)
-    (subst (λ x. DidTell self.opening.geometry c.sectors-sectors.result c.args.left u.was device x c.tell.result new.reading new.commit) u.commit_is raw)) in
-    let refused = wants_memory g c.args.left u.was device c.tell.result new.reading new.commit two c.requires.size u.not_done u.left_is did c.in-Done.is in
+    let raw = c.read.ensures.told u.was tt (λ may. may.1) u.is in
+    let did = subst (λ x. DidTell x g.meta_sectors c.args.left u.was device None c.read.result new.reading new.commit) c.requires.geometry
+    (subst (λ n. DidTell self.opening.geometry n c.args.left u.was device None c.read.result new.reading new.commit) c.requires.size
+    (subst (λ x. DidTell self.opening.geometry (length device) c.args.left u.was device x c.read.result new.reading new.commit) u.commit_is raw)) in
+    let refused = wants_memory g c.args.left u.was device c.read.result new.reading new.commit two c.requires.size u.not_done u.left_is did c.in-Done.is in
     let final = c.prepare.new.self in
     let of_was = subst (λ w. DidTell g g.meta_sectors c.args.left w device None (Refused Memory) None None) same refused in
     let beside = subst (λ k. DidTell g g.meta_sectors c.args.left was device k (Refused Memory) None None) (sym u.commit_is) of_was in
@@ -61,11 +61,11 @@ returns-in_default-clause-did c was present =
     let self = c.args.self.now in
     let g = c.args.geometry.now in
     let device = c.args.metadata.now.contents in
-    let new = c.tell.new.self in
-    let raw = c.tell.ensures.did was device present (record { size = sym c.sectors-sectors.ensures; here = λ place comes. c.content_of-content.ensures.shown place (c.coming_of.ensures was present ∙ comes) }) in
-    let did = subst (λ x. DidTell x g.meta_sectors c.args.left was device self.opening.commit c.tell.result new.reading new.commit) c.requires.geometry
-    (subst (λ n. DidTell self.opening.geometry n c.args.left was device self.opening.commit c.tell.result new.reading new.commit) (c.sectors-sectors.ensures ∙ c.requires.size) raw) in
+    let new = c.read.new.self in
+    let raw = c.read.ensures.told was tt (λ may. may.1) present in
+    let did = subst (λ x. DidTell x g.meta_sectors c.args.left was device self.opening.commit c.read.result new.reading new.commit) c.requires.geometry
+    (subst (λ n. DidTell self.opening.geometry n c.args.left was device self.opening.commit c.read.result new.reading new.commit) c.requires.size raw) in
     rw c.requires.none did
 
 pub returns-in_default-clause-made : goal.returns-in_default-clause-made
-returns-in_default-clause-made c = none_made c.args.geometry.now ACTORS c.args.self.now.actor c.tell.result _ c.in_default.not-Done c.requires.none
+returns-in_default-clause-made c = none_made c.args.geometry.now ACTORS c.args.self.now.actor c.read.result _ c.in_default.not-Done c.requires.none

@@ -11,10 +11,11 @@ use Rattle.wb_tree.specs.Loading.{IsFresh}
 use Rattle.wb_types.specs.declared.number.Place.{Place}
 use Rattle.wb_tree.specs.declared.placed.PlacedNode.{PlacedNode}
 use Rattle.wb_meta.specs.declared.read_steps.ReadSteps.{ReadSteps}
-use Rattle.wb_meta.specs.States.{IsRefusedBy, IsOfReading, CountsFault}
+use Rattle.wb_meta.specs.States.{IsRefusedBy, IsOfReading, CountsFault, FailsIf}
 use Rattle.wb_meta.specs.Reads.{AgreeThere, AreStepsOn, HasRead, ReadingGoesOn, StopsBy, IsDone, IsTreeOn, coming_sector, place_number, sectors_read, steps_left}
-use Rattle.wb_meta.proofs.Loaded.{loaded_none, loaded_more, loaded_refused, memory_refused, fails_kind, fails_cause, wanted_node, IfErr-handed}
+use Rattle.wb_meta.proofs.Loaded.{loaded_none, loaded_more, loaded_refused, memory_refused, fails_kind, fails_cause, fails_way, wanted_node, IfErr-handed}
 use Rattle.wb_meta.proofs.Counting.{tree_begun, tree_pushed, fewer_left, length_pushed}
+use Rattle.wb_disk.specs.Extents.{Reading, MayLand}
 use Rattle.wb_meta.proofs.read_steps.ReadSteps.next.Goals as goal
 
 -- as many sectors as the device has
@@ -91,6 +92,12 @@ returns-in_err-tell-in-Some-clause-cause g c tells =
     let wanted = wanted_node c.in-RootFound.loader.wanted c.in-Some.field-0 (sym c.wanted.ensures.place ∙ c.in-Some.is) in
     IfErr-handed c.from_residual-in_err-tell-in-Some.result c.in_err-tell-in-Some.field-0.0 (λ refusal. CountsFault refusal (g.D.Disk.faults c.args.disk.now) (g.D.Disk.faults c.get_node.new.disk)) c.from_residual-in_err-tell-in-Some.ensures.1
     (fails_cause c.in_err-tell-in-Some.field-0.0 _ _ _ (c.in_err-tell-in-Some.ensures.err wanted.node (λ _. c.in_ok-node-in-Some.node) wanted.some refl) (c.in_ok-node-in-Some.ensures.no_fault tells))
+
+pub returns-in_err-tell-in-Some-clause-how : goal.returns-in_err-tell-in-Some-clause-how
+returns-in_err-tell-in-Some-clause-how g c tells =
+    let wanted = wanted_node c.in-RootFound.loader.wanted c.in-Some.field-0 (sym c.wanted.ensures.place ∙ c.in-Some.is) in
+    IfErr-handed c.from_residual-in_err-tell-in-Some.result c.in_err-tell-in-Some.field-0.0 (λ refusal. FailsIf refusal (MayLand (g.D.Disk.falters c.args.disk.now Reading))) c.from_residual-in_err-tell-in-Some.ensures.1
+    (fails_way c.in_err-tell-in-Some.field-0.0 _ _ (c.in_err-tell-in-Some.ensures.err wanted.node (λ _. c.in_ok-node-in-Some.node) wanted.some refl))
 
 pub returns-in_ok-loader-in-FirstSlotRead-clause-on : goal.returns-in_ok-loader-in-FirstSlotRead-clause-on
 returns-in_ok-loader-in-FirstSlotRead-clause-on g c =

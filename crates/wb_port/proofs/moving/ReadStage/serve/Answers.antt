@@ -1,10 +1,10 @@
 use Rattle.std.proofs.Common.{refl}
 use Rattle.wb_port.proofs.Ranging.{never_range}
-use Rattle.wb_port.proofs.Serves.{read_same_hand, read_same_slice, read_at, read_ready, read_many, read_idle, read_ok, read_err}
+use Rattle.wb_port.proofs.Serves.{read_same_hand, read_same_slice, read_at, read_size, read_ready, read_many, read_idle, read_ok, read_err}
 use Rattle.wb_port.proofs.moving.ReadStage.serve.Goals as goal
 
 pub read_all-requires-clause-stays : goal.read_all-requires-clause-stays
-read_all-requires-clause-stays g c steps mid first leads step = read_ready g.D.Disk.tells g.D.Disk.size g.D.Disk.contents g.D.Disk.faults c.args.block_sectors c.args.block c.args.sectors _ steps c.args.self.now mid refl leads c.requires.block c.requires.at c.requires.idle first
+read_all-requires-clause-stays g c steps mid first leads step = read_ready g.D.Disk.tells g.D.Disk.size g.D.Disk.contents g.D.Disk.faults c.args.block_sectors c.args.block c.args.sectors _ steps c.args.self.now mid refl leads c.requires.some c.requires.of c.requires.inside c.requires.size c.requires.block c.requires.at c.requires.idle first
 
 pub returns-clause-same_hand : goal.returns-clause-same_hand
 returns-clause-same_hand g c = let run = c.read_all.ensures in read_same_hand g.D.Disk.tells g.D.Disk.size g.D.Disk.contents g.D.Disk.faults c.args.block_sectors c.args.block c.args.sectors _ run.0 c.args.self.now c.read_all.new.stage refl run.2
@@ -20,6 +20,9 @@ returns-clause-refused g c = let run = c.read_all.ensures in read_err g.D.Disk.t
 
 pub returns-clause-at : goal.returns-clause-at
 returns-clause-at g c = let run = c.read_all.ensures in read_at g.D.Disk.tells g.D.Disk.size g.D.Disk.contents g.D.Disk.faults c.args.block_sectors c.args.block c.args.sectors _ run.0 c.args.self.now c.read_all.new.stage refl run.2
+
+pub returns-clause-size : goal.returns-clause-size
+returns-clause-size g c = let run = c.read_all.ensures in read_size g.D.Disk.tells g.D.Disk.size g.D.Disk.contents g.D.Disk.faults c.args.block_sectors c.args.block c.args.sectors _ run.0 c.args.self.now c.read_all.new.stage refl run.2
 
 pub returns-clause-idle : goal.returns-clause-idle
 returns-clause-idle g c = let run = c.read_all.ensures in read_idle g.D.Disk.tells g.D.Disk.size g.D.Disk.contents g.D.Disk.faults c.args.block_sectors c.args.block c.args.sectors _ run.0 c.args.self.now c.read_all.new.stage refl run.2 c.read_all.result c.requires.block c.requires.idle run.1

@@ -1,0 +1,116 @@
+-- Which extents a client may move: those of the block that its pass has, where that block stands.
+use Rattle.std.specs.Prelude.{◌≡◌, ◌≤◌, ◌+◌, ◌*◌, ℕ, Bool, true, List, [], All, Option, Some, None}
+use Rattle.wb_types.specs.declared.extent.Extent.{Extent}
+use Rattle.wb_types.specs.declared.mode.Dev.{Dev}
+use Rattle.wb_types.specs.declared.mode.Dev.TheVariants.{Cache, Origin}
+use Rattle.wb_types.specs.declared.number.OBlock.{OBlock}
+use Rattle.wb_types.specs.declared.number.CBlock.{CBlock}
+use Rattle.wb_words.specs.declared.word.Access.{Access}
+use Rattle.wb_words.specs.declared.word.Access.TheVariants.{Owned}
+use Rattle.wb_words.specs.declared.card.Hold.TheVariants.{Held}
+use Rattle.wb_words.specs.declared.card.Card.{Card}
+use Rattle.wb_words.specs.SharedWords.{place_in, dirty_in}
+use Rattle.wb_disk.specs.Device.{History}
+use Rattle.wb_devices.specs.declared.devices.Devices.{Devices}
+use Rattle.wb_devices.specs.declared.running.RunningCommit.{RunningCommit}
+use Rattle.wb_tasks.specs.declared.step.DeviceStep.TheVariants.{Read, Write}
+use Rattle.wb_tasks.specs.declared.step.Migration.{Migration}
+use Rattle.wb_tasks.specs.declared.step.Migration.TheVariants.{Promote, Demote, Clean}
+use Rattle.wb_tasks.specs.declared.step.Want.{Want}
+use Rattle.wb_tasks.specs.declared.step.Want.TheVariants.{Device}
+
+-- an extent lies in so many sectors from here on
+abbrev pub LiesIn : ℕ → ℕ → Extent → Type 0
+LiesIn start size e = (start ≤ e.first) × (e.first + e.count ≤ start + size)
+
+-- It lies in the block, and on the device on which the block stands: an unmapped one on the origin, a mapped one in its
+-- cache block.
+abbrev pub IsAt : ℕ → OBlock → Option CBlock → Dev → Extent → Type 0
+IsAt size block None Origin e = LiesIn (block.0 * size) size e
+IsAt size block (Some c) Cache e = LiesIn (c.0 * size) size e
+IsAt size block place device e = ⊥
+
+-- The pass shares or owns a block, of so many sectors, and has seen its seal since; the extent is in that block, where the
+-- seal tells.
+pub record MayRead (size : ℕ) (card : Card) (device : Dev) (e : Extent) : Type 0 where
+  pub access : Access
+  pub block : OBlock
+  pub seal : ℕ
+  pub held : card.hold ≡ Held access block
+  pub seen : card.seal ≡ Some seal
+  pub at : IsAt size block (place_in seal) device e
+
+-- a copy on this device is sealed dirty
+abbrev pub IfCache : Dev → Bool → Type 0
+IfCache Cache dirty = dirty ≡ true
+IfCache device dirty = Unit {0}
+
+abbrev pub IfOrigin : Dev → Bool → Type 0
+IfOrigin Origin dirty = dirty ≡ true
+IfOrigin device dirty = Unit {0}
+
+-- And it owns it; a copy in the cache is sealed dirty before it is written.
+pub record MayWrite (size : ℕ) (card : Card) (device : Dev) (e : Extent) : Type 0 where
+  pub block : OBlock
+  pub seal : ℕ
+  pub owned : card.hold ≡ Held Owned block
+  pub seen : card.seal ≡ Some seal
+  pub dirty : IfCache device (dirty_in seal)
+  pub at : IsAt size block (place_in seal) device e
+
+-- ---- copies
+
+-- the cache block to which a migration copies its block
+abbrev pub copied_to : Migration → Option CBlock
+copied_to (Promote c) = Some c
+copied_to Demote = None
+copied_to Clean = None
+
+-- Where a migration copies a block from or to: on the origin where the block is there, whatever its seal tells; in the cache at
+-- this place.
+abbrev pub IsCopyAt : ℕ → OBlock → Dev → Option CBlock → Extent → Type 0
+IsCopyAt size block Origin place e = LiesIn (block.0 * size) size e
+IsCopyAt size block Cache (Some c) e = LiesIn (c.0 * size) size e
+IsCopyAt size block device place e = ⊥
+
+-- The pass owns a block, and has seen its seal since, or sealed it; the extent is the block's, in the cache where the seal tells
+-- that a dirty copy stands.
+pub record MayCopyFrom (size : ℕ) (card : Card) (device : Dev) (e : Extent) : Type 0 where
+  pub block : OBlock
+  pub seal : ℕ
+  pub owned : card.hold ≡ Held Owned block
+  pub seen : card.seal ≡ Some seal
+  pub dirty : IfCache device (dirty_in seal)
+  pub at : IsCopyAt size block device (place_in seal) e
+
+-- The pass owns a block; the extent is the block's, in the cache at the place to which it is copied. It is copied home before
+-- it is sealed clean.
+pub record MayCopyTo (size : ℕ) (card : Card) (device : Dev) (e : Extent) : Type 0 where
+  pub block : OBlock
+  pub to : Option CBlock
+  pub seal : ℕ
+  pub owned : card.hold ≡ Held Owned block
+  pub seen : card.seal ≡ Some seal
+  pub dirty : IfOrigin device (dirty_in seal)
+  pub at : IsCopyAt size block device to e
+
+-- ---- metadata
+
+-- of each sector the last content alone is there
+abbrev pub IsDurable : List History → Type 0
+IsDurable histories = All (λ h. h.later ≡ []) histories
+
+-- A node or root may be put: a commit runs, and what was written to cache and origin is durable.
+pub record MayPut {D : Type 0} (tells : Type 0) (contents : D → List History) (devices : Devices D) (commit : Option RunningCommit) : Type 0 where
+  pub commit_is : RunningCommit
+  pub runs : commit ≡ Some commit_is
+  pub cache : tells → IsDurable (contents devices.cache)
+  pub origin : tells → IsDurable (contents devices.origin)
+
+-- ---- requests
+
+-- the same of any step: one that moves no extent asks for no block
+abbrev pub MayMove : ℕ → Card → Want → Type 0
+MayMove size card (Device (Read device e)) = MayRead size card device e
+MayMove size card (Device (Write device e)) = MayWrite size card device e
+MayMove size card next = Unit {0}

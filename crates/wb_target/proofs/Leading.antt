@@ -1,0 +1,22 @@
+-- A step of an opening that makes its target is one of the opening.
+use Rattle.std.proofs.Common.{◌≡◌, ◌⊎◌, ℕ, List, inl}
+use Rattle.wb_disk.specs.Device.{History}
+use Rattle.wb_tasks.specs.declared.step.Want.{Want}
+use Rattle.wb_tasks.specs.declared.step.Want.TheVariants.{Cell, Device, Desk, End}
+use Rattle.wb_tasks.specs.declared.step.Got.{Got}
+use Rattle.wb_tasks.specs.declared.step.Got.TheVariants.{Fault}
+use Rattle.wb_devices.specs.OpeningLed.{LedOpening}
+use Rattle.wb_devices.specs.Openings.{MayGoOn}
+use Rattle.wb_devices.specs.declared.opening_stage.OpeningStage.{OpeningStage}
+
+pub led_on : {D : Type 0} (tells : Type 0) (size : D → ℕ) (contents : D → List History) (faults : D → ℕ) (old before new : OpeningStage D) (want : Want) (got : Got)
+    → before.devices ≡ old.devices → before.opening.commit ≡ old.opening.commit → before.opening.geometry ≡ old.opening.geometry
+    → LedOpening tells size contents faults before want got new
+    → MayGoOn (size new.devices.metadata) new.opening
+    × (((mid : OpeningStage D) × (mid.devices ≡ old.devices) × (mid.opening.commit ≡ old.opening.commit)
+        × (mid.opening.geometry ≡ old.opening.geometry) × LedOpening tells size contents faults mid want got new)
+    ⊎ ((got ≡ Fault) × (new.devices ≡ old.devices)))
+led_on tells size contents faults old before new (Device step) got d c g led = (led.3, inl (before, d, c, g, led))
+led_on tells size contents faults old before new (Cell step) got d c g led = absurd led
+led_on tells size contents faults old before new (Desk step) got d c g led = absurd led
+led_on tells size contents faults old before new (End answer) got d c g led = absurd led
