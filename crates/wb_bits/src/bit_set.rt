@@ -10,7 +10,6 @@ use std::marker::Model;
 
 /// Words of bits, and above them the set of the words that are used.
 #[cycle(bit_set)]
-#[derive(Drop)]
 pub struct BitSet {
     bound: usize,
     words: Vec<u64>,
@@ -22,6 +21,19 @@ pub struct BitSet {
 enum Above {
     Nothing,
     Summary(Box<BitSet>),
+}
+
+impl Drop for BitSet {
+    #[cycle(bit_set)]
+    fn drop(self) {
+        let BitSet {
+            bound: _,
+            words,
+            above,
+        } = self;
+        drop(words);
+        drop(above);
+    }
 }
 
 impl Model for BitSet {

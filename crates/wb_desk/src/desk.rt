@@ -37,7 +37,6 @@ use wb_types::{CBlock, CBlockRange, Entry, Geometry, Key, Message, Mode, OBlock,
 ///
 /// All memory but the tree's, the policy's and an image's is taken at the opening: a place in each list by cache block and
 /// by origin block.
-#[derive(Drop)]
 pub struct Desk<P: Policy> {
     geometry: Geometry,
     mode: Mode,
@@ -58,6 +57,35 @@ pub struct Desk<P: Policy> {
     at_opening: u32,
     promotions: u64,
     demotions: u64,
+}
+
+impl<P: Policy> Drop for Desk<P> {
+    fn drop(self) {
+        let Desk {
+            geometry: _,
+            mode: _,
+            tree,
+            cached,
+            left,
+            space,
+            orders,
+            policy,
+            threshold: _,
+            generation: _,
+            nodes: _,
+            coming: _,
+            mapped: _,
+            at_opening: _,
+            promotions: _,
+            demotions: _,
+        } = self;
+        drop(tree);
+        drop(cached);
+        drop(left);
+        drop(space);
+        drop(orders);
+        drop(policy);
+    }
 }
 
 impl<P: Policy> Model for Desk<P> {

@@ -44,7 +44,6 @@ impl<'a> Faltering<'a> {
 
 impl Disk for Faltering<'_> {
     ghost use Rattle.std.specs.Prelude.{length, refl};
-
     ghost use Rattle.wb_disk.specs.Faltering.{falters_as};
 
     ghost tells = { Unit {0} };

@@ -25,11 +25,22 @@ use wb_types::{Content, Dev, Refusal};
 /// there is memory for.
 ///
 /// Each sector that was written since the last sync is noted, so that a sync goes over these alone.
-#[derive(Drop)]
 pub struct MemDisk {
     sectors: Vec<Pending>,
     unsynced: BitSet,
     faults: u64,
+}
+
+impl Drop for MemDisk {
+    fn drop(self) {
+        let MemDisk {
+            sectors,
+            unsynced,
+            faults: _,
+        } = self;
+        drop(sectors);
+        drop(unsynced);
+    }
 }
 
 impl Model for MemDisk {
@@ -173,7 +184,6 @@ impl MemDisk {
 
 impl Disk for MemDisk {
     ghost use Rattle.std.specs.Prelude.{length, refl};
-
     ghost use Rattle.wb_disk.specs.Memory.{memory_falters};
 
     ghost tells = { Unit {0} };

@@ -16,10 +16,20 @@ use wb_words::{CellResult, CellStep, is_dirty, seal_word};
 
 /// A crew, and its seals as they were stored last. Contracts see the crew alone: a look at a word of it is a step of an actor, and
 /// leaves its mark on that one's card, which a question of the machine may not.
-#[derive(Drop)]
 pub struct KnownCrew {
     crew: Crew,
     seals: Vec<u64>,
+}
+
+impl Drop for KnownCrew {
+    fn drop(self) {
+        let KnownCrew {
+            crew,
+            seals,
+        } = self;
+        drop(crew);
+        drop(seals);
+    }
 }
 
 impl Model for KnownCrew {

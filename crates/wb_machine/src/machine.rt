@@ -29,13 +29,27 @@ use wb_types::{Content, Geometry, Refusal};
 pub const ACTORS: usize = 64;
 
 /// Three devices in memory, what stands over them, and the trace of what happened.
-#[derive(Drop)]
 pub struct Machine {
     alloc: Global,
     geometry: Geometry,
     devices: Devices<MemDisk>,
     phase: Phase,
     trace: Trace,
+}
+
+impl Drop for Machine {
+    fn drop(self) {
+        let Machine {
+            alloc: _,
+            geometry: _,
+            devices,
+            phase,
+            trace,
+        } = self;
+        drop(devices);
+        drop(phase);
+        drop(trace);
+    }
 }
 
 impl Model for Machine {

@@ -35,12 +35,26 @@ use wb_types::{Content, Geometry, Refusal};
 /// What an actor is at: its job and what is left of its task, if it has one; the orders that it has, the newest first, and those of
 /// replacements whose block has left, which wait for a flush of it; and what its migration has read last, which it writes next. What it
 /// knows of the shared words is on its card in the crew.
-#[derive(Drop)]
 pub struct Member {
     task: Option<(Job, Work)>,
     orders: Vec<Order>,
     awaiting: Vec<Order>,
     buffer: Vec<Content>,
+}
+
+impl Drop for Member {
+    fn drop(self) {
+        let Member {
+            task,
+            orders,
+            awaiting,
+            buffer,
+        } = self;
+        drop(task);
+        drop(orders);
+        drop(awaiting);
+        drop(buffer);
+    }
 }
 
 impl Model for Member {

@@ -18,13 +18,27 @@ use wb_types::{CBlock, OBlock, Refusal};
 /// All orders that live, each under a cache block of its own.
 ///
 /// The memory is taken once: by cache block an order and a place in the queue, by origin block a Boolean.
-#[derive(Drop)]
 pub struct LiveOrders {
     slots: Vec<Option<LiveOrder>>,
     busy: Vec<bool>,
     waiting: HeapCircularBuffer<CBlock>,
     cost: u64,
     given: u64,
+}
+
+impl Drop for LiveOrders {
+    fn drop(self) {
+        let LiveOrders {
+            slots,
+            busy,
+            waiting,
+            cost: _,
+            given: _,
+        } = self;
+        drop(slots);
+        drop(busy);
+        drop(waiting);
+    }
 }
 
 impl Model for LiveOrders {

@@ -14,9 +14,15 @@ use std::num::NonZeroUsize;
 use wb_types::{CBlock, OBlock, Refusal};
 
 /// The mapped origin blocks with their cache blocks, the most recently used first.
-#[derive(Drop)]
 pub(crate) struct Recency {
     blocks: LruCache<u32, u32>,
+}
+
+impl Drop for Recency {
+    fn drop(self) {
+        let Recency { blocks } = self;
+        drop(blocks);
+    }
 }
 
 impl Model for Recency {

@@ -18,13 +18,25 @@ use wb_types::{CBlock, Entry, Geometry, Key, Mode, OBlock, Refusal};
 /// Caches a block once its estimate is high enough, and replaces the least recently used block by one that is
 /// accessed more often: TinyLFU's admission (Einziger, Friedman and Manes, ACM Transactions on Storage 2017) over a list
 /// by recency. Its hints are the estimates.
-#[derive(Drop)]
 pub struct TinyLfu {
     sketch: Sketch,
     recency: Recency,
     /// The least estimate at which a block is promoted, 1 to 17.
     promote_min: u8,
     block_sectors: u32,
+}
+
+impl Drop for TinyLfu {
+    fn drop(self) {
+        let TinyLfu {
+            sketch,
+            recency,
+            promote_min: _,
+            block_sectors: _,
+        } = self;
+        drop(sketch);
+        drop(recency);
+    }
 }
 
 impl Model for TinyLfu {

@@ -12,12 +12,26 @@ use wb_bits::BitSet;
 
 /// The state of each cache block, and beside them the sets of those that are looked for: the free ones, and
 /// the quarantined ones whose removal came before or after the running commit began.
-#[derive(Drop)]
 pub struct Blocks {
     states: Vec<Block>,
     free: BitSet,
     late: BitSet,
     early: BitSet,
+}
+
+impl Drop for Blocks {
+    fn drop(self) {
+        let Blocks {
+            states,
+            free,
+            late,
+            early,
+        } = self;
+        drop(states);
+        drop(free);
+        drop(late);
+        drop(early);
+    }
 }
 
 impl Model for Blocks {

@@ -17,13 +17,28 @@ use wb_types::Place;
 /// The newest image is the running one, or where none runs, the committed one again. `changed` marks where it differs from
 /// the committed one, so that a commit begins and ends in a few words' work for each of these places. `free` has those that
 /// neither of both uses.
-#[derive(Drop)]
 pub struct Places {
     committed: BitSet,
     newest: BitSet,
     changed: BitSet,
     free: BitSet,
     committing: bool,
+}
+
+impl Drop for Places {
+    fn drop(self) {
+        let Places {
+            committed,
+            newest,
+            changed,
+            free,
+            committing: _,
+        } = self;
+        drop(committed);
+        drop(newest);
+        drop(changed);
+        drop(free);
+    }
 }
 
 impl Model for Places {

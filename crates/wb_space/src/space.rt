@@ -19,10 +19,17 @@ use wb_types::{CBlock, Geometry, Place, Refusal};
 /// till then an image that a crash may bring back can name it. Then it is free, or reserved where a live
 /// replacement keeps it. Of the metadata places only those are kept track of that can ever be handed out: the
 /// two root slots and, behind them, twice the nodes of a full mapping.
-#[derive(Drop)]
 pub struct Space {
     blocks: Blocks,
     places: Places,
+}
+
+impl Drop for Space {
+    fn drop(self) {
+        let Space { blocks, places } = self;
+        drop(blocks);
+        drop(places);
+    }
 }
 
 impl Model for Space {

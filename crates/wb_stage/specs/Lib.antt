@@ -1,4 +1,3 @@
 pub mod Asking
 pub mod Stages
-pub mod Led
 pub mod Jobs

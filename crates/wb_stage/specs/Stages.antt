@@ -1,30 +1,18 @@
--- What one step does to a stage: its words, its desk and the commit that it runs.
+-- What one step on the desk does to it and to the commit that runs; which steps are served.
 use Rattle.std.specs.Prelude.{◌≡◌, ℕ, Bool, true, false, List, Option, Some, None, length}
-use Rattle.wb_words.specs.Effects.{result_of}
-use Rattle.wb_cells.specs.Crews.{CrewState, crew_after}
 use Rattle.wb_meta.specs.declared.commit_steps.CommitSteps.TheVariants.{NodesWritten}
 use Rattle.wb_policy.specs.declared.order.Order.{Order}
 use Rattle.wb_desk.specs.Desks.{DeskState}
-use Rattle.wb_tasks.specs.Plan.{got_of}
 use Rattle.wb_tasks.specs.declared.step.DeviceStep.TheVariants.{ReadMetadata}
 use Rattle.wb_tasks.specs.declared.step.DeskStep.{DeskStep}
 use Rattle.wb_tasks.specs.declared.step.DeskStep.TheVariants.{Map, Unmap, ReleaseOrder, BeginCommit, EndCommit}
 use Rattle.wb_tasks.specs.declared.step.Want.{Want}
-use Rattle.wb_tasks.specs.declared.step.Want.TheVariants.{Cell, Device, Desk}
+use Rattle.wb_tasks.specs.declared.step.Want.TheVariants.{Device, Desk}
 use Rattle.wb_tasks.specs.declared.step.Got.{Got}
 use Rattle.wb_tasks.specs.declared.step.Got.TheVariants.{Began, Refused}
 use Rattle.wb_devices.specs.declared.running.RunningCommit.{RunningCommit}
 use Rattle.wb_devices.specs.Committing.{is_committed}
 use Rattle.wb_stage.specs.Asking.{DidMap, DidUnmap, DidRelease, HasBegun, IsUnbegun, ended}
-
--- ---- the words
-
--- what a step does to the crew, as a step of one of its actors
-abbrev pub DoneOnCrew : CrewState → ℕ → Want → Got → CrewState → Type 0
-DoneOnCrew crew actor (Cell step) got crew' = (got ≡ got_of (result_of crew.words step)) × (crew' ≡ crew_after crew actor step)
-DoneOnCrew crew actor want got crew' = crew' ≡ crew
-
--- ---- the desk
 
 -- a commit that was begun has done nothing yet
 abbrev pub DidBegin : {P : Type 0} → ℕ → Got → DeskState P → Option RunningCommit → DeskState P → Option RunningCommit → Type 0

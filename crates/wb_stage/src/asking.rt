@@ -6,13 +6,44 @@ ghost use Rattle.wb_tasks.specs.declared.step.Want.TheVariants.{Desk as AskDesk}
 ghost use Rattle.wb_tasks.specs.declared.step.DeskStep.TheVariants.{Map, BeginCommit};
 ghost use Rattle.wb_meta.specs.declared.commit_steps.CommitSteps.TheVariants.{NodesWritten};
 ghost use Rattle.wb_stage.specs.Asking.{DidMap, DidUnmap, DidRelease, HasBegun, IsUnbegun, is_of, order_of, ended};
+ghost use Rattle.wb_stage.specs.Stages.{DidAsk, DidBegin, EndsWith, IsServed, is_all_done};
 
 use std::alloc::Global;
 use wb_desk::Desk;
 use wb_devices::RunningCommit;
 use wb_policy::{Order, Policy};
-use wb_tasks::Got;
+use wb_tasks::{DeskStep, Got};
 use wb_types::{CBlock, OBlock, Refusal};
+
+/// Performs a step on the desk, for who runs this commit, if any, and has taken these orders.
+pub fn ask<P: Policy>(
+    alloc: Global,
+    desk: &mut Desk<P>,
+    commit: &mut Option<RunningCommit>,
+    held: &[Order],
+    step: DeskStep,
+) -> Got
+    requires { IsServed (AskDesk step) }
+    ensures kind { Fits (AskDesk step) result }
+    ensures did { DidAsk P.with_entry P.without_entry held.now step result desk.old commit.old desk.new commit.new }
+{
+    match step {
+        DeskStep::Map(block, to) => map(desk, block, to),
+        DeskStep::Unmap(block) => {
+            unmap(desk, block);
+            Got::Done
+        }
+        DeskStep::ReleaseOrder(block) => {
+            release(desk, held, block);
+            Got::Done
+        }
+        DeskStep::BeginCommit(_, most) => begin_commit(alloc, desk, commit, most),
+        DeskStep::EndCommit => {
+            end_commit(desk, commit);
+            Got::Done
+        }
+    }
+}
 
 /// Enters a block into the mapping. `Memory` where the desk has none, or where no order brings the block there.
 pub fn map<P: Policy>(desk: &mut Desk<P>, block: OBlock, to: CBlock) -> Got
@@ -75,6 +106,40 @@ pub fn end<P: Policy>(desk: &mut Desk<P>)
 {
     if desk.is_committing() {
         desk.end_commit();
+    }
+}
+
+/// A commit of at most so many nodes begins, or the desk refuses it.
+fn begin_commit<P: Policy>(
+    alloc: Global,
+    desk: &mut Desk<P>,
+    commit: &mut Option<RunningCommit>,
+    most: u32,
+) -> Got
+    ensures kind { Fits (AskDesk (BeginCommit false most)) result }
+    ensures did { DidBegin most result desk.old commit.old desk.new commit.new }
+{
+    match begin(alloc, desk, most) {
+        Ok(begun) => {
+            let nodes = begun.nodes() as u32;
+            *commit = Some(begun);
+            Got::Began(nodes)
+        }
+        Err(refusal) => Got::Refused(refusal),
+    }
+}
+
+/// The commit ends, where all of it was done.
+fn end_commit<P: Policy>(desk: &mut Desk<P>, commit: &mut Option<RunningCommit>)
+    ensures { EndsWith (is_all_done commit.old) desk.old commit.old desk.new commit.new }
+{
+    let is_done = match &*commit {
+        Some(commit) => commit.is_done(),
+        None => false,
+    };
+    if is_done {
+        end(desk);
+        *commit = None;
     }
 }
 

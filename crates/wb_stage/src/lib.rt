@@ -1,11 +1,5 @@
-//! Performing the tasks of a cache that is open: on three devices, a desk and a crew's words. Each call on the desk is made
-//! here once; the steps on devices are those of wb_devices. Who has its own words or buffers builds a stage of these parts.
+//! The steps of tasks on the desk: each call of it is made here once, and a step that the desk cannot be asked now is not done.
+//! Who keeps a desk, under a lock or alone, performs those steps by `asking::ask`; the steps on devices are those of wb_devices.
 #![tactic(auto)]
 
 pub mod asking;
-mod idle;
-mod perform;
-mod stage;
-
-pub use idle::IdleStage;
-pub use stage::CacheStage;

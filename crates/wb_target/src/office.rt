@@ -14,13 +14,26 @@ use wb_types::{CBlock, OBlock, Refusal};
 use wb_words::{Kind, Word, is_dirty};
 
 /// The desk, the seats that no client has, and the one by which the office itself looks at the words.
-#[derive(Drop)]
 pub(crate) struct Office<P: Policy> {
     pub(crate) desk: Desk<P>,
     pub(crate) seats: Vec<Seat>,
     pub(crate) watch: Seat,
     /// Whether a client met a failed write or sync: the commit that runs then never ends.
     pub(crate) failed: bool,
+}
+
+impl<P: Policy> Drop for Office<P> {
+    fn drop(self) {
+        let Office {
+            desk,
+            seats,
+            watch,
+            failed: _,
+        } = self;
+        drop(desk);
+        drop(seats);
+        drop(watch);
+    }
 }
 
 impl<P: Policy> Office<P> {

@@ -75,18 +75,11 @@ pub(crate) fn over<P: Policy>(
     requires { FitsDevice state.root.geometry.meta_sectors state.root state.tree state.used.items }
 {
     let geometry = state.root.geometry;
-    let entries = entries_of(alloc, &state.tree, &geometry)?;
-    let told = told_of(alloc, &entries, clean)?;
-    let policy = P::new(alloc, &geometry, told.as_slice())?;
+    let entries = opened_entries(alloc, &state.tree, &geometry, clean)?;
+    let policy = P::new(alloc, &geometry, entries.as_slice())?;
     let mut seat = Seat::new(alloc, geometry)?;
     let lent = &mut seat;
-    seal_all(
-        &lent.cells,
-        &mut lent.pass,
-        &geometry,
-        entries.as_slice(),
-        clean,
-    )?;
+    seal_all(&lent.cells, &mut lent.pass, &geometry, entries.as_slice())?;
     let desk = Desk::new(alloc, state, mode, policy, keys)?;
     let (seats, watch) = seats_of(alloc, seat)?;
     Ok(Target {
@@ -102,64 +95,44 @@ pub(crate) fn over<P: Policy>(
     })
 }
 
-/// The entry of each cache block.
-fn entries_of(
+/// The entries of all cache blocks, as an opening goes by them.
+fn opened_entries(
     alloc: Global,
     tree: &Tree<Global>,
     geometry: &Geometry,
+    clean: bool,
 ) -> Result<Vec<Option<Entry>>, Refusal>
     requires { length tree.now.entries ≡ geometry.now.cache_blocks }
-    ensures { IfOk result (λ v. v.items ≡ tree.now.entries) }
+    ensures { IfOk result (λ v. v.items ≡ opened_mapping clean tree.now.entries) }
 {
     let mut entries = vec![in alloc; None; geometry.cache_blocks as usize]?;
     for c in 0..geometry.cache_blocks {
-        entries[c as usize] = tree.get(CBlock(c));
+        entries[c as usize] = opened(clean, tree.get(CBlock(c)));
     }
     Ok(entries)
-}
-
-/// The entries as an opening goes by them.
-fn told_of(
-    alloc: Global,
-    entries: &Vec<Option<Entry>>,
-    clean: bool,
-) -> Result<Vec<Option<Entry>>, Refusal>
-    ensures { IfOk result (λ v. v.items ≡ opened_mapping clean entries.now.items) }
-{
-    let mut told = vec![in alloc; None; entries.len()]?;
-    for c in 0..entries.len() {
-        told[c] = opened(clean, entries[c]);
-    }
-    Ok(told)
 }
 
 /// An entry as it is opened: without the clean flag it counts as dirty, and has no hint.
 fn opened(clean: bool, entry: Option<Entry>) -> Option<Entry>
     ensures { result ≡ opened_entry clean entry }
 {
-    match entry {
-        None => None,
-        Some(entry) => {
-            if clean {
-                Some(entry)
-            } else {
-                Some(Entry {
-                    origin: entry.origin,
-                    dirty: true,
-                    hint: 0,
-                })
-            }
-        }
+    let entry = entry?;
+    if clean {
+        return Some(entry);
     }
+    Some(Entry {
+        origin: entry.origin,
+        dirty: true,
+        hint: 0,
+    })
 }
 
-/// Seals each mapped block at its place: dirty as its entry says, and each without the clean flag.
+/// Seals each mapped block at its place, dirty as its entry says.
 fn seal_all(
     cells: &Cells,
     pass: &mut Pass,
     geometry: &Geometry,
     entries: &[Option<Entry>],
-    clean: bool,
 ) -> Result<(), Refusal>
     requires at { pass.old.table ≡ cells.now.table }
     requires idle { pass.old.card.hold ≡ Nothing }
@@ -171,7 +144,7 @@ fn seal_all(
     for c in 0..geometry.cache_blocks {
         if let Some(entry) = entries[c as usize] {
             let mut own = cells.try_own(pass, entry.origin)?;
-            cells.seal(pass, &mut own, Some(CBlock(c)), !clean || entry.dirty);
+            cells.seal(pass, &mut own, Some(CBlock(c)), entry.dirty);
             cells.disown(pass, own);
         }
     }

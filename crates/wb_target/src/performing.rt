@@ -1,15 +1,13 @@
 //! The steps of a migration or a flush.
 
-ghost use Rattle.std.specs.Prelude.{◌≡◌, ◌≤◌, false, length, IfOk, IfErr};
-ghost use Rattle.wb_tasks.specs.Plan.{Fits, MayBeRefused, device_of};
+ghost use Rattle.std.specs.Prelude.{◌≡◌, length};
+ghost use Rattle.wb_tasks.specs.Plan.{Fits, device_of};
 ghost use Rattle.wb_tasks.specs.declared.step.Want.TheVariants.{Desk as AskDesk, Device as OnDevice};
-ghost use Rattle.wb_tasks.specs.declared.step.DeskStep.TheVariants.{Map, BeginCommit};
-ghost use Rattle.wb_meta.specs.declared.commit_steps.CommitSteps.TheVariants.{NodesWritten};
 ghost use Rattle.wb_devices.specs.Moving.{IsOutcome, DidRead, DidWrite, OthersStay, device_in};
 ghost use Rattle.wb_devices.specs.Stepping.{CommitGoes, DidStep, BufferStays};
-ghost use Rattle.wb_stage.specs.Stages.{IsServed, is_all_done};
+ghost use Rattle.wb_stage.specs.Stages.{IsServed};
 ghost use Rattle.wb_port.specs.Moves.{MayCopyFrom, MayCopyTo};
-ghost use Rattle.wb_target.specs.Works.{IsReadyToWork, MayWork, MayCommit, DidAskDesk, EndsIf, WorkLed};
+ghost use Rattle.wb_target.specs.Works.{IsReadyToWork, MayWork, MayCommit, DidAskDesk, WorkLed};
 
 use crate::gate::{Gate, Point};
 use crate::target::Target;
@@ -21,39 +19,38 @@ use wb_policy::{Order, Policy};
 use wb_port::Hand;
 use wb_stage::asking;
 use wb_tasks::{DeskStep, DeviceStep, Got, Stage, Want};
-use wb_types::{CBlock, Content, Dev, Extent, OBlock, Refusal};
+use wb_types::{Content, Dev, Extent, OBlock};
 
 impl<P: Policy> Target<P> {
-    /// Enters a block into the mapping.
-    fn map<R: Wait>(&self, rt: &R, block: OBlock, to: CBlock) -> Got
-        ensures { Fits (AskDesk (Map block to)) result }
+    /// Performs a step on the desk under its lock, for a client that runs this commit, if any, and has taken these orders.
+    /// Where a commit ends, whoever waits for that is woken.
+    fn ask<R: Wait>(
+        &self,
+        rt: &R,
+        commit: &mut Option<RunningCommit>,
+        held: &[Order],
+        step: DeskStep,
+    ) -> Got
+        requires { IsServed (AskDesk step) }
+        ensures kind { Fits (AskDesk step) result }
+        ensures commit { DidAskDesk step result commit.old commit.new }
     {
-        asking::map(&mut self.office.lock(rt).desk, block, to)
-    }
-
-    /// Removes a block from it.
-    fn unmap<R: Wait>(&self, rt: &R, block: OBlock) {
-        asking::unmap(&mut self.office.lock(rt).desk, block);
+        let got = asking::ask(
+            self.alloc,
+            &mut self.office.lock(rt).desk,
+            commit,
+            held,
+            step,
+        );
+        if matches!(step, DeskStep::EndCommit) {
+            self.bell.notify_all();
+        }
+        got
     }
 
     /// Gives up the order of a block, which is one of these.
     pub(crate) fn release<R: Wait>(&self, rt: &R, held: &[Order], block: OBlock) {
         asking::release(&mut self.office.lock(rt).desk, held, block);
-    }
-
-    /// Takes the image of a commit.
-    fn begin<R: Wait>(&self, rt: &R, most: u32) -> Result<RunningCommit, Refusal>
-        ensures steps { IfOk result (λ commit. commit.steps ≡ NodesWritten 0) }
-        ensures few { IfOk result (λ commit. length commit.image.nodes.items ≤ most) }
-        ensures kind { IfErr result (MayBeRefused (AskDesk (BeginCommit false most))) }
-    {
-        asking::begin(self.alloc, &mut self.office.lock(rt).desk, most)
-    }
-
-    /// Ends the running commit; whoever waits for it is woken.
-    fn end<R: Wait>(&self, rt: &R) {
-        asking::end(&mut self.office.lock(rt).desk);
-        self.bell.notify_all();
     }
 }
 
@@ -107,67 +104,7 @@ impl<'a, R: Wait, D: Disk, P: Policy, G: Gate> WorkStage<'a, R, D, P, G> {
         ensures buffer { self.new.buffer.now ≡ self.old.buffer.now }
         ensures commit { DidAskDesk step result self.old.commit.now self.new.commit.now }
     {
-        match step {
-            DeskStep::Map(block, to) => self.target.map(self.rt, block, to),
-            DeskStep::Unmap(block) => {
-                self.target.unmap(self.rt, block);
-                Got::Done
-            }
-            DeskStep::ReleaseOrder(block) => {
-                self.target.release(self.rt, self.held, block);
-                Got::Done
-            }
-            DeskStep::BeginCommit(_, most) => self.begin(most),
-            DeskStep::EndCommit => {
-                self.end();
-                Got::Done
-            }
-        }
-    }
-
-    /// Begins a commit, of at most so many nodes.
-    fn begin(&mut self, most: u32) -> Got
-        ensures kind { Fits (AskDesk (BeginCommit false most)) result }
-        ensures cells { self.new.cells ≡ self.old.cells }
-        ensures held { self.new.held ≡ self.old.held }
-        ensures gate { self.new.gate ≡ self.old.gate }
-        ensures same_hand { self.new.hand.ghost_name ≡ self.old.hand.ghost_name }
-        ensures hand { self.new.hand.now ≡ self.old.hand.now }
-        ensures same_commit { self.new.commit.ghost_name ≡ self.old.commit.ghost_name }
-        ensures same_buffer { self.new.buffer.ghost_name ≡ self.old.buffer.ghost_name }
-        ensures buffer { self.new.buffer.now ≡ self.old.buffer.now }
-        ensures commit { DidAskDesk (BeginCommit false most) result self.old.commit.now self.new.commit.now }
-    {
-        match self.target.begin(self.rt, most) {
-            Ok(commit) => {
-                let nodes = commit.nodes() as u32;
-                *self.commit = Some(commit);
-                Got::Began(nodes)
-            }
-            Err(refusal) => Got::Refused(refusal),
-        }
-    }
-
-    /// Ends the commit, where all of it was done.
-    fn end(&mut self)
-        ensures cells { self.new.cells ≡ self.old.cells }
-        ensures held { self.new.held ≡ self.old.held }
-        ensures gate { self.new.gate ≡ self.old.gate }
-        ensures same_hand { self.new.hand.ghost_name ≡ self.old.hand.ghost_name }
-        ensures hand { self.new.hand.now ≡ self.old.hand.now }
-        ensures same_commit { self.new.commit.ghost_name ≡ self.old.commit.ghost_name }
-        ensures same_buffer { self.new.buffer.ghost_name ≡ self.old.buffer.ghost_name }
-        ensures buffer { self.new.buffer.now ≡ self.old.buffer.now }
-        ensures commit { EndsIf (is_all_done self.old.commit.now) self.old.commit.now self.new.commit.now }
-    {
-        let is_done = match &*self.commit {
-            Some(commit) => commit.is_done(),
-            None => false,
-        };
-        if is_done {
-            self.target.end(self.rt);
-            *self.commit = None;
-        }
+        self.target.ask(self.rt, self.commit, self.held, step)
     }
 }
 

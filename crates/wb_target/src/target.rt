@@ -20,12 +20,24 @@ use wb_types::{Geometry, OBlock, Refusal};
 pub const CLIENTS: usize = 64;
 
 /// An opened cache: its desk behind a lock, and a bell that rings when orders were given or a commit has ended.
-#[derive(Drop)]
 pub struct Target<P: Policy> {
     pub(crate) alloc: Global,
     pub(crate) geometry: Geometry,
     pub(crate) office: Mutex<Office<P>>,
     pub(crate) bell: Condvar,
+}
+
+impl<P: Policy> Drop for Target<P> {
+    fn drop(self) {
+        let Target {
+            alloc: _,
+            geometry: _,
+            office,
+            bell,
+        } = self;
+        drop(office);
+        drop(bell);
+    }
 }
 
 impl<P: Policy> Target<P> {

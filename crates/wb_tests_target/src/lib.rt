@@ -20,4 +20,6 @@ mod requests;
 #[cfg(test)]
 mod threads;
 #[cfg(test)]
+mod unclean;
+#[cfg(test)]
 mod workers;

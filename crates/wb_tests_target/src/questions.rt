@@ -5,10 +5,11 @@ use crate::faults::{Rounds, shows_allowed};
 use crate::fixture::{Lent, Memory, client_of, formatted, open, shows};
 use crate::opening::{tells_status, was_opened};
 use crate::requests::{defers, refuses, settles_alone};
+use crate::unclean::orders;
 use crate::workers::{carries_out_all, takes_no_more};
 use std::alloc::Global;
 use std::sync::Wait;
-use wb_policy::TinyLfu;
+use wb_policy::{Order, TinyLfu};
 use wb_target::Target;
 use wb_types::Refusal;
 
@@ -28,6 +29,10 @@ pub enum Question {
     ShowsAllowed(Rounds),
     /// Whether it was opened once.
     WasOpened,
+    /// Whether a block that is accessed four times gets this order.
+    Orders(Order),
+    /// Whether so many blocks are dirty.
+    CountsDirty(u32),
 }
 
 /// The answer over new devices.
@@ -77,5 +82,7 @@ fn answer(
         Question::ShowsAllowed(rounds) => shows_allowed(rt, client, rounds),
         Question::TellsStatus => tells_status(rt, alloc, target),
         Question::WasOpened => was_opened(rt, target),
+        Question::Orders(order) => orders(rt, client, order),
+        Question::CountsDirty(blocks) => target.dirty(rt) == blocks,
     }
 }

@@ -28,7 +28,6 @@ use wb_types::{CBlock, Entry, Geometry, Place, Refusal};
 ///
 /// A look-up or a change goes down one box a level, four at most. A node has a box where an entry lies below it, and
 /// no other does.
-#[derive(Drop)]
 pub struct Tree<A: Allocator> {
     alloc: A,
     cache_blocks: u32,
@@ -37,6 +36,20 @@ pub struct Tree<A: Allocator> {
     /// How many of its nodes are known.
     known: u32,
     root: Option<Box<Node<A>, A>>,
+}
+
+impl<A: Allocator> Drop for Tree<A> {
+    fn drop(self) {
+        let Tree {
+            alloc,
+            cache_blocks: _,
+            depth: _,
+            known: _,
+            root,
+        } = self;
+        drop(alloc);
+        drop(root);
+    }
 }
 
 impl<A: Allocator> Model for Tree<A> {
