@@ -97,15 +97,15 @@ pub record MayCopyTo (size : ℕ) (card : Card) (device : Dev) (e : Extent) : Ty
 -- ---- metadata
 
 -- of each sector the last content alone is there
-abbrev pub IsDurable : List History → Type 0
-IsDurable histories = All (λ h. h.later ≡ []) histories
+abbrev pub IsSynced : List History → Type 0
+IsSynced histories = All (λ h. h.later ≡ []) histories
 
 -- A node or root may be put: a commit runs, and what was written to cache and origin is durable.
 pub record MayPut {D : Type 0} (tells : Type 0) (contents : D → List History) (devices : Devices D) (commit : Option RunningCommit) : Type 0 where
   pub commit_is : RunningCommit
   pub runs : commit ≡ Some commit_is
-  pub cache : tells → IsDurable (contents devices.cache)
-  pub origin : tells → IsDurable (contents devices.origin)
+  pub cache : tells → IsSynced (contents devices.cache)
+  pub origin : tells → IsSynced (contents devices.origin)
 
 -- ---- requests
 

@@ -24,8 +24,9 @@ use Rattle.wb_tasks.proofs.Readiness.{job_stays}
 use Rattle.wb_devices.specs.Stepping.{Goes}
 use Rattle.wb_devices.specs.declared.devices.Devices.{Devices}
 use Rattle.wb_devices.specs.declared.running.RunningCommit.{RunningCommit}
-use Rattle.wb_port.specs.Moves.{IsDurable}
+use Rattle.wb_port.specs.Moves.{IsSynced}
 use Rattle.wb_target.specs.Works.{WorksOn, MayCommit}
+use Rattle.wb_target.proofs.Syncing.{synced_now}
 
 -- So much is known where these steps come: what each node or root that is to be written asks for, each sync being known from
 -- then on, and no commit once it has ended.
@@ -73,15 +74,12 @@ still_runs : (size : ℕ) (commit commit' : Option RunningCommit) (step : Device
 still_runs size None commit' step got g r = absurd (cc)
 still_runs size (Some commit) commit' step got g r = (g.0, g.1)
 
-durable_now : (histories : List History) → IsDurable (synced histories)
-durable_now histories = All-map (λ (h : History). h.later ≡ []) (λ h. only (newest h)) histories (λ k d below. refl)
-
 module _ {D S : Type 0} (tells : Type 0) (size : D → ℕ) (contents : D → List History) (faults : D → ℕ) (devices : S → Devices D) (buffer : S → List Bytes) (commit : S → Option RunningCommit) where
   abbrev C : S → Type 0
-  C s = tells → IsDurable (contents (devices s).cache)
+  C s = tells → IsSynced (contents (devices s).cache)
 
   abbrev O : S → Type 0
-  O s = tells → IsDurable (contents (devices s).origin)
+  O s = tells → IsSynced (contents (devices s).origin)
 
   abbrev R : S → Type 0
   R s = IsRunning (commit s)
@@ -93,10 +91,10 @@ module _ {D S : Type 0} (tells : Type 0) (size : D → ℕ) (contents : D → Li
   Did s w g t = WorksOn tells size contents faults (devices s) (buffer s) (commit s) w g (devices t) (buffer t) (commit t)
 
   same_devices : (s t : S) (ws : List Want) → devices t ≡ devices s → (R s → R t) → Knows s ws → Knows t ws
-  same_devices s t ws e r = weaken (C s) (O s) (R s) (C t) (O t) (R t) (subst (λ (ds : Devices D). tells → IsDurable (contents ds.cache)) (sym e)) (subst (λ (ds : Devices D). tells → IsDurable (contents ds.origin)) (sym e)) r ws
+  same_devices s t ws e r = weaken (C s) (O s) (R s) (C t) (O t) (R t) (subst (λ (ds : Devices D). tells → IsSynced (contents ds.cache)) (sym e)) (subst (λ (ds : Devices D). tells → IsSynced (contents ds.origin)) (sym e)) r ws
 
   same_copies : (s t : S) (ws : List Want) → (devices t).cache ≡ (devices s).cache → (devices t).origin ≡ (devices s).origin → (R s → R t) → Knows s ws → Knows t ws
-  same_copies s t ws c o r = weaken (C s) (O s) (R s) (C t) (O t) (R t) (subst (λ (d : D). tells → IsDurable (contents d)) (sym c)) (subst (λ (d : D). tells → IsDurable (contents d)) (sym o)) r ws
+  same_copies s t ws c o r = weaken (C s) (O s) (R s) (C t) (O t) (R t) (subst (λ (d : D). tells → IsSynced (contents d)) (sym c)) (subst (λ (d : D). tells → IsSynced (contents d)) (sym o)) r ws
 
   commits_on : (serves : List OBlock) (most : ℕ) (s t : S) (answer : Answer) (ws : List Want) (got : Got) → IsFlushs serves most (first_step ws answer) → Knows s ws → Fits (first_step ws answer) got → Did s (first_step ws answer) got t →
       Knows t (after (record { job = Flushing serves most; steps = ws; answer = answer }) got).steps
@@ -108,9 +106,9 @@ module _ {D S : Type 0} (tells : Type 0) (size : D → ℕ) (contents : D → Li
       by_test false = tt
   commits_on serves most s t answer (Cell SetFailed ∷ ws) Done o k f d = same_devices s t ws d.0 (subst IsRunning (sym d.2)) k
   commits_on serves most s t answer (Device (Sync Cache) ∷ ws) Done o k f d =
-      weaken (Unit {0}) (O s) (R s) (C t) (O t) (R t) (λ u told. subst IsDurable (sym (d.4 told).0) (durable_now (contents (devices s).cache))) (subst (λ (x : D). tells → IsDurable (contents x)) (sym d.0.1)) (subst IsRunning (sym d.3)) ws k
+      weaken (Unit {0}) (O s) (R s) (C t) (O t) (R t) (λ u told. subst IsSynced (sym (d.4 told).0) (synced_now (contents (devices s).cache))) (subst (λ (x : D). tells → IsSynced (contents x)) (sym d.0.1)) (subst IsRunning (sym d.3)) ws k
   commits_on serves most s t answer (Device (Sync Origin) ∷ ws) Done o k f d =
-      weaken (C s) (Unit {0}) (R s) (C t) (O t) (R t) (subst (λ (x : D). tells → IsDurable (contents x)) (sym d.0.1)) (λ u told. subst IsDurable (sym (d.4 told).0) (durable_now (contents (devices s).origin))) (subst IsRunning (sym d.3)) ws k
+      weaken (C s) (Unit {0}) (R s) (C t) (O t) (R t) (subst (λ (x : D). tells → IsSynced (contents x)) (sym d.0.1)) (λ u told. subst IsSynced (sym (d.4 told).0) (synced_now (contents (devices s).origin))) (subst IsRunning (sym d.3)) ws k
   commits_on serves most s t answer (Device (Sync Metadata) ∷ ws) Done o k f d = same_copies s t ws d.0.0 d.0.1 (still_runs (size (devices s).metadata) (commit s) (commit t) (Sync Metadata) Done d.3) k
   commits_on serves most s t answer (Device (WriteNode number) ∷ ws) Done o k f d = same_copies s t ws d.0.0 d.0.1 (still_runs (size (devices s).metadata) (commit s) (commit t) (WriteNode number) Done d.3) k.1
   commits_on serves most s t answer (Device WriteRoot ∷ ws) Done o k f d = same_copies s t ws d.0.0 d.0.1 (still_runs (size (devices s).metadata) (commit s) (commit t) WriteRoot Done d.3) k.1
@@ -122,7 +120,7 @@ module _ {D S : Type 0} (tells : Type 0) (size : D → ℕ) (contents : D → Li
   commits_on serves most s t answer (Desk (BeginCommit clean nodes) ∷ ws) (Refused Memory) o k f d = orders_from (C t) (O t) (R t) serves
   commits_on serves most s t answer (Desk (BeginCommit clean nodes) ∷ ws) (Refused GenerationEnd) o k f d = orders_from (C t) (O t) (R t) serves
   commits_on serves most s t answer (Desk EndCommit ∷ ws) Done o k f d =
-      weaken (C s) (O s) ⊥ (C t) (O t) (R t) (subst (λ (ds : Devices D). tells → IsDurable (contents ds.cache)) (sym d.0)) (subst (λ (ds : Devices D). tells → IsDurable (contents ds.origin)) (sym d.0)) (λ n. absurd n) ws k
+      weaken (C s) (O s) ⊥ (C t) (O t) (R t) (subst (λ (ds : Devices D). tells → IsSynced (contents ds.cache)) (sym d.0)) (subst (λ (ds : Devices D). tells → IsSynced (contents ds.origin)) (sym d.0)) (λ n. absurd n) ws k
   commits_on serves most s t answer (Desk (ReleaseOrder b) ∷ ws) Done o k f d = same_devices s t ws d.0 (subst IsRunning (sym d.2)) k
   commits_on serves most s t answer (End a ∷ ws) got o k f d = absurd (no_result a got f)
   commits_on serves most s t answer (Device (Read device e) ∷ ws) got o k f d = absurd o

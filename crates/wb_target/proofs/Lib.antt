@@ -13,3 +13,4 @@ pub mod Sending
 pub mod Turns
 mod Hinting
 mod Leading
+pub mod Asking

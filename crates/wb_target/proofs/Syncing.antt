@@ -22,11 +22,12 @@ use Rattle.wb_tasks.specs.declared.step.Got.TheVariants.{Done, Word, Fault, Refu
 use Rattle.wb_tasks.proofs.Driving.{no_result}
 use Rattle.wb_devices.specs.Moving.{device_in}
 use Rattle.wb_devices.specs.declared.devices.Devices.{Devices}
+use Rattle.wb_port.specs.Moves.{IsSynced}
 use Rattle.wb_port.proofs.Letting.{not_done}
 use Rattle.wb_target.specs.Works.{WorkState, WorkStep}
-use Rattle.wb_target.specs.Carried.{IsSynced, AreSynced, Runs, WasDone}
+use Rattle.wb_target.specs.Carried.{AreSynced, Runs, WasDone}
 
-synced_now : (histories : List History) → IsSynced (synced histories)
+pub synced_now : (histories : List History) → IsSynced (synced histories)
 synced_now histories = All-map (λ (h : History). h.later ≡ []) (λ h. only (newest h)) histories (λ k d below. refl)
 
 -- who gives orders up has been refused

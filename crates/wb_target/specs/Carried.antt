@@ -1,5 +1,5 @@
 -- What a client has done when an order is carried out, or a flush is answered.
-use Rattle.std.specs.Prelude.{◌≡◌, ◌<◌, ℕ, List, [], ◌∷◌, Option, Some, None, All, length}
+use Rattle.std.specs.Prelude.{◌≡◌, ◌<◌, ℕ, List, [], ◌∷◌, Option, Some, None, length}
 use Rattle.wb_types.specs.Limits.{node_count}
 use Rattle.wb_types.specs.Extents.{pieces}
 use Rattle.wb_types.specs.declared.geometry.Geometry.{Geometry}
@@ -16,6 +16,7 @@ use Rattle.wb_tasks.specs.declared.step.Answer.{Answer}
 use Rattle.wb_tasks.specs.declared.step.Answer.TheVariants.{Done as Finished, Refused as Refuses}
 use Rattle.wb_devices.specs.declared.devices.Devices.{Devices}
 use Rattle.wb_port.specs.Hands.{saw_fail_word}
+use Rattle.wb_port.specs.Moves.{IsSynced}
 use Rattle.wb_port.specs.declared.moving.TheConstants.{LONGEST}
 use Rattle.wb_port.specs.declared.port.Port.{Port}
 use Rattle.wb_target.specs.Tries.{EndedAfter}
@@ -81,9 +82,6 @@ IsThere geometry (Replace v x c) = (v.0 < geometry.origin_blocks) × (x.0 < geom
 
 -- ---- what a flush leaves
 
--- of each sector its last content alone
-abbrev pub IsSynced : List History → Type 0
-IsSynced histories = All (λ h. h.later ≡ []) histories
-
+-- all three devices have of each sector its last content alone
 abbrev pub AreSynced : {D : Type 0} → (D → List History) → Devices D → Type 0
 AreSynced contents devices = IsSynced (contents devices.metadata) × IsSynced (contents devices.cache) × IsSynced (contents devices.origin)

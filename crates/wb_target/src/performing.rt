@@ -24,6 +24,7 @@ use wb_types::{Content, Dev, Extent, OBlock};
 impl<P: Policy> Target<P> {
     /// Performs a step on the desk under its lock, for a client that runs this commit, if any, and has taken these orders.
     /// Where a commit ends, whoever waits for that is woken.
+    #[tactic(auto, using(crate::proofs::Asking::commit_asked))]
     fn ask<R: Wait>(
         &self,
         rt: &R,

@@ -1,0 +1,69 @@
+#!/bin/sh
+# The replays of scripts/cases/replays.txt, each of its faults and crashes in a replay of its own. It prints what failed, and
+# at the end 'N passed, N failed'; its status is 0 where nothing failed.
+#
+#     sh scripts/check-replays.sh WBCACHE
+set -u
+program=${1:?the program wbcache}
+top=$(cd "$(dirname "$0")/.." && pwd)
+setup='setup writeback 64 4 10 4'
+passed=0
+failed=0
+
+replayed() { # lines, parted by slashes: what is printed, parted by slashes
+  printf '%s' "$1" | tr '/' '\n' | sed 's/^ *//; s/ *$//' | "$program" replay | tr '\n' '/' | sed 's,/$,,'
+}
+compare() { # lines, what they are to print
+  found=$(replayed "$1")
+  if test "$found" = "$2"; then
+    passed=$((passed + 1))
+  else
+    failed=$((failed + 1))
+    printf 'failed: %s\n  wanted: %s\n  found:  %s\n' "$1" "$2" "$found"
+  fi
+}
+joined() { # texts: those that are not empty, with slashes between them
+  all=
+  for text in "$@"; do
+    if test -n "$text"; then all=${all:+$all/}$text; fi
+  done
+  printf '%s' "$all"
+}
+
+while IFS='|' read -r kind one two three four five six <&3; do
+  case $kind in
+    '' | '#'*) ;;
+    plain) compare "$(joined "$setup" "$one")" "$two" ;;
+    crash)
+      begun=$(joined "$setup" "$one")
+      told=$(replayed "$begun")
+      for base in old new; do
+        case $base in old) shown=$five ;; new) shown=$six ;; esac
+        compare "$(joined "$begun" "$two" "step 0 $three" "stop $base" "$four")" "$(joined "$told" "$shown")"
+      done
+      ;;
+    fault)
+      begun=$(joined "$setup" "$one")
+      told=$(replayed "$begun")
+      # shellcheck disable=SC2086 # the three numbers are apart
+      set -- $three
+      step=$1
+      left=$2
+      while test "$left" -gt 0; do
+        for base in old new; do
+          compare "$(joined "$begun" "$two" "step 0 $step" "fault 0 $base" "end 0" "$five")" \
+            "$(joined "$told" "0 refused 5 Io $four" "$six")"
+        done
+        step=$((step + $3))
+        left=$((left - 1))
+      done
+      ;;
+    *)
+      failed=$((failed + 1))
+      printf 'failed: a row of no kind: %s\n' "$kind"
+      ;;
+  esac
+done 3<"$top/scripts/cases/replays.txt"
+
+echo "$passed passed, $failed failed"
+test "$failed" = 0
