@@ -50,6 +50,10 @@ impl Disk for Counting {
 
     ghost faults = { λ d. d.disk.faults };
 
+    ghost falters = { λ _ _ _. Unit {0} };
+
+    ghost fails = { λ _. ⊥ };
+
     fn sectors(&self) -> u64 {
         self.disk.sectors()
     }

@@ -27,7 +27,7 @@ pub fn found(stage: &Stage) -> Option<(u64, usize)> {
     let Some(commit) = &stage.opening.commit else {
         return None;
     };
-    Some((commit.image.root.generation, state.used.len()))
+    Some((commit.image().root.generation, state.used.len()))
 }
 
 /// An opening of an empty mapping: three syncs, two slots, the root, and a sync.
