@@ -9,8 +9,8 @@ use Rattle.wb_meta.specs.Steps.{DoesStep, FailsStep, FailsStepSo, steps_after}
 use Rattle.wb_tasks.specs.declared.step.DeviceStep.{DeviceStep}
 use Rattle.wb_tasks.specs.declared.step.DeviceStep.TheVariants.{Sync, WriteNode, WriteRoot}
 use Rattle.wb_tasks.specs.declared.step.Got.{Got}
-use Rattle.wb_devices.specs.Moving.{Ways}
 use Rattle.wb_tasks.specs.declared.step.Got.TheVariants.{Done, Fault}
+use Rattle.wb_devices.specs.Moving.{Ways}
 
 -- The step of a table is the one that comes next of the commit: this node, a sync behind the last node, the root, a sync.
 abbrev pub is_coming : Image → CommitSteps → DeviceStep → Bool

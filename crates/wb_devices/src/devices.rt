@@ -1,9 +1,9 @@
 //! The three devices of a cache.
 
 ghost use Rattle.std.specs.Prelude.{◌≡◌, length};
-ghost use Rattle.wb_devices.specs.Moving.{IsOutcome, DidRead, DidWrite, DidSync, ReadFails, WriteFails, SyncFails, OthersStay, device_in};
 ghost use Rattle.wb_tasks.specs.Plan.{device_of};
 ghost use Rattle.wb_tasks.specs.declared.step.Got.TheVariants.{Fault};
+ghost use Rattle.wb_devices.specs.Moving.{IsOutcome, DidRead, DidWrite, DidSync, ReadFails, WriteFails, SyncFails, OthersStay, device_in};
 ghost use Rattle.wb_devices.specs.Stepping.{CommitGoes, DidStep, BufferStays, StepFails};
 
 use crate::committing::{put, sync_metadata};
@@ -71,7 +71,8 @@ impl<D: Disk> Devices<D> {
         }
     }
 
-    /// Performs a step of a table, by what the buffer holds and the commit that runs; what is read stands in the buffer then.
+    /// Performs a step of a table, by what the buffer holds and the commit that runs; what is read stands in the buffer then. Of
+    /// metadata it reads nothing: who opens does.
     pub fn perform(
         &mut self,
         commit: &mut Option<RunningCommit>,

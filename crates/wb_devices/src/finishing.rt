@@ -19,7 +19,7 @@ impl Opening {
             return None;
         };
         Some(State {
-            root: commit.image.root,
+            root: commit.image().root,
             tree: state.tree,
             used: state.used,
         })

@@ -2,8 +2,7 @@
 
 ghost use Rattle.std.specs.Prelude.{◌≡◌, ◌≤◌, ◌<◌, ◌+◌, ◌^◌, ◌↔◌, length, take, IsTrue, OnOk, OnErr, IsErr};
 ghost use Rattle.wb_disk.specs.Device.{OneMore};
-ghost use Rattle.wb_disk.specs.Extents.{GivesEach};
-ghost use Rattle.wb_disk.specs.Extents.{Reading, MayLand};
+ghost use Rattle.wb_disk.specs.Extents.{Reading, MayLand, GivesEach};
 ghost use Rattle.wb_tasks.specs.declared.step.Got.TheVariants.{Fault};
 ghost use Rattle.wb_devices.specs.Moving.{IsOutcome, CanMove, DidRead, DidWrite, DidSync, ReadFails, WriteFails, SyncFails};
 

@@ -1,19 +1,18 @@
 //! The steps of an opening that read metadata.
 
-ghost use Rattle.std.specs.Prelude.{◌≡◌, ◌≢◌, ℕ, List, Some, None, IfSome};
+ghost use Rattle.std.specs.Prelude.{◌≡◌, ◌≢◌, ℕ, Some, None, IfSome};
 ghost use Rattle.std.specs.declared.alloc.Global.{Global as GlobalValue};
 ghost use Rattle.std.specs.Bool.{OnTrue, OnFalse};
 ghost use Rattle.wb_tasks.specs.Plan.{Fits};
 ghost use Rattle.wb_tasks.specs.declared.step.Want.TheVariants.{Device};
 ghost use Rattle.wb_tasks.specs.declared.step.DeviceStep.TheVariants.{ReadMetadata};
-ghost use Rattle.wb_disk.specs.Device.{History};
+ghost use Rattle.wb_tasks.specs.declared.step.Got.TheVariants.{More};
 ghost use Rattle.wb_disk.specs.Extents.{Reading, MayLand};
-ghost use Rattle.wb_meta.specs.Reads.{AreStepsOn, IsDone, IsToldOf, known_root};
+ghost use Rattle.wb_meta.specs.Reads.{AreStepsOn, IsDone, known_root};
 ghost use Rattle.wb_meta.specs.declared.read_steps.ReadSteps.{ReadSteps as Steps};
 ghost use Rattle.wb_meta.specs.States.{IsOfReading};
 ghost use Rattle.wb_devices.specs.Openings.{MayGoOn};
 ghost use Rattle.wb_devices.specs.Opened.{DidOpen, DidTell, HasCome, HasGeneration, IsOf, got_of_refusal};
-ghost use Rattle.wb_tasks.specs.declared.step.Got.TheVariants.{More};
 
 use crate::opening::Opening;
 use crate::running::RunningCommit;
@@ -22,7 +21,7 @@ use wb_disk::Disk;
 use wb_format::Root;
 use wb_meta::ReadSteps;
 use wb_tasks::Got;
-use wb_types::{Content, Geometry, Refusal};
+use wb_types::{Geometry, Refusal};
 
 impl Opening {
     /// Reads the metadata sector that comes next; at most so many more may follow. Once both slots were read, the root of
@@ -51,25 +50,6 @@ impl Opening {
         match steps.next(disk) {
             Ok(steps) => self.has_come(steps, left),
             Err(refusal) => got_of_refusal(refusal, left),
-        }
-    }
-
-    /// The same by what stands in the sector that comes next, of a device of so many: for who reads it by a call that never
-    /// fails. None where the device has not got that sector.
-    #[tactic(auto, using(crate::proofs::Stopping::did_tell))]
-    pub fn tell(&mut self, sectors: u64, content: Option<Content>, left: u32) -> Got
-        requires goes_on { MayGoOn sectors self.old }
-        ensures goes_on { MayGoOn sectors self.new }
-        ensures kind { Fits (Device (ReadMetadata left)) result }
-        ensures geometry { self.new.geometry ≡ self.old.geometry }
-        ensures did { (was : Steps GlobalValue) (device : List History) → self.old.reading ≡ Some was → IsToldOf was sectors content device → DidTell self.old.geometry sectors left was device self.old.commit result self.new.reading self.new.commit }
-    {
-        let Some(steps) = self.reading.take() else {
-            return Got::Fault;
-        };
-        match steps.tell(sectors, content) {
-            Ok(steps) => self.has_come(steps, left),
-            Err(reason) => got_of_refusal(reason, left),
         }
     }
 

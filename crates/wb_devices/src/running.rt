@@ -4,6 +4,7 @@ ghost use Rattle.std.specs.Prelude.{◌≡◌, ◌<◌, ◌+◌, ◌^◌, true, 
 ghost use Rattle.wb_types.specs.declared.refusal.Refusal.TheVariants.{GenerationEnd as NoNextGeneration};
 ghost use Rattle.wb_meta.specs.Placing.{HavePlaces};
 ghost use Rattle.wb_meta.specs.Openings.{IsOpening};
+ghost use Rattle.wb_meta.specs.Steps.{coming_step};
 ghost use Rattle.wb_meta.specs.declared.commit_steps.CommitSteps.TheVariants.{NodesWritten, NodesSynced};
 ghost use Rattle.wb_tasks.specs.declared.step.Got.TheVariants.{Fault};
 ghost use Rattle.wb_devices.specs.Moving.{IsOutcome};
@@ -12,15 +13,15 @@ ghost use Rattle.wb_devices.specs.Committing.{DidCommit, CommitFails, is_coming,
 use std::alloc::Global;
 use wb_disk::Disk;
 use wb_format::Root;
-use wb_meta::{CommitSteps, Image, opening_image};
+use wb_meta::{CommitStep, CommitSteps, Image, opening_image};
 use wb_tasks::{DeviceStep, Got};
 use wb_types::{Dev, Refusal};
 
 /// A commit that runs, and how far it has come: its image goes to the metadata device by the steps of `CommitSteps`, one for one.
 #[derive(Drop)]
 pub struct RunningCommit {
-    pub image: Image,
-    pub steps: CommitSteps,
+    image: Image,
+    steps: CommitSteps,
     ghost placed: { HavePlaces image.nodes.items image.root.geometry.meta_sectors },
 }
 
@@ -79,6 +80,20 @@ impl RunningCommit {
         }
     }
 
+    /// Its image.
+    pub fn image(&self) -> &Image
+        ensures { result.now ≡ self.now.image }
+    {
+        &self.image
+    }
+
+    /// The step of it that comes next; none where all of it was done.
+    pub fn coming(&self) -> Option<CommitStep>
+        ensures { result ≡ coming_step self.now.image self.now.steps }
+    {
+        self.steps.coming(&self.image)
+    }
+
     /// How many nodes its image has.
     pub fn nodes(&self) -> usize
         ensures { result ≡ length self.now.image.nodes.items }
@@ -94,6 +109,7 @@ impl RunningCommit {
     }
 
     /// Does the next step, which is this one of a table; a fault where the device failed.
+    #[tactic(auto, using(wb_meta::proofs::Failing::step_left))]
     pub fn next<D: Disk>(&mut self, disk: &mut D, step: DeviceStep) -> Got
         requires { goes_on (D.size disk.old) self.old.image self.old.steps step ≡ true }
         ensures kind { IsOutcome result }

@@ -1,5 +1,5 @@
 -- How a write to a disk in memory fails.
-use Rattle.std.proofs.Common.{◌≡◌, ◌<◌, ◌+◌, ◌⊎◌, inl, inr, ◌∙◌, ℕ, zero, suc, drop, slice_index_or, Bool, true, false, if◌then◌else◌, List, [], ◌∷◌, Option, Some, None, length, arith, subst, refl, sym, ap}
+use Rattle.std.proofs.Common.{◌≡◌, ◌<◌, ◌+◌, ◌∙◌, ℕ, zero, suc, drop, slice_index_or, Bool, true, false, if◌then◌else◌, List, [], ◌∷◌, Option, Some, None, length, arith, subst, refl, sym, ap}
 use Rattle.std.proofs.lemmas.List.{length-set}
 use Rattle.wb_types.specs.declared.mode.Dev.{Dev}
 use Rattle.std.specs.Prelude.{Result, Ok, Err, OnErr, OnOk, IsOk}
@@ -8,7 +8,7 @@ use Rattle.wb_disk.specs.Crash.{Choice}
 use Rattle.wb_disk.specs.Failing.{lands}
 use Rattle.wb_disk.specs.Faltering.{falters_as}
 use Rattle.std.specs.List.{slice_get}
-use Rattle.wb_disk.specs.Extents.{Call, Reading, Writing, MayLand, WrittenSo, PartlyWritten, written_where}
+use Rattle.wb_disk.specs.Extents.{Writing, WrittenSo, written_where}
 use Rattle.wb_disk.specs.Memory.{Memory, HasRoom, HasRoomFor, FrontWritten, memory_falters}
 use Rattle.wb_disk.proofs.Neighbours.{partly_front}
 
@@ -35,21 +35,10 @@ extent_how (Err e) old new first cs front room = let partly = partly_front old.c
 
 -- ---- a disk that fails by a choice
 
-pub extent_so : {T E : Type 0} (r : Result T E) (may : (ℕ → Bool) → Type 0) (old new : List History) (first : ℕ) (cs : List Content) → WrittenSo may old first cs new → OnErr r (PartlyWritten old first cs new)
-extent_so (Ok x) may old new first cs w = tt
-extent_so (Err e) may old new first cs w = (w.0, w.2)
-
-pub partly_so : {T E : Type 0} (r : Result T E) (may : (ℕ → Bool) → Type 0) (old new : List History) (first : ℕ) (cs : List Content) → WrittenSo may old first cs new → OnErr r (WrittenSo may old first cs new)
-partly_so (Ok x) may old new first cs w = tt
-partly_so (Err e) may old new first cs w = w
-
-one : (b : Bool) (old new : List History) (at : ℕ) (c : Content) → new ≡ (if b then written old at c else old) → (new ≡ old) ⊎ (new ≡ written old at c)
-one true old new at c e = inr e
-one false old new at c e = inl e
-
-pub one_so : {T E : Type 0} (r : Result T E) (may : (ℕ → Bool) → Type 0) (old new : List History) (at : ℕ) (c : Content) → WrittenSo may old at (c ∷ []) new → OnErr r ((new ≡ old) ⊎ (new ≡ written old at c))
-one_so (Ok x) may old new at c w = tt
-one_so (Err e) may old new at c w = one (w.0 at) old new at c w.2
+-- what landed so has landed so on a failure
+pub failed_so : {T E : Type 0} (r : Result T E) (may : (ℕ → Bool) → Type 0) (old new : List History) (first : ℕ) (cs : List Content) → WrittenSo may old first cs new → OnErr r (WrittenSo may old first cs new)
+failed_so (Ok x) may old new first cs w = tt
+failed_so (Err e) may old new first cs w = w
 
 grown_length : (o : Option History) (device : List History) (at : ℕ) (c : Content) → length (grown o c device at) ≡ length device
 grown_length None device at c = refl

@@ -1,8 +1,8 @@
 //! What a disk is.
 
-ghost use Rattle.std.specs.Prelude.{◌≡◌, ◌<◌, ◌≤◌, ◌+◌, ◌⊎◌, ℕ, Bool, [], ◌∷◌, List, OnOk, OnErr, IsErr, length};
-ghost use Rattle.wb_disk.specs.Device.{History, Gives, written, synced, PartlySynced, OneMore};
-ghost use Rattle.wb_disk.specs.Extents.{Call, Reading, Writing, Syncing, MayLand, GivesEach, written_each, PartlyWritten, WrittenSo};
+ghost use Rattle.std.specs.Prelude.{◌≡◌, ◌<◌, ◌≤◌, ◌+◌, ℕ, Bool, [], ◌∷◌, List, OnOk, OnErr, IsErr, length};
+ghost use Rattle.wb_disk.specs.Device.{History, Gives, written, synced, OneMore};
+ghost use Rattle.wb_disk.specs.Extents.{Call, Reading, Writing, Syncing, MayLand, GivesEach, written_each, WrittenSo};
 ghost use Rattle.wb_disk.specs.Failing.{SyncedSo};
 
 use wb_types::Content;
@@ -55,11 +55,9 @@ pub trait Disk {
         requires { at < size self.old }
         ensures size { size self.new ≡ size self.old }
         ensures ok { tells → OnOk result (contents self.new ≡ written (contents self.old) at from.now) }
-        ensures err { tells → OnErr result ((contents self.new ≡ contents self.old)
-            ⊎ (contents self.new ≡ written (contents self.old) at from.now)) }
+        ensures how { tells → OnErr result (WrittenSo (falters self.old (Writing at 1)) (contents self.old) at (from.now ∷ []) (contents self.new)) }
         ensures no_fault { tells → OnOk result (faults self.new ≡ faults self.old) }
         ensures cause { tells → OnErr result (OneMore (faults self.old) (faults self.new)) }
-        ensures how { tells → OnErr result (WrittenSo (falters self.old (Writing at 1)) (contents self.old) at (from.now ∷ []) (contents self.new)) }
         ensures fails { fails self.old → IsErr result };
 
     /// Reads the newest contents of the sectors from `first` on, as many as `out` has; all are below `sectors()`.
@@ -81,20 +79,18 @@ pub trait Disk {
         requires { first + length from.now ≤ size self.old }
         ensures size { size self.new ≡ size self.old }
         ensures ok { tells → OnOk result (contents self.new ≡ written_each (contents self.old) first from.now) }
-        ensures err { tells → OnErr result (PartlyWritten (contents self.old) first from.now (contents self.new)) }
+        ensures how { tells → OnErr result (WrittenSo (falters self.old (Writing first (length from.now))) (contents self.old) first from.now (contents self.new)) }
         ensures no_fault { tells → OnOk result (faults self.new ≡ faults self.old) }
         ensures cause { tells → OnErr result (OneMore (faults self.old) (faults self.new)) }
-        ensures how { tells → OnErr result (WrittenSo (falters self.old (Writing first (length from.now))) (contents self.old) first from.now (contents self.new)) }
         ensures fails { fails self.old → IsErr result };
 
     /// Makes the newest content of every sector durable.
     fn sync(&mut self) -> Result<(), DiskFault>
         ensures size { size self.new ≡ size self.old }
         ensures ok { tells → OnOk result (contents self.new ≡ synced (contents self.old)) }
-        ensures err { tells → OnErr result (PartlySynced (contents self.old) (contents self.new)) }
+        ensures how { tells → OnErr result (SyncedSo (falters self.old Syncing) (contents self.old) (contents self.new)) }
         ensures no_fault { tells → OnOk result (faults self.new ≡ faults self.old) }
         ensures cause { tells → OnErr result (OneMore (faults self.old) (faults self.new)) }
-        ensures how { tells → OnErr result (SyncedSo (falters self.old Syncing) (contents self.old) (contents self.new)) }
         ensures fails { fails self.old → IsErr result };
 
     /// A disk that tells what it holds has a list for each sector.

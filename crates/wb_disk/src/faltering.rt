@@ -63,11 +63,11 @@ impl Disk for Faltering<'_> {
     }
 
     fn read(&mut self, _at: u64, _out: &mut Content) -> Result<(), DiskFault> {
-        self.disk.fail_read();
+        self.disk.count_fault();
         Err(DiskFault)
     }
 
-    #[tactic(auto, using(crate::proofs::Falters::extent_so, crate::proofs::Falters::one_so, crate::proofs::Falters::partly_so))]
+    #[tactic(auto, using(crate::proofs::Falters::failed_so))]
     fn write(&mut self, at: u64, from: &Content) -> Result<(), DiskFault> {
         let all = [*from];
         fail_write(&mut self.disk, self.device, self.choice, at, &all);
@@ -75,11 +75,11 @@ impl Disk for Faltering<'_> {
     }
 
     fn read_extent(&mut self, _first: u64, _out: &mut [Content]) -> Result<(), DiskFault> {
-        self.disk.fail_read();
+        self.disk.count_fault();
         Err(DiskFault)
     }
 
-    #[tactic(auto, using(crate::proofs::Falters::extent_so, crate::proofs::Falters::one_so, crate::proofs::Falters::partly_so))]
+    #[tactic(auto, using(crate::proofs::Falters::failed_so))]
     fn write_extent(&mut self, first: u64, from: &[Content]) -> Result<(), DiskFault> {
         fail_write(&mut self.disk, self.device, self.choice, first, from);
         Err(DiskFault)
@@ -125,11 +125,11 @@ fn fail_write(
     ensures faults { OneMore disk.old.faults disk.new.faults }
 {
     if make_room(disk, first, contents.len() as u64).is_err() {
-        disk.fail_read();
+        disk.count_fault();
         return;
     }
     write_landing(disk, device, choice, first, contents);
-    disk.fail_read();
+    disk.count_fault();
 }
 
 /// Writes these contents to those of these sectors of a device on which the choice lets them land, one each. There is room for them.

@@ -3,11 +3,11 @@
 ghost use Rattle.std.specs.Prelude.{◌≡◌, ◌<◌, ◌≤◌, ◌+◌, ◌↔◌, [], ◌∷◌, ◌++◌, IsOk, IsTrue, IfOk, OnOk, OnErr, IfErr, length, map};
 ghost use Rattle.std.specs.Bool.{OnTrue, OnFalse};
 ghost use Rattle.wb_types.specs.declared.refusal.Refusal.TheVariants.{Memory as OutOfMemory};
-ghost use Rattle.wb_disk.specs.Device.{Gives, written, synced, OneMore, Crashed, PartlySynced};
+ghost use Rattle.wb_disk.specs.Device.{Gives, written, synced, OneMore, Crashed};
 ghost use Rattle.wb_disk.specs.Extents.{GivesEach, written_each};
 ghost use Rattle.wb_disk.specs.Memory.{blank, zeros, HasRoom, HasRoomFor, DiffersOnlyAt, FrontWritten};
 ghost use Rattle.wb_disk.specs.Crash.{Applies, crashed};
-ghost use Rattle.wb_disk.specs.Failing.{MayFail, lands, synced_where};
+ghost use Rattle.wb_disk.specs.Failing.{lands, synced_where};
 ghost use Rattle.wb_disk.specs.Stored.{histories, capacities, cut_at_mark, IsNoted, lands_at};
 
 use crate::crash::mark_chosen;
@@ -136,7 +136,7 @@ impl MemDisk {
     }
 
     /// A call that fails and does nothing is a fault that counts.
-    pub(crate) fn fail_read(&mut self)
+    pub(crate) fn count_fault(&mut self)
         ensures contents { self.new.contents ≡ self.old.contents }
         ensures capacity { self.new.capacity ≡ self.old.capacity }
         ensures faults { OneMore self.old.faults self.new.faults }
@@ -146,8 +146,8 @@ impl MemDisk {
 
     /// A sync that fails and lands where the choice says so, whatever it names.
     pub(crate) fn sync_where(&mut self, device: Dev, choice: &CrashChoice)
+        ensures size { length self.new.contents ≡ length self.old.contents }
         ensures contents { self.new.contents ≡ synced_where (lands device choice.now) self.old.contents }
-        ensures outcome { PartlySynced self.old.contents self.new.contents }
         ensures faults { OneMore self.old.faults self.new.faults }
         ensures capacity { self.new.capacity ≡ self.old.capacity }
     {
@@ -157,28 +157,6 @@ impl MemDisk {
             &self.unsynced,
             Landing::As(device, choice),
         );
-    }
-
-    /// A sync that fails, of the disk as this device: a sector on which the choice lets it land has its newest content
-    /// alone, another its whole list. It is a fault that counts. It takes no memory, and goes over the sectors that were
-    /// written since the last sync, and for each over the names.
-    ///
-    /// False, and nothing changes, where a sync of this device cannot fail so: another device is named, or a sector
-    /// that the disk has not got, or another number than 0 and 1.
-    #[must_use]
-    pub fn fail_sync(&mut self, device: Dev, choice: &CrashChoice) -> bool
-        ensures may { IsTrue result ↔ MayFail device choice.now (length self.old.contents) }
-        ensures contents { OnTrue result (self.new.contents ≡ synced_where (lands device choice.now) self.old.contents) }
-        ensures outcome { OnTrue result (PartlySynced self.old.contents self.new.contents) }
-        ensures faults { OnTrue result (OneMore self.old.faults self.new.faults) }
-        ensures capacity { self.new.capacity ≡ self.old.capacity }
-        ensures kept { OnFalse result (self.new ≡ self.old) }
-    {
-        if !choice.may_fail(device, self.sectors()) {
-            return false;
-        }
-        self.sync_where(device, choice);
-        true
     }
 }
 

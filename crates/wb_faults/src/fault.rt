@@ -75,31 +75,31 @@ impl<D: Disk> Disk for FaultDisk<D> {
         self.inside.sectors()
     }
 
-    #[tactic(auto, using(crate::proofs::Counting::one_more_own, crate::proofs::Counting::one_more_inside))]
+    #[tactic(auto, using(crate::proofs::Counting::one_more_own, crate::proofs::Counting::one_more_inside, crate::proofs::Nowhere::reads_nothing))]
     fn read(&mut self, at: u64, out: &mut Content) -> Result<(), DiskFault> {
         self.count()?;
         self.inside.read(at, out)
     }
 
-    #[tactic(auto, using(crate::proofs::Counting::one_more_own, crate::proofs::Counting::one_more_inside))]
+    #[tactic(auto, using(crate::proofs::Counting::one_more_own, crate::proofs::Counting::one_more_inside, crate::proofs::Nowhere::writes_nothing))]
     fn write(&mut self, at: u64, from: &Content) -> Result<(), DiskFault> {
         self.count()?;
         self.inside.write(at, from)
     }
 
-    #[tactic(auto, using(crate::proofs::Counting::one_more_own, crate::proofs::Counting::one_more_inside))]
+    #[tactic(auto, using(crate::proofs::Counting::one_more_own, crate::proofs::Counting::one_more_inside, crate::proofs::Nowhere::reads_nothing))]
     fn read_extent(&mut self, first: u64, out: &mut [Content]) -> Result<(), DiskFault> {
         self.count()?;
         self.inside.read_extent(first, out)
     }
 
-    #[tactic(auto, using(crate::proofs::Counting::one_more_own, crate::proofs::Counting::one_more_inside))]
+    #[tactic(auto, using(crate::proofs::Counting::one_more_own, crate::proofs::Counting::one_more_inside, crate::proofs::Nowhere::writes_nothing))]
     fn write_extent(&mut self, first: u64, from: &[Content]) -> Result<(), DiskFault> {
         self.count()?;
         self.inside.write_extent(first, from)
     }
 
-    #[tactic(auto, using(crate::proofs::Counting::one_more_own, crate::proofs::Counting::one_more_inside))]
+    #[tactic(auto, using(crate::proofs::Counting::one_more_own, crate::proofs::Counting::one_more_inside, crate::proofs::Nowhere::syncs_nothing))]
     fn sync(&mut self) -> Result<(), DiskFault> {
         self.count()?;
         self.inside.sync()

@@ -1,6 +1,7 @@
 pub mod Lists
 pub mod Histories
 pub mod Stepping
+pub mod Failing
 pub mod Crashing
 pub mod Formatted
 pub mod Framing
@@ -9,7 +10,6 @@ pub mod Storing
 pub mod Sectors
 pub mod Counting
 pub mod Loaded
-pub mod Telling
 pub mod OneReading
 pub mod Round
 pub mod Reading

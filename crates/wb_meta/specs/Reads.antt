@@ -107,11 +107,6 @@ pub record AgreeThere (at : Option ℕ) (device : List History) (sectors : List 
   pub size : length sectors ≡ length device
   pub here : (place : ℕ) → at ≡ Some place → slice_get sectors place ≡ slice_get (map newest device) place
 
--- This stands newest in the sector that the next step reads, on this device, of so many sectors; none where it has not got it.
-pub record IsToldOf {A : Type 0} (steps : ReadSteps A) (sectors : ℕ) (content : Option Content) (device : List History) : Type 0 where
-  pub size : length device ≡ sectors
-  pub here : (place : ℕ) → coming_sector steps ≡ Some place → slice_get (map newest device) place ≡ content
-
 -- A step of a reading goes on so: of whatever sectors the reading had come so far, as far as they agree with the device in
 -- the one sector that the step reads, it has come one step further.
 abbrev pub ReadingGoesOn : {A : Type 0} → ReadSteps A → List History → ReadSteps A → Type 0

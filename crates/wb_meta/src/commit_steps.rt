@@ -5,7 +5,7 @@ ghost use Rattle.wb_types.specs.declared.refusal.Refusal.TheVariants.{Io};
 ghost use Rattle.wb_types.specs.declared.mode.Dev.TheVariants.{Metadata};
 ghost use Rattle.wb_disk.specs.Device.{History, OneMore};
 ghost use Rattle.wb_meta.specs.Placing.{HavePlaces};
-ghost use Rattle.wb_meta.specs.Steps.{DoesStep, FailsStep, FailsStepSo, coming_step, steps_after};
+ghost use Rattle.wb_meta.specs.Steps.{DoesStep, FailsStepSo, coming_step, steps_after};
 ghost use Rattle.wb_meta.specs.Commits.{HasCome, Comes, FailsWhere, IsOneStepLess, steps_left};
 ghost use Rattle.wb_meta.specs.Laws.{TreeCommitted, TreeOrOld, WantedCommitted, WantedOrOld};
 
@@ -95,12 +95,11 @@ impl CommitSteps {
         ensures after { OnOk result (self.new ≡ steps_after image.now self.old) }
         ensures stays { OnErr result (self.new ≡ self.old) }
         ensures does { D.tells → OnOk result (DoesStep image.now self.old (D.contents disk.old) (D.contents disk.new)) }
-        ensures fails { D.tells → OnErr result (FailsStep image.now self.old (D.contents disk.old) (D.contents disk.new)) }
         ensures how { D.tells → OnErr result (FailsStepSo (D.falters disk.old) image.now self.old (D.contents disk.old) (D.contents disk.new)) }
         ensures left { OnOk result (IsOneStepLess image.now self.old self.new) }
         ensures come { D.tells → OnOk result (Comes image.now self.old (D.contents disk.old) self.new (D.contents disk.new)) }
         ensures failed { D.tells → OnErr result (FailsWhere image.now self.old (D.contents disk.old) (D.contents disk.new)) }
-        ensures always_fails { D.fails disk.old → IsOk result → self.old ≡ Done }
+        ensures fails { D.fails disk.old → IsOk result → self.old ≡ Done }
         ensures refused { IfErr result (λ refusal. refusal ≡ Io Metadata) }
         ensures no_fault { D.tells → OnOk result (D.faults disk.new ≡ D.faults disk.old) }
         ensures cause { D.tells → OnErr result (OneMore (D.faults disk.old) (D.faults disk.new)) }

@@ -2,18 +2,18 @@
 
 ghost use Rattle.std.specs.Prelude.{◌≡◌, ◌≤◌, ◌<◌, ◌↔◌, ◌⊎◌, ◌+◌, ◌-◌, ℕ, List, map, length, IsTrue, IsFalse, IsSome, OnOk, IfOk, IfErr};
 ghost use Rattle.wb_types.specs.declared.refusal.Refusal.TheVariants.{Memory as OutOfMemory};
-ghost use Rattle.wb_disk.specs.Device.{Content as Bytes, History, newest};
+ghost use Rattle.wb_disk.specs.Device.{Content as Bytes, newest};
 ghost use Rattle.wb_disk.specs.Extents.{Reading, MayLand};
 ghost use Rattle.wb_meta.specs.States.{RepresentsState, IsRefusedBy, IsOfReading, CountsFault, FailsIf};
-ghost use Rattle.wb_meta.specs.Reads.{IsToldOf, IsTreeOn, FitsDevice, AreStepsOn, HasLoaded, HasRead, ReadingGoesOn, StopsBy, IsDone, StepsFewer, ReadOneMore, coming_sector, known_root, sectors_read, steps_left};
+ghost use Rattle.wb_meta.specs.Reads.{IsTreeOn, FitsDevice, AreStepsOn, HasLoaded, HasRead, ReadingGoesOn, StopsBy, IsDone, StepsFewer, ReadOneMore, coming_sector, known_root, sectors_read, steps_left};
 
-use crate::sector::{get_node, node_told};
-use crate::slot::{newest_root, read_slot, slot_told};
+use crate::sector::get_node;
+use crate::slot::{newest_root, read_slot};
 use std::alloc::{Allocator, Global};
 use wb_disk::Disk;
 use wb_format::Root;
 use wb_tree::{Loader, Tree};
-use wb_types::{Content, Place, Refusal};
+use wb_types::{Place, Refusal};
 
 /// What a metadata device stands for.
 #[derive(Drop)]
@@ -144,48 +144,6 @@ impl<A: Allocator + Clone> ReadSteps<A> {
                     let node = get_node(disk, u64::from(place))?;
                     go_on(global, root, loader.tell(node)?)
                 }
-                None => go_on(global, root, loader),
-            },
-            ReadSteps::Done(state) => Ok(ReadSteps::Done(state)),
-        }
-    }
-}
-
-impl<A: Allocator + Clone> ReadSteps<A> {
-    /// Does the next step on a device of so many sectors, by what stands in the sector that comes next: for who reads that
-    /// sector by a call that never fails. None where the device has not got it. The refusals are those of `next` but `Io`.
-    pub fn tell(self, sectors: u64, content: Option<Content>) -> Result<ReadSteps<A>, Refusal>
-        requires { AreStepsOn sectors self }
-        ensures on { IfOk result (AreStepsOn sectors) }
-        ensures one_more { IfOk result (ReadOneMore self) }
-        ensures idle { IfOk result (λ steps. IsDone self → steps ≡ self) }
-        ensures read { (device : List History) → IsToldOf self sectors content device → IfOk result (ReadingGoesOn self device) }
-        ensures refused { (device : List History) → IsToldOf self sectors content device → IfErr result (StopsBy self device) }
-        ensures kinds { IfErr result IsOfReading }
-        ensures no_fault { (faults : ℕ) → IfErr result (λ refusal. CountsFault refusal faults faults) }
-    {
-        match self {
-            ReadSteps::Begun { alloc, global } => Ok(ReadSteps::FirstSlotRead {
-                alloc,
-                global,
-                first: slot_told(content, 0),
-            }),
-            ReadSteps::FirstSlotRead {
-                alloc,
-                global,
-                first,
-            } => {
-                let second = slot_told(content, 1);
-                let root = newest_root(first, second, sectors)?;
-                let loader = Loader::new(alloc, global, &root)?;
-                go_on(global, root, loader)
-            }
-            ReadSteps::RootFound {
-                global,
-                root,
-                loader,
-            } => match loader.wanted() {
-                Some(_) => go_on(global, root, loader.tell(node_told(content))?),
                 None => go_on(global, root, loader),
             },
             ReadSteps::Done(state) => Ok(ReadSteps::Done(state)),

@@ -1,27 +1,24 @@
 //! Single steps of the metadata device.
 
-ghost use Rattle.std.specs.Prelude.{◌≡◌, ◌<◌, ◌⊎◌, ℕ, List, OnOk, OnErr, IsErr, IfOk, IfErr, length, map, slice_get};
+ghost use Rattle.std.specs.Prelude.{◌≡◌, ◌<◌, OnOk, OnErr, IsErr, IfOk, IfErr, map};
 ghost use Rattle.wb_types.specs.declared.refusal.Refusal.TheVariants.{Io};
 ghost use Rattle.wb_types.specs.declared.mode.Dev.TheVariants.{Metadata};
 ghost use Rattle.wb_format.specs.Layout.{SpellsNode, SpellsRoot};
-ghost use Rattle.wb_disk.specs.Device.{Content as Bytes, written, synced, PartlySynced, OneMore, newest};
-ghost use Rattle.wb_meta.specs.Representing.{ReadsThere};
-ghost use Rattle.wb_disk.specs.Extents.{Reading, MayLand};
-ghost use Rattle.wb_disk.specs.Extents.{Syncing};
+ghost use Rattle.wb_disk.specs.Device.{written, synced, OneMore, newest};
+ghost use Rattle.wb_disk.specs.Extents.{Reading, Syncing, MayLand};
 ghost use Rattle.wb_disk.specs.Failing.{SyncedSo};
-ghost use Rattle.wb_meta.specs.Steps.{Puts, MayPut, PutSo, zero_sector};
+ghost use Rattle.wb_meta.specs.Representing.{ReadsThere};
+ghost use Rattle.wb_meta.specs.Steps.{Puts, PutSo, zero_sector};
 
 use wb_disk::Disk;
 use wb_format::{Node, Root};
-use wb_types::{Content, Dev, Refusal, SECTOR_BYTES};
+use wb_types::{Dev, Refusal, SECTOR_BYTES};
 
 /// Writes a node. `Io` where the device fails; it may then have the node or not.
 pub(crate) fn put_node<D: Disk>(disk: &mut D, at: u64, node: &Node) -> Result<(), Refusal>
     requires { at < D.size disk.old }
     ensures size { D.size disk.new ≡ D.size disk.old }
     ensures ok { D.tells → OnOk result (Puts (λ content. SpellsNode content node.now) at
-        (D.contents disk.old) (D.contents disk.new)) }
-    ensures err { D.tells → OnErr result (MayPut (λ content. SpellsNode content node.now) at
         (D.contents disk.old) (D.contents disk.new)) }
     ensures how { D.tells → OnErr result (PutSo (D.falters disk.old) (λ content. SpellsNode content node.now) at
         (D.contents disk.old) (D.contents disk.new)) }
@@ -41,8 +38,6 @@ pub(crate) fn put_root<D: Disk>(disk: &mut D, at: u64, root: &Root) -> Result<()
     requires { at < D.size disk.old }
     ensures size { D.size disk.new ≡ D.size disk.old }
     ensures ok { D.tells → OnOk result (Puts (λ content. SpellsRoot content root.now) at
-        (D.contents disk.old) (D.contents disk.new)) }
-    ensures err { D.tells → OnErr result (MayPut (λ content. SpellsRoot content root.now) at
         (D.contents disk.old) (D.contents disk.new)) }
     ensures how { D.tells → OnErr result (PutSo (D.falters disk.old) (λ content. SpellsRoot content root.now) at
         (D.contents disk.old) (D.contents disk.new)) }
@@ -76,7 +71,6 @@ pub(crate) fn put_zeros<D: Disk>(disk: &mut D, at: u64) -> Result<(), Refusal>
 pub(crate) fn sync<D: Disk>(disk: &mut D) -> Result<(), Refusal>
     ensures size { D.size disk.new ≡ D.size disk.old }
     ensures ok { D.tells → OnOk result (D.contents disk.new ≡ synced (D.contents disk.old)) }
-    ensures err { D.tells → OnErr result (PartlySynced (D.contents disk.old) (D.contents disk.new)) }
     ensures how { D.tells → OnErr result (SyncedSo (D.falters disk.old Syncing) (D.contents disk.old) (D.contents disk.new)) }
     ensures no_fault { D.tells → OnOk result (D.faults disk.new ≡ D.faults disk.old) }
     ensures cause { D.tells → OnErr result (OneMore (D.faults disk.old) (D.faults disk.new)) }
@@ -84,14 +78,6 @@ pub(crate) fn sync<D: Disk>(disk: &mut D) -> Result<(), Refusal>
     ensures refused { IfErr result (λ refusal. refusal ≡ Io Metadata) }
 {
     disk.sync().map_err(|_| Refusal::Io(Dev::Metadata))
-}
-
-/// The node that a sector spells in which this stands, where it spells one.
-pub(crate) fn node_told(content: Option<Content>) -> Option<Node>
-    ensures { (sectors : List Bytes) (at : ℕ) → at < length sectors → slice_get sectors at ≡ content
-        → ReadsThere sectors (λ _. result) at }
-{
-    Node::read(&content?)
 }
 
 /// The node that a sector spells, where it spells one. `Io` where the device fails.

@@ -1,6 +1,6 @@
 //! The two slots of a root.
 
-ghost use Rattle.std.specs.Prelude.{◌≡◌, ◌⊎◌, ◌<◌, ℕ, List, map, length, slice_get, OnOk, OnErr, IfOk, IfErr};
+ghost use Rattle.std.specs.Prelude.{◌≡◌, ◌⊎◌, ◌<◌, List, Some, map, length, slice_get, OnOk, OnErr, IfOk, IfErr};
 ghost use Rattle.wb_types.specs.declared.refusal.Refusal.TheVariants.{Io, NotFormatted, Mismatch};
 ghost use Rattle.wb_types.specs.declared.mode.Dev.TheVariants.{Metadata};
 ghost use Rattle.wb_disk.specs.Device.{Content as Bytes, OneMore, newest};
@@ -31,15 +31,14 @@ pub(crate) fn read_slot<D: Disk>(disk: &mut D, slot: u32) -> Result<Option<Root>
     if disk.read(at, &mut content).is_err() {
         return Err(Refusal::Io(Dev::Metadata));
     }
-    Ok(slot_told(Some(content), slot))
+    Ok(root_in(&content, slot))
 }
 
-/// The valid root of a slot in which this stands, where it is one; none where the device has not got the slot.
-pub(crate) fn slot_told(content: Option<Content>, slot: u32) -> Option<Root>
-    ensures { (sectors : List Bytes) → slice_get sectors slot ≡ content → IsInSlot sectors slot result }
+/// The valid root of a slot that holds this, where it is one.
+fn root_in(content: &Content, slot: u32) -> Option<Root>
+    ensures { (sectors : List Bytes) → slice_get sectors slot ≡ Some content.now → IsInSlot sectors slot result }
 {
-    let content = content?;
-    let root = Root::read(&content)?;
+    let root = Root::read(content)?;
     if root.slot().0 == slot {
         Some(root)
     } else {

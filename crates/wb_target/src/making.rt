@@ -89,7 +89,7 @@ impl<'k, D: Disk + Drop, P: Policy> MakingStage<'k, D, P> {
         let Some(commit) = &self.stage.opening.commit else {
             return false;
         };
-        let generation = commit.image.root.generation;
+        let generation = commit.image().root.generation;
         let Some(ReadSteps::Done(state)) = self.stage.opening.reading.take() else {
             return false;
         };

@@ -3,8 +3,9 @@
 use super::crash::choice_of;
 use super::{got, put};
 use std::alloc::Global;
+use std::mem;
 use std::test::Fail;
-use wb_disk::{Base, CrashChoice, Disk, MemDisk};
+use wb_disk::{Base, CrashChoice, Disk, Faltering, MemDisk};
 use wb_types::{Dev, Refusal};
 
 /// A name of a sector of the cache device, and whether a failing sync has landed on it.
@@ -12,12 +13,21 @@ fn name(sector: u64, landed: u64) -> (Dev, u64, u64) {
     (Dev::Cache, sector, landed)
 }
 
+/// A sync of the disk fails as the choice says. Whether it was answered so.
+fn fail_sync(alloc: Global, disk: &mut MemDisk, choice: &CrashChoice) -> Result<bool, Refusal> {
+    let whole = mem::replace(disk, MemDisk::new(alloc, 0)?);
+    let mut faltering = Faltering::new(whole, Dev::Cache, choice);
+    let fails = faltering.sync().is_err();
+    *disk = faltering.into_inner();
+    Ok(fails)
+}
+
 /// Both sectors are written, a sync fails, and power is lost, so that what was not durable is gone. Whether all of it went so.
 fn fails_and_crashes(alloc: Global, disk: &mut MemDisk, choice: &CrashChoice) -> bool {
     let lost = CrashChoice::new(Base::Durable, Vec::new(alloc));
     put(disk, 0, 7).is_ok()
         && put(disk, 1, 8).is_ok()
-        && disk.fail_sync(Dev::Cache, choice)
+        && matches!(fail_sync(alloc, disk, choice), Ok(true))
         && disk.stop(Dev::Cache, &lost)
 }
 
@@ -27,48 +37,37 @@ fn holds(disk: &mut MemDisk, first: u8, second: u8) -> bool {
         && matches!(got(disk, 1), Ok(found) if found == second)
 }
 
-/// Whether a choice by which no sync fails leaves a device as it is.
-fn is_kept_whole(disk: &mut MemDisk, choice: &CrashChoice) -> bool {
-    put(disk, 1, 8).is_ok()
-        && !disk.fail_sync(Dev::Cache, choice)
-        && disk.faults() == 0
-        && !choice.may_fail(Dev::Cache, 2)
-}
-
-/// What comes of a sync by a choice.
-#[derive(Clone, Copy)]
-enum Outcome {
-    /// It fails, and both sectors hold these after a crash.
-    Fails(u8, u8),
-    /// None fails so.
-    IsNone,
-}
-
-/// Whether this comes of a sync by a choice that names one sector.
-fn comes(
+/// Whether both sectors hold these after a sync that fails by a choice that names one sector, and a crash.
+fn leaves(
     alloc: Global,
     base: Base,
     named: (Dev, u64, u64),
-    outcome: Outcome,
+    first: u8,
+    second: u8,
 ) -> Result<bool, Refusal> {
     let choice = choice_of(alloc, base, &[named])?;
-    comes_by(alloc, &choice, outcome)
+    leaves_by(alloc, &choice, first, second)
 }
 
-fn comes_by(alloc: Global, choice: &CrashChoice, outcome: Outcome) -> Result<bool, Refusal> {
+fn leaves_by(alloc: Global, choice: &CrashChoice, first: u8, second: u8) -> Result<bool, Refusal> {
     let mut disk = MemDisk::new(alloc, 2)?;
-    Ok(comes_of(alloc, &mut disk, choice, outcome))
+    Ok(leaves_on(alloc, &mut disk, choice, first, second))
 }
 
-fn comes_of(alloc: Global, disk: &mut MemDisk, choice: &CrashChoice, outcome: Outcome) -> bool {
-    match outcome {
-        Outcome::Fails(first, second) => {
-            fails_and_crashes(alloc, disk, choice)
-                && holds(disk, first, second)
-                && disk.faults() == 1
-        }
-        Outcome::IsNone => is_kept_whole(disk, choice),
-    }
+fn leaves_on(
+    alloc: Global,
+    disk: &mut MemDisk,
+    choice: &CrashChoice,
+    first: u8,
+    second: u8,
+) -> bool {
+    fails_and_crashes(alloc, disk, choice) && holds(disk, first, second) && disk.faults() == 1
+}
+
+/// Whether a step on the cache device, of two sectors, may fail by a choice that names this.
+fn may_fail(alloc: Global, named: (Dev, u64, u64)) -> Result<bool, Refusal> {
+    let choice = choice_of(alloc, Base::Newest, &[named])?;
+    Ok(choice.may_fail(Dev::Cache, 2))
 }
 
 #[test]
@@ -79,16 +78,15 @@ fn a_failed_sync_settles_what_has_landed(rt: HostRuntime) -> Result<(), Fail> {
         (Base::Newest, name(0, 1), 7, 8),
         (Base::Newest, name(0, 0), 0, 8),
     ] {
-        let outcome = Outcome::Fails(first, second);
-        assert!(rt; comes(rt.alloc(), base, named, outcome)?);
+        assert!(rt; leaves(rt.alloc(), base, named, first, second)?);
     }
     Ok(())
 }
 
 #[test]
-fn a_sync_cannot_fail_as_no_sync_does(rt: HostRuntime) -> Result<(), Fail> {
+fn a_step_cannot_fail_as_no_step_does(rt: HostRuntime) -> Result<(), Fail> {
     for named in [name(2, 1), name(1, 2), (Dev::Origin, 1, 1)] {
-        assert!(rt; comes(rt.alloc(), Base::Newest, named, Outcome::IsNone)?);
+        assert!(rt; !may_fail(rt.alloc(), named)?);
     }
     Ok(())
 }

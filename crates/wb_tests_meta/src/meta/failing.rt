@@ -51,6 +51,10 @@ impl Disk for FailingDisk {
 
     ghost faults = { λ _. 0 };
 
+    ghost falters = { λ _ _ _. Unit {0} };
+
+    ghost fails = { λ _. ⊥ };
+
     fn sectors(&self) -> u64 {
         self.inside.sectors()
     }

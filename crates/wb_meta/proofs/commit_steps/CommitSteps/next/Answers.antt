@@ -2,7 +2,10 @@ use Rattle.std.proofs.Common.{◌≡◌, ◌%◌, ℕ, Some, List, length, refl,
 use Rattle.std.specs.List.{slice_get}
 use Rattle.std.proofs.lemmas.Option.{slice_get_read}
 use Rattle.wb_format.specs.Layout.{SpellsNode, SpellsRoot}
-use Rattle.wb_meta.specs.Steps.{Puts, MayPut}
+use Rattle.wb_meta.specs.Steps.{Puts, PutSo}
+use Rattle.wb_disk.specs.Extents.{Syncing}
+use Rattle.wb_disk.proofs.FailedSyncs.{partly_so}
+use Rattle.wb_meta.proofs.Failing.{put_left}
 use Rattle.wb_disk.specs.Device.{History}
 use Rattle.wb_tree.specs.declared.image.Image.{Image}
 use Rattle.wb_meta.specs.Commits.{HasCome, HasFailed}
@@ -22,7 +25,7 @@ returns-in_err-put_node-in-NodesWritten-clause-failed g c tells =
     let so_far = subst P c.in-NodesWritten.is come in
     let nodes = c.args.image.now.nodes.items in
     let listed : slice_get nodes c.in-NodesWritten.count ≡ Some c.index.result.now = slice_get_read nodes (length nodes) c.in-NodesWritten.count c.index.result.now refl (omega arith) c.index.ensures in
-    failed_at c.args.image.now before _ c.args.self.now _ c.in-NodesWritten.is (node_failed c.args.image.now before now (g.D.Disk.contents c.put_node.new.disk) c.in-NodesWritten.count c.index.result.now listed so_far (subst (λ (at : ℕ). MayPut (λ content. SpellsNode content c.index.result.now.1) at now (g.D.Disk.contents c.put_node.new.disk)) c.from.ensures (c.in_err-put_node-in-NodesWritten.ensures.err tells))))
+    failed_at c.args.image.now before _ c.args.self.now _ c.in-NodesWritten.is (node_failed c.args.image.now before now (g.D.Disk.contents c.put_node.new.disk) c.in-NodesWritten.count c.index.result.now listed so_far (put_left (g.D.Disk.falters c.args.disk.now) (λ content. SpellsNode content c.index.result.now.1) _ now (g.D.Disk.contents c.put_node.new.disk) (subst (λ (at : ℕ). PutSo (g.D.Disk.falters c.args.disk.now) (λ content. SpellsNode content c.index.result.now.1) at now (g.D.Disk.contents c.put_node.new.disk)) c.from.ensures (c.in_err-put_node-in-NodesWritten.ensures.how tells)))))
 
 pub returns-in_err-sync-in-NodesWritten-clause-failed : goal.returns-in_err-sync-in-NodesWritten-clause-failed
 returns-in_err-sync-in-NodesWritten-clause-failed g c tells =
@@ -30,7 +33,7 @@ returns-in_err-sync-in-NodesWritten-clause-failed g c tells =
     let now = g.D.Disk.contents c.args.disk.now in
     let P : CommitSteps → Type 0 = λ s. HasCome c.args.image.now before s now in
     let so_far = subst P c.in-NodesWritten.is come in
-    failed_at c.args.image.now before _ c.args.self.now _ c.in-NodesWritten.is (nodes_unsynced c.args.image.now before now (g.D.Disk.contents c.sync.new.disk) c.in-NodesWritten.count so_far (c.in_err-sync-in-NodesWritten.ensures.err tells)))
+    failed_at c.args.image.now before _ c.args.self.now _ c.in-NodesWritten.is (nodes_unsynced c.args.image.now before now (g.D.Disk.contents c.sync.new.disk) c.in-NodesWritten.count so_far (partly_so (g.D.Disk.falters c.args.disk.now Syncing) now (g.D.Disk.contents c.sync.new.disk) (c.in_err-sync-in-NodesWritten.ensures.how tells))))
 
 pub returns-in_err-put_root-in-NodesSynced-clause-failed : goal.returns-in_err-put_root-in-NodesSynced-clause-failed
 returns-in_err-put_root-in-NodesSynced-clause-failed g c tells =
@@ -39,7 +42,7 @@ returns-in_err-put_root-in-NodesSynced-clause-failed g c tells =
     let P : CommitSteps → Type 0 = λ s. HasCome c.args.image.now before s now in
     let so_far = subst P c.in-NodesSynced.is come in
     let slot : c.slot-slot.result.0 ≡ c.args.image.now.root.generation % 2 = c.slot-slot.ensures in
-    failed_at c.args.image.now before _ c.args.self.now _ c.in-NodesSynced.is (root_failed c.args.image.now (g.D.Disk.size c.args.disk.now) before now (g.D.Disk.contents c.put_root.new.disk) c.slot-slot.result.0 c.requires slot so_far (subst (λ (at : ℕ). MayPut (λ content. SpellsRoot content c.args.image.now.root) at now (g.D.Disk.contents c.put_root.new.disk)) c.from-in-NodesSynced.ensures (c.in_err-put_root-in-NodesSynced.ensures.err tells))))
+    failed_at c.args.image.now before _ c.args.self.now _ c.in-NodesSynced.is (root_failed c.args.image.now (g.D.Disk.size c.args.disk.now) before now (g.D.Disk.contents c.put_root.new.disk) c.slot-slot.result.0 c.requires slot so_far (put_left (g.D.Disk.falters c.args.disk.now) (λ content. SpellsRoot content c.args.image.now.root) _ now (g.D.Disk.contents c.put_root.new.disk) (subst (λ (at : ℕ). PutSo (g.D.Disk.falters c.args.disk.now) (λ content. SpellsRoot content c.args.image.now.root) at now (g.D.Disk.contents c.put_root.new.disk)) c.from-in-NodesSynced.ensures (c.in_err-put_root-in-NodesSynced.ensures.how tells)))))
 
 pub returns-in_err-sync-in-RootWritten-clause-failed : goal.returns-in_err-sync-in-RootWritten-clause-failed
 returns-in_err-sync-in-RootWritten-clause-failed g c tells =
@@ -47,7 +50,7 @@ returns-in_err-sync-in-RootWritten-clause-failed g c tells =
     let now = g.D.Disk.contents c.args.disk.now in
     let P : CommitSteps → Type 0 = λ s. HasCome c.args.image.now before s now in
     let so_far = subst P c.in-RootWritten.is come in
-    failed_at c.args.image.now before _ c.args.self.now _ c.in-RootWritten.is (root_unsynced c.args.image.now before now (g.D.Disk.contents c.sync-in-RootWritten.new.disk) so_far (c.in_err-sync-in-RootWritten.ensures.err tells)))
+    failed_at c.args.image.now before _ c.args.self.now _ c.in-RootWritten.is (root_unsynced c.args.image.now before now (g.D.Disk.contents c.sync-in-RootWritten.new.disk) so_far (partly_so (g.D.Disk.falters c.args.disk.now Syncing) now (g.D.Disk.contents c.sync-in-RootWritten.new.disk) (c.in_err-sync-in-RootWritten.ensures.how tells))))
 
 pub returns-in_ok-put_node-in-NodesWritten-clause-come : goal.returns-in_ok-put_node-in-NodesWritten-clause-come
 returns-in_ok-put_node-in-NodesWritten-clause-come g c tells before come =
