@@ -13,7 +13,8 @@ use Rattle.wb_words.specs.SharedWords.{place_in, dirty_in}
 use Rattle.wb_disk.specs.Device.{History}
 use Rattle.wb_devices.specs.declared.devices.Devices.{Devices}
 use Rattle.wb_devices.specs.declared.running.RunningCommit.{RunningCommit}
-use Rattle.wb_tasks.specs.declared.step.DeviceStep.TheVariants.{Read, Write}
+use Rattle.wb_tasks.specs.declared.step.DeviceStep.{DeviceStep}
+use Rattle.wb_tasks.specs.declared.step.DeviceStep.TheVariants.{Read, Write, WriteNode, WriteRoot}
 use Rattle.wb_tasks.specs.declared.step.Migration.{Migration}
 use Rattle.wb_tasks.specs.declared.step.Migration.TheVariants.{Promote, Demote, Clean}
 use Rattle.wb_tasks.specs.declared.step.Want.{Want}
@@ -106,6 +107,16 @@ pub record MayPut {D : Type 0} (tells : Type 0) (contents : D → List History) 
   pub runs : commit ≡ Some commit_is
   pub cache : tells → IsSynced (contents devices.cache)
   pub origin : tells → IsSynced (contents devices.origin)
+
+-- ---- the steps of a migration or a flush
+
+-- an extent is copied, or a node or root put; any other step is free
+abbrev pub MayPerform : {D : Type 0} → Type 0 → (D → List History) → ℕ → Card → Devices D → Option RunningCommit → DeviceStep → Type 0
+MayPerform tells contents size card devices commit (Read device e) = MayCopyFrom size card device e
+MayPerform tells contents size card devices commit (Write device e) = MayCopyTo size card device e
+MayPerform tells contents size card devices commit (WriteNode number) = MayPut tells contents devices commit
+MayPerform tells contents size card devices commit WriteRoot = MayPut tells contents devices commit
+MayPerform tells contents size card devices commit step = Unit {0}
 
 -- ---- requests
 

@@ -1,19 +1,17 @@
 //! What a client steps with.
 
 ghost use Rattle.std.specs.Prelude.{◌≡◌, length};
+ghost use Rattle.wb_tasks.specs.Plan.{device_of};
 ghost use Rattle.wb_devices.specs.Moving.{IsOutcome, DidRead, DidWrite, OthersStay, device_in};
-ghost use Rattle.wb_devices.specs.Moving.{DidSync};
-ghost use Rattle.wb_devices.specs.Stepping.{Goes, DidPut};
-ghost use Rattle.wb_tasks.specs.declared.step.DeviceStep.TheVariants.{Sync};
-ghost use Rattle.wb_types.specs.declared.mode.Dev.TheVariants.{Metadata};
+ghost use Rattle.wb_devices.specs.Stepping.{CommitGoes, DidStep, BufferStays};
 ghost use Rattle.wb_words.specs.SharedWords.{IsWord};
 ghost use Rattle.wb_words.specs.Ready.{IsReady};
 ghost use Rattle.wb_words.specs.Cards.{looked};
 ghost use Rattle.wb_cells.specs.Passes.{StepsBy};
-ghost use Rattle.wb_port.specs.Moves.{MayRead, MayWrite, MayCopyFrom, MayCopyTo, MayPut};
+ghost use Rattle.wb_port.specs.Moves.{MayRead, MayWrite, MayPerform};
 
 use wb_cells::{Cells, Pass, Word};
-use wb_devices::{Devices, RunningCommit, put, sync_metadata};
+use wb_devices::{Devices, RunningCommit};
 use wb_disk::Disk;
 use wb_tasks::{CellResult, CellStep, DeviceStep, Got};
 use wb_types::{Content, Dev, Extent};
@@ -102,69 +100,24 @@ impl<D: Disk> Hand<D> {
         cells.look(&mut self.pass, word)
     }
 
-    /// Reads an extent of the block that the pass owns, to copy it, to the front of these contents.
-    pub fn copy_from(&mut self, device: Dev, extent: Extent, into: &mut [Content]) -> Got
-        requires owned { MayCopyFrom self.old.block_sectors self.old.pass.card device extent }
-        ensures kind { IsOutcome result }
-        ensures many { length into.new ≡ length into.old }
-        ensures pass { self.new.pass ≡ self.old.pass }
-        ensures block { self.new.block_sectors ≡ self.old.block_sectors }
-        ensures others { OthersStay device self.old.devices self.new.devices }
-        ensures size { D.size (device_in device self.new.devices) ≡ D.size (device_in device self.old.devices) }
-        ensures did { D.tells → DidRead extent result (D.size (device_in device self.old.devices)) (D.contents (device_in device self.old.devices)) (D.faults (device_in device self.old.devices)) into.new (D.contents (device_in device self.new.devices)) (D.faults (device_in device self.new.devices)) }
-    {
-        self.devices.read(device, extent, into)
-    }
-
-    /// Writes an extent of the copy of the block that the pass owns, from the front of these contents.
-    pub fn copy_to(&mut self, device: Dev, extent: Extent, from: &[Content]) -> Got
-        requires owned { MayCopyTo self.old.block_sectors self.old.pass.card device extent }
+    /// Performs a device step of a migration or a flush, by what the buffer holds and the commit that runs: a copy from or to the
+    /// block that the pass owns, a sync, or a node or root of the commit once what it names is durable.
+    pub fn perform(
+        &mut self,
+        commit: &mut Option<RunningCommit>,
+        step: DeviceStep,
+        buffer: &mut [Content],
+    ) -> Got
+        requires may { MayPerform D.tells D.contents self.old.block_sectors self.old.pass.card self.old.devices commit.old step }
         ensures kind { IsOutcome result }
         ensures pass { self.new.pass ≡ self.old.pass }
         ensures block { self.new.block_sectors ≡ self.old.block_sectors }
-        ensures others { OthersStay device self.old.devices self.new.devices }
-        ensures size { D.size (device_in device self.new.devices) ≡ D.size (device_in device self.old.devices) }
-        ensures did { D.tells → DidWrite extent result (D.size (device_in device self.old.devices)) from.now (D.contents (device_in device self.old.devices)) (D.faults (device_in device self.old.devices)) (D.contents (device_in device self.new.devices)) (D.faults (device_in device self.new.devices)) }
+        ensures others { OthersStay (device_of step) self.old.devices self.new.devices }
+        ensures size { D.size (device_in (device_of step) self.new.devices) ≡ D.size (device_in (device_of step) self.old.devices) }
+        ensures buffer { BufferStays step buffer.old buffer.new }
+        ensures did { D.tells → DidStep commit.old step result (D.size (device_in (device_of step) self.old.devices)) (D.contents (device_in (device_of step) self.old.devices)) (D.faults (device_in (device_of step) self.old.devices)) buffer.old buffer.new (D.contents (device_in (device_of step) self.new.devices)) (D.faults (device_in (device_of step) self.new.devices)) }
+        ensures goes { CommitGoes (D.size self.old.devices.metadata) commit.old step result commit.new }
     {
-        self.devices.write(device, extent, from)
-    }
-
-    /// Syncs a device.
-    pub fn sync(&mut self, device: Dev) -> Got
-        ensures kind { IsOutcome result }
-        ensures pass { self.new.pass ≡ self.old.pass }
-        ensures block { self.new.block_sectors ≡ self.old.block_sectors }
-        ensures others { OthersStay device self.old.devices self.new.devices }
-        ensures size { D.size (device_in device self.new.devices) ≡ D.size (device_in device self.old.devices) }
-        ensures did { D.tells → DidSync result (D.contents (device_in device self.old.devices)) (D.faults (device_in device self.old.devices)) (D.contents (device_in device self.new.devices)) (D.faults (device_in device self.new.devices)) }
-    {
-        self.devices.sync(device)
-    }
-
-    /// Syncs the metadata device, which may be the running commit's next step.
-    pub fn sync_metadata(&mut self, commit: &mut Option<RunningCommit>) -> Got
-        ensures kind { IsOutcome result }
-        ensures pass { self.new.pass ≡ self.old.pass }
-        ensures block { self.new.block_sectors ≡ self.old.block_sectors }
-        ensures others { OthersStay Metadata self.old.devices self.new.devices }
-        ensures size { D.size self.new.devices.metadata ≡ D.size self.old.devices.metadata }
-        ensures goes { Goes (D.size self.old.devices.metadata) commit.old (Sync Metadata) result commit.new }
-        ensures did { D.tells → DidSync result (D.contents self.old.devices.metadata) (D.faults self.old.devices.metadata) (D.contents self.new.devices.metadata) (D.faults self.new.devices.metadata) }
-    {
-        sync_metadata(commit, &mut self.devices.metadata)
-    }
-
-    /// Writes the node or root of this step to the metadata device, where it comes next of the running commit.
-    pub fn put(&mut self, commit: &mut Option<RunningCommit>, step: DeviceStep) -> Got
-        requires may { MayPut D.tells D.contents self.old.devices commit.old }
-        ensures kind { IsOutcome result }
-        ensures pass { self.new.pass ≡ self.old.pass }
-        ensures block { self.new.block_sectors ≡ self.old.block_sectors }
-        ensures others { OthersStay Metadata self.old.devices self.new.devices }
-        ensures size { D.size self.new.devices.metadata ≡ D.size self.old.devices.metadata }
-        ensures goes { Goes (D.size self.old.devices.metadata) commit.old step result commit.new }
-        ensures did { D.tells → DidPut (D.size self.old.devices.metadata) commit.old step result (D.contents self.old.devices.metadata) (D.faults self.old.devices.metadata) (D.contents self.new.devices.metadata) (D.faults self.new.devices.metadata) }
-    {
-        put(commit, &mut self.devices.metadata, step)
+        self.devices.perform(commit, step, buffer)
     }
 }

@@ -1,12 +1,11 @@
 //! The steps of a migration or a flush.
 
-ghost use Rattle.std.specs.Prelude.{◌≡◌, length};
+ghost use Rattle.std.specs.Prelude.{◌≡◌};
 ghost use Rattle.wb_tasks.specs.Plan.{Fits, device_of};
 ghost use Rattle.wb_tasks.specs.declared.step.Want.TheVariants.{Desk as AskDesk, Device as OnDevice};
-ghost use Rattle.wb_devices.specs.Moving.{IsOutcome, DidRead, DidWrite, OthersStay, device_in};
+ghost use Rattle.wb_devices.specs.Moving.{IsOutcome, OthersStay, device_in};
 ghost use Rattle.wb_devices.specs.Stepping.{CommitGoes, DidStep, BufferStays};
 ghost use Rattle.wb_stage.specs.Stages.{IsServed};
-ghost use Rattle.wb_port.specs.Moves.{MayCopyFrom, MayCopyTo};
 ghost use Rattle.wb_target.specs.Works.{IsReadyToWork, MayWork, MayCommit, DidAskDesk, WorkLed};
 
 use crate::gate::{Gate, Point};
@@ -16,10 +15,9 @@ use std::sync::Wait;
 use wb_devices::RunningCommit;
 use wb_disk::Disk;
 use wb_policy::{Order, Policy};
-use wb_port::Hand;
 use wb_stage::asking;
 use wb_tasks::{DeskStep, DeviceStep, Got, Stage, Want};
-use wb_types::{Content, Dev, Extent, OBlock};
+use wb_types::OBlock;
 
 impl<P: Policy> Target<P> {
     /// Performs a step on the desk under its lock, for a client that runs this commit, if any, and has taken these orders.
@@ -57,6 +55,7 @@ impl<P: Policy> Target<P> {
 
 impl<'a, R: Wait, D: Disk, P: Policy, G: Gate> WorkStage<'a, R, D, P, G> {
     /// A step on a device.
+    #[tactic(auto, using(crate::proofs::Asking::may_perform))]
     fn device_step(&mut self, step: DeviceStep) -> Got
         requires may { MayWork self.old.hand.now.block_sectors self.old.held.now self.old.hand.now.pass.card (OnDevice step) }
         requires commits { MayCommit D.tells D.contents self.old.hand.now.devices self.old.commit.now (OnDevice step) }
@@ -75,20 +74,7 @@ impl<'a, R: Wait, D: Disk, P: Policy, G: Gate> WorkStage<'a, R, D, P, G> {
         ensures did { D.tells → DidStep self.old.commit.now step result (D.size (device_in (device_of step) self.old.hand.now.devices)) (D.contents (device_in (device_of step) self.old.hand.now.devices)) (D.faults (device_in (device_of step) self.old.hand.now.devices)) self.old.buffer.now self.new.buffer.now (D.contents (device_in (device_of step) self.new.hand.now.devices)) (D.faults (device_in (device_of step) self.new.hand.now.devices)) }
         ensures goes { CommitGoes (D.size self.old.hand.now.devices.metadata) self.old.commit.now step result self.new.commit.now }
     {
-        match step {
-            DeviceStep::Read(device, extent) => {
-                read_front(self.hand, device, extent, self.buffer)
-            }
-            DeviceStep::Write(device, extent) => {
-                write_front(self.hand, device, extent, self.buffer)
-            }
-            DeviceStep::Sync(Dev::Metadata) => { self.hand.sync_metadata(self.commit) }
-            DeviceStep::Sync(Dev::Cache) => self.hand.sync(Dev::Cache),
-            DeviceStep::Sync(Dev::Origin) => self.hand.sync(Dev::Origin),
-            DeviceStep::ReadMetadata(_) => Got::Fault,
-            DeviceStep::WriteNode(_) => self.hand.put(self.commit, step),
-            DeviceStep::WriteRoot => self.hand.put(self.commit, step),
-        }
+        self.hand.perform(self.commit, step, self.buffer)
     }
 
     /// A step on the desk, under the lock.
@@ -126,42 +112,4 @@ impl<'a, R: Wait, D: Disk, P: Policy, G: Gate> Stage for WorkStage<'a, R, D, P, 
             Want::End(_) => unreachable!(),
         }
     }
-}
-
-/// Reads an extent to the front of a buffer.
-fn read_front<D: Disk>(
-    hand: &mut Hand<D>,
-    device: Dev,
-    extent: Extent,
-    buffer: &mut [Content],
-) -> Got
-    requires owned { MayCopyFrom hand.old.block_sectors hand.old.pass.card device extent }
-    ensures kind { IsOutcome result }
-    ensures many { length buffer.new ≡ length buffer.old }
-    ensures pass { hand.new.pass ≡ hand.old.pass }
-    ensures block { hand.new.block_sectors ≡ hand.old.block_sectors }
-    ensures others { OthersStay device hand.old.devices hand.new.devices }
-    ensures size { D.size (device_in device hand.new.devices) ≡ D.size (device_in device hand.old.devices) }
-    ensures did { D.tells → DidRead extent result (D.size (device_in device hand.old.devices)) (D.contents (device_in device hand.old.devices)) (D.faults (device_in device hand.old.devices)) buffer.new (D.contents (device_in device hand.new.devices)) (D.faults (device_in device hand.new.devices)) }
-{
-    hand.copy_from(device, extent, buffer)
-}
-
-/// Writes an extent from the front of a buffer, which stays.
-fn write_front<D: Disk>(
-    hand: &mut Hand<D>,
-    device: Dev,
-    extent: Extent,
-    buffer: &mut [Content],
-) -> Got
-    requires owned { MayCopyTo hand.old.block_sectors hand.old.pass.card device extent }
-    ensures kind { IsOutcome result }
-    ensures same { buffer.new ≡ buffer.old }
-    ensures pass { hand.new.pass ≡ hand.old.pass }
-    ensures block { hand.new.block_sectors ≡ hand.old.block_sectors }
-    ensures others { OthersStay device hand.old.devices hand.new.devices }
-    ensures size { D.size (device_in device hand.new.devices) ≡ D.size (device_in device hand.old.devices) }
-    ensures did { D.tells → DidWrite extent result (D.size (device_in device hand.old.devices)) buffer.old (D.contents (device_in device hand.old.devices)) (D.faults (device_in device hand.old.devices)) (D.contents (device_in device hand.new.devices)) (D.faults (device_in device hand.new.devices)) }
-{
-    hand.copy_to(device, extent, buffer)
 }
