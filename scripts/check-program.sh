@@ -1,6 +1,6 @@
 #!/bin/sh
-# The programs and the scripts, from outside: the rows of scripts/cases, what formatting leaves, a build that fails or is
-# stale, closed descriptors, files that another program holds, a limit of the file size, help and version. It prints what
+# The programs and the scripts, from outside: the rows of scripts/cases, what formatting leaves, builds (scripts/check-build.sh),
+# closed descriptors, files that another program holds, a limit of the file size, help and version. It prints what
 # failed, and at the end 'N passed, N failed'; its status is 0 where nothing failed.
 #
 #     sh scripts/check-program.sh [WBCACHE WB_BENCH]
@@ -16,95 +16,19 @@ else
   cache=$top/bin/wbcache
   bench=$top/bin/wb_bench
 fi
+. "$top/scripts/checks.sh"
 work=$(mktemp -d)
 trap 'rm -rf "$work"' EXIT
-passed=0
-failed=0
 
-check() { # name, what was found, what is wanted
-  if test "$2" = "$3"; then
-    passed=$((passed + 1))
-  else
-    failed=$((failed + 1))
-    printf 'failed: %s\n  wanted: %s\n  found:  %s\n' "$1" "$3" "$2"
-  fi
-}
-has() { # name, text, part of it
-  case $2 in
-    *"$3"*) check "$1" yes yes ;;
-    *) check "$1" "$2" "..$3.." ;;
-  esac
-}
-
-# --- The build script, over a tree of dummy crates and a stand-in for rt.
-tree=$work/tree
-mkdir -p "$tree/scripts" "$tree/crates/low/src" "$tree/crates/wbcache/src" "$tree/crates/wb_bench/src" "$work/bin"
-cp "$top/scripts/build.sh" "$top/scripts/first-script.sh" "$tree/scripts/"
-printf 'low:\nwbcache: low\nwb_bench: low\n' >"$tree/crates.txt"
-echo 'fn main() {}' >"$tree/crates/wbcache/src/main.rt"
-echo 'fn low() {}' >"$tree/crates/low/src/lib.rt"
-cat >"$work/bin/rt" <<'STAND_IN'
-#!/bin/sh
-# Stands in for rt: refuses a crate with a source that has the word BROKEN, and 'builds' a program that prints its name.
-echo "$*" >>"$CALLS"
-case $1 in
-  version) echo 'stand-in'; exit 0 ;;
-esac
-if grep -rq BROKEN src; then
-  echo 'error: BROKEN does not parse'
-  exit 1
-fi
-if test "$1" = run; then
-  mkdir -p out
-  printf '#!/bin/sh\ncat <<END\nbuilt from: %s\nEND\n' "$(cat src/*)" >"out/$(basename "$PWD")"
-  chmod +x "out/$(basename "$PWD")"
-fi
-STAND_IN
-chmod +x "$work/bin/rt"
-export CALLS="$work/calls"
-build() { # the rest of PATH: prints 'status N', after what the script wrote
-  : >"$CALLS"
-  PATH=$1:/usr/bin:/bin sh "$tree/scripts/build.sh" wbcache 2>&1
-  echo "status $?"
-}
-works() { grep -c '^run\|^lib' "$CALLS"; }
-there() { if test -e "$tree/bin/wbcache"; then "$tree/bin/wbcache"; else echo none; fi; }
-
-said=$(build "$work/bin")
-has 'a build ends with 0' "$said" 'status 0'
-has 'a build tells how far it is' "$said" '[2/2] wbcache'
-has 'a build says what it takes' "$said" 'GB of memory'
-check 'a build leaves the program' "$(there)" 'built from: fn main() {}'
-said=$(build "$work/bin")
-check 'what was built from these sources is not built again' "$said $(works)" 'status 0 0'
-echo 'fn low() { 1 }' >"$tree/crates/low/src/lib.rt"
-touch -d '2001-01-01' "$tree/crates/low/src/lib.rt"
-said=$(build "$work/bin")
-check 'what is older than its sources is built again' "$(works)" 2
-echo 'fn main() { BROKEN' >"$tree/crates/wbcache/src/main.rt"
-said=$(build "$work/bin")
-has 'a build that fails ends with 1' "$said" 'status 1'
-has 'a build that fails says why' "$said" 'error: BROKEN does not parse'
-check 'a build that fails leaves no old program' "$(there)" none
-said=$(PATH=$work/bin:/usr/bin:/bin sh "$tree/scripts/first-script.sh" 2>&1; echo "status $?")
-has 'the first script ends where the build fails' "$said" 'status 1'
-echo 'fn main() {}' >"$tree/crates/wbcache/src/main.rt"
-if PATH=/usr/bin:/bin command -v rt >/dev/null; then
-  echo 'not tried: rt stands in /usr/bin or /bin'
-else
-  said=$(build /nowhere)
-  has 'without rt the build ends with 1' "$said" 'status 1'
-  has 'without rt the build says so' "$said" 'rt is not on the path'
-fi
-check 'a build leaves nothing but the program' "$(cd "$tree" && find . -type f -newer "$work/bin/rt" ! -path './crates/*' | sort | tr '\n' ' ')" ''
-unset CALLS
+call "$top/scripts/check-build.sh"
 
 # --- The programs.
 if test $# != 2; then
   for program in wbcache wb_bench; do
     if ! sh "$top/scripts/build.sh" "$program"; then
       echo "failed: $program cannot be built"
-      echo "$passed passed, $((failed + 1)) failed"
+      failed=$((failed + 1))
+      tell
       exit 1
     fi
   done
@@ -477,5 +401,4 @@ has 'help explains replays' "$("$cache" replay --help)" 'setup writeback <block>
 printf 'setup writeback 64 4 10 4\nview 0 1\n' | "$cache" replay >/dev/full
 check 'a replay that cannot be written ends with 4' $? 4
 
-echo "$passed passed, $failed failed"
-test "$failed" = 0
+tell
