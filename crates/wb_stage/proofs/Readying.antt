@@ -1,24 +1,17 @@
 -- The steps of a task on a block or of a flush are served, and who begins one with no block suits it.
-use Rattle.std.proofs.Common.{◌≡◌, ◌∙◌, ◌<◌, ℕ, ap, true, false, List, [], ◌∷◌, refl, sym, subst, length, length-set}
-use Rattle.std.proofs.lemmas.List.{get_or-set_same}
+use Rattle.std.proofs.Common.{◌≡◌, ◌∙◌, ℕ, true, false, List, [], ◌∷◌, refl}
 use Rattle.wb_words.specs.declared.card.Card.{Card}
 use Rattle.wb_words.specs.declared.card.Hold.TheVariants.{Nothing}
-use Rattle.wb_words.specs.Cards.{blank_card}
-use Rattle.wb_words.specs.Effects.{card_after}
-use Rattle.wb_cells.specs.Crews.{CrewState, card_of}
 use Rattle.wb_tasks.specs.Tables.{BlockJob, TaskJob, Reading, Writing, Migrating, OnBlock, Flushing, Opening}
-use Rattle.wb_tasks.specs.Ready.{AreFirst, MayTake, MayMake, IsOwnStep, Suits, left_by}
-use Rattle.wb_tasks.specs.Plan.{Plan, table, want, after, Fits}
-use Rattle.wb_tasks.specs.Run.{IsRunOf, Leads}
-use Rattle.wb_tasks.specs.declared.step.Answer.{Answer}
+use Rattle.wb_tasks.specs.Ready.{IsOwnStep, Suits, left_by}
+use Rattle.wb_tasks.specs.Plan.{Plan, table, after}
 use Rattle.wb_tasks.specs.declared.step.DeviceStep.TheVariants.{Read, Write, Sync, ReadMetadata, WriteNode, WriteRoot}
 use Rattle.wb_tasks.specs.declared.step.DeskStep.TheVariants.{Map, Unmap, ReleaseOrder, BeginCommit, EndCommit}
 use Rattle.wb_tasks.specs.declared.step.Want.{Want}
 use Rattle.wb_tasks.specs.declared.step.Want.TheVariants.{Cell, Device, Desk, End}
 use Rattle.wb_tasks.specs.declared.step.Got.{Got}
-use Rattle.wb_tasks.proofs.Driving.{run_first}
-use Rattle.wb_tasks.proofs.Readiness.{begins_ready, flush_begins, keeps_ready, is_ready, is_own_step, job_stays, ends_holding_nothing}
-use Rattle.wb_stage.specs.Stages.{DoneOnCrew, IsServed}
+use Rattle.wb_tasks.proofs.Readiness.{begins_ready, flush_begins, job_stays}
+use Rattle.wb_stage.specs.Stages.{IsServed}
 use Rattle.wb_stage.specs.Jobs.{MayRun}
 
 -- a job on a block, or a flush, wants nothing that is not served
