@@ -1,10 +1,10 @@
 -- Orders that are put aside, and that are taken up again.
-use Rattle.std.proofs.Common.{◌≡◌, ◌≢◌, ◌⊎◌, arith, inl, inr, ℕ, zero, suc, Bool, true, List, [], ◌∷◌, Option, Some, None, refl, sym, ap, subst, ◌∙◌, slice_get, slice_set}
+use Rattle.std.proofs.Common.{◌≡◌, ◌≢◌, ◌⊎◌, arith, inl, inr, ℕ, zero, suc, Bool, true, [], ◌∷◌, Option, Some, None, refl, sym, ap, subst, ◌∙◌, slice_get, slice_set}
 use Rattle.std.proofs.lemmas.Bool.{cases_eq}
 use Rattle.wb_contents.specs.Volume.{Volume, changed}
 use Rattle.wb_contents.proofs.Positions.{changed_same, changed_other}
 use Rattle.wb_disk.specs.Device.{Content}
-use Rattle.wb_link.specs.Tables.{Order, Job, Reading, Writing, Writing_through, Flushing, Suspending, Promoting, Demoting, Cleaning, Invalidating, Failed, Finished, Want, Look_fail, End, Got, Done, Flag, acquire}
+use Rattle.wb_link.specs.Tables.{Order, Job, Reading, Writing, Writing_through, Flushing, Suspending, Promoting, Demoting, Cleaning, Invalidating, Failed, Finished, Look_fail, End, Done, Flag, acquire}
 use Rattle.wb_link.specs.World.{Shared, Held, Actor, World, Apart, aside, taken, actor_after, Release, release_order, after_record, given_back}
 use Rattle.wb_link.proofs.Link.{NobodyAlone, Safe, SetAside, Linked}
 use Rattle.wb_link.proofs.Givings.{at_work, script_of, Comes, resting_safe, quietly, gives_flag_is, gives_end}
@@ -14,10 +14,11 @@ use Rattle.wb_link.proofs.Actors.{turned, placing_on, safe_on}
 use Rattle.wb_link.proofs.Agreeing.{blocks_agrees}
 use Rattle.wb_link.proofs.Effects.{sound_put, sound_given}
 
+-- being apart goes both ways
 pub apart_back : (p q : Order) → Apart p q → Apart q p
 apart_back p q a = (λ b m n. a.0 b n m, λ e. a.1 (sym e))
 
--- the order of this actor is there, or what was there
+-- what is aside once this order was put there: it, or what was there
 pub aside_cases : (waiting : ℕ → Option Order) (o : Option Order) (k : ℕ) (q : Order) → aside waiting o k ≡ Some q → ((o ≡ Some q) × (q.cache ≡ k)) ⊎ ((waiting k ≡ Some q) × ((p : Order) → o ≡ Some p → p.cache ≢ k))
 aside_cases waiting None k q e = inr (e, λ p f. absurd (cc))
 aside_cases waiting (Some p) k q e = elim (cases_eq k p.cache) [
@@ -25,6 +26,7 @@ aside_cases waiting (Some p) k q e = elim (cases_eq k p.cache) [
   | inr n ↦ inr (sym (changed_other waiting p.cache k (Some p) n) ∙ e, λ r f. let same : p ≡ r = cc in λ g. n (sym g ∙ ap (λ (v : Order). v.cache) (sym same)))
 ]
 
+-- what is aside once this order was taken up was there before
 taken_was : (waiting : ℕ → Option Order) (p : Order) (k : ℕ) (q : Order) → taken waiting (Some p) k ≡ Some q → (k ≢ p.cache) × (waiting k ≡ Some q)
 taken_was waiting p k q e = elim (cases_eq k p.cache) [
   | inl s ↦ let bad : None ≡ Some q = sym (changed_same waiting p.cache None) ∙ ap (changed waiting p.cache None) (sym s) ∙ e in absurd (cc)
@@ -55,7 +57,7 @@ put_aside size w d a x y i here new = record {
   modes = λ k p e. elim (aside_cases w.waiting x.order k p e) [ inl o ↦ i.orders a x p here o.0 | inr o ↦ i.aside.modes k p o.0 ];
 }
 
--- and one of those is taken up
+-- And one of those is taken up.
 pub take_up : (size : ℕ) (w : World) (d : Volume) (a : ℕ) (x y : Actor) (p : Order) → Linked size w d → slice_get w.actors a ≡ Some x → y.order ≡ Some p → aside w.waiting x.order p.cache ≡ Some p →
     SetAside w.shared (slice_set w.actors a y) (taken (aside w.waiting x.order) (Some p)) d.mode
 take_up size w d a x y p i here own there = record {
@@ -81,12 +83,14 @@ take_up size w d a x y p i here own there = record {
 
 -- ---- an order that is aside is given up
 
+-- its cache block is given back
 abbrev pub released : World → ℕ → World
 released w k = record { shared = record w.shared { blocks = changed w.shared.blocks k (given_back (w.shared.blocks k)) }; actors = w.actors; waiting = changed w.waiting k None }
 
 pub release_is : (w : World) (k : ℕ) (p : Order) → w.waiting k ≡ Some p → after_record w (Release k) ≡ released w k
 release_is w k p e = ap (λ (o : Option Order). release_order w k o) e
 
+-- which the invariant outlives, where nobody is alone
 pub release_linked : (size : ℕ) (w : World) (d : Volume) (k : ℕ) (p : Order) → Linked size w d → w.waiting k ≡ Some p → NobodyAlone w.actors → Linked size (released w k) d
 release_linked size w d k p i e nobody = record {
   good = record {
@@ -156,6 +160,7 @@ kept_ends (Demoting p os) (suc n) size a held order leads c s d f = λ t e got o
 kept_ends (Cleaning p os) (suc n) size a held order leads c s d f = λ t e got o g v r. gives_end t Failed (λ k. Comes n size a (Cleaning p os) [] Failed held order leads c t e k) (quietly size a (λ y u h. Safe n size a y u h) _ _ (End Failed) Done t e g (inr (o.fail f)) tt (record { reads = tt; histories = refl; flushes = tt }) (resting_safe n size a held order leads c t e)) got v
 kept_ends (Invalidating b) (suc n) size a held order leads c s d f = λ t e got o g v r. gives_end t Failed (λ k. Comes n size a (Invalidating b) [] Failed held order leads c t e k) (quietly size a (λ y u h. Safe n size a y u h) _ _ (End Failed) Done t e g (inr (o.fail f)) tt (record { reads = tt; histories = refl; flushes = tt }) (resting_safe n size a held order leads c t e)) got v
 
+-- so, whatever it is given, it only answers
 pub kept_safe : (job : Job) (n size a : ℕ) (held : Held) (order : Option Order) (leads : Bool) (c : Content) (s : Shared) (d : Volume) → s.fail ≡ true → Safe n size a (at_work job (Look_fail ∷ acquire job) Finished held order leads c) s d
 kept_safe job zero size a held order leads c s d f = tt
 kept_safe (Reading past b os) (suc n) size a held order leads c s d f = λ t e got o g v r. gives_flag_is t (λ k. Comes n size a (Reading past b os) (Look_fail ∷ acquire (Reading past b os)) Finished held order leads c t e k) (λ flag is. quietly size a (λ y u h. Safe n size a y u h) _ _ Look_fail (Flag flag) t e g tt tt (record { reads = tt; histories = refl; flushes = tt })

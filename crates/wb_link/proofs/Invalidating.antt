@@ -1,8 +1,8 @@
 -- What is left of an invalidation is safe, from its start on. It runs in passthrough alone, where every mapped block
 -- is clean, and unmaps without an order.
-use Rattle.std.proofs.Common.{◌≡◌, inr, ℕ, zero, suc, Bool, true, false, List, [], ◌∷◌, Option, Some, None, refl, sym, ap, subst, ◌∙◌, length}
+use Rattle.std.proofs.Common.{◌≡◌, inr, ℕ, zero, suc, Bool, true, false, List, [], ◌∷◌, Option, Some, None, refl, sym, ap, subst, ◌∙◌}
 use Rattle.wb_disk.specs.Device.{Content}
-use Rattle.wb_contents.specs.Volume.{Volume, Whole, changed}
+use Rattle.wb_contents.specs.Volume.{Volume, changed}
 use Rattle.wb_types.specs.declared.mode.Mode.TheVariants.{Passthrough}
 use Rattle.wb_contents.specs.Acts.{after as after_act, Unmap}
 use Rattle.wb_contents.proofs.Positions.{changed_same}
@@ -11,6 +11,7 @@ use Rattle.wb_link.specs.World.{Shared, Held, Nothing, Owns, Actor, actor_after}
 use Rattle.wb_link.proofs.Views.{BlockView, block_view}
 use Rattle.wb_link.proofs.Link.{Rests, RestsAt, Receives, Others, Right, Safe}
 use Rattle.wb_link.proofs.Agreeing.{unmap_agrees, seal_agrees}
+use Rattle.wb_link.proofs.Unmapped.{Left, left_rests, unmapped_seal}
 use Rattle.wb_link.proofs.Givings.{at_work, script_of, Comes, Life, holds_nothing, resting_safe, quietly, gives_flag, gives_own, gives_seal, gives_set, gives_disown, gives_drop, gives_end}
 
 abbrev dropping_of : ℕ → List Want → Answer → Held → Content → Actor
@@ -35,25 +36,6 @@ disowning zero size a b c s d k = tt
 disowning (suc n) size a b c s d k = λ t e got o g v r.
     gives_disown t b (λ w. Result n size a b (Disown b ∷ []) Finished (Owns b) c t e w)
     (quietly size a (λ y u f. Safe n size a y u f) _ _ (Disown b) Done t e g refl (rests_on a b (Disown b ∷ []) Finished c s t d e o k) (plain a b (Disown b) Done e e refl) (ending n size a b Finished c t e)) got v
-
--- the block is unmapped: its seal is to say so
-pub record Left (b : ℕ) (d : Volume) : Type 0 where
-  pub done : (i : ℕ) → d.finished b i ≡ length (d.histories b i).later
-  pub whole : (i : ℕ) → d.standing b i ≡ Whole
-  pub unmapped : d.mapping b ≡ None
-
-abbrev pub unmapped_seal : Seal
-unmapped_seal = record { location = None; dirty = false }
-
-pub left_rests : (b : ℕ) (t : Shared) (d e : Volume) → block_view e b ≡ block_view d b → Left b d → Rests (changed t.seals b unmapped_seal b) (block_view e b)
-left_rests b t d e same k = record {
-  whole = λ i. ap (λ (w : BlockView). w.standing i) same ∙ k.whole i;
-  done = λ i. ap (λ (w : BlockView). w.finished i) same ∙ k.done i ∙ sym (ap (λ (w : BlockView). length (w.histories i).later) same);
-  location = ap (λ (w : Seal). w.location) (changed_same t.seals b unmapped_seal) ∙ sym gone;
-  dirty = λ j f. let bad : None ≡ Some j = sym gone ∙ f in absurd (cc);
-} where
-  gone : e.mapping b ≡ None
-  gone = ap (λ (w : BlockView). w.location) same ∙ k.unmapped
 
 sealing : (n size a b : ℕ) (c : Content) (s : Shared) (d : Volume) → Left b d → Safe n size a (dropping_of b (Set_seal b unmapped_seal ∷ Disown b ∷ []) Finished (Owns b) c) s d
 sealing zero size a b c s d k = tt

@@ -9,7 +9,7 @@ use Rattle.wb_contents.specs.Acts.{Act, Write, Write_origin, Write_cache, Fail_w
 use Rattle.wb_contents.specs.Conditions.{IsUnnamed, IsRun as IsActs}
 use Rattle.wb_contents.proofs.Run.{KeepsAll}
 use Rattle.wb_link.specs.Tables.{Order, Job, Reading, Writing, Writing_through, Flushing, Suspending, Promoting, Demoting, Cleaning, Invalidating, Seal, Answer, Finished, Want, Look_fail, Share, Own, Set_seal, Leave, Disown, Read_at, Write_at, Begin, Begin_clean, Sync_cache_device, Sync_origin_device, Put_root, End_running, Map_to, Unmap_from, Unmap_plain, Give_up, End, Got, Done, Flag, Gave, Fault, Script, want}
-use Rattle.wb_link.specs.World.{Block, Free, Mapped, Reserved, Quarantined, Retained, Shared, Held, Nothing, Shares, Owns, Actor, World, effect, actor_after, Gives, Apart, Waits, is_alone, job_alone, drops}
+use Rattle.wb_link.specs.World.{Block, Free, Mapped, Reserved, Quarantined, Retained, Shared, Held, Nothing, Shares, Owns, Actor, World, effect, actor_after, Gives, Apart, NextIsUnmapped, is_alone, job_alone, drops}
 use Rattle.wb_link.specs.Clerk.{histories_after}
 use Rattle.wb_link.proofs.Views.{BlockView, block_view, commit_view, Holds}
 use Rattle.wb_link.proofs.Acts.{Mine}
@@ -264,7 +264,7 @@ Turns b c = (c ≡ b) ⊎ (IsKept b × (IsKept c ⊎ (c ≡ Reserved)))
 -- an order's block is unmapped while its cache block is reserved or kept, and on it while that is mapped; the block
 -- that is to follow is unmapped
 abbrev pub Placing : Shared → Order → Type 0
-Placing s p = (s.blocks p.cache ≡ Reserved → s.mapping p.block ≡ None) × (s.blocks p.cache ≡ Mapped → s.mapping p.block ≡ Some p.cache) × (IsKept (s.blocks p.cache) → s.mapping p.block ≡ None) × Waits s p
+Placing s p = (s.blocks p.cache ≡ Reserved → s.mapping p.block ≡ None) × (s.blocks p.cache ≡ Mapped → s.mapping p.block ≡ Some p.cache) × (IsKept (s.blocks p.cache) → s.mapping p.block ≡ None) × NextIsUnmapped s p
 
 abbrev pub Unowned : List Actor → ℕ → Type 0
 Unowned actors b = (a : ℕ) (x : Actor) → slice_get actors a ≡ Some x → x.held ≢ Owns b

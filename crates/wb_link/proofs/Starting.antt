@@ -11,7 +11,7 @@ use Rattle.wb_contents.proofs.Positions.{changed_same, changed_other}
 use Rattle.wb_link.specs.Tables.{Order, Job, Reading, Writing, Writing_through, Flushing, Suspending, Promoting, Demoting, Cleaning, Invalidating, Seal, Finished, Look_fail, acquire, Script}
 use Rattle.wb_link.specs.World.{job_alone, Within, Covers, Block, Free, Mapped, Reserved, Retained, Shared, Nothing, Owns, Actor, World, Start, reserved, order_of, given, start_actor, Apart, MayStart, MayBegin, after_record, drops, job_drops, Again, again_actor, aside, taken, MayAgain, MayRepeat}
 use Rattle.wb_link.proofs.Views.{block_view}
-use Rattle.wb_link.proofs.Acts.{NotCache, Keeps}
+use Rattle.wb_link.proofs.Acts.{Keeps}
 use Rattle.wb_link.proofs.Link.{Ordered, Turns, SetAside, Agrees, Placing, Good, Sound, AllSound, Rests, Safe, Disjoint, Unowned, Linked, AllMine, start_acts}
 use Rattle.wb_link.proofs.Lists.{get_set_same, get_set_other}
 use Rattle.wb_link.proofs.Aside.{apart_back, aside_cases, put_aside, take_up, kept_safe}
@@ -93,7 +93,8 @@ reserves size w d a x (Flushing q) g l m = record {
   committing = refl;
   root_written = refl;
   fail = refl;
-  keeps = record { seal = λ b n. refl; state = λ h k n r. inl refl }; turns = λ k r. inl refl;
+  keeps = record { seal = λ b n. refl; state = λ h k n r. inl refl };
+  turns = λ k r. inl refl;
   startable = let e = changed_same d.ticket a (d.began + 1) in omega (arith, e);
   mapping = refl;
   placed = λ p e. absurd (cc);
@@ -106,7 +107,8 @@ reserves size w d a x Suspending g l m = record {
   committing = refl;
   root_written = refl;
   fail = refl;
-  keeps = record { seal = λ b n. refl; state = λ h k n r. inl refl }; turns = λ k r. inl refl;
+  keeps = record { seal = λ b n. refl; state = λ h k n r. inl refl };
+  turns = λ k r. inl refl;
   startable = (let e = changed_same d.ticket a (d.began + 1) in omega (arith, e), l);
   mapping = refl;
   placed = λ p e. absurd (cc);
@@ -136,7 +138,8 @@ reserves size w d a x (Cleaning p os) g l m = record {
   committing = refl;
   root_written = refl;
   fail = refl;
-  keeps = record { seal = λ b n. refl; state = λ h k n r. inl refl }; turns = λ k r. inl refl;
+  keeps = record { seal = λ b n. refl; state = λ h k n r. inl refl };
+  turns = λ k r. inl refl;
   startable = (m.0, m.1, sym (ap (λ f. f p.block) g.agrees.mapping) ∙ m.4);
   mapping = refl;
   placed = λ q e. let same : p ≡ q = cc in subst (λ (v : Order). Placing w.shared v) same (λ f. let was = m.5 in absurd (cc), λ f. m.4, λ f. let was : Mapped ≡ Retained f.0 = sym m.5 ∙ f.1 in absurd (cc), m.6);
@@ -149,7 +152,8 @@ reserves size w d a x (Demoting p os) g l m = record {
   committing = refl;
   root_written = refl;
   fail = refl;
-  keeps = record { seal = λ b n. refl; state = λ h k n r. inl refl }; turns = λ k r. inl refl;
+  keeps = record { seal = λ b n. refl; state = λ h k n r. inl refl };
+  turns = λ k r. inl refl;
   startable = (m.0, m.1, sym (ap (λ f. f p.block) g.agrees.mapping) ∙ m.4);
   mapping = refl;
   placed = λ q e. let same : p ≡ q = cc in subst (λ (v : Order). Placing w.shared v) same (λ f. let was = m.5 in absurd (cc), λ f. m.4, λ f. let was : Mapped ≡ Retained f.0 = sym m.5 ∙ f.1 in absurd (cc), m.6);
@@ -168,7 +172,7 @@ ungiven size w (Promoting o os) m k y p q g e f = let same : o ≡ p = cc in sub
 ungiven size w (Cleaning o os) m k y p q g e f = let same : o ≡ p = cc in subst (λ (v : Order). Apart q v) same (m.2.0 k y q g f)
 ungiven size w (Demoting o os) m k y p q g e f = let same : o ≡ p = cc in subst (λ (v : Order). Apart q v) same (m.2.0 k y q g f)
 
--- also from those that are aside
+-- and from all that are aside
 unwaiting : (size : ℕ) (w : World) (job : Job) → MayStart size w job → (k : ℕ) (p q : Order) → w.waiting k ≡ Some q → order_of job ≡ Some p → Apart q p
 unwaiting size w (Reading past b os) m k p q g e = absurd (cc)
 unwaiting size w (Writing past b os c) m k p q g e = absurd (cc)
@@ -180,6 +184,7 @@ unwaiting size w (Promoting o os) m k p q g e = let same : o ≡ p = cc in subst
 unwaiting size w (Cleaning o os) m k p q g e = let same : o ≡ p = cc in subst (λ (v : Order). Apart q v) same (m.2.1 k q g)
 unwaiting size w (Demoting o os) m k p q g e = let same : o ≡ p = cc in subst (λ (v : Order). Apart q v) same (m.2.1 k q g)
 
+-- and from its actor's, which is put aside then
 aside_ungiven : (size : ℕ) (w : World) (a : ℕ) (x : Actor) (job : Job) → MayStart size w job → slice_get w.actors a ≡ Some x → (k : ℕ) (p q : Order) → aside w.waiting x.order k ≡ Some p → order_of job ≡ Some q → Apart q p
 aside_ungiven size w a x job m here k p q e f = elim (aside_cases w.waiting x.order k p e) [
   | inl o ↦ apart_back p q (ungiven size w job m a x q p here f o.0)
@@ -341,13 +346,6 @@ again_agrees size a s d (Demoting o os) m g = g
 again_agrees size a s d (Cleaning o os) m g = g
 again_agrees size a s d (Flushing q) m g = asked_agrees s d a g
 again_agrees size a s d job m g = absurd m
-
-again_order : (size : ℕ) (s : Shared) (job : Job) → MayAgain size s job → (p : Order) × (order_of job ≡ Some p)
-again_order size s (Promoting o os) m = (o, refl)
-again_order size s (Demoting o os) m = (o, refl)
-again_order size s (Cleaning o os) m = (o, refl)
-again_order size s (Flushing q) m = m
-again_order size s job m = absurd m
 
 again_alone : (size : ℕ) (s : Shared) (job : Job) → MayAgain size s job → (job_alone job ≡ false) × (job_drops job ≡ false)
 again_alone size s (Promoting o os) m = (refl, refl)

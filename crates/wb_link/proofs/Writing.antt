@@ -16,7 +16,7 @@ use Rattle.wb_link.proofs.Effects.{put_sector_desk}
 use Rattle.wb_link.proofs.Link.{Good, Rests, RestsAt, MayEnd, Receives, Others, Right, Goes, Safe, landed_write}
 use Rattle.wb_link.proofs.Agreeing.{write_agrees, finish_agrees, lose_agrees, failed_agrees, seal_agrees, unmap_agrees}
 use Rattle.wb_link.proofs.Givings.{at_work, script_of, Comes, Life, life_on, may_end_on, holds_nothing, resting_safe, quietly, gives_flag, gives_own, gives_seal, gives_set, gives_disown, gives_failed, gives_write, gives_drop, gives_end}
-use Rattle.wb_link.proofs.Invalidating.{Left, left_rests, unmapped_seal}
+use Rattle.wb_link.proofs.Unmapped.{Left, left_rests, unmapped_seal}
 
 -- the write of this content to sectors of a block
 abbrev writing_of : Bool → ℕ → List ℕ → Content → List Want → Answer → Held → Content → Actor
@@ -34,7 +34,7 @@ pub record Owning (to : Option ℕ) (seal : Seal) (v : BlockView) : Type 0 where
   pub writable : Writable v
   pub route : to ≡ v.location
 
--- the mode of a write
+-- the mode in which such a write is made
 abbrev pub mode_of : Bool → Mode
 mode_of past = cond past Passthrough Writeback
 

@@ -1,7 +1,7 @@
 -- A run of one actor that writes, promotes, writes again, flushes and demotes; one of three actors with a replacement,
 -- flushes that share a commit; lives that any site may go on with; and a life past the cache.
-use Rattle.std.specs.Prelude.{Bool, true, false, cond, List, [], ◌∷◌, Some, None}
-use Rattle.wb_disk.specs.Device.{newest}
+use Rattle.std.specs.Prelude.{◌++◌, Bool, true, false, cond, List, [], ◌∷◌, Some, None}
+use Rattle.wb_disk.specs.Device.{Content, newest}
 use Rattle.wb_contents.specs.Volume.{at_location, changed}
 use Rattle.wb_types.specs.declared.mode.Mode.TheVariants.{Writeback, Writethrough, Passthrough}
 use Rattle.wb_link.specs.Tables.{Order, Seal, Reading, Writing, Suspending, Promoting, Demoting, Flushing, Finished, Look_fail, Share, Leave, Own, Look_seal, Set_seal, Disown, Read_at, Write_at, Begin, Sync_cache_device, Sync_origin_device, Put_root, Sync_metadata, End_running, Make_room, Map_to, Unmap_from, Unmap_plain, Begin_clean, Set_suspended, Failed, Short, End, Done, Flag, Seen, Gave, Ticket, Served}
@@ -11,6 +11,20 @@ use Rattle.wb_link.specs.Openings.{Learnt, Stopping, Settled, Fine, Learns, Refu
 abbrev pub order : Order
 order = record { block = 0; cache = 0; next = None }
 
+-- under it block 0 is promoted, by a copy of this
+abbrev pub promoted : Content → List Record
+promoted content = Start 0 (Promoting order (0 ∷ [])) ∷
+    Step 0 Look_fail (Flag false) ∷
+    Step 0 (Own 0) Done ∷
+    Step 0 (Look_seal 0) (Seen (record { location = None; dirty = false })) ∷
+    Step 0 (Read_at None 0 0) (Gave content) ∷
+    Step 0 (Write_at (Some 0) 0 0) Done ∷
+    Step 0 Make_room Done ∷
+    Step 0 (Map_to order) Done ∷
+    Step 0 (Set_seal 0 (record { location = Some 0; dirty = false })) Done ∷
+    Step 0 (Disown 0) Done ∷
+    Step 0 (End Finished) Done ∷ []
+
 abbrev pub one_actor : List Record
 one_actor = Start 0 (Writing false 0 (0 ∷ []) (7 ∷ [])) ∷
     Step 0 Look_fail (Flag false) ∷
@@ -19,17 +33,7 @@ one_actor = Start 0 (Writing false 0 (0 ∷ []) (7 ∷ [])) ∷
     Step 0 (Write_at None 0 0) Done ∷
     Step 0 (Disown 0) Done ∷
     Step 0 (End Finished) Done ∷
-    Start 0 (Promoting order (0 ∷ [])) ∷
-    Step 0 Look_fail (Flag false) ∷
-    Step 0 (Own 0) Done ∷
-    Step 0 (Look_seal 0) (Seen (record { location = None; dirty = false })) ∷
-    Step 0 (Read_at None 0 0) (Gave (7 ∷ [])) ∷
-    Step 0 (Write_at (Some 0) 0 0) Done ∷
-    Step 0 Make_room Done ∷
-    Step 0 (Map_to order) Done ∷
-    Step 0 (Set_seal 0 (record { location = Some 0; dirty = false })) Done ∷
-    Step 0 (Disown 0) Done ∷
-    Step 0 (End Finished) Done ∷
+    promoted (7 ∷ []) ++
     Start 0 (Writing false 0 (0 ∷ []) (8 ∷ [])) ∷
     Step 0 Look_fail (Flag false) ∷
     Step 0 (Own 0) Done ∷
@@ -67,17 +71,7 @@ follower = record { block = 1; cache = 0; next = None }
 
 -- two flushes wait for the next commit, and the one that leads it serves both
 abbrev pub replaced : List Record
-replaced = Start 0 (Promoting order (0 ∷ [])) ∷
-    Step 0 Look_fail (Flag false) ∷
-    Step 0 (Own 0) Done ∷
-    Step 0 (Look_seal 0) (Seen (record { location = None; dirty = false })) ∷
-    Step 0 (Read_at None 0 0) (Gave []) ∷
-    Step 0 (Write_at (Some 0) 0 0) Done ∷
-    Step 0 Make_room Done ∷
-    Step 0 (Map_to order) Done ∷
-    Step 0 (Set_seal 0 (record { location = Some 0; dirty = false })) Done ∷
-    Step 0 (Disown 0) Done ∷
-    Step 0 (End Finished) Done ∷
+replaced = promoted [] ++
     Start 0 (Demoting replacement (0 ∷ [])) ∷
     Step 0 Look_fail (Flag false) ∷
     Step 0 (Own 0) Done ∷
@@ -163,24 +157,13 @@ reopening s = Begins Writeback ∷
     Advances Fine ∷
     shown s ∷ []
 
--- a promoted block stays mapped over a suspend that meets want of memory first; passthrough reads it past the cache, writes
--- it, which unmaps it, and reads it again, where an opening before was refused at its root
+-- these records, and then these events
 abbrev pub then_all : List Record → List Event → List Event
 then_all [] es = es
 then_all (r ∷ rs) es = On r ∷ then_all rs es
 
 abbrev pub promoted_and_suspended : List Record
-promoted_and_suspended = Start 0 (Promoting order (0 ∷ [])) ∷
-    Step 0 Look_fail (Flag false) ∷
-    Step 0 (Own 0) Done ∷
-    Step 0 (Look_seal 0) (Seen (record { location = None; dirty = false })) ∷
-    Step 0 (Read_at None 0 0) (Gave []) ∷
-    Step 0 (Write_at (Some 0) 0 0) Done ∷
-    Step 0 Make_room Done ∷
-    Step 0 (Map_to order) Done ∷
-    Step 0 (Set_seal 0 (record { location = Some 0; dirty = false })) Done ∷
-    Step 0 (Disown 0) Done ∷
-    Step 0 (End Finished) Done ∷
+promoted_and_suspended = promoted [] ++
     Start 0 Suspending ∷
     Step 0 Look_fail (Flag false) ∷
     Step 0 Begin_clean Short ∷
@@ -225,6 +208,8 @@ read_and_written = Start 0 (Reading true 0 (0 ∷ [])) ∷
 abbrev pub one_clean : Learnt
 one_clean = record { locations = changed (λ b. None) 0 (Some 0); clean = λ b. cond (changed {X = Seal} (λ b. record { location = None; dirty = false }) 0 (record { location = Some 0; dirty = false }) b).dirty false true }
 
+-- A promoted block stays mapped over a suspend, which another one before it was refused for want of memory. An opening in passthrough is
+-- refused at its root, and one after it done; then the block is read past the cache, written, which unmaps it, and read again.
 abbrev pub past_the_cache : List Event
 past_the_cache = then_all promoted_and_suspended (
     Begins Passthrough ∷

@@ -1,5 +1,5 @@
 -- A small world: two devices of data, the seals, the fail word, the desk, the metadata as the images that they may
--- stand for, and actors, each with what is left of its step table.
+-- stand for, actors, each with what is left of its step table, and the orders that nobody is at.
 use Rattle.std.specs.Prelude.{◌≡◌, ◌≢◌, ◌<◌, ◌≤◌, ◌+◌, ◌⊎◌, cond, ℕ, Bool, true, false, List, [], ◌∷◌, Option, Some, None, Contains, replicate, slice_get, slice_set}
 use Rattle.wb_disk.specs.Device.{Content, History, newest, added, only}
 use Rattle.wb_contents.specs.Volume.{Locations, changed, changed_at}
@@ -215,9 +215,6 @@ Gives s (Give_up order) Done = Unit {0}
 Gives s (End answer) Done = Unit {0}
 Gives s w got = ⊥
 
-abbrev pub Someone : List Actor → (Actor → Type 0) → Type 0
-Someone actors Is = (a : ℕ) × (x : Actor) × (slice_get actors a ≡ Some x) × Is x
-
 -- What the lock words tell: an exchange to an own meets nobody who holds the block, one to a share nobody who owns it.
 abbrev pub Wins : List Actor → Want → Got → Type 0
 Wins actors (Share b) Done = (a : ℕ) (x : Actor) → slice_get actors a ≡ Some x → x.held ≢ Owns b
@@ -245,8 +242,8 @@ abbrev pub Apart : Order → Order → Type 0
 Apart o p = ((b : ℕ) → Names o b → Names p b → ⊥) × (o.cache ≢ p.cache)
 
 -- the block that is to follow is unmapped
-abbrev pub Waits : Shared → Order → Type 0
-Waits s o = (b : ℕ) → o.next ≡ Some b → s.mapping b ≡ None
+abbrev pub NextIsUnmapped : Shared → Order → Type 0
+NextIsUnmapped s o = (b : ℕ) → o.next ≡ Some b → s.mapping b ≡ None
 
 abbrev pub Ungiven : World → Order → Type 0
 Ungiven w order = ((a : ℕ) (x : Actor) (o : Order) → slice_get w.actors a ≡ Some x → x.order ≡ Some o → Apart o order) × ((k : ℕ) (o : Order) → w.waiting k ≡ Some o → Apart o order)
@@ -269,15 +266,15 @@ MayStart size w (Writing_through b os c) = Within size os × (w.shared.mode ≡ 
 MayStart size w (Invalidating b) = w.shared.mode ≡ Passthrough
 MayStart size w (Flushing order) = order ≡ None
 MayStart size w Suspending = (a : ℕ) (x : Actor) → slice_get w.actors a ≡ Some x → x.task ≡ None
-MayStart size w (Promoting order os) = Within size os × Covers size os × Ungiven w order × (w.shared.mode ≢ Passthrough) × (w.shared.mapping order.block ≡ None) × (w.shared.blocks order.cache ≡ Free) × Waits w.shared order
-MayStart size w (Cleaning order os) = Within size os × Covers size os × Ungiven w order × (w.shared.mode ≢ Passthrough) × (w.shared.mapping order.block ≡ Some order.cache) × (w.shared.blocks order.cache ≡ Mapped) × Waits w.shared order
-MayStart size w (Demoting order os) = Within size os × Covers size os × Ungiven w order × (w.shared.mode ≢ Passthrough) × (w.shared.mapping order.block ≡ Some order.cache) × (w.shared.blocks order.cache ≡ Mapped) × Waits w.shared order
+MayStart size w (Promoting order os) = Within size os × Covers size os × Ungiven w order × (w.shared.mode ≢ Passthrough) × (w.shared.mapping order.block ≡ None) × (w.shared.blocks order.cache ≡ Free) × NextIsUnmapped w.shared order
+MayStart size w (Cleaning order os) = Within size os × Covers size os × Ungiven w order × (w.shared.mode ≢ Passthrough) × (w.shared.mapping order.block ≡ Some order.cache) × (w.shared.blocks order.cache ≡ Mapped) × NextIsUnmapped w.shared order
+MayStart size w (Demoting order os) = Within size os × Covers size os × Ungiven w order × (w.shared.mode ≢ Passthrough) × (w.shared.mapping order.block ≡ Some order.cache) × (w.shared.blocks order.cache ≡ Mapped) × NextIsUnmapped w.shared order
 
 -- Records.
 
 pub data Record : Type 0 where
   Start : (actor : ℕ) → Job → Record
-  -- a migration once more, under the order that its actor kept when it was answered busy or failed
+  -- a migration, or a replacement's flush, under an order that its actor has already, or that is aside
   Again : (actor : ℕ) → Job → Record
   Step : (actor : ℕ) → Want → Got → Record
   -- an order that is aside is given up, as by the flush that was to serve it and is refused
@@ -302,7 +299,7 @@ abbrev pub step_actor : World → ℕ → Option Actor → Got → World
 step_actor w a None got = w
 step_actor w a (Some x) got = step_task w a x x.task got
 
--- who begins something puts the order aside that it has, and who goes on with one takes that from there
+-- An actor's order is put aside when it is given a job, and an order that it goes on with is taken from there.
 abbrev pub aside : (ℕ → Option Order) → Option Order → ℕ → Option Order
 aside waiting None = waiting
 aside waiting (Some p) = changed waiting p.cache (Some p)
@@ -346,7 +343,7 @@ abbrev pub is_alone : Option Script → Bool
 is_alone None = false
 is_alone (Some script) = job_alone script.job
 
--- in passthrough there are no orders, and a block may be unmapped without one
+-- in passthrough there are no orders, and a block is unmapped without one: by itself, or by a write past the cache
 abbrev pub job_drops : Job → Bool
 job_drops (Invalidating b) = true
 job_drops (Writing past b os c) = past
@@ -356,10 +353,11 @@ abbrev pub drops : Option Script → Bool
 drops None = false
 drops (Some script) = job_drops script.job
 
+-- it holds nothing, or has kept what it holds at a failure
 abbrev pub IsFree : Shared → Actor → Type 0
 IsFree s x = ((x.held ≡ Nothing) × (x.leads ≡ false)) ⊎ (s.fail ≡ true)
 
--- an actor without a task that holds nothing, or has kept it at a failure, is given a job
+-- an actor without a task is given a job
 pub record MayBegin (size : ℕ) (w : World) (a : ℕ) (job : Job) (x : Actor) : Type 0 where
   pub actor : slice_get w.actors a ≡ Some x
   pub task : x.task ≡ None
@@ -367,7 +365,7 @@ pub record MayBegin (size : ℕ) (w : World) (a : ℕ) (job : Job) (x : Actor) :
   pub nobody_alone : (b : ℕ) (y : Actor) → slice_get w.actors b ≡ Some y → is_alone y.task ≡ false
   pub may : MayStart size w job
 
--- what a kept order says still: its block is reserved, or mapped
+-- what an order says still: its cache block is reserved, or mapped
 abbrev pub MayAgain : ℕ → Shared → Job → Type 0
 MayAgain size s (Promoting order os) = Within size os × Covers size os × (s.blocks order.cache ≡ Reserved)
 MayAgain size s (Demoting order os) = Within size os × Covers size os × (s.blocks order.cache ≡ Mapped)
@@ -375,6 +373,7 @@ MayAgain size s (Cleaning order os) = Within size os × Covers size os × (s.blo
 MayAgain size s (Flushing order) = (p : Order) × (order ≡ Some p)
 MayAgain size s job = ⊥
 
+-- an actor without a task goes on under an order: its own, or one that is aside
 pub record MayRepeat (size : ℕ) (w : World) (a : ℕ) (job : Job) (x : Actor) : Type 0 where
   pub actor : slice_get w.actors a ≡ Some x
   pub task : x.task ≡ None
