@@ -35,7 +35,7 @@ without_block y = record y { held = Nothing }
 abbrev pub under : Option Order → Actor → Actor
 under order y = record y { order = order }
 
--- A migration starts under an order that may be given, or begins again under the one that its actor kept.
+-- A migration starts under an order that may be given, or begins again under one that lives: its actor's, or one that is aside.
 pub record MigrationsBegin : Type 0 where
   pub starts : (size : ℕ) (w : World) (a : ℕ) (y : Actor) (part : BlockRange) (c : CBlock) (next : Option ℕ) (migration : Migration) → slice_get w.actors a ≡ Some y → IsResting y → NobodyIsAlone w → MayStart size w (job_under (order_on part c next) (offsets size part.extents) migration) →
       May size w (Start a (job_under (order_on part c next) (offsets size part.extents) migration))

@@ -1,4 +1,4 @@
--- How the steps of a flush that serves nobody are followed in an abstract world.
+-- How the steps of a flush are followed in an abstract world, where it serves nobody: an order that waits for it lies aside there.
 use Rattle.std.specs.Prelude.{◌≡◌, ℕ, Bool, true, false, List, [], ◌∷◌, Some, None}
 use Rattle.wb_types.specs.declared.mode.Dev.TheVariants.{Metadata, Cache, Origin}
 use Rattle.wb_types.specs.declared.refusal.Refusal.{Refusal}

@@ -31,7 +31,7 @@ pub record IsIdle (y : Actor) : Type 0 where
   pub order : y.order ≡ None
   pub leads : y.leads ≡ false
 
--- one that rests may have an order, which is put aside when it begins anything
+-- one that is at nothing; an order that it has is put aside when it begins anything
 pub record IsResting (y : Actor) : Type 0 where
   pub task : y.task ≡ None
   pub held : y.held ≡ Nothing

@@ -43,7 +43,7 @@ abbrev pub offsets : ℕ → List Extent → List ℕ
 offsets size [] = []
 offsets size (e ∷ es) = offsets_in size e ++ offsets size es
 
--- A read, a write of this content to each sector, a flush that serves nobody. No other job has one yet.
+-- A read, a write of this content to each sector; and a flush, which serves nobody there.
 abbrev pub job_for : ℕ → Content → TaskJob → AbstractJob
 job_for size content (OnBlock (Reading part)) = ReadingAt false part.block.0 (offsets size part.extents)
 job_for size content (OnBlock (Writing part)) = WritingAt false part.block.0 (offsets size part.extents) content

@@ -29,7 +29,7 @@ pub fn extent_steps_are_followed()
     ensures { ExtentStepsFollowed }
 {}
 
-/// So is each step of a flush that serves nobody, done, refused or failing.
+/// So is each step of a flush, done, refused or failing, by one that serves nobody there; but not that an order is given up.
 pub fn flush_steps_are_followed()
     ensures { FlushStepsFollowed }
 {}
@@ -40,7 +40,7 @@ pub fn opening_steps_are_followed()
     ensures { OpeningStepsFollowed }
 {}
 
-/// A read, a write or a flush of an actor that has nothing can start there, and one that has only to answer can be
+/// A read, a write or a flush of an actor that is at nothing and holds nothing can start there, whether it has an order or not, and one that has only to answer can be
 /// answered; and what a crash leaves of two lists of sectors a crash there may leave.
 pub fn tasks_begin_and_end()
     ensures begins { TasksBegin }
@@ -60,7 +60,7 @@ pub fn copies_are_followed()
     ensures { CopiesFollowed }
 {}
 
-/// So are its start under an order that may be given, or again under one that was kept, the look at the fail word, its block's taking where the number is looked at, a busy block, a seal, what it
+/// So are its start under an order that may be given, or again under one that lives, the look at the fail word, its block's taking where the number is looked at, a busy block, a seal, what it
 /// gives back, the failed bit, each call on the desk, also without memory, and its answer.
 pub fn migrations_are_followed()
     ensures begins { MigrationsBegin }
