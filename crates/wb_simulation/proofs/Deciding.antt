@@ -1,4 +1,4 @@
--- What a migration asks of the desk is followed by the one behind.
+-- What a migration asks of the desk is followed.
 use Rattle.std.proofs.Common.{◌≡◌, ◌≢◌, ◌∙◌, inl, inr, ℕ, Bool, true, List, [], ◌∷◌, Option, Some, None, refl, sym, ap, subst, Contains, slice_get, slice_set}
 use Rattle.wb_types.specs.declared.number.CBlock.{CBlock}
 use Rattle.wb_types.specs.declared.number.OBlock.{OBlock}
@@ -33,7 +33,6 @@ use Rattle.wb_refines.proofs.Cells.{held_plain, saw_plain, same_images}
 use Rattle.wb_refines.proofs.Followed.{rest_plain}
 use Rattle.wb_runs.specs.declared.job.Job.TheVariants.{Migrate}
 use Rattle.wb_runs.specs.Effects.{dropped}
-use Rattle.wb_runs.specs.Happenings.{order_for}
 use Rattle.wb_runs.specs.States.{Actor}
 use Rattle.wb_simulation.specs.Worlds.{Agrees, Turn, Stays, Maps, Unmaps, GivesUp, TurnedTo, DeskTurnedTo}
 use Rattle.std.proofs.Common.{Bool, true, false, eq-eqb, if◌then◌else◌, ◌&&◌, ◌||◌, ◌++◌}
@@ -49,29 +48,21 @@ use Rattle.wb_policy.specs.declared.order.Order.TheVariants.{Promote as Promote'
 use Rattle.wb_link.specs.World.{following}
 use Rattle.wb_simulation.specs.Carried.{held, is_at, replacement_there, order_there, live_there, IsOrderFor}
 use Rattle.wb_simulation.specs.Migrating.{LeavesFrom, TurnsOrder}
-use Rattle.wb_simulation.proofs.Orders.{turns_so}
 use Rattle.wb_simulation.proofs.Carrying.{stands_there}
 use Rattle.std.proofs.lemmas.Bool.{cases_eq}
 use Rattle.wb_types.specs.declared.number.CBlock.{CBlock}
 use Rattle.wb_tasks.specs.Tables.{BlockRange}
 use Rattle.wb_tasks.specs.Ready.{source_of}
 use Rattle.wb_tasks.specs.declared.step.Answer.{Answer}
-use Rattle.wb_tasks.specs.declared.step.Migration.TheVariants.{Clean}
 use Rattle.wb_devices.specs.Moving.{device_in}
 use Rattle.wb_refines.specs.Going.{gone}
 use Rattle.wb_refines.specs.Models.{SawSeal, held_for}
 use Rattle.wb_simulation.specs.Carried.{IsCarried}
 use Rattle.wb_simulation.specs.Steps.{IsTail}
 use Rattle.wb_simulation.specs.Migrating.{Carried, EndsOrder}
-use Rattle.wb_simulation.proofs.Orders.{CarriesOthers, carries_same, goes_so}
+use Rattle.wb_simulation.proofs.Orders.{CarriesOthers, carried_beside, carries_same, goes_so, turns_so}
 use Rattle.wb_simulation.proofs.Carrying.{IsOn, is_done, carry_over, carried_job, carried_order}
 use Rattle.wb_simulation.proofs.Copying.{GoesOn, carried_with, carry_so, at_again, y_is, y_has, its_own, lives, live_is, no_write_read}
-
--- a migration's order is of its block
-pub is_of_its : (migration : Migration) (block : OBlock) → is_of block (order_for migration block) ≡ true
-is_of_its (Promote k) block = eq-eqb block.0 block.0 refl
-is_of_its Demote block = eq-eqb block.0 block.0 refl
-is_of_its Clean block = eq-eqb block.0 block.0 refl
 
 -- ---- what lives on other cache blocks
 
@@ -154,26 +145,7 @@ module _ (size most blocks : ℕ) (words : Words) (committing : Bool) (orders : 
 
     -- others are at what they were at
     carries : CarriesOthers size orders over devices devices actors s a
-    carries b v u m bl pt plan n ev eu task job k = record {
-      block_is = k.block_is;
-      is_part = k.is_part;
-      c = k.c;
-      small = k.small;
-      fills = k.fills;
-      of_block = k.of_block;
-      paired = k.paired;
-      next = k.next;
-      order = k.order;
-      of = k.of;
-      kept = k.kept;
-      has = elim k.has [
-        | inl l ↦ inl (get_set_other orders f.c.0 k.c.0 None (λ same. alone b u (order_on pt k.c k.next) n eu (carried_order size orders devices m bl pt plan.steps plan.answer v u k ∙ l.1) same) ∙ l.0, l.1, l.2)
-        | inr tail ↦ inr tail
-      ];
-      at = k.at;
-      copies = k.copies;
-      buffer = k.buffer;
-    }
+    carries b v u m bl pt plan n ev eu task job k = carried_beside size orders over devices m bl pt plan.steps plan.answer v u (λ p e. get_set_other orders f.c.0 p.cache None (alone b u p n eu e)) k
 
     over_here : slice_get (slice_set orders f.c.0 None) f.c.0 ≡ Some None
     over_here = get_set_same orders f.c.0 (Some f.order) None its

@@ -161,10 +161,12 @@ module _ (size most : ℕ) (serves : List OBlock) (words : Words) (committing : 
       (stands size most serves words committing orders devices actors a x s y ex ey g words plan' card' false (gone y y.task l.results) j o at (λ e n. absurd (cc)) l.at)
       (λ k. let bad : true ≡ false = sym k ∙ ap (λ (v : AbstractActor). v.leads) l.at.is in absurd (cc)) g.words_agree g.origin g.cache refl refl refl (refl, refl, refl) (refl, refl) (ap (λ (v : AbstractActor). v.order) l.at.is ∙ sym own) (λ o h. h) (carries_same size orders devices actors s a) (does_none _ _ _ _ _ _ tt))
 
+  -- where nothing is left but orders to give up, it leads no commit
   released : (blocks : List OBlock) → IsOfFlush most (release_orders blocks) × LeadsAt false (release_orders blocks) × AreReleases (release_orders blocks)
   released [] = (tt, tt, tt)
   released (b ∷ bs) = ((released bs).2, refl, (released bs).2)
 
+  -- so it is once its commit is refused
   refused_plan : (refusal : Refusal) → IsNoBegin refusal → IsOfFlush most (lets_go_unless_busy (Flushing serves most) refusal) × LeadsAt false (lets_go_unless_busy (Flushing serves most) refusal)
   refused_plan Busy n = (tt, tt)
   refused_plan Memory n = ((released serves).0, (released serves).1)
@@ -178,6 +180,7 @@ module _ (size most : ℕ) (serves : List OBlock) (words : Words) (committing : 
       steps.0 steps.1
       (followed_alone.is_refused size serves most refusal [] s.actors a s.shared y [] answer n is) refl (ap (λ (v : AbstractActor). v.order) is.is)
 
+  -- and as long as any is left
   of_releases : (ws : List Want) → AreReleases ws → IsOfFlush most ws × LeadsAt false ws
   of_releases [] a = (tt, tt)
   of_releases (Desk (ReleaseOrder b) ∷ ws) a = (a, refl)

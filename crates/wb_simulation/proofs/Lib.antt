@@ -1,6 +1,6 @@
 pub mod Steps
 mod Kept
-mod Orders
+pub mod Orders
 mod Telling
 mod Cells
 mod Among

@@ -1,4 +1,4 @@
--- A migration's steps on the shared words are followed by the one behind.
+-- A migration's steps on the shared words are followed.
 use Rattle.std.proofs.Common.{cond, ◌≡◌, ◌==◌, ◌∙◌, inl, inr, if◌then◌else◌, ℕ, Bool, true, false, List, [], ◌∷◌, Option, Some, refl, sym, ap, subst, arith, slice_get, Contains}
 use Rattle.wb_types.specs.declared.number.OBlock.{OBlock}
 use Rattle.wb_types.specs.declared.number.CBlock.{CBlock}

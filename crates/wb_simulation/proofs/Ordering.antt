@@ -1,4 +1,4 @@
--- A migration's start is followed: under an order that is given, or once more under the one that its actor keeps.
+-- A migration's start is followed: under an order that is given, or once more under one that lives.
 use Rattle.std.proofs.Common.{◌++◌, false, ◌⊎◌, ◌≡◌, ◌≢◌, ◌<◌, ◌^◌, ◌∙◌, inl, inr, ℕ, Bool, true, List, [], ◌∷◌, Option, Some, None, refl, sym, ap, subst, slice_get, slice_set, Contains}
 use Rattle.std.proofs.lemmas.Bool.{cases_eq}
 use Rattle.std.proofs.lemmas.List.{length-set}
@@ -18,7 +18,7 @@ use Rattle.wb_tasks.specs.declared.step.Migration.{Migration}
 use Rattle.wb_tasks.specs.declared.step.Migration.TheVariants.{Promote, Demote, Clean}
 use Rattle.wb_devices.specs.declared.devices.Devices.{Devices}
 use Rattle.wb_link.specs.Tables.{Job as AbstractJob, Order as AbstractOrder, Finished as AnsweredDone}
-use Rattle.wb_link.specs.World.{World, Shared, Start, Again, Apart, Ungiven, MayStart, MayAgain, Actor as AbstractActor, Nothing, reserved}
+use Rattle.wb_link.specs.World.{order_of as order_of_job, IsRun, World, Shared, Start, Again, Apart, Ungiven, MayStart, MayAgain, Actor as AbstractActor, reserved}
 use Rattle.wb_link.proofs.Lists.{get_set_same, get_set_other}
 use Rattle.wb_refines.specs.Tasks.{AllInBlocks}
 use Rattle.wb_refines.specs.Models.{held_of, WordsAgree}
@@ -47,7 +47,7 @@ use Rattle.wb_simulation.specs.Migrating.{order_of, Goes, IsUngiven, MayBeGiven,
 use Rattle.wb_simulation.proofs.Cells.{shared_stays, gone_nowhere}
 use Rattle.std.proofs.lemmas.List.Elements.{Contains-append_left}
 use Rattle.wb_simulation.specs.Laws.{IsOnlyOf}
-use Rattle.wb_simulation.proofs.Orders.{CarriesOthers, IsDone, carries_same, begins_so, is_aside, who}
+use Rattle.wb_simulation.proofs.Orders.{CarriesOthers, IsDone, carried_beside, carries_same, begins_so, is_aside, who}
 use Rattle.wb_simulation.proofs.Among.{whose, nobody_alone, goes_on, each_on, led_on, whole_on, one_on}
 use Rattle.wb_simulation.proofs.Carrying.{is_done, late_done, on_stands}
 
@@ -195,26 +195,7 @@ module _ (size most : ℕ) (words : Words) (committing : Bool) (orders : List (O
     same_own p e = cc
 
     carries : CarriesOthers size orders orders' devices devices actors s a
-    carries b v u m bl pt q n ev eu task of k = record {
-      block_is = k.block_is;
-      is_part = k.is_part;
-      c = k.c;
-      small = k.small;
-      fills = k.fills;
-      of_block = k.of_block;
-      paired = k.paired;
-      next = k.next;
-      order = k.order;
-      of = k.of;
-      kept = k.kept;
-      has = elim k.has [
-        | inl l ↦ inl (beside k.c.0 (λ same. alone b u (order_on pt k.c k.next) n eu (ap (λ (w : AbstractActor). w.order) k.at.is ∙ l.1) same) ∙ l.0, l.1, l.2)
-        | inr tail ↦ inr tail
-      ];
-      at = k.at;
-      copies = k.copies;
-      buffer = k.buffer;
-    }
+    carries b v u m bl pt q n ev eu task of k = carried_beside size orders orders' devices m bl pt q.steps q.answer v u (λ p e. beside p.cache (alone b u p n eu e)) k
 
     ordered : (y' : AbstractActor) → y'.order ≡ Some own → IsDone size words orders' devices x' y' → OrdersAgree size words orders' devices (slice_set actors a x') (record { shared = t; actors = slice_set s.actors a y'; waiting = waiting })
     ordered y' has done = begins_so size words words (λ e. e) orders orders' devices devices actors a x x' s y y' ex ey g.orders_agree carries done (λ d. d ≡ c.0) (λ d. elim (cases_eq d c.0) [ inl e ↦ inl e | inr n ↦ inr n ]) waiting
@@ -284,7 +265,7 @@ module _ (size most : ℕ) (words : Words) (committing : Bool) (orders : List (O
   falls ys Demote u v f = ((sym f, tt, (tt, tt, tt)), refl, refl)
   falls ys Clean u v f = ((sym f, tt, (tt, tt, tt)), refl, refl)
 
-  under_is : (m : Migration) → Rattle.wb_link.specs.World.order_of (job_under own (offsets size cut) m) ≡ Some own
+  under_is : (m : Migration) → order_of_job (job_under own (offsets size cut) m) ≡ Some own
   under_is (Promote k) = refl
   under_is Demote = refl
   under_is Clean = refl
@@ -339,7 +320,7 @@ module _ (size most : ℕ) (words : Words) (committing : Bool) (orders : List (O
           records = Start a job ∷ records a (Some (table_there job)) results;
           run = (
             (y, record { actor = ey; task = rests.0; free = inr (g.words_agree.fail ∙ failed); nobody_alone = nobody_alone size most words committing orders devices actors s g; may = may_start migration may free waits }),
-            subst (λ (w : World). Rattle.wb_link.specs.World.IsRun size w (records a (Some (table_there job)) results)) (sym begun_is) went.run,
+            subst (λ (w : World). IsRun size w (records a (Some (table_there job)) results)) (sym begun_is) went.run,
           );
           agrees = subst (λ (v : World). Agrees size most words committing orders_then devices (slice_set actors a starting) v) (sym all)
               (fallen_agrees orders_then (order ∷ x.orders) (get_set_same orders c.0 None (Some order) no_order) (Contains-first order x.orders) (λ d n. get_set_other orders c.0 d (Some order) n) (aside s.waiting y.order) (λ d n. refl)

@@ -1,5 +1,5 @@
 -- Which orders live, whose they are and what is done under them, once one actor has begun something, has gone on, or has ended its order.
-use Rattle.std.proofs.Common.{◌≡◌, ◌≢◌, ◌∙◌, ◌⊎◌, inl, inr, ℕ, true, List, Option, Some, None, refl, sym, ap, subst, Contains, slice_get, slice_set}
+use Rattle.std.proofs.Common.{◌≡◌, ◌≢◌, ◌∙◌, ◌⊎◌, inl, inr, ℕ, Bool, true, false, List, Option, Some, None, refl, sym, ap, subst, Contains, slice_get, slice_set}
 use Rattle.std.proofs.lemmas.Bool.{cases_eq}
 use Rattle.wb_types.specs.declared.number.OBlock.{OBlock}
 use Rattle.wb_disk.specs.Device.{History}
@@ -7,21 +7,36 @@ use Rattle.wb_contents.specs.Volume.{Locations, changed}
 use Rattle.wb_contents.proofs.Positions.{changed_same, changed_other}
 use Rattle.wb_words.specs.SharedWords.{Words, flag}
 use Rattle.wb_policy.specs.declared.order.Order.{Order}
+use Rattle.wb_policy.specs.declared.order.Order.TheVariants.{Promote, Replace, Demote, Clean}
 use Rattle.wb_tasks.specs.Tables.{BlockRange, Migrating, OnBlock}
 use Rattle.wb_tasks.specs.Plan.{Plan}
+use Rattle.wb_tasks.specs.declared.step.Answer.{Answer}
 use Rattle.wb_tasks.specs.declared.step.Migration.{Migration}
+use Rattle.wb_tasks.specs.declared.step.Want.{Want}
 use Rattle.wb_devices.specs.declared.devices.Devices.{Devices}
 use Rattle.wb_link.specs.Tables.{Order as AbstractOrder}
 use Rattle.wb_link.specs.World.{aside, World, Shared, Actor as AbstractActor}
 use Rattle.wb_link.proofs.Aside.{aside_cases}
 use Rattle.wb_link.proofs.Lists.{get_set_same, get_set_other}
+use Rattle.wb_refines.specs.Migrations.{order_on}
 use Rattle.wb_refines.proofs.Going.{with_own}
 use Rattle.wb_runs.specs.declared.job.Job.{Job}
 use Rattle.wb_runs.specs.declared.job.Job.TheVariants.{Migrate}
 use Rattle.wb_runs.specs.States.{Actor}
-use Rattle.wb_simulation.specs.Carried.{held, live_there, IsOf, IsCarried, IsAtMigration}
+use Rattle.wb_simulation.specs.Carried.{held, is_at, replacement_there, order_there, live_there, IsOf, IsCarried, IsAtMigration}
 use Rattle.wb_simulation.specs.Worlds.{IsThere, OrdersAgree}
 use Rattle.wb_simulation.proofs.Kept.{late_on}
+
+-- an order of the desk is on its cache block there too
+pub cache_there : (m : Locations) (c : ℕ) (o : Order) → (order_there m c o).cache ≡ c
+cache_there m c (Promote block k) = refl
+cache_there m c (Replace old new k) = by_test (is_at (m old.0) c)
+  where
+    by_test : (t : Bool) → (replacement_there t old.0 new.0 c).cache ≡ c
+    by_test true = refl
+    by_test false = refl
+cache_there m c (Demote block) = refl
+cache_there m c (Clean block) = refl
 
 -- the one that was set, or another one that was there
 pub who : {X : Type 0} (xs : List X) (a : ℕ) (x x' : X) → slice_get xs a ≡ Some x → (b : ℕ) (v : X) → slice_get (slice_set xs a x') b ≡ Some v → ((b ≡ a) × (x' ≡ v)) ⊎ ((b ≢ a) × (slice_get xs b ≡ Some v))
@@ -76,6 +91,30 @@ CarriesOthers size orders orders' devices devices' actors s a = (b : ℕ) (z : A
 
 pub carries_same : (size : ℕ) (orders : List (Option Order)) (devices : Devices (List History)) (actors : List Actor) (s : World) (a : ℕ) → CarriesOthers size orders orders devices devices actors s a
 carries_same size orders devices actors s a b z u migration block part plan n ez eu task job k = k
+
+-- a migration is carried still where its own order's cache block has what it had
+pub carried_beside : (size : ℕ) (orders orders' : List (Option Order)) (devices : Devices (List History)) (migration : Migration) (block : OBlock) (part : BlockRange) (steps : List Want) (answer : Answer) (x : Actor) (y : AbstractActor) → ((p : AbstractOrder) → y.order ≡ Some p → slice_get orders' p.cache ≡ slice_get orders p.cache) →
+    IsCarried size orders devices migration block part steps answer x y → IsCarried size orders' devices migration block part steps answer x y
+carried_beside size orders orders' devices migration block part steps answer x y beside k = record {
+  block_is = k.block_is;
+  is_part = k.is_part;
+  c = k.c;
+  small = k.small;
+  fills = k.fills;
+  of_block = k.of_block;
+  paired = k.paired;
+  next = k.next;
+  order = k.order;
+  of = k.of;
+  kept = k.kept;
+  has = elim k.has [
+    | inl l ↦ inl (beside (order_on part k.c k.next) (ap (λ (v : AbstractActor). v.order) k.at.is ∙ l.1) ∙ l.0, l.1, l.2)
+    | inr tail ↦ inr tail
+  ];
+  at = k.at;
+  copies = k.copies;
+  buffer = k.buffer;
+}
 
 -- what its actor is at from now on
 abbrev pub IsDone : (size : ℕ) → Words → List (Option Order) → Devices (List History) → Actor → AbstractActor → Type 0

@@ -1,24 +1,28 @@
 -- An order that is aside is given up.
-use Rattle.std.proofs.Common.{◌≡◌, ◌≢◌, ◌∙◌, inl, inr, ℕ, Bool, List, [], ◌∷◌, Option, Some, None, refl, sym, ap, subst, length, slice_get, slice_set}
+use Rattle.std.proofs.Common.{◌≡◌, ◌≢◌, ◌∙◌, inl, inr, ℕ, Bool, List, [], ◌∷◌, Option, Some, None, Contains, refl, sym, ap, subst, slice_get, slice_set}
 use Rattle.std.proofs.lemmas.Bool.{cases_eq}
 use Rattle.std.proofs.lemmas.List.{length-set}
 use Rattle.wb_types.proofs.Lists.{set_cases}
+use Rattle.wb_types.specs.declared.number.OBlock.{OBlock}
 use Rattle.wb_disk.specs.Device.{History}
 use Rattle.wb_contents.specs.Volume.{changed}
 use Rattle.wb_contents.proofs.Positions.{changed_same, changed_other}
 use Rattle.wb_words.specs.SharedWords.{Words}
 use Rattle.wb_policy.specs.declared.order.Order.{Order}
+use Rattle.wb_tasks.specs.Plan.{Plan}
+use Rattle.wb_tasks.specs.declared.step.Migration.{Migration}
 use Rattle.wb_devices.specs.declared.devices.Devices.{Devices}
 use Rattle.wb_link.specs.Tables.{Order as AbstractOrder}
 use Rattle.wb_link.specs.World.{World, Shared, Release, release_order, given_back, after_record, Actor as AbstractActor}
 use Rattle.wb_link.proofs.Lists.{get_set_same, get_set_other}
+use Rattle.wb_runs.specs.declared.job.Job.TheVariants.{Migrate}
 use Rattle.wb_runs.specs.States.{Actor}
 use Rattle.wb_simulation.specs.Actors.{StandsFor}
-use Rattle.wb_simulation.specs.Carried.{held, live_there, order_there, IsOf}
+use Rattle.wb_simulation.specs.Carried.{held, live_there, order_there, IsOf, IsAtMigration}
 use Rattle.wb_simulation.specs.Telling.{Releases}
 use Rattle.wb_simulation.specs.Worlds.{Agrees, OrdersAgree, GivesUp, TurnedTo, DeskTurnedTo, FollowsBy}
 use Rattle.wb_simulation.specs.Laws.{IsOnlyOf}
-use Rattle.wb_simulation.proofs.Orders.{IsNoMigration, does_none}
+use Rattle.wb_simulation.proofs.Orders.{IsNoMigration, cache_there, carried_beside, does_none}
 use Rattle.wb_simulation.proofs.Among.{whose, nobody_alone}
 
 module _ (size most : ℕ) (words : Words) (committing : Bool) (orders : List (Option Order)) (devices : Devices (List History)) (actors : List Actor) (a : ℕ) (x x' : Actor) (s : World) (y : AbstractActor) (ex : slice_get actors a ≡ Some x) (ey : slice_get s.actors a ≡ Some y) (g : Agrees size most words committing orders devices actors s)
@@ -29,19 +33,6 @@ module _ (size most : ℕ) (words : Words) (committing : Bool) (orders : List (O
   abbrev over : List (Option Order)
   over = slice_set orders c None
 
-  own_cache : (o : Order) → (order_there s.shared.mapping c o).cache ≡ c
-  own_cache o = by_order o
-    where
-      by_order : (o : Order) → (order_there s.shared.mapping c o).cache ≡ c
-      by_order (Rattle.wb_policy.specs.declared.order.Order.TheVariants.Promote b k) = refl
-      by_order (Rattle.wb_policy.specs.declared.order.Order.TheVariants.Demote b) = refl
-      by_order (Rattle.wb_policy.specs.declared.order.Order.TheVariants.Clean b) = refl
-      by_order (Rattle.wb_policy.specs.declared.order.Order.TheVariants.Replace v b k) = by_test (Rattle.wb_simulation.specs.Carried.is_at (s.shared.mapping v.0) c)
-        where
-          by_test : (t : Bool) → (Rattle.wb_simulation.specs.Carried.replacement_there t v.0 b.0 c).cache ≡ c
-          by_test Rattle.std.proofs.Common.true = refl
-          by_test Rattle.std.proofs.Common.false = refl
-
   -- nobody has it
   nobody : (b : ℕ) (v : AbstractActor) (p : AbstractOrder) → slice_get s.actors b ≡ Some v → v.order ≡ Some p → p.cache ≢ c
   nobody b v p ev e at =
@@ -49,16 +40,16 @@ module _ (size most : ℕ) (words : Words) (committing : Bool) (orders : List (O
       let o = g.orders_agree.ours b z.0 v p z.1 ev e in
       let both : Some (Some o.0) ≡ Some (Some order) = sym o.1 ∙ ap (slice_get orders) at ∙ slot in
       let same : o.0 ≡ order = cc in
-      let is_a : b ≡ a = only b z.0 z.1 (subst (λ (q : Order). Rattle.std.proofs.Common.Contains (held z.0) q) same o.2) in
+      let is_a : b ≡ a = only b z.0 z.1 (subst (λ (q : Order). Contains (held z.0) q) same o.2) in
       let here : Some v ≡ Some y = sym ev ∙ ap (slice_get s.actors) is_a ∙ ey in
       let one : v ≡ y = cc in
       let bad : None ≡ Some p = sym none ∙ ap (λ (u : AbstractActor). u.order) (sym one) ∙ e in absurd (cc)
 
   -- so it is aside
   waits : s.waiting c ≡ Some own
-  waits = elim ((g.orders_agree.live c (Some order) slot own (own_cache order)).0 refl) [
-    | inl w ↦ ap s.waiting (sym (own_cache order)) ∙ w
-    | inr h ↦ absurd (nobody h.0 h.1 own h.2 h.3 (own_cache order))
+  waits = elim ((g.orders_agree.live c (Some order) slot own (cache_there s.shared.mapping c order)).0 refl) [
+    | inl w ↦ ap s.waiting (sym (cache_there s.shared.mapping c order)) ∙ w
+    | inr h ↦ absurd (nobody h.0 h.1 own h.2 h.3 (cache_there s.shared.mapping c order))
   ]
 
   abbrev t : Shared
@@ -79,6 +70,14 @@ module _ (size most : ℕ) (words : Words) (committing : Bool) (orders : List (O
         subst (λ (q : Actor). P b q v) (sym i.1) (subst (λ k. P k x' v) (sym i.0) (subst (λ (q : AbstractActor). P a x' q) one here))
     | inr k ↦ others b z v k.1 ev
   ]
+
+  -- a migration is at what it was at, where its order is another one
+  at_beside : (m : Migration) (bl : OBlock) (q : Plan) (w : Actor) (u : AbstractActor) → ((p : AbstractOrder) → u.order ≡ Some p → slice_get over p.cache ≡ slice_get orders p.cache) → IsAtMigration size words orders devices m bl q w u → IsAtMigration size words over devices m bl q w u
+  at_beside m bl q w u beside d = record {
+    part = d.part;
+    job = d.job;
+    at = elim d.at [ inl i ↦ inl (carried_beside size orders over devices m bl d.part q.steps q.answer w u beside i) | inr o ↦ inr o ];
+  }
 
   ordered : OrdersAgree size words over devices (slice_set actors a x') then_is
   ordered = record {
@@ -107,39 +106,10 @@ module _ (size most : ℕ) (words : Words) (committing : Bool) (orders : List (O
     ours = λ b z v p ez ev. each_pair (λ k q u. (p : AbstractOrder) → u.order ≡ Some p → IsOf over (held q) p)
         (λ p e. let bad : None ≡ Some p = sym none ∙ e in absurd (cc))
         (λ k q u eq eu p e. let r = g.orders_agree.ours k q u p eq eu e in (r.0, get_set_other orders c p.cache None (nobody k u p eu e) ∙ r.1, r.2)) b z v ez ev p;
-    carried = λ b z v m bl q ez ev. each_pair (λ k w u. w.task ≡ Some (Rattle.wb_runs.specs.declared.job.Job.TheVariants.Migrate m bl, q) → Rattle.wb_simulation.specs.Carried.IsAtMigration size words over devices m bl q w u)
+    carried = λ b z v m bl q ez ev. each_pair (λ k w u. w.task ≡ Some (Migrate m bl, q) → IsAtMigration size words over devices m bl q w u)
         (λ e. does_none size words over devices x' y other m bl q e)
-        (λ k w u ew eu e. still u k eu (g.orders_agree.carried k w u m bl q ew eu e)) b z v ez ev;
+        (λ k w u ew eu e. at_beside m bl q w u (λ p f. get_set_other orders c p.cache None (nobody k u p eu f)) (g.orders_agree.carried k w u m bl q ew eu e)) b z v ez ev;
   }
-    where
-      still : {w : Actor} {m : Rattle.wb_tasks.specs.declared.step.Migration.Migration} {bl : Rattle.wb_types.specs.declared.number.OBlock.OBlock} {q : Rattle.wb_tasks.specs.Plan.Plan} (u : AbstractActor) (k : ℕ) → slice_get s.actors k ≡ Some u → Rattle.wb_simulation.specs.Carried.IsAtMigration size words orders devices m bl q w u → Rattle.wb_simulation.specs.Carried.IsAtMigration size words over devices m bl q w u
-      still u k eu d = record {
-        part = d.part;
-        job = d.job;
-        at = elim d.at [
-          | inl i ↦ inl (record {
-            block_is = i.block_is;
-            is_part = i.is_part;
-            c = i.c;
-            small = i.small;
-            fills = i.fills;
-            of_block = i.of_block;
-            paired = i.paired;
-            next = i.next;
-            order = i.order;
-            of = i.of;
-            kept = i.kept;
-            has = elim i.has [
-              | inl l ↦ inl (get_set_other orders c i.c.0 None (nobody k u (Rattle.wb_refines.specs.Migrations.order_on d.part i.c i.next) eu (ap (λ (v : AbstractActor). v.order) i.at.is ∙ l.1)) ∙ l.0, l.1, l.2)
-              | inr tail ↦ inr tail
-            ];
-            at = i.at;
-            copies = i.copies;
-            buffer = i.buffer;
-          })
-          | inr o ↦ inr o
-        ];
-      }
 
   pub released_there : FollowsBy (GivesUp c) Releases size most a s words committing over devices (slice_set actors a x')
   released_there = record {

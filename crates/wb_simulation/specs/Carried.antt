@@ -1,4 +1,4 @@
--- A migration of the run's actor is at the same in the abstract world, under an order that lives at the desk.
+-- The orders of the desk as they are in the abstract world, and when a migration of the run's actor is at the same there, under one of them.
 use Rattle.std.specs.Prelude.{◌==◌, ◌++◌, Bool, false, ◌≡◌, ◌⊎◌, ◌<◌, ◌+◌, ◌*◌, ◌%◌, ◌^◌, ℕ, true, List, [], ◌∷◌, Option, Some, None, Contains, length, slice_get}
 use Rattle.wb_types.specs.declared.number.CBlock.{CBlock}
 use Rattle.wb_types.specs.declared.number.OBlock.{OBlock}
@@ -31,6 +31,7 @@ use Rattle.wb_runs.specs.Happenings.{order_for}
 use Rattle.wb_simulation.specs.Actors.{IsLate}
 use Rattle.wb_simulation.specs.Steps.{IsPart, AreOfBlock, ArePaired, IsTail}
 
+-- the block stands on this cache block
 abbrev pub is_at : Option ℕ → ℕ → Bool
 is_at None c = false
 is_at (Some d) c = d == c
@@ -47,11 +48,12 @@ order_there m c (Replace old new cache) = replacement_there (is_at (m old.0) c) 
 order_there m c (Demote block) = record { block = block.0; cache = c; next = None }
 order_there m c (Clean block) = record { block = block.0; cache = c; next = None }
 
+-- and what lives there of what is in the desk's slot of this cache block
 abbrev pub live_there : Locations → ℕ → Option Order → Option AbstractOrder
 live_there m c None = None
 live_there m c (Some order) = Some (order_there m c order)
 
--- all that an actor has, whether a flush is awaited for it or not
+-- all orders that an actor has, whether a flush is awaited for them or not
 abbrev pub held : Actor → List Order
 held x = x.orders ++ x.awaiting
 

@@ -1,5 +1,5 @@
--- How a promotion, a demotion or a write-back of the run is followed in the abstract world, where a target stands: its start, each of its
--- steps, and its answer. Its abstract actor does it there.
+-- How a promotion, a demotion or a write-back of the run, also under a replacement, is followed in the abstract world, where a target
+-- stands: its start, each of its steps, and its answer.
 use Rattle.std.specs.Prelude.{◌≢◌, ◌⊎◌, ◌++◌, ◌≡◌, ◌≤◌, ◌<◌, ◌+◌, ◌^◌, ℕ, Bool, List, ◌∷◌, Option, Some, None, Contains, length, slice_get, slice_set}
 use Rattle.wb_types.specs.declared.extent.Extent.{Extent}
 use Rattle.wb_types.specs.declared.mode.Dev.{Dev}
@@ -54,7 +54,7 @@ abbrev pub MayBeGiven : Migration → ℕ → ℕ → Shared → Type 0
 MayBeGiven (Promote k) block c s = (k.0 ≡ c) × (s.mapping block ≡ None) × (s.blocks c ≡ Free)
 MayBeGiven migration block c s = (s.mapping block ≡ Some c) × (s.blocks c ≡ Mapped)
 
--- what a kept order says still
+-- what an order that lives says still
 abbrev pub MayBeKept : Migration → ℕ → Shared → Type 0
 MayBeKept (Promote k) c s = (k.0 ≡ c) × (s.blocks c ≡ Reserved)
 MayBeKept migration c s = s.blocks c ≡ Mapped
@@ -64,10 +64,11 @@ abbrev pub given_by : Migration → ℕ → Turn
 given_by (Promote k) c = Reserves c
 given_by migration c = Stays
 
--- When a seal or a number is looked at, the seal tells where the order has the block, which stands there if another one is to follow.
+-- The seal of a migration's block tells where its order has that block, which stands there if another one is to follow.
 abbrev pub SealTells : Words → List (Option Order) → Locations → Migration → OBlock → Type 0
 SealTells words orders m migration block = (c : CBlock) (next : Option ℕ) (order : Order) → slice_get orders c.0 ≡ Some (Some order) → IsOrderFor migration block next order → (next ≢ None → m block.0 ≡ Some c.0) → IsWhere migration c (place_in (word_at words.seals block))
 
+-- and so it does where the seal or the block's number is looked at
 abbrev pub SeesWhere : Words → List (Option Order) → Locations → Migration → OBlock → CellStep → Type 0
 SeesWhere words orders m migration block (Look (SealWord b)) = SealTells words orders m migration block
 SeesWhere words orders m migration block (Look (Number b)) = SealTells words orders m migration block
@@ -102,7 +103,7 @@ pub record EndsOrder (turn : Turn) (c : ℕ) (size most a : ℕ) (s : World) (wo
   pub mine : Contains x.orders order
   pub follows : Carried turn size most a s words committing (slice_set orders c None) devices actors y
 
--- Its order is a replacement, by which another block follows from now on.
+-- Its order is a replacement, whose block has left its cache block; from now on it is an order to bring the other one there.
 pub record TurnsOrder (c : ℕ) (size most a : ℕ) (s : World) (words : Words) (committing : Bool) (orders : List (Option Order)) (devices : Devices (List History)) (actors : List Actor) (x y : Actor) (block : OBlock) : Type 0 where
   pub new : OBlock
   pub k : CBlock
@@ -118,7 +119,7 @@ pub record MigrationsFollowed : Type 0 where
       MayBeGiven migration block.0 c.0 s.shared → Agrees size most words committing orders devices actors s →
       Goes Resumes (given_by migration c.0) size most a s words committing (slice_set orders c.0 (Some order)) devices actors
       (record x { task = Some (Migrate migration block, migrates size migration block cut); orders = order ∷ x.orders })
-  -- under the one that its actor keeps
+  -- under one that lives and is its actor's alone
   pub again : (size most : ℕ) (words : Words) (committing : Bool) (orders : List (Option Order)) (devices : Devices (List History)) (actors : List Actor) (a : ℕ) (x : Actor) (migration : Migration) (block : OBlock) (c : CBlock) (next : Option ℕ) (order : Order) (cut : List Extent) (s : World) →
       slice_get actors a ≡ Some x → x.task ≡ None → x.card.hold ≡ Nothing → 0 < size → c.0 < 2 ^ 32 → IsCutInto (whole_block size block) cut → slice_get orders c.0 ≡ Some (Some order) → IsOrderFor migration block next order → order_there s.shared.mapping c.0 order ≡ order_of block c next → Contains x.orders order → IsOnlyOf actors a order →
       MayBeKept migration c.0 s.shared → Agrees size most words committing orders devices actors s →

@@ -2,11 +2,11 @@
 use Rattle.std.specs.Prelude.{◌≡◌, ◌≤◌, ◌<◌, ◌+◌, ◌/◌, ◌%◌, ℕ, List, [], ◌∷◌, Contains}
 use Rattle.wb_types.specs.declared.extent.Extent.{Extent}
 use Rattle.wb_words.specs.SharedWords.{place_in, seal_word}
-use Rattle.wb_words.specs.declared.step.CellStep.TheVariants.{Look, Release, Seal, SetFailed}
+use Rattle.wb_words.specs.declared.step.CellStep.TheVariants.{Look, Release, Seal}
 use Rattle.wb_words.specs.declared.word.Word.TheVariants.{Fail}
 use Rattle.wb_tasks.specs.Tables.{BlockRange}
 use Rattle.wb_tasks.specs.declared.step.DeviceStep.TheVariants.{Read, Write}
-use Rattle.wb_tasks.specs.declared.step.DeskStep.TheVariants.{Map, Unmap, ReleaseOrder}
+use Rattle.wb_tasks.specs.declared.step.DeskStep.TheVariants.{Map, Unmap}
 use Rattle.wb_tasks.specs.declared.step.Want.{Want}
 use Rattle.wb_tasks.specs.declared.step.Want.TheVariants.{Cell, Device, Desk}
 use Rattle.wb_refines.specs.Data.{IsInBlock}
@@ -56,13 +56,6 @@ ArePaired size (Device (Read device e) ∷ later) = IsWrittenNext size e later �
 ArePaired size (Desk (Map block place) ∷ later) = IsTail later × IsNoWrite later × ArePaired size later
 ArePaired size (Desk (Unmap block) ∷ later) = IsTail later × IsNoWrite later × ArePaired size later
 ArePaired size (next ∷ later) = IsNoWrite later × ArePaired size later
-
--- What is left is to let go of block and order, or to set the failed bit: it is to be refused.
-abbrev pub IsLettingGo : List Want → Type 0
-IsLettingGo (Cell SetFailed ∷ later) = Unit {0}
-IsLettingGo (Cell (Release access block) ∷ Desk (ReleaseOrder b) ∷ later) = Unit {0}
-IsLettingGo (Desk (ReleaseOrder block) ∷ later) = Unit {0}
-IsLettingGo steps = ⊥
 
 -- Who takes these steps has still to look at the fail word, or has only to answer.
 abbrev pub IsOutside : List Want → Type 0

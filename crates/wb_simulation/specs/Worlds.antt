@@ -32,16 +32,18 @@ IsUnfinished (Some script) = script.steps ≢ []
 abbrev pub IsThere : World → AbstractOrder → Type 0
 IsThere s p = (s.waiting p.cache ≡ Some p) ⊎ ((b : ℕ) × (z : AbstractActor) × (slice_get s.actors b ≡ Some z) × (z.order ≡ Some p))
 
--- Which orders live, whose they are, and which migrations are done under them, as it is there.
+-- The orders that live at the desk, each in the slot of its cache block, are those that live there, and each is an actor's or aside; what
+-- an actor of the run is at under one of them, its abstract actor is at there.
 pub record OrdersAgree (size : ℕ) (words : Words) (orders : List (Option Order)) (devices : Devices (List History)) (actors : List Actor) (s : World) : Type 0 where
-  -- an order that lives on a cache block is there somebody's, or aside
+  -- what lives on a cache block lives there, and nothing else does
   pub live : (c : ℕ) (order : Option Order) → slice_get orders c ≡ Some order → (p : AbstractOrder) → p.cache ≡ c → ((live_there s.shared.mapping c order ≡ Some p) → IsThere s p) × (IsThere s p → live_there s.shared.mapping c order ≡ Some p)
-  -- nobody else's, and not aside too
+  -- an actor's order is no other actor's, and not aside too
   pub once : (a : ℕ) (y : AbstractActor) (p : AbstractOrder) → slice_get s.actors a ≡ Some y → y.order ≡ Some p → (s.waiting p.cache ≢ Some p) × ((b : ℕ) (z : AbstractActor) (q : AbstractOrder) → slice_get s.actors b ≡ Some z → z.order ≡ Some q → q.cache ≡ p.cache → b ≡ a)
-  -- one that is aside is on its cache block
+  -- one that is aside is there by its cache block, on which an order lives
   pub waits : (k : ℕ) (p : AbstractOrder) → s.waiting k ≡ Some p → (p.cache ≡ k) × ((order : Order) × (slice_get orders k ≡ Some (Some order)))
-  -- an actor's is one of the run's actor's
+  -- an actor's order is one of those that the run's actor has
   pub ours : (a : ℕ) (x : Actor) (y : AbstractActor) (p : AbstractOrder) → slice_get actors a ≡ Some x → slice_get s.actors a ≡ Some y → y.order ≡ Some p → IsOf orders (held x) p
+  -- and what the run's actor migrates it migrates there
   pub carried : (a : ℕ) (x : Actor) (y : AbstractActor) (migration : Migration) (block : OBlock) (plan : Plan) → slice_get actors a ≡ Some x → slice_get s.actors a ≡ Some y → x.task ≡ Some (Migrate migration block, plan) → IsAtMigration size words orders devices migration block plan x y
 
 -- These words, devices, actors, and whether the desk has a commit that runs, are those of the world. Blocks have so many sectors,

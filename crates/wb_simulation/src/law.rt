@@ -24,14 +24,13 @@ pub fn starts_and_answers_are_followed()
 {}
 
 /// So is each step of a flush: its looks, the commit that it leads, or that is refused to it, its syncs and its steps on the metadata,
-/// done or failing, and its answer.
+/// done or failing, an order that it gives up, which lies aside there, and its answer.
 pub fn flush_steps_are_followed()
     ensures { FlushStepsFollowed }
 {}
 
-/// So is a promotion, a demotion or a write-back, by the abstract actor of its actor and cache block that stands behind those of the run: its
-/// start under an order that is given or kept, each step on the words, each read and write of an extent, done or failing, what it asks of
-/// the desk, and its answer.
+/// So is a promotion, a demotion or a write-back, also under a replacement: its start under an order that is given or lives already, each
+/// step on the words, each read and write of an extent, done or failing, what it asks of the desk, and its answer.
 pub fn migrations_are_followed()
     ensures { MigrationsFollowed }
 {}
