@@ -1,5 +1,6 @@
--- Orders of a block in a list, and lists where one entry is set.
-use Rattle.std.proofs.Common.{◌≡◌, ◌∙◌, ◌&&◌, ℕ, zero, suc, Bool, true, false, if◌then◌else◌, List, [], ◌∷◌, Some, None, refl, sym, ap, subst, arith, slice_get, slice_set, Contains}
+-- Orders of a block in a list.
+use Rattle.std.proofs.Common.{◌≡◌, ◌∙◌, ◌&&◌, Bool, true, false, if◌then◌else◌, List, [], ◌∷◌, Some, None, refl, sym, ap, subst, arith, Contains}
+use Rattle.wb_types.proofs.Truth.{and_true}
 use Rattle.wb_types.proofs.Lists.{Contains-first, Contains-behind}
 use Rattle.wb_types.specs.declared.number.OBlock.{OBlock}
 use Rattle.wb_policy.specs.declared.order.Order.{Order}
@@ -8,21 +9,7 @@ use Rattle.wb_stage.specs.Asking.{is_of, order_of}
 use Rattle.wb_runs.specs.Effects.{dropped, replacing}
 use Rattle.wb_runs.proofs.Lists.{first_or}
 
-pub is_dropped : (b : OBlock) (orders : List Order) (o : Order) → Contains orders o → is_of b o ≡ false → Contains (dropped b orders) o
-is_dropped b [] o h n = h
-is_dropped b (p ∷ orders) o h n = first_or p o orders (Contains (if is_of b p then dropped b orders else p ∷ dropped b orders) o) h
-    (λ same. subst (λ (t : Bool). Contains (if t then dropped b orders else p ∷ dropped b orders) o) (sym (ap (is_of b) (sym same) ∙ n))
-    (subst (λ (v : Order). Contains (p ∷ dropped b orders) v) (sym same) (Contains-first p (dropped b orders))))
-    (λ later. keep (is_of b p) (is_dropped b orders o later n))
-  where
-    keep : (t : Bool) → Contains (dropped b orders) o → Contains (if t then dropped b orders else p ∷ dropped b orders) o
-    keep true h = h
-    keep false h = Contains-behind p (dropped b orders) o h
-
-and_both : (a b : Bool) → (a && b) ≡ true → (a ≡ true) × (b ≡ true)
-and_both true b e = (refl, e)
-and_both false b e = absurd (cc)
-
+-- the replacements of a block are of that block, and among the orders
 pub replacing_is : (b : OBlock) (orders : List Order) (o : Order) → Contains (replacing b orders) o → Contains orders o × (is_of b o ≡ true)
 replacing_is b [] o h = absurd (omega (arith, h.1))
 replacing_is b (p ∷ orders) o h = by_test (is_of b p && is_replacement p) refl h (λ later. replacing_is b orders o later)
@@ -30,17 +17,8 @@ replacing_is b (p ∷ orders) o h = by_test (is_of b p && is_replacement p) refl
     by_test : (t : Bool) → (is_of b p && is_replacement p) ≡ t → Contains (if t then p ∷ replacing b orders else replacing b orders) o → (Contains (replacing b orders) o → Contains orders o × (is_of b o ≡ true)) → Contains (p ∷ orders) o × (is_of b o ≡ true)
     by_test false e h rest = (let r = rest h in (Contains-behind p orders o r.0, r.1))
     by_test true e h rest = first_or p o (replacing b orders) (Contains (p ∷ orders) o × (is_of b o ≡ true)) h
-        (λ same. (subst (λ (v : Order). Contains (p ∷ orders) v) (sym same) (Contains-first p orders), ap (is_of b) same ∙ (and_both (is_of b p) (is_replacement p) e).0))
+        (λ same. (subst (λ (v : Order). Contains (p ∷ orders) v) (sym same) (Contains-first p orders), ap (is_of b) same ∙ (and_true (is_of b p) (is_replacement p) e).0))
         (λ later. let r = rest later in (Contains-behind p orders o r.0, r.1))
-
--- they are replacements
-pub replacing_replace : (b : OBlock) (orders : List Order) (o : Order) → Contains (replacing b orders) o → is_replacement o ≡ true
-replacing_replace b [] o h = absurd (omega (arith, h.1))
-replacing_replace b (p ∷ orders) o h = by_test (is_of b p && is_replacement p) refl h (λ later. replacing_replace b orders o later)
-  where
-    by_test : (t : Bool) → (is_of b p && is_replacement p) ≡ t → Contains (if t then p ∷ replacing b orders else replacing b orders) o → (Contains (replacing b orders) o → is_replacement o ≡ true) → is_replacement o ≡ true
-    by_test false e h rest = rest h
-    by_test true e h rest = first_or p o (replacing b orders) (is_replacement o ≡ true) h (λ same. ap is_replacement same ∙ (and_both (is_of b p) (is_replacement p) e).1) rest
 
 pub true_not : {A : Type 0} (t : Bool) → t ≡ true → t ≡ false → A
 true_not true e f = absurd (cc)
@@ -64,12 +42,7 @@ found_of b (p ∷ orders) o e = by_test (is_of b p) refl e (λ f. found_of b ord
     by_test true t f rest = (let same : p ≡ o = cc in (subst (λ (v : Order). Contains (p ∷ orders) v) same (Contains-first p orders), ap (is_of b) (sym same) ∙ t))
     by_test false t f rest = (let r = rest f in (Contains-behind p orders o r.0, r.1))
 
-pub set_as_is : {X : Type 0} (xs : List X) (i : ℕ) (x : X) → slice_get xs i ≡ Some x → slice_set xs i x ≡ xs
-set_as_is [] zero x e = refl
-set_as_is [] (suc i) x e = refl
-set_as_is {X = X} (z ∷ zs) zero x e = (let same : x ≡ z = cc in ap (λ (v : X). v ∷ zs) same)
-set_as_is {X = X} (z ∷ zs) (suc i) x e = ap (λ (vs : List X). z ∷ vs) (set_as_is zs i x e)
-
+-- where none is of the block, all stay
 pub none_dropped : (b : OBlock) (orders : List Order) → order_of b orders ≡ None → dropped b orders ≡ orders
 none_dropped b [] e = refl
 none_dropped b (p ∷ orders) e = by (is_of b p) e (λ f. none_dropped b orders f)
@@ -78,10 +51,11 @@ none_dropped b (p ∷ orders) e = by (is_of b p) e (λ f. none_dropped b orders 
     by true e rest = absurd (cc)
     by false e rest = ap (λ (os : List Order). p ∷ os) (rest e)
 
+-- and where none of the block is a replacement, none is one of it
 pub none_replacing : (b : OBlock) (orders : List Order) → ((p : Order) → Contains orders p → is_of b p ≡ true → is_replacement p ≡ false) → replacing b orders ≡ []
 none_replacing b [] f = refl
 none_replacing b (p ∷ orders) f = by (is_of b p && is_replacement p) refl (none_replacing b orders (λ q h. f q (Contains-behind p orders q h)))
   where
     by : (t : Bool) → (is_of b p && is_replacement p) ≡ t → replacing b orders ≡ [] → (if t then p ∷ replacing b orders else replacing b orders) ≡ []
-    by true e rest = (let both = and_both (is_of b p) (is_replacement p) e in true_not (is_replacement p) both.1 (f p (Contains-first p orders) both.0))
+    by true e rest = (let both = and_true (is_of b p) (is_replacement p) e in true_not (is_replacement p) both.1 (f p (Contains-first p orders) both.0))
     by false e rest = rest

@@ -53,6 +53,7 @@ use Rattle.wb_simulation.proofs.Migrations.{migrations_followed}
 use Rattle.wb_simulation.proofs.Noted.{notes_followed}
 use Rattle.wb_simulation.proofs.Opening.{images_followed}
 use Rattle.wb_headline.specs.Desks.{live_orders, block_there, DeskAgrees}
+use Rattle.wb_simulation.proofs.Orders.{cache_there}
 use Rattle.wb_headline.proofs.Allowed.{there}
 use Rattle.wb_headline.proofs.Desking.{desk_stays, desk_reserves}
 use Rattle.wb_headline.proofs.Following.{size, most, Sized, Followed, Goes}
@@ -64,6 +65,7 @@ use Rattle.wb_headline.proofs.Whole.{Whole, at_target, MigrationsGo}
 
 -- ---- starts
 
+-- what an order names there it names at the desk
 named_there : (m : Locations) (k : ℕ) (o : Order) (v : ℕ) → NamesThere (order_there m k o) v → IsNamed o v
 named_there m k (PromoteOrder x c) v (inl e) = inl e
 named_there m k (PromoteOrder x c) v (inr e) = absurd (let bad : None ≡ Some v = e in cc)
@@ -78,16 +80,6 @@ named_there m k (DemoteOrder x) v (inl e) = inl e
 named_there m k (DemoteOrder x) v (inr e) = absurd (let bad : None ≡ Some v = e in cc)
 named_there m k (CleanOrder x) v (inl e) = inl e
 named_there m k (CleanOrder x) v (inr e) = absurd (let bad : None ≡ Some v = e in cc)
-
-cache_there : (m : Locations) (k : ℕ) (o : Order) → (order_there m k o).cache ≡ k
-cache_there m k (PromoteOrder x c) = refl
-cache_there m k (ReplaceOrder old x c) = by (is_at (m old.0) k)
-  where
-    by : (t : Bool) → (replacement_there t old.0 x.0 k).cache ≡ k
-    by true = refl
-    by false = refl
-cache_there m k (DemoteOrder x) = refl
-cache_there m k (CleanOrder x) = refl
 
 -- a migration's own order is of its block alone
 plain_named : (m : Migration) (block : OBlock) (c : CBlock) (v : ℕ) → NamesThere (order_of block c None) v → IsNamed (order_for m block) v
@@ -151,7 +143,7 @@ module _ (P A : Type 0) (shape : Shape) (t : Target P) (commit : Option RunningC
   may_be_given Demote block c may = mapped_here block c.0 may.lawful
   may_be_given Clean block c may = mapped_here block c.0 may.lawful
 
-  -- what a kept order says still
+  -- what an order that lives says still
   may_be_kept : (m : Migration) (block : OBlock) (c : ℕ) → slice_get slots c ≡ Some (Some (order_for m block)) → MayBeKept m c g.site.world.shared
   may_be_kept (Promote k) block c live = (let v = names c (PromoteOrder block k) live in (sym v.0, g.phase.desk.blocks c ∙ ap (λ (b : Block). block_there b) v.1))
   may_be_kept Demote block c live = (mapped_here block c (names c (DemoteOrder block) live)).1

@@ -48,13 +48,6 @@ module _ (P : Type 0) (desk : DeskState P) (actors : List Actor) (are : AreOrder
       let one : l.live ≡ m.live = cc in
       sym l.same ∙ ap (λ (v : LiveOrder). v.order) one ∙ m.same
 
-  -- on one cache block too
-  pub one_of_cache : (o p : Order) (l : IsLive desk o) (m : IsLive desk p) → l.cache.0 ≡ m.cache.0 → o ≡ p
-  one_of_cache o p l m same =
-      let both : Some l.live ≡ Some m.live = sym l.there ∙ ap (order_at desk.orders.slots) same ∙ m.there in
-      let one : l.live ≡ m.live = cc in
-      sym l.same ∙ ap (λ (v : LiveOrder). v.order) one ∙ m.same
-
   module _ (a : ℕ) (x : Actor) (ex : slice_get actors a ≡ Some x) (q : Order) (c : ℕ) (there : slice_get (live_orders desk) c ≡ Some (Some q)) (has : Contains (held_of x) q) where
     -- an order of an actor's lives where it is said to
     pub live_at : IsLive desk q

@@ -6,7 +6,6 @@ use Rattle.wb_types.specs.declared.entry.Entry.{Entry}
 use Rattle.wb_types.specs.declared.geometry.Geometry.{Geometry}
 use Rattle.wb_disk.specs.Device.{History}
 use Rattle.wb_tree.specs.declared.image.Image.{Image}
-use Rattle.wb_meta.specs.Representing.{Stored}
 use Rattle.wb_meta.specs.Steps.{DoesStep, FailsStep, steps_after}
 use Rattle.wb_meta.specs.declared.read_steps.ReadSteps.{ReadSteps}
 use Rattle.wb_meta.specs.declared.read_steps.ReadSteps.TheVariants.{Done as AllRead}
@@ -30,15 +29,6 @@ same_one Puts old now e t = ap (λ (i : Images). i.committed) t
 same_one Ends old now e t = absurd (let some = t.1 in let bad : None ≡ Some t.0 = sym e ∙ some in cc)
 same_one (Settles false) old now e t = ap (λ (i : Images). i.committed) t
 same_one (Settles true) old now e t = absurd (let some = t.1 in let bad : None ≡ Some t.0 = sym e ∙ some in cc)
-
--- and where a commit runs still
-pub same_two : (turn : Turn) (old now : Images) (state : Stored) → now.running ≡ Some state → Turned turn old now → now.committed ≡ old.committed
-same_two Stays old now state e t = ap (λ (i : Images). i.committed) t
-same_two (Begins new) old now state e t = ap (λ (i : Images). i.committed) t
-same_two Puts old now state e t = ap (λ (i : Images). i.committed) t
-same_two Ends old now state e t = absurd (let bad : Some state ≡ None = sym e ∙ ap (λ (i : Images). i.running) t.2 in cc)
-same_two (Settles false) old now state e t = absurd (let bad : Some state ≡ None = sym e ∙ ap (λ (i : Images). i.running) t in cc)
-same_two (Settles true) old now state e t = absurd (let bad : Some state ≡ None = sym e ∙ ap (λ (i : Images). i.running) t.3 in cc)
 
 -- ---- either of two states
 

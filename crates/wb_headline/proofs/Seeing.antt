@@ -2,7 +2,6 @@
 -- written there is beside other orders.
 use Rattle.std.proofs.Common.{◌≢◌, ◌≡◌, ◌∙◌, ◌<◌, ◌/◌, inl, inr, ℕ, zero, suc, List, [], ◌∷◌, Option, Some, None, refl, sym, ap, subst, arith, length, slice_get, slice_set}
 use Rattle.std.proofs.lemmas.Option.{get_or_from_slice_get}
-use Rattle.wb_types.proofs.Lists.{set_cases}
 use Rattle.wb_types.specs.declared.extent.Extent.{Extent}
 use Rattle.wb_types.specs.declared.mode.Dev.{Dev}
 use Rattle.wb_types.specs.declared.mode.Dev.TheVariants.{Metadata, Cache, Origin}
@@ -66,14 +65,6 @@ vacant_there [] c e = absurd (cc)
 vacant_there (None ∷ slots) zero e = refl
 vacant_there (Some o ∷ slots) zero e = absurd (cc)
 vacant_there (s ∷ slots) (suc c) e = vacant_there slots c e
-
-pub orders_many : (slots : List (Option LiveOrder)) → length (orders_of slots) ≡ length slots
-orders_many [] = refl
-orders_many (s ∷ slots) = ap suc (orders_many slots)
-
--- no order lives where it is over
-pub over_there : (orders : List (Option Order)) (c : ℕ) (o : Order) → slice_get (slice_set orders c None) c ≡ Some (Some o) → ⊥
-over_there orders c o e = elim (set_cases orders c c None (Some o) e) [ inl i ↦ absurd (let bad = i.1 in cc) | inr n ↦ n.0 refl ]
 
 module _ (P : Type 0) (desk : DeskState P) (kept : DeskInvariant unknowing desk) where
   -- whatever order lives in a cache block names what is
