@@ -265,9 +265,12 @@ module _ (old new : Devices Memory) (commit commit' : Option RunningCommit) (job
 
   went : (got : Got) → BufferStays there moved moved' → OthersStay (device_of there) old new → Did got → CommitGoes (length old.metadata.contents) commit there got commit'
       → Went (contents_of old) (contents_of new) commit commit' job buffer moved got moved' (device_in (device_of there) old).faults (device_in (device_of there) new).faults there
-  went got stays others did goes =
-      (stays, others_of (device_of there) old new others,
-       contents_at_both (device_of there) old new (λ size was is. DidStep commit there got size was (device_in (device_of there) old).faults moved moved' is (device_in (device_of there) new).faults) did, goes)
+  went got stays others did goes = (
+    stays,
+    others_of (device_of there) old new others,
+    contents_at_both (device_of there) old new (λ size was is. DidStep commit there got size was (device_in (device_of there) old).faults moved moved' is (device_in (device_of there) new).faults) did,
+    goes,
+  )
 
   pub does_so : BufferStays there moved moved' → OthersStay (device_of there) old new → Did Done → CommitGoes (length old.metadata.contents) commit there Done commit' → DoesOn (contents_of old) commit job buffer step (read_by step moved') (contents_of new) commit'
   does_so stays others did goes = performed (contents_of old) (contents_of new) commit commit' job buffer moved step there moved' _ _ can moves fit (went Done stays others did goes)
@@ -371,6 +374,7 @@ pub sync_done : (old new : Devices Memory) (commit commit' : Option RunningCommi
     → DidSync got (device_in device old).contents (device_in device old).faults (device_in device new).contents (device_in device new).faults → SyncFails (memory_falters (device_in device old)) got (device_in device old).contents (device_in device new).contents
     → CommitGoes (length old.metadata.contents) commit (Sync device) got commit' → (commit' ≡ commit_synced device commit) × (contents_of new ≡ with_device device (contents_of old) (synced (device_in device (contents_of old))))
 sync_done old new commit commit' device got is comes others did fails goes =
-    let so = synced_so (device_in device old) got _ _ _ _ is did fails in
-    (sync_goes device (length old.metadata.contents) old.metadata.contents commit commit' refl comes (subst (λ (g : Got). CommitGoes (length old.metadata.contents) commit (Sync device) g commit') so.0 goes),
-     rebuilt (contents_of old) (contents_of new) device _ (others_of device old new others) (contents_at_both device old new (λ size was now. now ≡ synced was) so.1))
+    let so = synced_so (device_in device old) got _ _ _ _ is did fails in (
+      sync_goes device (length old.metadata.contents) old.metadata.contents commit commit' refl comes (subst (λ (g : Got). CommitGoes (length old.metadata.contents) commit (Sync device) g commit') so.0 goes),
+      rebuilt (contents_of old) (contents_of new) device _ (others_of device old new others) (contents_at_both device old new (λ size was now. now ≡ synced was) so.1),
+    )

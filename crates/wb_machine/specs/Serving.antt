@@ -6,11 +6,8 @@ use Rattle.wb_types.specs.declared.extent.Extent.{Extent}
 use Rattle.wb_types.specs.declared.geometry.Geometry.{Geometry}
 use Rattle.wb_types.specs.declared.mode.Dev.{Dev}
 use Rattle.wb_types.specs.declared.mode.Dev.TheVariants.{Metadata}
-use Rattle.wb_devices.specs.Committing.{goes_on}
 use Rattle.wb_disk.specs.Device.{Content as Bytes, History}
 use Rattle.wb_disk.specs.Memory.{Memory, HasRoomFor}
-use Rattle.wb_meta.specs.Steps.{coming_step}
-use Rattle.wb_runs.specs.Happenings.{sector_put}
 use Rattle.wb_disk.specs.Crash.{Choice}
 use Rattle.wb_disk.specs.Failing.{lands}
 use Rattle.wb_words.specs.SharedWords.{Words, flag}
@@ -19,6 +16,7 @@ use Rattle.wb_words.specs.declared.step.CellStep.TheVariants.{SetFailed, SetSusp
 use Rattle.wb_cells.specs.Crews.{CrewState, crew_after}
 use Rattle.wb_policy.specs.declared.quiet.Quiet.{Quiet}
 use Rattle.wb_tree.specs.declared.image.Image.{Image}
+use Rattle.wb_meta.specs.Steps.{coming_step}
 use Rattle.wb_meta.specs.declared.commit_steps.CommitSteps.{CommitSteps}
 use Rattle.wb_meta.specs.declared.commit_steps.CommitSteps.TheVariants.{NodesWritten, NodesSynced, RootWritten}
 use Rattle.wb_tasks.specs.Plan.{Plan, Fits, IsStep, table, want, device_of}
@@ -41,6 +39,7 @@ use Rattle.wb_types.specs.declared.number.CBlock.{CBlock}
 use Rattle.wb_words.specs.declared.card.Card.{Card}
 use Rattle.wb_devices.specs.declared.devices.Devices.{Devices}
 use Rattle.wb_devices.specs.declared.running.RunningCommit.{RunningCommit}
+use Rattle.wb_devices.specs.Committing.{goes_on}
 use Rattle.wb_devices.specs.Moving.{device_in}
 use Rattle.wb_runs.specs.declared.job.Job.{Job}
 use Rattle.wb_runs.specs.declared.job.Job.TheVariants.{Read, Write, Flush, Open, Migrate, Replace}
@@ -48,7 +47,7 @@ use Rattle.wb_runs.specs.declared.event.What.{What}
 use Rattle.wb_runs.specs.declared.event.What.TheVariants.{Skipped, Refused, Started, Stepped}
 use Rattle.wb_stage.specs.Stages.{is_all_done}
 use Rattle.wb_runs.specs.States.{Shape, Actor, Stands, Gone, Target as RunTarget, block_size}
-use Rattle.wb_runs.specs.Happenings.{Chosen, Plain, Orders, Puts, DoesPut, FailsPut, Gives, IsNextOf, MayFailAt, Falters, KeepsMigration, KeepsReplacement, StartGives, begun_as, extent_of, order_for, task_job}
+use Rattle.wb_runs.specs.Happenings.{Chosen, Plain, Orders, Puts, DoesPut, FailsPut, Gives, IsNextOf, MayFailAt, Falters, KeepsMigration, KeepsReplacement, StartGives, begun_as, extent_of, order_for, task_job, sector_put}
 use Rattle.wb_runs.specs.Holding.{AllSuited}
 use Rattle.wb_runs.specs.Effects.{buffer_then, commit_then, contents_at, contents_for, cut_of, desk_then, device_done, device_failed, devices_then, job_of, awaiting_then, orders_given, orders_then, task_then}
 use Rattle.wb_machine.specs.declared.phase.Phase.{Phase}

@@ -68,7 +68,7 @@ fn begin_commit(
     match begin(alloc, desk, most) {
         Ok(running) => {
             let nodes = running.nodes() as u32;
-            see_whole(running.image.nodes.as_slice());
+            see_whole(running.image().nodes.as_slice());
             *commit = Some(running);
             Got::Began(nodes)
         }

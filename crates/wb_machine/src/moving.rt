@@ -11,11 +11,11 @@ ghost use Rattle.wb_disk.specs.Faltering.{falters_as};
 ghost use Rattle.wb_disk.specs.Memory.{HasRoomFor};
 ghost use Rattle.wb_meta.specs.Steps.{coming_step};
 ghost use Rattle.wb_tasks.specs.Plan.{device_of};
+ghost use Rattle.wb_tasks.specs.declared.step.DeviceStep.TheVariants.{Read as ReadExtent};
+ghost use Rattle.wb_tasks.specs.declared.step.Want.TheVariants.{Device};
 ghost use Rattle.wb_tasks.specs.declared.step.Got.TheVariants.{Fault};
 ghost use Rattle.wb_devices.specs.Moving.{OthersStay, device_in};
 ghost use Rattle.wb_devices.specs.Stepping.{CommitGoes, StepFails};
-ghost use Rattle.wb_tasks.specs.declared.step.DeviceStep.TheVariants.{Read as ReadExtent};
-ghost use Rattle.wb_tasks.specs.declared.step.Want.TheVariants.{Device};
 ghost use Rattle.wb_runs.specs.Happenings.{Plain, sector_put};
 ghost use Rattle.wb_machine.specs.Life.{contents_of};
 ghost use Rattle.wb_machine.specs.Serving.{DoesOn, FailsAt, FittedTo, HasRoomAt, IsDoable, Moves, commit_by, read_by};
@@ -258,7 +258,7 @@ fn sector_coming(commit: &Option<RunningCommit>) -> u64
     let Some(running) = commit else {
         return 0;
     };
-    match running.steps.coming(&running.image) {
+    match running.coming() {
         Some(CommitStep::WriteNode(Place(place))) => u64::from(place),
         Some(CommitStep::WriteRoot(Place(slot))) => u64::from(slot),
         Some(CommitStep::Sync) | None => 0,

@@ -48,7 +48,7 @@ pub struct Opener {
 }
 
 impl Opener {
-    /// Its next step, on a device, is done. `Memory` where there is none for the root that it writes: nothing has changed.
+    /// Its next step, on a device, is done. `Memory` where there is none for the root that it writes: no content has changed.
     pub(crate) fn perform(
         &mut self,
         geometry: &Geometry,
@@ -207,7 +207,7 @@ impl Opener {
         let Some(commit) = &self.opening.commit else {
             return Ok(());
         };
-        let next = commit.image.root;
+        let next = commit.image().root;
         match make(self.opening.alloc, self.actor, state, next) {
             Ok(made) => {
                 self.made = Some(made);
