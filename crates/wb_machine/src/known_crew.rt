@@ -23,10 +23,7 @@ pub struct KnownCrew {
 
 impl Drop for KnownCrew {
     fn drop(self) {
-        let KnownCrew {
-            crew,
-            seals,
-        } = self;
+        let KnownCrew { crew, seals } = self;
         drop(crew);
         drop(seals);
     }

@@ -44,6 +44,7 @@ opened_is_mapping clean n m entries mapping = record {
         let was = opened_there clean entries block e h in
         let may = mapping.within block was.0 was.1 in
         (omega (arith, may.0, ap (λ o. o.0) was.2), omega (arith, may.1, was.3))
+
     once : (block other : ℕ) (e same : Entry) → get_or (opened_mapping clean entries) block None ≡ Some e → get_or (opened_mapping clean entries) other None ≡ Some same → e.origin ≡ same.origin → block ≡ other
     once block other e same p q o =
         let x = opened_there clean entries block e p in

@@ -14,7 +14,7 @@ pub led_on : {D : Type 0} (tells : Type 0) (size : D → ℕ) (contents : D → 
     → LedOpening tells size contents faults before want got new
     → MayGoOn (size new.devices.metadata) new.opening
     × (((mid : OpeningStage D) × (mid.devices ≡ old.devices) × (mid.opening.commit ≡ old.opening.commit)
-        × (mid.opening.geometry ≡ old.opening.geometry) × LedOpening tells size contents faults mid want got new)
+    × (mid.opening.geometry ≡ old.opening.geometry) × LedOpening tells size contents faults mid want got new)
     ⊎ ((got ≡ Fault) × (new.devices ≡ old.devices)))
 led_on tells size contents faults old before new (Device step) got d c g led = (led.3, inl (before, d, c, g, led))
 led_on tells size contents faults old before new (Cell step) got d c g led = absurd led

@@ -20,5 +20,5 @@ abbrev pub GoesOn : {D P : Type 0} → Type 0 → (D → ℕ) → (D → List Hi
 GoesOn {D} tells size contents faults old want got new =
     MayGoOn (size new.stage.devices.metadata) new.stage.opening
     × (((before : OpeningStage D) × (before.devices ≡ old.stage.devices) × (before.opening.commit ≡ old.stage.opening.commit)
-        × (before.opening.geometry ≡ old.stage.opening.geometry) × LedOpening tells size contents faults before want got new.stage)
+    × (before.opening.geometry ≡ old.stage.opening.geometry) × LedOpening tells size contents faults before want got new.stage)
     ⊎ ((got ≡ Fault) × (new.stage.devices ≡ old.stage.devices)))

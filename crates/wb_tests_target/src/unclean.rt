@@ -28,13 +28,7 @@ fn hinted(alloc: Global, hints: [u8; 4]) -> Result<Tree<Global>, Refusal> {
 fn stored(alloc: Global, hints: [u8; 4], clean: bool) -> Result<Memory, Refusal> {
     let mut devices = formatted(alloc)?;
     let mut tree = hinted(alloc, hints)?;
-    let image = tree.plan(
-        alloc,
-        &Geometry::new(64, 4, 10, 4)?,
-        1,
-        clean,
-        &[Place(2)],
-    )?;
+    let image = tree.plan(alloc, &Geometry::new(64, 4, 10, 4)?, 1, clean, &[Place(2)])?;
     commit(&mut devices.metadata, &image)?;
     Ok(devices)
 }

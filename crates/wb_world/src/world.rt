@@ -24,9 +24,7 @@ pub struct World {
 
 impl Drop for World {
     fn drop(self) {
-        let World {
-            machine,
-        } = self;
+        let World { machine } = self;
         drop(machine);
     }
 }
