@@ -1,10 +1,9 @@
 -- A flush writes nodes and a root by the commit that it runs, once cache and origin are durable.
 use Rattle.std.proofs.Common.{◌≡◌, ◌∙◌, ◌==◌, ◌+◌, ◌++◌, ℕ, zero, suc, Bool, true, false, List, [], ◌∷◌, Option, Some, None, if◌then◌else◌, refl, sym, subst}
-use Rattle.std.proofs.lemmas.List.Elements.{All-map}
 use Rattle.wb_types.specs.declared.mode.Dev.TheVariants.{Metadata, Cache, Origin}
 use Rattle.wb_types.specs.declared.number.OBlock.{OBlock}
 use Rattle.wb_types.specs.declared.refusal.Refusal.TheVariants.{Busy, Failed, Memory, GenerationEnd}
-use Rattle.wb_disk.specs.Device.{History, Content as Bytes, newest, only, synced}
+use Rattle.wb_disk.specs.Device.{History, Content as Bytes}
 use Rattle.wb_words.specs.declared.word.Word.TheVariants.{Fail}
 use Rattle.wb_words.specs.declared.step.CellStep.TheVariants.{Look, SetFailed}
 use Rattle.wb_tasks.specs.Tables.{BlockJob, OnBlock, Reading, Writing, Migrating, Flushing}

@@ -1,5 +1,5 @@
 -- The mapping that an opening goes by.
-use Rattle.std.proofs.Common.{arith, ◌≡◌, ◌∙◌, ◌<◌, ◌≤◌, ℕ, zero, suc, Bool, true, false, List, [], ◌∷◌, Option, Some, None, get_or, length, map, refl, sym, ap}
+use Rattle.std.proofs.Common.{arith, ◌≡◌, ◌∙◌, ◌<◌, ◌≤◌, ℕ, zero, suc, Bool, true, false, List, [], ◌∷◌, Option, Some, None, get_or, length, refl, sym, ap}
 use Rattle.std.proofs.lemmas.List.{ext_get_or, length-map, get_or-map}
 use Rattle.wb_types.specs.declared.entry.Entry.{Entry}
 use Rattle.wb_tree.specs.Mapping.{IsMapping}
@@ -18,7 +18,7 @@ same_origins clean (None ∷ entries) = ap (λ xs. None ∷ xs) (same_origins cl
 same_origins true (Some e ∷ entries) = ap (λ xs. Some e.origin.0 ∷ xs) (same_origins true entries)
 same_origins false (Some e ∷ entries) = ap (λ xs. Some e.origin.0 ∷ xs) (same_origins false entries)
 
-hint_in : Option Entry → ℕ
+abbrev hint_in : Option Entry → ℕ
 hint_in None = 0
 hint_in (Some e) = e.hint
 
@@ -27,8 +27,8 @@ opened_there : (clean : Bool) (entries : List (Option Entry)) (at : ℕ) (e : En
     → (was : Entry) × (get_or entries at None ≡ Some was) × (e.origin ≡ was.origin) × (e.hint ≤ was.hint)
 opened_there clean [] at e h = absurd cc
 opened_there clean (None ∷ entries) zero e h = absurd cc
-opened_there true (Some was ∷ entries) zero e h = (was, refl, cc, omega (arith, ap hint_in h))
-opened_there false (Some was ∷ entries) zero e h = (was, refl, cc, omega (arith, ap hint_in h))
+opened_there true (Some was ∷ entries) zero e h = let same : was.hint ≡ e.hint = ap hint_in h in (was, refl, cc, omega (arith, same))
+opened_there false (Some was ∷ entries) zero e h = let same : 0 ≡ e.hint = ap hint_in h in (was, refl, cc, omega (arith, same))
 opened_there clean (x ∷ entries) (suc at) e h = opened_there clean entries at e h
 
 -- it is a mapping too
