@@ -148,7 +148,14 @@ impl Machine {
         ensures trace { result.records ≡ self.trace }
         ensures reached { IsReached self }
     {
-        self.trace
+        let Machine {
+            alloc: _,
+            geometry: _,
+            devices: _,
+            phase: _,
+            trace,
+        } = self;
+        trace
     }
 }
 
