@@ -7,7 +7,6 @@ use Rattle.wb_types.specs.declared.extent.Extent.{Extent}
 use Rattle.wb_types.specs.declared.refusal.Refusal.{Refusal}
 use Rattle.wb_disk.specs.Device.{Content as Bytes, History, newest, synced}
 use Rattle.wb_disk.specs.Extents.{GivesEach, written_each, written_where}
-use Rattle.wb_disk.specs.declared.crash_choice.Base.TheVariants.{Newest}
 use Rattle.wb_disk.specs.Crash.{Choice}
 use Rattle.wb_disk.specs.Failing.{lands, synced_where}
 use Rattle.wb_words.specs.Effects.{result_of}

@@ -5,7 +5,7 @@ use Rattle.wb_devices.specs.declared.devices.Devices.{Devices}
 use Rattle.wb_disk.specs.Device.{History}
 use Rattle.wb_machine.specs.Life.{contents_of}
 use Rattle.wb_machine.specs.Serving.{DoesOn, FittedTo, IsDoable, Moves, read_by}
-use Rattle.wb_machine.proofs.Performed.{as_many, does_so, refused_so}
+use Rattle.wb_machine.proofs.Performed.{as_many, does_so}
 use Rattle.wb_machine.proofs.moving.do_step.Goals as goal
 
 pub returns-in-Done-clause-ok : goal.returns-in-Done-clause-ok

@@ -1,8 +1,8 @@
-use Rattle.std.proofs.Common.{◌≡◌, sym, subst, ◌∙◌, ap, List}
+use Rattle.std.proofs.Common.{◌≡◌, sym, subst, List}
 use Rattle.wb_disk.specs.Device.{Content as Bytes, History}
 use Rattle.wb_devices.specs.declared.devices.Devices.{Devices}
 use Rattle.wb_machine.specs.Life.{contents_of}
-use Rattle.wb_machine.specs.Serving.{FailsAt, FittedTo, IsDoable, Moves}
+use Rattle.wb_machine.specs.Serving.{FailsAt, FittedTo, IsDoable}
 use Rattle.wb_machine.proofs.Performed.{falters_so}
 use Rattle.wb_machine.proofs.moving.fail_step.Goals as goal
 

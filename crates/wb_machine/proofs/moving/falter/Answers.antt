@@ -1,17 +1,14 @@
-use Rattle.std.proofs.Common.{◌≡◌, sym, subst, ◌∙◌, ap, List, ℕ, refl, length}
+use Rattle.std.proofs.Common.{◌∙◌, length}
 use Rattle.wb_types.specs.declared.mode.Dev.{Dev}
 use Rattle.wb_types.specs.declared.mode.Dev.TheVariants.{Metadata, Cache, Origin}
-use Rattle.wb_disk.specs.Device.{Content as Bytes, History}
 use Rattle.wb_disk.specs.Memory.{Memory}
 use Rattle.wb_disk.specs.Faltering.{falters_as}
 use Rattle.wb_disk.specs.declared.faltering.Faltering.{Faltering}
 use Rattle.wb_tasks.specs.Plan.{device_of}
-use Rattle.wb_tasks.specs.declared.step.Got.{Got}
 use Rattle.wb_tasks.specs.declared.step.Got.TheVariants.{Fault}
 use Rattle.wb_devices.specs.declared.devices.Devices.{Devices}
 use Rattle.wb_devices.specs.Stepping.{StepFails}
-use Rattle.wb_devices.specs.Moving.{Ways, device_in}
-use Rattle.wb_machine.specs.Life.{contents_of}
+use Rattle.wb_devices.specs.Moving.{device_in}
 use Rattle.wb_machine.proofs.Performed.{IsWrapped, as_fault, wrapped}
 use Rattle.wb_machine.proofs.moving.falter.Goals as goal
 

@@ -1,4 +1,4 @@
-use Rattle.std.proofs.Common.{◌≡◌, ap, List, sym, subst}
+use Rattle.std.proofs.Common.{◌≡◌, List, sym, subst}
 use Rattle.wb_disk.specs.Device.{History}
 use Rattle.wb_devices.specs.declared.devices.Devices.{Devices}
 use Rattle.wb_machine.specs.Life.{FailsOn, contents_of}

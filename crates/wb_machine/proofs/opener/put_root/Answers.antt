@@ -1,8 +1,8 @@
-use Rattle.std.proofs.Common.{◌≡◌, ap, List, sym, subst}
+use Rattle.std.proofs.Common.{ap, List, sym, subst}
 use Rattle.wb_disk.specs.Device.{History}
 use Rattle.wb_devices.specs.declared.devices.Devices.{Devices}
 use Rattle.wb_tasks.specs.declared.step.DeviceStep.TheVariants.{WriteRoot}
-use Rattle.wb_machine.specs.Life.{PutsCommitted, commit_written, contents_of}
+use Rattle.wb_machine.specs.Life.{PutsCommitted}
 use Rattle.wb_machine.specs.Serving.{ComesNext}
 use Rattle.wb_machine.proofs.Performed.{root_never, root_put}
 use Rattle.wb_machine.proofs.opener.put_root.Goals as goal
