@@ -10,10 +10,11 @@ use std::sync::Wait;
 use std::thread::Threads;
 use wb_devices::Devices;
 use wb_disk::{Disk, FileDisk};
+use wb_files::{Hurry, Patience};
 use wb_policy::Policy;
 use wb_table::{Table, read_table};
 use wb_target::{Client, Errand, Returned, Sent, Target};
-use wb_types::{Dev, Refusal};
+use wb_types::Refusal;
 
 /// Opens the cache over the files of a table, in write-back mode with TinyLFU, and has one client do a service: what it told. The
 /// files are locked as long. Nothing is flushed at the end, which leaves the cache without the clean flag.
@@ -26,20 +27,28 @@ pub fn serve_alone<'a, R: Files<File = File>, T: Wait, S: Service + Drop>(
     table: &'a str,
     service: S,
 ) -> Result<S::Told, Unserved<'a>> {
-    let (devices, block) = open_devices(rt, table)?;
+    let (devices, block) = open_devices(rt, table, &mut Hurry)?;
     serve_on(waits, alloc, devices, block, service).map_err(|refusal| Unserved::Refused(refusal))
 }
 
 /// As `serve_alone`, by several who do their services beside one another, each by a client of its own with files of its own and on a
-/// thread of its own; where no thread can be made, one is done after the other. What each told, in order, or why it had no client.
-pub fn serve_all<'a, R: Files<File = File>, T: Threads + Wait + Sync, S: Service + Send + Drop>(
+/// thread of its own; where no thread can be made, one is done after the other, the last of them first. What each told, in order, or why
+/// it had no client. Files that another program holds are waited for as long as there is patience.
+pub fn serve_all<
+    'a,
+    R: Files<File = File>,
+    T: Threads + Wait + Sync,
+    P: Patience,
+    S: Service + Send + Drop,
+>(
     rt: &R,
     waits: &T,
     alloc: Global,
     table: &'a str,
+    patience: &mut P,
     services: Vec<S>,
 ) -> Result<Vec<Result<S::Told, Refusal>>, Unserved<'a>> {
-    let (devices, block) = open_devices(rt, table)?;
+    let (devices, block) = open_devices(rt, table, patience)?;
     let Ok(table) = read_table(table) else {
         return Err(Unserved::Refused(Refusal::BadTable));
     };
@@ -160,9 +169,7 @@ fn errands_of<'a, R: Files<File = File>, S: Service + Drop>(
 ) -> Result<Vec<Sent<FileDisk, Doing<S>>>, Unserved<'a>> {
     let mut errands = Vec::new(alloc);
     for service in services {
-        let Ok(devices) = open_unlocked(rt, table) else {
-            return Err(Unserved::Refused(Refusal::Io(Dev::Metadata)));
-        };
+        let devices = open_unlocked(rt, table)?;
         if errands.push(sent(devices, service)).is_err() {
             return Err(Unserved::Refused(Refusal::Memory));
         }

@@ -31,6 +31,14 @@ impl<'a> Display for Unserved<'a> {
             Unserved::Refused(Refusal::Io(device)) => {
                 write!(f, "{device} file: a read, a write or a sync failed")
             }
+            Unserved::Refused(Refusal::NotFormatted) => write!(
+                f,
+                "10 NotFormatted: the metadata file has no valid root; 'wbcache format' with the same table makes it that of an empty cache"
+            ),
+            Unserved::Refused(Refusal::Mismatch) => write!(
+                f,
+                "12 Mismatch: the metadata were formatted for another block size, or for files of other sizes"
+            ),
             Unserved::Refused(refusal) => write!(f, "{refusal}"),
         }
     }

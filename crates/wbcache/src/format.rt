@@ -8,7 +8,7 @@ use std::fmt::Write as _;
 use std::fs::File;
 use std::io::Write;
 use std::rt::Files;
-use wb_files::{Disks, open_table};
+use wb_files::{Disks, Hurry, open_table};
 use wb_opened::Unserved;
 use wb_types::{Geometry, Refusal};
 
@@ -24,7 +24,7 @@ pub fn format_files<'a, R: Files<File = File>, W: Write>(
     table: &'a str,
     writer: &mut W,
 ) -> Ended<'a> {
-    let (disks, geometry) = match open_table(rt, table) {
+    let (disks, geometry) = match open_table(rt, table, &mut Hurry) {
         Ok(opened) => opened,
         Err(unopened) => {
             return refused(alloc, Unserved::Unopened(unopened), writer);
