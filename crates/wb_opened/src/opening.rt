@@ -1,5 +1,6 @@
 //! Opening a target over the files of a table.
 
+use crate::difference::find_difference;
 use crate::unserved::Unserved;
 use std::alloc::Global;
 use std::fs::File;
@@ -60,11 +61,24 @@ pub(crate) fn open_unlocked<'a, R: Files<File = File>>(
 }
 
 /// Opens the cache on these devices, in write-back mode with TinyLFU.
-pub(crate) fn open_target(
+pub(crate) fn open_target<'a>(
     alloc: Global,
     devices: Devices<FileDisk>,
     block: u64,
-) -> Result<(Devices<FileDisk>, Target<TinyLfu>), Refusal> {
-    let (devices, opened) = Target::open(alloc, devices, block, Mode::Writeback, &[]);
-    Ok((devices, opened?))
+) -> Result<(Devices<FileDisk>, Target<TinyLfu>), Unserved<'a>> {
+    let (mut devices, opened) = Target::open(alloc, devices, block, Mode::Writeback, &[]);
+    match opened {
+        Ok(target) => Ok((devices, target)),
+        Err(refusal) => Err(unserved_of(&mut devices, block, refusal)),
+    }
+}
+
+/// Why a target was not opened, with the size that differs where one does.
+fn unserved_of<'a>(devices: &mut Devices<FileDisk>, block: u64, refusal: Refusal) -> Unserved<'a> {
+    if refusal == Refusal::Mismatch {
+        if let Some(difference) = find_difference(devices, block) {
+            return Unserved::Differs(difference);
+        }
+    }
+    Unserved::Refused(refusal)
 }

@@ -28,7 +28,7 @@ pub fn serve_alone<'a, R: Files<File = File>, T: Wait, S: Service + Drop>(
     service: S,
 ) -> Result<S::Told, Unserved<'a>> {
     let (devices, block) = open_devices(rt, table, &mut Hurry)?;
-    serve_on(waits, alloc, devices, block, service).map_err(|refusal| Unserved::Refused(refusal))
+    serve_on(waits, alloc, devices, block, service)
 }
 
 /// As `serve_alone`, by several who do their services beside one another, each by a client of its own with files of its own and on a
@@ -53,7 +53,7 @@ pub fn serve_all<
         return Err(Unserved::Refused(Refusal::BadTable));
     };
     let errands = errands_of(rt, alloc, &table, services)?;
-    serve_rest(waits, alloc, devices, block, errands).map_err(|refusal| Unserved::Refused(refusal))
+    serve_rest(waits, alloc, devices, block, errands)
 }
 
 /// Opens the cache over the files of a table that was read, has one client do a service, and then several, each with files of its
@@ -74,21 +74,19 @@ pub fn serve_each<
 ) -> Result<(F::Told, Vec<Result<S::Told, Refusal>>), Unserved<'a>> {
     let devices = open_named(rt, table)?;
     let errands = errands_of(rt, alloc, table, services)?;
-    serve_first(waits, alloc, devices, table.block, first, errands).map_err(
-        |refusal| Unserved::Refused(refusal),
-    )
+    serve_first(waits, alloc, devices, table.block, first, errands)
 }
 
 /// Opens the cache on these devices and has one client do a service.
-fn serve_on<T: Wait, S: Service + Drop>(
+fn serve_on<'a, T: Wait, S: Service + Drop>(
     waits: &T,
     alloc: Global,
     devices: Devices<FileDisk>,
     block: u64,
     service: S,
-) -> Result<S::Told, Refusal> {
+) -> Result<S::Told, Unserved<'a>> {
     let (devices, target) = open_target(alloc, devices, block)?;
-    serve_by(waits, &target, devices, service)
+    serve_by(waits, &target, devices, service).map_err(|refusal| Unserved::Refused(refusal))
 }
 
 /// Has a client of a target do a service.
@@ -105,31 +103,46 @@ fn serve_by<T: Wait, D: Disk + Drop, P: Policy, S: Service + Drop>(
 }
 
 /// Opens the cache on these devices, which are kept open as long, and has clients do services beside one another.
-fn serve_rest<T: Threads + Wait + Sync, S: Service + Send + Drop>(
+fn serve_rest<'a, T: Threads + Wait + Sync, S: Service + Send + Drop>(
     waits: &T,
     alloc: Global,
     devices: Devices<FileDisk>,
     block: u64,
     errands: Vec<Sent<FileDisk, Doing<S>>>,
-) -> Result<Vec<Result<S::Told, Refusal>>, Refusal> {
+) -> Result<Vec<Result<S::Told, Refusal>>, Unserved<'a>> {
     let (devices, target) = open_target(alloc, devices, block)?;
-    let told = all_told(alloc, target.together(waits, errands)?)?;
+    let told = beside_one_another(waits, alloc, &target, errands);
     drop(devices);
-    Ok(told)
+    told.map_err(|_| Unserved::Refused(Refusal::Memory))
 }
 
 /// Opens the cache on these devices, has one client do the first service, and the others theirs beside one another.
-fn serve_first<T: Threads + Wait + Sync, F: Service + Drop, S: Service + Send + Drop>(
+fn serve_first<'a, T: Threads + Wait + Sync, F: Service + Drop, S: Service + Send + Drop>(
     waits: &T,
     alloc: Global,
     devices: Devices<FileDisk>,
     block: u64,
     first: F,
     errands: Vec<Sent<FileDisk, Doing<S>>>,
-) -> Result<(F::Told, Vec<Result<S::Told, Refusal>>), Refusal> {
+) -> Result<(F::Told, Vec<Result<S::Told, Refusal>>), Unserved<'a>> {
     let (devices, target) = open_target(alloc, devices, block)?;
-    let told = serve_by(waits, &target, devices, first)?;
-    Ok((told, all_told(alloc, target.together(waits, errands)?)?))
+    let told = serve_by(waits, &target, devices, first).map_err(|refusal| Unserved::Refused(
+        refusal,
+    ))?;
+    match beside_one_another(waits, alloc, &target, errands) {
+        Ok(others) => Ok((told, others)),
+        Err(_) => Err(Unserved::Refused(Refusal::Memory)),
+    }
+}
+
+/// Has clients of a target do services beside one another.
+fn beside_one_another<T: Threads + Wait + Sync, P: Policy + Send, S: Service + Send + Drop>(
+    waits: &T,
+    alloc: Global,
+    target: &Target<P>,
+    errands: Vec<Sent<FileDisk, Doing<S>>>,
+) -> Result<Vec<Result<S::Told, Refusal>>, AllocError> {
+    all_told(alloc, target.together(waits, errands)?)
 }
 
 /// A service, to be done as an errand.

@@ -6,6 +6,7 @@ mod arguments;
 mod ended;
 mod fill;
 mod format;
+mod given_up;
 mod help;
 mod line;
 mod output;
@@ -18,10 +19,11 @@ mod tally;
 
 use crate::arguments::{Asked, read_arguments};
 use crate::ended::Ended;
+use crate::given_up::{Consent, GivenUp};
 use crate::progress::Progress;
 use clap::Error;
 use clap::error::ErrorKind;
-use std::io::{BufReader, IsTerminal};
+use std::io::{BufReader, IsTerminal, Read};
 use std::process::ExitCode;
 use std::sync::Wait;
 use std::{env, io};
@@ -57,7 +59,15 @@ fn serve<T: Wait>(rt: &HostRuntime, waits: &T) -> u8 {
         Err(error) => return no_task(rt, &error),
     };
     let ended = match asked {
-        Asked::Format(table) => format::format_files(rt, alloc, table, &mut io::writer(rt)),
+        Asked::Format(table, consents) => {
+            format::format_files(
+                rt,
+                alloc,
+                table,
+                &mut Terminal { rt, consents },
+                &mut io::writer(rt),
+            )
+        }
         Asked::Run(table) => match BufReader::new(alloc, rt.reader()) {
             Ok(mut reader) => {
                 script::run(
@@ -75,6 +85,28 @@ fn serve<T: Wait>(rt: &HostRuntime, waits: &T) -> u8 {
         Asked::Replay => return replay(rt),
     };
     tell(rt, &ended, verbose)
+}
+
+/// Who formats, on a terminal or not.
+struct Terminal<'a> {
+    rt: &'a HostRuntime,
+    consents: bool,
+}
+
+impl<'a> Consent for Terminal<'a> {
+    /// Says what is given up; it is asked on a terminal alone, and not where that was consented to before.
+    fn may_give_up(&mut self, given_up: GivenUp) -> bool {
+        let _ = eprintln!(self.rt; "wbcache: {given_up}");
+        if self.consents || !self.rt.stdin().is_terminal() {
+            return true;
+        }
+        let _ = eprint!(self.rt; "wbcache: format? [y/N] ");
+        let mut answer = [0; 1];
+        match self.rt.stdin().read(&mut answer) {
+            Ok(1) => answer == [b'y'],
+            _ => false,
+        }
+    }
 }
 
 /// Plays a replay, and gives the exit status.
