@@ -118,14 +118,44 @@ fresh
 (trap '' PIPE; { hello; for cookie in 1 2 3 4 5 6 7 8; do read_of $cookie 0 65536; done; } 2>/dev/null | timeout 30 "$server" "$table" 2>told.txt >/dev/full; echo $? >status.txt)
 check 'a client that cannot be told anything' "$(status) $(grep -c 'a reply cannot be written' told.txt)" '4 1'
 
+# --- Streams that do not wait: whoever starts the programs may have made them so.
+if command -v python3 >/dev/null; then
+  fresh
+  cat >unwaiting.py <<'SCRIPT'
+import os, subprocess, sys, time
+program, sent = sys.argv[1:-1], sys.argv[-1].encode().decode("unicode_escape").encode("latin-1")
+(their_input, our_input), (our_output, their_output) = os.pipe(), os.pipe()
+os.set_blocking(their_input, False)
+os.set_blocking(their_output, False)
+with subprocess.Popen(program, stdin=their_input, stdout=their_output) as process:
+    os.close(their_input)
+    os.close(their_output)
+    # so that it finds nothing to read at first
+    time.sleep(0.3)
+    os.write(our_input, sent)
+    os.close(our_input)
+    data = b""
+    while more := os.read(our_output, 65536):
+        data += more
+print(process.returncode, len(data))
+SCRIPT
+  check 'a server over streams that do not wait' "$(timeout 30 python3 unwaiting.py "$server" -q "$table" \
+    '\0\0\0\3IHAVEOPT\0\0\0\7\0\0\0\6\0\0\0\0\0\0\x25\x60\x95\x13\0\0\0\0\0\0\0\0\0\0\0\1\0\0\0\0\0\0\0\0\0\4\0\0\x25\x60\x95\x13\0\0\0\2\0\0\0\0\0\0\0\2\0\0\0\0\0\0\0\0\0\0\0\0')" "0 $((104 + 16 + 262144))"
+  check 'a script over streams that do not wait' "$(timeout 30 python3 unwaiting.py "$cache" run "$table" 'w 0 1 11\nr 0 1\n')" '0 8'
+else
+  echo 'not tried: there is no python3, by which streams are made that do not wait'
+fi
+
 # --- Too few threads, and too little address space: it serves, and ends. Root has no limit of threads.
 as_somebody() { if test "$(id -u)" = 0; then setpriv --reuid=65534 --regid=65534 --clear-groups "$@"; else "$@"; fi; }
+cp "$server" few
+chmod 755 few
 for threads in 1 2 5 9; do
   fresh
   chmod 666 ./*.img
   { hello; write_of 1 0 512; read_of 2 512 512; flush_of 3; goodbye; } >sent
   # shellcheck disable=SC2016 # it is the text of a script
-  as_somebody sh -c 'ulimit -u "$1"; exec timeout 30 "$2" "$3" <sent' few "$threads" "$server" "$table" >out.bin 2>told.txt
+  as_somebody sh -c 'ulimit -u "$1"; exec timeout 30 "$2" "$3" <sent' few "$threads" ./few "$table" >out.bin 2>told.txt
   check "no more than $threads threads" "$? $(wc -c <out.bin)" "0 $((104 + 16 + 16 + 512 + 16))"
 done
 fresh

@@ -27,7 +27,7 @@ use std::io::{BufReader, IsTerminal, Read};
 use std::process::ExitCode;
 use std::sync::Wait;
 use std::{env, io};
-use wb_streams::hold_streams;
+use wb_streams::{Awaited, hold_streams};
 use wb_types::Refusal;
 
 /// What is asked of who calls the program otherwise.
@@ -68,7 +68,7 @@ fn serve<T: Wait>(rt: &HostRuntime, waits: &T) -> u8 {
                 &mut io::writer(rt),
             )
         }
-        Asked::Run(table) => match BufReader::new(alloc, rt.reader()) {
+        Asked::Run(table) => match BufReader::new(alloc, awaited(rt, rt.reader())) {
             Ok(mut reader) => {
                 script::run(
                     rt,
@@ -76,7 +76,7 @@ fn serve<T: Wait>(rt: &HostRuntime, waits: &T) -> u8 {
                     alloc,
                     table,
                     &mut reader,
-                    &mut io::writer(rt),
+                    &mut awaited(rt, io::writer(rt)),
                     Progress::new(rt, verbose),
                 )
             }
@@ -88,6 +88,7 @@ fn serve<T: Wait>(rt: &HostRuntime, waits: &T) -> u8 {
 }
 
 /// Who formats, on a terminal or not.
+#[derive(Drop)]
 struct Terminal<'a> {
     rt: &'a HostRuntime,
     consents: bool,
@@ -111,10 +112,17 @@ impl<'a> Consent for Terminal<'a> {
 
 /// Plays a replay, and gives the exit status.
 fn replay(rt: &HostRuntime) -> u8 {
-    match BufReader::new(rt.alloc(), rt.reader()) {
-        Ok(mut reader) => { wb_replay::run(rt.alloc(), &mut reader, &mut io::writer(rt)).code() }
+    match BufReader::new(rt.alloc(), awaited(rt, rt.reader())) {
+        Ok(mut reader) => {
+            wb_replay::run(rt.alloc(), &mut reader, &mut awaited(rt, io::writer(rt))).code()
+        }
         Err(_) => no_memory(rt),
     }
+}
+
+/// A standard stream that is asked again where it has nothing now.
+fn awaited<S>(rt: &HostRuntime, stream: S) -> Awaited<'_, HostRuntime, S> {
+    Awaited { clock: rt, stream }
 }
 
 /// Says why a run ended as it did, where somebody asked or is there to read it, and gives the exit status.
