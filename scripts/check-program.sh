@@ -3,18 +3,20 @@
 # closed descriptors, files that another program holds, a limit of the file size, help and version. It prints what
 # failed, and at the end 'N passed, N failed'; its status is 0 where nothing failed.
 #
-#     sh scripts/check-program.sh [WBCACHE WB_BENCH]
+#     sh scripts/check-program.sh [WBCACHE WB_BENCH WBNBD]
 #
-# tries these two programs, as the gate built them, or else those that scripts/build.sh leaves.
+# tries these programs, as the gate built them, or else those that scripts/build.sh leaves.
 set -u
 top=$(cd "$(dirname "$0")/.." && pwd)
 whole() { echo "$(cd "$(dirname "$1")" && pwd)/$(basename "$1")"; }
-if test $# = 2; then
+if test $# = 3; then
   cache=$(whole "$1")
   bench=$(whole "$2")
+  server=$(whole "$3")
 else
   cache=$top/bin/wbcache
   bench=$top/bin/wb_bench
+  server=$top/bin/wbnbd
 fi
 . "$top/scripts/checks.sh"
 work=$(mktemp -d)
@@ -23,8 +25,8 @@ trap 'rm -rf "$work"' EXIT
 call "$top/scripts/check-build.sh"
 
 # --- The programs.
-if test $# != 2; then
-  for program in wbcache wb_bench; do
+if test $# != 3; then
+  for program in wbcache wb_bench wbnbd; do
     if ! sh "$top/scripts/build.sh" "$program"; then
       echo "failed: $program cannot be built"
       failed=$((failed + 1))
@@ -33,6 +35,7 @@ if test $# != 2; then
     fi
   done
 fi
+call "$top/scripts/check-nbd.sh" "$cache" "$server"
 cd "$work" || exit 1
 blank() { # files of zeros
   rm -f m.img c.img o.img
@@ -48,7 +51,7 @@ table='cache m.img c.img o.img 64 0 tinylfu 0'
 sums() { cksum m.img c.img o.img | cut -d' ' -f1 | tr '\n' ' '; }
 blank
 check 'a run over files that are not formatted' "$(echo 'r 0 1' | "$cache" -v run "$table" 2>&1; echo $?) $(sums)" "refused 10 NotFormatted
-wbcache: 10 NotFormatted
+wbcache: 10 NotFormatted: the metadata file has no valid root; 'wbcache format' with the same table makes it that of an empty cache
 1 $(sums)"
 check 'a formatting' "$("$cache" format "$table")" 'formatted 4 10'
 cp m.img formatted.img
@@ -248,6 +251,38 @@ wbcache: 3 lines were refused, the first at line 2: 1 Range"
 check 'one refused line' "$(reason 'w 0 641 11
 ' -v run "$table")" "1 $opened
 wbcache: 1 line was refused, the first at line 1: 1 Range"
+check 'a write that was not flushed' "$(reason 'w 0 1 11
+' -v run "$table")" "0 $opened
+wbcache: 1 write was not flushed, and may be lost"
+check 'one that was' "$(reason 'w 0 1 11
+flush
+' -v run "$table")" "0 $opened"
+check 'is told to nobody who did not ask' "$(reason 'w 0 1 11
+' run "$table")" '0 '
+fresh
+printf 'r 70 1\nr 70 1\nwork\nflush\n' | "$cache" run "$table" >out.txt
+check 'a formatting that gives up a cache' "$("$cache" format "$table" 2>&1; echo $?)" 'wbcache: formatting gives up a cache: 1 of 4 cache blocks mapped, 1 dirty
+formatted 4 10
+0'
+check 'and one that gives up nothing' "$("$cache" format "$table" 2>&1; echo $?)" 'formatted 4 10
+0'
+if command -v python3 >/dev/null; then
+  for answer in n y; do
+    fresh
+    printf 'r 70 1\nr 70 1\nwork\nflush\n' | "$cache" run "$table" >out.txt
+    # On a terminal: what is typed there, and the exit status.
+    said=$(echo "$answer" | python3 -c 'import os, pty, sys
+status = pty.spawn(sys.argv[1:])
+sys.exit(os.waitstatus_to_exitcode(status))' "$cache" format "$table"; echo "status $?")
+    case $answer in
+      n) has 'on a terminal it is asked, and a no is one' "$said" 'status 1' ;;
+      y) has 'and a yes is one' "$said" 'formatted 4 10' ;;
+    esac
+  done
+else
+  echo 'not tried: there is no python3, by which a terminal is made'
+fi
+fresh
 check 'a writer that fails' "$( (printf 'r 0 1\n' | "$cache" -v run "$table" >/dev/full) 2>&1; echo $?)" "$opened
 wbcache: an answer cannot be written
 4"

@@ -3,6 +3,7 @@
 ghost use Rattle.std.specs.Prelude.{◌≡◌, ◌<◌, ◌*◌, ◌^◌, ℕ, IfOk, IfErr};
 ghost use Rattle.wb_types.specs.Limits.{IsWithinLimits};
 
+use crate::patience::Patience;
 use crate::sizes::find_size_fault;
 use crate::unopened::{Trouble, Unopened};
 use std::fs::{File, OpenOptions, TryLockError};
@@ -23,28 +24,42 @@ pub struct Disks<D> {
 impl Disks<FileDisk> {
     /// Opens the files of a table, the metadata first and the origin last, and locks each for as long as its disk
     /// lives. The reason is that of the first that cannot be opened for reading and writing, locked or measured: one
-    /// that another program holds, or that the table named before, is locked already.
-    pub fn open<'a, R: Files<File = File>>(
+    /// that another program holds longer than it is waited for, or that the table named before, is locked already.
+    pub fn open<'a, R: Files<File = File>, P: Patience>(
+        rt: &R,
+        table: &Table<'a>,
+        patience: &mut P,
+    ) -> Result<Disks<FileDisk>, Unopened<'a>> {
+        Ok(Disks {
+            metadata: open_file(rt, table.metadata, Dev::Metadata, patience)?,
+            cache: open_file(rt, table.cache, Dev::Cache, patience)?,
+            origin: open_file(rt, table.origin, Dev::Origin, patience)?,
+        })
+    }
+
+    /// Opens the files of a table once more, in the same order, without a lock.
+    pub fn open_again<'a, R: Files<File = File>>(
         rt: &R,
         table: &Table<'a>,
     ) -> Result<Disks<FileDisk>, Unopened<'a>> {
         Ok(Disks {
-            metadata: open_file(rt, table.metadata, Dev::Metadata)?,
-            cache: open_file(rt, table.cache, Dev::Cache)?,
-            origin: open_file(rt, table.origin, Dev::Origin)?,
+            metadata: open_file_again(rt, table.metadata, Dev::Metadata)?,
+            cache: open_file_again(rt, table.cache, Dev::Cache)?,
+            origin: open_file_again(rt, table.origin, Dev::Origin)?,
         })
     }
 }
 
 /// Reads a table, opens its files and measures them: `BadTable`, `Io` for the first that cannot be opened, `Geometry`.
-pub fn open_table<'a, R: Files<File = File>>(
+pub fn open_table<'a, R: Files<File = File>, P: Patience>(
     rt: &R,
     text: &'a str,
+    patience: &mut P,
 ) -> Result<(Disks<FileDisk>, Geometry), Unopened<'a>> {
     let Ok(table) = read_table(text) else {
         return Err(Unopened::Table(find_table_fault(text)));
     };
-    let disks = Disks::open(rt, &table)?;
+    let disks = Disks::open(rt, &table, patience)?;
     let (metadata, cache, origin) = (
         disks.metadata.sectors(),
         disks.cache.sectors(),
@@ -56,31 +71,72 @@ pub fn open_table<'a, R: Files<File = File>>(
     }
 }
 
-fn open_file<'a, R: Files<File = File>>(
+fn open_file<'a, R: Files<File = File>, P: Patience>(
     rt: &R,
     path: &'a str,
     device: Dev,
+    patience: &mut P,
 ) -> Result<FileDisk, Unopened<'a>> {
-    open_locked(rt, path).map_err(|trouble| Unopened::File {
+    open_locked(rt, path, patience).map_err(|trouble| Unopened::File {
         device,
         path,
         trouble,
     })
 }
 
+fn open_file_again<'a, R: Files<File = File>>(
+    rt: &R,
+    path: &'a str,
+    device: Dev,
+) -> Result<FileDisk, Unopened<'a>> {
+    open_unlocked(rt, path).map_err(|error| Unopened::File {
+        device,
+        path,
+        trouble: Trouble::Again(error),
+    })
+}
+
 /// Opens a file, locks it and measures it.
-fn open_locked<R: Files<File = File>>(rt: &R, path: &str) -> Result<FileDisk, Trouble> {
+fn open_locked<R: Files<File = File>, P: Patience>(
+    rt: &R,
+    path: &str,
+    patience: &mut P,
+) -> Result<FileDisk, Trouble> {
+    let file = open_plain(rt, path).map_err(|error| Trouble::System(error))?;
+    lock(&file, patience)?;
+    measured(file).map_err(|error| Trouble::System(error))
+}
+
+/// Opens a file and measures it.
+fn open_unlocked<R: Files<File = File>>(rt: &R, path: &str) -> io::Result<FileDisk> {
+    measured(open_plain(rt, path)?)
+}
+
+/// Opens a file for reading and writing.
+fn open_plain<R: Files<File = File>>(rt: &R, path: &str) -> io::Result<File> {
     let mut options = OpenOptions::new();
     options.read(true).write(true);
-    let file = options
-        .open(rt, path)
-        .map_err(|error| Trouble::System(error))?;
-    match file.try_lock() {
-        Ok(()) => {}
-        Err(TryLockError::WouldBlock) => return Err(Trouble::Locked),
-        Err(TryLockError::Error(error)) => return Err(Trouble::System(error)),
+    options.open(rt, path)
+}
+
+fn measured(file: File) -> io::Result<FileDisk> {
+    FileDisk::over(file).map_err(|_| io::Error::from(io::ErrorKind::NotSeekable))
+}
+
+/// Locks a file, and waits for whoever holds it as long as there is patience.
+fn lock<P: Patience>(file: &File, patience: &mut P) -> Result<(), Trouble> {
+    for _ in 0..u64::MAX {
+        match file.try_lock() {
+            Ok(()) => return Ok(()),
+            Err(TryLockError::WouldBlock) => {
+                if !patience.rest() {
+                    return Err(Trouble::Locked);
+                }
+            }
+            Err(TryLockError::Error(error)) => return Err(Trouble::System(error)),
+        }
     }
-    FileDisk::over(file).map_err(|_| Trouble::System(io::Error::from(io::ErrorKind::NotSeekable)))
+    Err(Trouble::Locked)
 }
 
 /// The geometry of a target over devices of these sizes in sectors; `Geometry` where they lie outside the limits,

@@ -2,9 +2,11 @@
 #![tactic(auto)]
 
 mod devices;
+mod patience;
 mod sizes;
 mod unopened;
 
 pub use devices::{Disks, measure, open_table};
+pub use patience::{Hurry, Patience, Patient};
 pub use sizes::{SizeFault, find_size_fault};
 pub use unopened::{Trouble, Unopened};

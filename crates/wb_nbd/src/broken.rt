@@ -6,9 +6,12 @@ use thiserror::Error;
 /// Why a connection ended otherwise than a client ends it.
 #[derive(Clone, Copy, Debug, PartialEq, Eq, Error, Drop)]
 pub enum Broken {
-    /// What the client sends cannot be read, or ended in the middle or between two messages.
+    /// What the client sends cannot be read, or ended in the middle of a message or before the first request.
     #[error("the client's end is gone")]
     Reader,
+    /// What the client sends ended between two requests, and it did not say so.
+    #[error("the client went without an end of the connection")]
+    Gone,
     /// A reply cannot be written.
     #[error("a reply cannot be written")]
     Writer,

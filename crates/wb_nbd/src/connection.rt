@@ -80,7 +80,7 @@ impl<R: Read, W: Write> Connection<R, W> {
     /// tells the client these terms. What was taken is answered before this ends.
     ///
     /// The causes are those of `shake_hands` and `take_job`, which all who serve are told, and `Writer` where a reply could not be
-    /// written: then it may be that its job was done. Others who serve are told so at their next reply.
+    /// written: then it may be that its job was done. Others who serve are told so at their next request, which is not done.
     pub fn serve<C: Wait, E: Export>(
         &self,
         rt: &C,
@@ -119,6 +119,9 @@ impl<R: Read, W: Write> Connection<R, W> {
         let Some(job) = self.take(rt, alloc, size, turns)? else {
             return Ok(false);
         };
+        if self.is_told_in_vain(rt) {
+            return Err(Broken::Writer);
+        }
         let answer = perform(alloc, export, job);
         self.send(rt, &answer, turns)?;
         Ok(true)
@@ -146,6 +149,11 @@ impl<R: Read, W: Write> Connection<R, W> {
         ensures asked { IfOk result (λ asked. IfSome asked (λ job. (input left : Option (List ℕ)) × (bytes : List ℕ) × Consumes input left bytes × AsksFor size bytes job)) }
     {
         self.input.lock(rt).take(alloc, size, turns)
+    }
+
+    /// Whether an earlier reply could not be written: then nobody hears what becomes of a request.
+    fn is_told_in_vain<C: Wait>(&self, rt: &C) -> bool {
+        self.output.lock(rt).broken
     }
 
     /// Writes a reply, once others are out.

@@ -1,6 +1,6 @@
 //! Bytes that a client sends.
 
-ghost use Rattle.std.specs.Prelude.{◌≡◌, ℕ, List, OnOk, IfErr, length};
+ghost use Rattle.std.specs.Prelude.{◌≡◌, ◌++◌, ℕ, List, OnOk, IfErr, length};
 ghost use Rattle.std.specs.Io.KnownBytes.{Consumes};
 
 use crate::broken::Broken;
@@ -14,6 +14,24 @@ pub(crate) fn fill<R: Read>(reader: &mut R, bytes: &mut [u8]) -> Result<(), Brok
 {
     match reader.read_exact(bytes) {
         Ok(()) => Ok(()),
+        Err(_) => Err(Broken::Reader),
+    }
+}
+
+/// Reads the bytes of a message: the first of them, and then the others. `Gone` where not even the first is there, `Reader` where fewer are
+/// there than the message has, or they cannot be read.
+pub(crate) fn begin<R: Read>(
+    reader: &mut R,
+    first: &mut [u8],
+    others: &mut [u8],
+) -> Result<(), Broken>
+    requires { length first.old ≡ 1 }
+    ensures read { OnOk result (Consumes (R.remaining reader.old) (R.remaining reader.new) (first.new ++ others.new)) }
+    ensures many { (length first.new ≡ length first.old) × (length others.new ≡ length others.old) }
+{
+    match reader.read(first) {
+        Ok(0) => Err(Broken::Gone),
+        Ok(_) => fill(reader, others),
         Err(_) => Err(Broken::Reader),
     }
 }

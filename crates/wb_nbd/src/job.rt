@@ -9,7 +9,7 @@ ghost use Rattle.wb_nbd.specs.Jobs.{Asks, IsTask, AreSectors, IsOutside, payload
 
 use crate::broken::Broken;
 use crate::errno::Errno;
-use crate::input::{fill, skip};
+use crate::input::{begin, fill, skip};
 use crate::request::{Command, Cookie, Flags, Request};
 use crate::words::{MOST_BYTES, REQUEST_BYTES};
 use std::alloc::Global;
@@ -39,7 +39,7 @@ pub struct Job {
 /// client ends the connection. What the client sends of a write that is not served is passed over.
 ///
 /// A request is to be refused as `Invalid` where it is none that is served, and as `Memory` where there is none for what it
-/// writes. `Reader` where no more can be read, `Magic` where the bytes spell no request.
+/// writes. `Gone` where nothing more is there, `Reader` where no more can be read, `Magic` where the bytes spell no request.
 pub fn take_job<R: Read>(alloc: Global, size: u64, reader: &mut R) -> Result<Option<Job>, Broken>
     ensures { IfOk result (λ asked. (bytes : List ℕ) × Consumes (R.remaining reader.old) (R.remaining reader.new) bytes × Asks size bytes asked) }
 {
@@ -76,7 +76,8 @@ fn read_request<R: Read>(reader: &mut R) -> Result<Request, Broken>
     ensures { IfOk result (λ request. (bytes : List ℕ) × Consumes (R.remaining reader.old) (R.remaining reader.new) bytes × SpellsRequest bytes request) }
 {
     let mut header = [0; REQUEST_BYTES];
-    fill(reader, &mut header)?;
+    let (first, others) = header.split_at_mut(1);
+    begin(reader, first, others)?;
     Request::read(&header).ok_or(Broken::Magic)
 }
 
@@ -94,7 +95,7 @@ fn task_of(size: u64, request: &Request) -> Task
             Some((at, count)) => Task::Read(at, count),
             None => Task::Refuse(Errno::Invalid),
         },
-        Command::Flush => Task::Flush,
+        Command::Flush if request.offset == 0 && request.length == 0 => Task::Flush,
         _ => Task::Refuse(Errno::Invalid),
     }
 }

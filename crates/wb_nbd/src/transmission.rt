@@ -13,7 +13,7 @@ use std::io::{Read, Write};
 /// Serves requests, each answered before the next is read, until the client ends the connection. What was answered before it broke
 /// stays done.
 ///
-/// `Reader` where the client's bytes end in the middle or between two requests, or cannot be read; `Magic` where they spell no
+/// `Gone` where the client's bytes end between two requests, `Reader` where they end in the middle of one or cannot be read; `Magic` where they spell no
 /// request; `Writer` where a reply cannot be written: then it may be that its job was done.
 pub fn transmit<E: Export, R: Read, W: Write>(
     alloc: Global,

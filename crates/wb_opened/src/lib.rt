@@ -2,11 +2,13 @@
 #![tactic(auto)]
 
 mod client;
+mod difference;
 mod opening;
 mod served;
 mod serving;
 mod unserved;
 
+pub use difference::Difference;
 pub use served::{Served, Service};
 pub use serving::{serve_all, serve_alone, serve_each};
 pub use unserved::Unserved;

@@ -10,10 +10,11 @@ use std::sync::Wait;
 use std::thread::Threads;
 use wb_devices::Devices;
 use wb_disk::{Disk, FileDisk};
+use wb_files::{Hurry, Patience};
 use wb_policy::Policy;
 use wb_table::{Table, read_table};
 use wb_target::{Client, Errand, Returned, Sent, Target};
-use wb_types::{Dev, Refusal};
+use wb_types::Refusal;
 
 /// Opens the cache over the files of a table, in write-back mode with TinyLFU, and has one client do a service: what it told. The
 /// files are locked as long. Nothing is flushed at the end, which leaves the cache without the clean flag.
@@ -26,25 +27,33 @@ pub fn serve_alone<'a, R: Files<File = File>, T: Wait, S: Service + Drop>(
     table: &'a str,
     service: S,
 ) -> Result<S::Told, Unserved<'a>> {
-    let (devices, block) = open_devices(rt, table)?;
-    serve_on(waits, alloc, devices, block, service).map_err(|refusal| Unserved::Refused(refusal))
+    let (devices, block) = open_devices(rt, table, &mut Hurry)?;
+    serve_on(waits, alloc, devices, block, service)
 }
 
 /// As `serve_alone`, by several who do their services beside one another, each by a client of its own with files of its own and on a
-/// thread of its own; where no thread can be made, one is done after the other. What each told, in order, or why it had no client.
-pub fn serve_all<'a, R: Files<File = File>, T: Threads + Wait + Sync, S: Service + Send + Drop>(
+/// thread of its own; where no thread can be made, one is done after the other, the last of them first. What each told, in order, or why
+/// it had no client. Files that another program holds are waited for as long as there is patience.
+pub fn serve_all<
+    'a,
+    R: Files<File = File>,
+    T: Threads + Wait + Sync,
+    P: Patience,
+    S: Service + Send + Drop,
+>(
     rt: &R,
     waits: &T,
     alloc: Global,
     table: &'a str,
+    patience: &mut P,
     services: Vec<S>,
 ) -> Result<Vec<Result<S::Told, Refusal>>, Unserved<'a>> {
-    let (devices, block) = open_devices(rt, table)?;
+    let (devices, block) = open_devices(rt, table, patience)?;
     let Ok(table) = read_table(table) else {
         return Err(Unserved::Refused(Refusal::BadTable));
     };
     let errands = errands_of(rt, alloc, &table, services)?;
-    serve_rest(waits, alloc, devices, block, errands).map_err(|refusal| Unserved::Refused(refusal))
+    serve_rest(waits, alloc, devices, block, errands)
 }
 
 /// Opens the cache over the files of a table that was read, has one client do a service, and then several, each with files of its
@@ -65,21 +74,19 @@ pub fn serve_each<
 ) -> Result<(F::Told, Vec<Result<S::Told, Refusal>>), Unserved<'a>> {
     let devices = open_named(rt, table)?;
     let errands = errands_of(rt, alloc, table, services)?;
-    serve_first(waits, alloc, devices, table.block, first, errands).map_err(
-        |refusal| Unserved::Refused(refusal),
-    )
+    serve_first(waits, alloc, devices, table.block, first, errands)
 }
 
 /// Opens the cache on these devices and has one client do a service.
-fn serve_on<T: Wait, S: Service + Drop>(
+fn serve_on<'a, T: Wait, S: Service + Drop>(
     waits: &T,
     alloc: Global,
     devices: Devices<FileDisk>,
     block: u64,
     service: S,
-) -> Result<S::Told, Refusal> {
+) -> Result<S::Told, Unserved<'a>> {
     let (devices, target) = open_target(alloc, devices, block)?;
-    serve_by(waits, &target, devices, service)
+    serve_by(waits, &target, devices, service).map_err(|refusal| Unserved::Refused(refusal))
 }
 
 /// Has a client of a target do a service.
@@ -96,31 +103,46 @@ fn serve_by<T: Wait, D: Disk + Drop, P: Policy, S: Service + Drop>(
 }
 
 /// Opens the cache on these devices, which are kept open as long, and has clients do services beside one another.
-fn serve_rest<T: Threads + Wait + Sync, S: Service + Send + Drop>(
+fn serve_rest<'a, T: Threads + Wait + Sync, S: Service + Send + Drop>(
     waits: &T,
     alloc: Global,
     devices: Devices<FileDisk>,
     block: u64,
     errands: Vec<Sent<FileDisk, Doing<S>>>,
-) -> Result<Vec<Result<S::Told, Refusal>>, Refusal> {
+) -> Result<Vec<Result<S::Told, Refusal>>, Unserved<'a>> {
     let (devices, target) = open_target(alloc, devices, block)?;
-    let told = all_told(alloc, target.together(waits, errands)?)?;
+    let told = beside_one_another(waits, alloc, &target, errands);
     drop(devices);
-    Ok(told)
+    told.map_err(|_| Unserved::Refused(Refusal::Memory))
 }
 
 /// Opens the cache on these devices, has one client do the first service, and the others theirs beside one another.
-fn serve_first<T: Threads + Wait + Sync, F: Service + Drop, S: Service + Send + Drop>(
+fn serve_first<'a, T: Threads + Wait + Sync, F: Service + Drop, S: Service + Send + Drop>(
     waits: &T,
     alloc: Global,
     devices: Devices<FileDisk>,
     block: u64,
     first: F,
     errands: Vec<Sent<FileDisk, Doing<S>>>,
-) -> Result<(F::Told, Vec<Result<S::Told, Refusal>>), Refusal> {
+) -> Result<(F::Told, Vec<Result<S::Told, Refusal>>), Unserved<'a>> {
     let (devices, target) = open_target(alloc, devices, block)?;
-    let told = serve_by(waits, &target, devices, first)?;
-    Ok((told, all_told(alloc, target.together(waits, errands)?)?))
+    let told = serve_by(waits, &target, devices, first).map_err(|refusal| Unserved::Refused(
+        refusal,
+    ))?;
+    match beside_one_another(waits, alloc, &target, errands) {
+        Ok(others) => Ok((told, others)),
+        Err(_) => Err(Unserved::Refused(Refusal::Memory)),
+    }
+}
+
+/// Has clients of a target do services beside one another.
+fn beside_one_another<T: Threads + Wait + Sync, P: Policy + Send, S: Service + Send + Drop>(
+    waits: &T,
+    alloc: Global,
+    target: &Target<P>,
+    errands: Vec<Sent<FileDisk, Doing<S>>>,
+) -> Result<Vec<Result<S::Told, Refusal>>, AllocError> {
+    all_told(alloc, target.together(waits, errands)?)
 }
 
 /// A service, to be done as an errand.
@@ -160,9 +182,7 @@ fn errands_of<'a, R: Files<File = File>, S: Service + Drop>(
 ) -> Result<Vec<Sent<FileDisk, Doing<S>>>, Unserved<'a>> {
     let mut errands = Vec::new(alloc);
     for service in services {
-        let Ok(devices) = open_unlocked(rt, table) else {
-            return Err(Unserved::Refused(Refusal::Io(Dev::Metadata)));
-        };
+        let devices = open_unlocked(rt, table)?;
         if errands.push(sent(devices, service)).is_err() {
             return Err(Unserved::Refused(Refusal::Memory));
         }

@@ -1,5 +1,6 @@
 //! Why a target of files was not served, for who reads standard error.
 
+use crate::difference::Difference;
 use std::fmt;
 use std::fmt::{Display, Formatter};
 use wb_files::Unopened;
@@ -12,6 +13,8 @@ pub enum Unserved<'a> {
     Unopened(Unopened<'a>),
     /// There is no memory, or a step of an open device failed, or what the devices hold is no target of this table.
     Refused(Refusal),
+    /// The metadata are those of other files, or of another block size.
+    Differs(Difference),
 }
 
 impl<'a> Unserved<'a> {
@@ -20,6 +23,7 @@ impl<'a> Unserved<'a> {
         match self {
             Unserved::Unopened(unopened) => unopened.refusal(),
             Unserved::Refused(refusal) => *refusal,
+            Unserved::Differs(_) => Refusal::Mismatch,
         }
     }
 }
@@ -31,6 +35,11 @@ impl<'a> Display for Unserved<'a> {
             Unserved::Refused(Refusal::Io(device)) => {
                 write!(f, "{device} file: a read, a write or a sync failed")
             }
+            Unserved::Refused(Refusal::NotFormatted) => write!(
+                f,
+                "10 NotFormatted: the metadata file has no valid root; 'wbcache format' with the same table makes it that of an empty cache"
+            ),
+            Unserved::Differs(difference) => write!(f, "12 Mismatch: {difference}"),
             Unserved::Refused(refusal) => write!(f, "{refusal}"),
         }
     }

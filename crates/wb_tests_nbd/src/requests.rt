@@ -27,7 +27,7 @@ struct Row {
 }
 
 /// Eight sectors are served, each full of its number.
-const ROWS: [Row; 8] = [
+const ROWS: [Row; 9] = [
     // a read gives the sectors that it names
     Row {
         sent: &[
@@ -138,11 +138,22 @@ const ROWS: [Row; 8] = [
         ended: Err(Broken::Magic),
         flushes: 0,
     },
-    // no end of the client's is a break
+    // a client that goes between two requests is gone
     Row {
         sent: &[Part::Request(0, 0, 1, 0, 512)],
         told: &[Part::Reply(0, 1), Part::Sectors(0, 1)],
-        ended: Err(Broken::Reader),
+        ended: Err(Broken::Gone),
+        flushes: 0,
+    },
+    // a flush of a part is not served
+    Row {
+        sent: &[
+            Part::Request(0, 3, 1, 512, 0),
+            Part::Request(0, 3, 2, 0, 512),
+            Part::Request(0, 2, 3, 0, 0),
+        ],
+        told: &[Part::Reply(22, 1), Part::Reply(22, 2)],
+        ended: Ok(()),
         flushes: 0,
     },
 ];
@@ -206,14 +217,15 @@ fn each_request_has_its_reply(rt: HostRuntime) -> Result<(), Fail> {
 }
 
 /// Whether what a row's client sends, cut anywhere, is answered as far as it goes: what is told is the front of what the whole is told,
-/// and the client's end is gone.
+/// and the client is gone, between two requests or in the middle of one.
 fn holds_cut(alloc: Global, row: &Row) -> Result<bool, AllocError> {
     let sent = bytes_of(alloc, row.sent)?;
     let wanted = bytes_of(alloc, row.told)?;
     for cut in 0..sent.len() {
         let mut memory = Memory::new(alloc, None)?;
         let (told, ended) = play(alloc, &mut memory, &sent.as_slice()[..cut])?;
-        if ended != Err(Broken::Reader) || !wanted.as_slice().starts_with(told.as_slice()) {
+        let is_gone = ended == Err(Broken::Gone) || ended == Err(Broken::Reader);
+        if !is_gone || !wanted.as_slice().starts_with(told.as_slice()) {
             return Ok(false);
         }
     }

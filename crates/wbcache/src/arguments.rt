@@ -7,8 +7,8 @@ use std::alloc::Global;
 /// What the program is asked to do.
 #[derive(Clone, Copy)]
 pub enum Asked<'a> {
-    /// To format the metadata over the files of a table.
-    Format(&'a str),
+    /// To format the metadata over the files of a table, and whether that is wanted also where blocks are given up.
+    Format(&'a str, bool),
     /// To run a script over the files of a table.
     Run(&'a str),
     /// To play a replay, in memory.
@@ -23,9 +23,10 @@ pub fn read_arguments<'a>(
 ) -> Result<Option<(Asked<'a>, bool)>, Error> {
     let matches = command(alloc)?.try_get_matches_from(words)?;
     Ok(match matches.subcommand() {
-        Some(("format", given)) => given
-            .get_str("TABLE")
-            .map(|table| (Asked::Format(table), given.get_flag("verbose"))),
+        Some(("format", given)) => given.get_str("TABLE").map(|table| (
+            Asked::Format(table, given.get_flag("yes")),
+            given.get_flag("verbose"),
+        )),
         Some(("run", given)) => given
             .get_str("TABLE")
             .map(|table| (Asked::Run(table), given.get_flag("verbose"))),
@@ -43,6 +44,10 @@ fn command<'a>(alloc: Global) -> Result<Command<'a>, Error> {
         )
         .action(ArgAction::SetTrue)
         .global(true);
+    let yes = Arg::new(alloc, "yes")
+        .long("yes")
+        .help("Do not ask, on a terminal, before blocks that are cached are given up")
+        .action(ArgAction::SetTrue);
     Ok(
         Command::new(alloc, "wbcache")
             .about(ABOUT)
@@ -51,7 +56,11 @@ fn command<'a>(alloc: Global) -> Result<Command<'a>, Error> {
             .disable_help_subcommand(true)
             .subcommand_required(true)
             .arg(verbose)?
-            .subcommand(with_table(alloc, "format", "Make the metadata those of an empty cache")?)?
+            .subcommand(with_table(
+                alloc,
+                "format",
+                "Make the metadata those of an empty cache",
+            )?.arg(yes)?)?
             .subcommand(with_table(alloc, "run", "Run a script over the files")?)?
             .subcommand(
                 Command::new(alloc, "replay")

@@ -1,6 +1,7 @@
 //! Formatting of a target's metadata.
 
 use crate::ended::{Ended, refused};
+use crate::given_up::{Consent, find_given_up};
 use crate::output::{StreamFailed, print, print_refusal};
 use crate::status::Status;
 use std::alloc::Global;
@@ -8,7 +9,7 @@ use std::fmt::Write as _;
 use std::fs::File;
 use std::io::Write;
 use std::rt::Files;
-use wb_files::{Disks, open_table};
+use wb_files::{Disks, Hurry, open_table};
 use wb_opened::Unserved;
 use wb_types::{Geometry, Refusal};
 
@@ -16,15 +17,18 @@ use wb_types::{Geometry, Refusal};
 /// and gives the exit status with the reason of a refusal. The cache and the origin are opened, locked and measured,
 /// and left alone.
 ///
-/// 0 where the metadata were formatted, 1 where that was refused, 3 where a device failed, 4 where the writer did. A
+/// Where the metadata are those of a cache with blocks in it, somebody is asked first; without consent nothing is written.
+///
+/// 0 where the metadata were formatted, 1 where that was refused or not consented to, 3 where a device failed, 4 where the writer did. A
 /// formatting that was refused can be repeated.
-pub fn format_files<'a, R: Files<File = File>, W: Write>(
+pub fn format_files<'a, R: Files<File = File>, C: Consent, W: Write>(
     rt: &R,
     alloc: Global,
     table: &'a str,
+    consent: &mut C,
     writer: &mut W,
 ) -> Ended<'a> {
-    let (disks, geometry) = match open_table(rt, table) {
+    let (disks, geometry) = match open_table(rt, table, &mut Hurry) {
         Ok(opened) => opened,
         Err(unopened) => {
             return refused(alloc, Unserved::Unopened(unopened), writer);
@@ -35,6 +39,11 @@ pub fn format_files<'a, R: Files<File = File>, W: Write>(
         cache,
         origin,
     } = disks;
+    if let Some(given_up) = find_given_up(alloc, &mut metadata) {
+        if !consent.may_give_up(given_up) {
+            return Ended::new(Ok(Status::Refused), None);
+        }
+    }
     let formatted = wb_meta::format(&mut metadata, &geometry);
     drop((cache, origin));
     match formatted {

@@ -6,6 +6,7 @@ mod arguments;
 mod ended;
 mod fill;
 mod format;
+mod given_up;
 mod help;
 mod line;
 mod output;
@@ -18,14 +19,15 @@ mod tally;
 
 use crate::arguments::{Asked, read_arguments};
 use crate::ended::Ended;
+use crate::given_up::{Consent, GivenUp};
 use crate::progress::Progress;
 use clap::Error;
 use clap::error::ErrorKind;
-use std::io::{BufReader, IsTerminal};
+use std::io::{BufReader, IsTerminal, Read};
 use std::process::ExitCode;
 use std::sync::Wait;
 use std::{env, io};
-use wb_streams::hold_streams;
+use wb_streams::{Awaited, hold_streams};
 use wb_types::Refusal;
 
 /// What is asked of who calls the program otherwise.
@@ -57,8 +59,16 @@ fn serve<T: Wait>(rt: &HostRuntime, waits: &T) -> u8 {
         Err(error) => return no_task(rt, &error),
     };
     let ended = match asked {
-        Asked::Format(table) => format::format_files(rt, alloc, table, &mut io::writer(rt)),
-        Asked::Run(table) => match BufReader::new(alloc, rt.reader()) {
+        Asked::Format(table, consents) => {
+            format::format_files(
+                rt,
+                alloc,
+                table,
+                &mut Terminal { rt, consents },
+                &mut io::writer(rt),
+            )
+        }
+        Asked::Run(table) => match BufReader::new(alloc, awaited(rt, rt.reader())) {
             Ok(mut reader) => {
                 script::run(
                     rt,
@@ -66,7 +76,7 @@ fn serve<T: Wait>(rt: &HostRuntime, waits: &T) -> u8 {
                     alloc,
                     table,
                     &mut reader,
-                    &mut io::writer(rt),
+                    &mut awaited(rt, io::writer(rt)),
                     Progress::new(rt, verbose),
                 )
             }
@@ -77,12 +87,42 @@ fn serve<T: Wait>(rt: &HostRuntime, waits: &T) -> u8 {
     tell(rt, &ended, verbose)
 }
 
+/// Who formats, on a terminal or not.
+#[derive(Drop)]
+struct Terminal<'a> {
+    rt: &'a HostRuntime,
+    consents: bool,
+}
+
+impl<'a> Consent for Terminal<'a> {
+    /// Says what is given up; it is asked on a terminal alone, and not where that was consented to before.
+    fn may_give_up(&mut self, given_up: GivenUp) -> bool {
+        let _ = eprintln!(self.rt; "wbcache: {given_up}");
+        if self.consents || !self.rt.stdin().is_terminal() {
+            return true;
+        }
+        let _ = eprint!(self.rt; "wbcache: format? [y/N] ");
+        let mut answer = [0; 1];
+        match self.rt.stdin().read(&mut answer) {
+            Ok(1) => answer == [b'y'],
+            _ => false,
+        }
+    }
+}
+
 /// Plays a replay, and gives the exit status.
 fn replay(rt: &HostRuntime) -> u8 {
-    match BufReader::new(rt.alloc(), rt.reader()) {
-        Ok(mut reader) => { wb_replay::run(rt.alloc(), &mut reader, &mut io::writer(rt)).code() }
+    match BufReader::new(rt.alloc(), awaited(rt, rt.reader())) {
+        Ok(mut reader) => {
+            wb_replay::run(rt.alloc(), &mut reader, &mut awaited(rt, io::writer(rt))).code()
+        }
         Err(_) => no_memory(rt),
     }
+}
+
+/// A standard stream that is asked again where it has nothing now.
+fn awaited<S>(rt: &HostRuntime, stream: S) -> Awaited<'_, HostRuntime, S> {
+    Awaited { clock: rt, stream }
 }
 
 /// Says why a run ended as it did, where somebody asked or is there to read it, and gives the exit status.

@@ -6,12 +6,14 @@ use std::fmt;
 use std::fmt::{Display, Formatter};
 use wb_opened::Unserved;
 
-/// Why a run or a formatting did not end well.
+/// Why a run or a formatting did not end well, or what else is to be told at its end.
 #[derive(Drop)]
 pub enum Reason<'a> {
     Unserved(Unserved<'a>),
     /// Lines of a script were refused.
     Lines(Tally),
+    /// So many writes of a script that ended well were not flushed.
+    Unflushed(u64),
     Stream(StreamFailed),
 }
 
@@ -20,6 +22,11 @@ impl<'a> Display for Reason<'a> {
         match self {
             Reason::Unserved(unserved) => write!(f, "{unserved}"),
             Reason::Lines(tally) => write!(f, "{tally}"),
+            Reason::Unflushed(1) => write!(f, "1 write was not flushed, and may be lost"),
+            Reason::Unflushed(count) => write!(
+                f,
+                "{count} writes were not flushed, and may be lost"
+            ),
             Reason::Stream(StreamFailed::Reader) => write!(f, "the script cannot be read further"),
             Reason::Stream(StreamFailed::Writer) => write!(f, "an answer cannot be written"),
         }

@@ -66,10 +66,12 @@ struct Played {
 }
 
 impl Played {
-    /// The end of the run, with the refused lines as its reason.
+    /// The end of the run, with the refused lines as its reason; where there are none, the writes that were not flushed.
     fn ended<'a>(self) -> Ended<'a> {
         let reason = if self.tally.first.is_some() {
             Some(Reason::Lines(self.tally))
+        } else if self.tally.unflushed > 0 {
+            Some(Reason::Unflushed(self.tally.unflushed))
         } else {
             None
         };
@@ -115,7 +117,13 @@ fn play<R: Wait, C: Served, I: BufRead, W: Write>(
     for number in 1..u64::MAX {
         text.clear();
         let answered = match next_input(reader, &mut line)? {
-            Input::Asks(asked) => answer(rt, alloc, client, asked, &mut text, progress),
+            Input::Asks(asked) => {
+                let answered = answer(rt, alloc, client, asked, &mut text, progress);
+                if answered.is_ok() {
+                    tally.done(asked);
+                }
+                answered
+            }
             Input::TooLong => Err(Refusal::Memory),
             Input::Bad => {
                 tally.note(number, Said::BadLine);

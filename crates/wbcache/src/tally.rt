@@ -1,5 +1,6 @@
 //! The refused lines of a script.
 
+use crate::line::Line;
 use std::fmt;
 use std::fmt::{Display, Formatter};
 use wb_types::Refusal;
@@ -12,11 +13,13 @@ pub enum Said {
     BadLine,
 }
 
-/// How many lines were refused, and the first of them: its number from 1 on, and what it was answered.
+/// How many lines were refused, and the first of them: its number from 1 on, and what it was answered. And how many writes were answered since
+/// the last flush.
 #[derive(Clone, Copy)]
 pub struct Tally {
     pub count: u64,
     pub first: Option<(u64, Said)>,
+    pub unflushed: u64,
 }
 
 impl Tally {
@@ -24,6 +27,18 @@ impl Tally {
         Tally {
             count: 0,
             first: None,
+            unflushed: 0,
+        }
+    }
+
+    /// A line was done: a write is not durable before a flush.
+    pub fn done(&mut self, asked: Line) {
+        match asked {
+            Line::Write { .. } | Line::TryWrite { .. } => {
+                self.unflushed = self.unflushed.saturating_add(1);
+            }
+            Line::Flush | Line::Tick => self.unflushed = 0,
+            _ => {}
         }
     }
 

@@ -13,20 +13,51 @@ const TEXTS: &str = "\
 TABLE is one argument, words parted by spaces, as 'wbcache format' takes it:
   cache <metadata> <cache> <origin> <block size> 0 tinylfu 0
 The client gets the origin, under the empty name. What it wrote is durable once
-it has flushed, or written with FUA; when it ends the connection all is flushed.
-Status: 0 the client ended it, 1 the files cannot serve, 2 the arguments, 3 a
-device failed, 4 the connection broke.
+it has flushed, or written with FUA; when the connection ends all is flushed.
+Status: 0 the client ended it, or went between two requests, and all was
+flushed; 1 the files cannot serve, 2 the arguments, 3 a device failed, 4 the
+connection broke.
+
+To stop it in order, end the client. A signal ends it at once, and what was not
+flushed is lost then. All three files are locked as long as it runs.
 
 Example, with files that 'wbcache format' has made a cache of:
   nbdfuse dir/disk --command wbnbd 'cache m c o 64 0 tinylfu 0'
   socat UNIX-LISTEN:socket EXEC:./serve     # a script that calls wbnbd
   nbdcopy image 'nbd+unix:///?socket=socket'";
 
-/// Reads the words of the command line, the program's name first: the table. The error's kind is `DisplayHelp` or
+/// How many seconds files that another program holds are waited for, where that is not said.
+const WAIT: u32 = 5;
+
+/// What the program is asked to do.
+#[derive(Clone, Copy)]
+pub struct Asked<'a> {
+    pub table: &'a str,
+    /// The seconds that files which another program holds are waited for.
+    pub wait: u32,
+    /// Whether only what went wrong is to be told.
+    pub quiet: bool,
+}
+
+/// Reads the words of the command line, the program's name first; none where they ask for nothing. The error's kind is `DisplayHelp` or
 /// `DisplayVersion` where that is asked for.
-pub fn read_arguments<'a>(alloc: Global, words: &'a [String]) -> Result<Option<&'a str>, Error> {
+pub fn read_arguments<'a>(alloc: Global, words: &'a [String]) -> Result<Option<Asked<'a>>, Error> {
     let matches = command(alloc)?.try_get_matches_from(words)?;
-    Ok(matches.get_str("TABLE"))
+    let Some(table) = matches.get_str("TABLE") else {
+        return Ok(None);
+    };
+    let wait = match matches.get_str("wait") {
+        Some(seconds) => match seconds.parse() {
+            Ok(seconds) => seconds,
+            Err(_) => return Ok(None),
+        },
+        None => WAIT,
+    };
+    Ok(Some(Asked {
+        table,
+        wait,
+        quiet: matches.get_flag("quiet"),
+    }))
 }
 
 fn command<'a>(alloc: Global) -> Result<Command<'a>, Error> {
@@ -34,11 +65,22 @@ fn command<'a>(alloc: Global) -> Result<Command<'a>, Error> {
         .help("The three files and the size of a block, as below")
         .required(true)
         .action(ArgAction::Set);
+    let wait = Arg::new(alloc, "wait")
+        .long("wait")
+        .help("Seconds to wait for files that another program holds [default: 5]")
+        .action(ArgAction::Set);
+    let quiet = Arg::new(alloc, "quiet")
+        .short('q')
+        .long("quiet")
+        .help("Say on standard error only what went wrong")
+        .action(ArgAction::SetTrue);
     Ok(
         Command::new(alloc, "wbnbd")
             .about(ABOUT)
             .version(VERSION)
             .after_help(TEXTS)
+            .arg(wait)?
+            .arg(quiet)?
             .arg(table)?,
     )
 }

@@ -4,6 +4,7 @@ ghost use Rattle.std.specs.Prelude.{◌≡◌, ◌*◌};
 
 use crate::lent::Lent;
 use crate::pace::{Pace, Place, UntilTick};
+use crate::teller::Teller;
 use std::alloc::Global;
 use std::io::{Read, Write};
 use std::sync::Wait;
@@ -14,19 +15,20 @@ use wb_types::{Geometry, Refusal, SECTOR_BYTES};
 
 /// What a client of the target does.
 #[derive(Drop)]
-pub enum Beside<'a, C, I, O> {
+pub enum Beside<'a, T, I, O> {
     /// To serve the one connection.
-    Serve(Peer<'a, I, O>),
-    /// To carry out orders until all who serve it have ended.
-    Work(&'a C, &'a Pace),
+    Serve(Peer<'a, T, I, O>),
+    /// To carry out orders until it is over.
+    Work(&'a Teller<'a, T>, &'a Pace),
 }
 
 /// The other end of a connection that is to be served.
 #[derive(Drop)]
-pub struct Peer<'a, I, O> {
+pub struct Peer<'a, T, I, O> {
     pub alloc: Global,
     pub connection: &'a Connection<I, O>,
     pub place: Place<'a>,
+    pub teller: &'a Teller<'a, T>,
 }
 
 /// How it went.
@@ -40,36 +42,41 @@ pub enum Told {
     Worked,
 }
 
-impl<'a, C: Clock, I: Read, O: Write> Service for Beside<'a, C, I, O> {
+impl<'a, T: Clock + Eprint, I: Read, O: Write> Service for Beside<'a, T, I, O> {
     type Told = Told;
 
     fn serve<R: Wait, S: Served>(self, rt: &R, client: &mut S) -> Told {
         match self {
             Beside::Serve(peer) => serve(rt, client, peer),
-            Beside::Work(clock, pace) => {
-                work(rt, client, clock, pace);
+            Beside::Work(teller, pace) => {
+                work(rt, client, teller, pace);
                 Told::Worked
             }
         }
     }
 }
 
-/// Serves a connection beside others; who ends last makes durable what was written.
-fn serve<R: Wait, S: Served, I: Read, O: Write>(
+/// Serves a connection beside others; who ends last makes durable what was written. Who comes after that has nothing to do.
+fn serve<R: Wait, S: Served, T: Eprint, I: Read, O: Write>(
     rt: &R,
     client: &mut S,
-    peer: Peer<'_, I, O>,
+    peer: Peer<'_, T, I, O>,
 ) -> Told {
     let Peer {
         alloc,
         connection,
         place,
+        teller,
     } = peer;
     let pace = place.pace;
-    pace.enter();
-    let connection = talk(rt, client, pace, alloc, connection);
-    let flushed = if pace.leave() {
-        client.flush(rt)
+    let is_late = pace.enter();
+    if teller.begins() {
+        teller.opened(&client.geometry(), client.mapped(rt), client.dirty(rt));
+    }
+    let connection = talk(rt, client, pace, alloc, connection, teller);
+    pace.end();
+    let flushed = if !is_late && pace.leave() {
+        finish(rt, client, alloc, teller)
     } else {
         Ok(())
     };
@@ -80,13 +87,32 @@ fn serve<R: Wait, S: Served, I: Read, O: Write>(
     }
 }
 
+/// Makes durable what was written, and tells how the cache stands.
+fn finish<R: Wait, S: Served, T: Eprint>(
+    rt: &R,
+    client: &mut S,
+    alloc: Global,
+    teller: &Teller<'_, T>,
+) -> Result<(), Refusal> {
+    let flushed = client.flush(rt);
+    if let Err(refusal) = flushed {
+        note(teller, refusal);
+    }
+    let mut status = String::new(alloc);
+    if teller.is_asked() && client.status(rt, &mut status).is_ok() {
+        teller.ended(&status);
+    }
+    flushed
+}
+
 /// Serves requests until the connection ends or breaks.
-fn talk<R: Wait, S: Served, I: Read, O: Write>(
+fn talk<R: Wait, S: Served, T: Eprint, I: Read, O: Write>(
     rt: &R,
     client: &mut S,
     pace: &Pace,
     alloc: Global,
     connection: &Connection<I, O>,
+    teller: &Teller<'_, T>,
 ) -> Result<(), Broken> {
     let terms = terms_of(&client.geometry());
     let size = client.geometry().origin_sectors();
@@ -94,6 +120,7 @@ fn talk<R: Wait, S: Served, I: Read, O: Write>(
         rt,
         client,
         pace,
+        teller,
         size,
     };
     let ended = connection.serve(rt, alloc, &terms, &mut lent);
@@ -101,21 +128,48 @@ fn talk<R: Wait, S: Served, I: Read, O: Write>(
         rt: _,
         client: _,
         pace: _,
+        teller: _,
         size: _,
     } = lent;
     ended
 }
 
-/// Carries out orders until all who serve have ended or the target has failed. A tick that there is no memory or no generation for
-/// is left out.
-fn work<R: Wait, S: Served, C: Clock>(rt: &R, client: &mut S, clock: &C, pace: &Pace) {
-    let gate = UntilTick { clock, pace };
+/// Carries out orders until the connection is over or the target has failed. A tick that there is no memory or no generation for
+/// is left out, and so is one for which nothing is dirty, where no request asks for it.
+fn work<R: Wait, S: Served, T: Clock + Eprint>(
+    rt: &R,
+    client: &mut S,
+    teller: &Teller<'_, T>,
+    pace: &Pace,
+) {
+    let gate = UntilTick {
+        clock: teller.rt,
+        pace,
+    };
     for _ in rt.forever() {
-        if client.worker(rt, &gate).is_err() || pace.has_ended() {
+        if let Err(refusal) = client.worker(rt, &gate) {
+            note(teller, refusal);
             return;
         }
+        if pace.has_ended() {
+            return;
+        }
+        let is_busy = pace.is_busy();
         pace.begin_anew();
-        let _ = client.tick(rt);
+        pace.look();
+        if is_busy || client.dirty(rt) > 0 {
+            pace.found_dirty();
+            if let Err(refusal) = client.tick(rt) {
+                note(teller, refusal);
+            }
+        }
+    }
+}
+
+/// Tells of a device that failed.
+fn note<T: Eprint>(teller: &Teller<'_, T>, refusal: Refusal) {
+    if let Refusal::Io(device) = refusal {
+        teller.failed(device);
     }
 }
 

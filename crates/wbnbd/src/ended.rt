@@ -26,7 +26,7 @@ pub enum Reason<'a> {
 }
 
 impl<'a> Ended<'a> {
-    /// The client ended the connection, and all was flushed.
+    /// The client ended the connection, or went between two requests, and all was flushed.
     pub fn well() -> Ended<'a>
         ensures { result.code ≡ 0 }
     {
@@ -63,7 +63,7 @@ impl<'a> Ended<'a> {
 /// The exit status of a refusal.
 fn code_of(refusal: Refusal) -> u8 {
     match refusal {
-        Refusal::Io(_) => 3,
+        Refusal::Io(_) | Refusal::Failed => 3,
         _ => 1,
     }
 }

@@ -4,6 +4,7 @@ ghost use Rattle.std.specs.Prelude.{◌≡◌};
 ghost use Rattle.wbnbd.specs.Lending.{DoneBy};
 
 use crate::pace::Pace;
+use crate::teller::Teller;
 use std::sync::Wait;
 use wb_nbd::{Errno, Export};
 use wb_opened::Served;
@@ -11,15 +12,16 @@ use wb_types::{Content, Refusal, Sector};
 
 /// A client of a target, that requests are done by.
 #[derive(Drop)]
-pub struct Lent<'r, 'c, 'p, R, C> {
+pub struct Lent<'r, 'c, 'p, R, C, T> {
     pub rt: &'r R,
     pub client: &'c mut C,
     pub pace: &'p Pace,
+    pub teller: &'p Teller<'p, T>,
     /// The sectors of the origin.
     pub size: u64,
 }
 
-impl<'r, 'c, 'p, R: Wait, C: Served> Export for Lent<'r, 'c, 'p, R, C> {
+impl<'r, 'c, 'p, R: Wait, C: Served, T: Eprint> Export for Lent<'r, 'c, 'p, R, C, T> {
     ghost size = { λ lent. lent.size };
 
     ghost acts = { λ old act new. DoneBy C.did old.client.now act new.client.now };
@@ -32,7 +34,7 @@ impl<'r, 'c, 'p, R: Wait, C: Served> Export for Lent<'r, 'c, 'p, R, C> {
         self.pace.count();
         match self.client.read(self.rt, at, out) {
             Ok(()) => Ok(()),
-            Err(refusal) => Err(errno_of(refusal)),
+            Err(refusal) => Err(errno_of(self.teller, refusal)),
         }
     }
 
@@ -40,20 +42,23 @@ impl<'r, 'c, 'p, R: Wait, C: Served> Export for Lent<'r, 'c, 'p, R, C> {
         self.pace.count();
         match self.client.write(self.rt, at, from) {
             Ok(()) => Ok(()),
-            Err(refusal) => Err(errno_of(refusal)),
+            Err(refusal) => Err(errno_of(self.teller, refusal)),
         }
     }
 
     fn flush(&mut self) -> Result<(), Errno> {
         match self.client.flush(self.rt) {
             Ok(()) => Ok(()),
-            Err(refusal) => Err(errno_of(refusal)),
+            Err(refusal) => Err(errno_of(self.teller, refusal)),
         }
     }
 }
 
-/// What a client is told of a refusal.
-fn errno_of(refusal: Refusal) -> Errno {
+/// What a client is told of a refusal; the first failure of a device is told on standard error, too.
+fn errno_of<T: Eprint>(teller: &Teller<'_, T>, refusal: Refusal) -> Errno {
+    if let Refusal::Io(device) = refusal {
+        teller.failed(device);
+    }
     match refusal {
         Refusal::Range => Errno::Invalid,
         Refusal::Failed => Errno::Shutdown,

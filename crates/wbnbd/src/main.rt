@@ -7,6 +7,7 @@ mod ended;
 mod lent;
 mod pace;
 mod server;
+mod teller;
 
 use crate::arguments::read_arguments;
 use crate::ended::Ended;
@@ -18,11 +19,11 @@ use std::sync::Wait;
 use std::thread::Threads;
 use std::time::Clock;
 use std::{env, io};
-use wb_streams::hold_streams;
+use wb_streams::{Awaited, hold_streams};
 use wb_types::Refusal;
 
 /// What is asked of who calls the program otherwise.
-const USAGE: &str = "usage: wbnbd TABLE";
+const USAGE: &str = "usage: wbnbd [-q] [--wait SECONDS] TABLE";
 
 /// Bytes of what the client sends, and of what it is told, that are kept for one call of the system: 256 KiB.
 const BUFFER: usize = 262_144;
@@ -36,7 +37,7 @@ fn main(rt: HostRuntime) -> ExitCode {
 }
 
 /// Does what the arguments ask, and gives the exit status. Who waits or starts threads does so by the second handle.
-fn serve<T: Threads + Wait + Clock + Sync>(rt: &HostRuntime, waits: &T) -> u8 {
+fn serve<T: Threads + Wait + Clock + Eprint + Sync>(rt: &HostRuntime, waits: &T) -> u8 {
     let alloc = rt.alloc();
     let Ok(words) = env::args(rt) else {
         return usage(rt);
@@ -44,16 +45,24 @@ fn serve<T: Threads + Wait + Clock + Sync>(rt: &HostRuntime, waits: &T) -> u8 {
     let Ok(words) = words.collect::<Vec<String>>(alloc) else {
         return tell(rt, &Ended::refused(Refusal::Memory));
     };
-    let table = match read_arguments(alloc, words.as_slice()) {
-        Ok(Some(table)) => table,
+    let asked = match read_arguments(alloc, words.as_slice()) {
+        Ok(Some(asked)) => asked,
         Ok(None) => return usage(rt),
         Err(error) => return no_task(rt, &error),
     };
-    let reader = BufReader::with_capacity(alloc, BUFFER, rt.stdin());
-    let writer = BufWriter::with_capacity(alloc, BUFFER, rt.stdout());
+    let input = Awaited {
+        clock: waits,
+        stream: rt.stdin(),
+    };
+    let output = Awaited {
+        clock: waits,
+        stream: rt.stdout(),
+    };
+    let reader = BufReader::with_capacity(alloc, BUFFER, input);
+    let writer = BufWriter::with_capacity(alloc, BUFFER, output);
     match (reader, writer) {
         (Ok(reader), Ok(writer)) => {
-            tell(rt, &server::run(rt, waits, alloc, table, reader, writer))
+            tell(rt, &server::run(rt, waits, alloc, asked, reader, writer))
         }
         _ => tell(rt, &Ended::refused(Refusal::Memory)),
     }

@@ -1,8 +1,10 @@
 //! Opening a target, and serving it.
 
+use crate::arguments::Asked;
 use crate::beside::{Beside, Peer, Told};
 use crate::ended::Ended;
 use crate::pace::{Pace, Place};
+use crate::teller::Teller;
 use std::alloc::{AllocError, Global};
 use std::fs::File;
 use std::io::{Read, Write};
@@ -10,7 +12,8 @@ use std::rt::Files;
 use std::sync::Wait;
 use std::thread::Threads;
 use std::time::Clock;
-use wb_nbd::Connection;
+use wb_files::Patient;
+use wb_nbd::{Broken, Connection};
 use wb_opened::serve_all;
 use wb_types::Refusal;
 
@@ -19,51 +22,57 @@ const SERVERS: u64 = 16;
 
 /// Opens the cache over the files of a table, in write-back mode with TinyLFU, and serves the origin to the client whose bytes are
 /// read and written here, up to 16 requests at once, with a worker beside. Once the connection has ended or broken, accesses are
-/// settled and all is flushed; the cache is left without the clean flag. All three files are locked as long.
+/// settled and all is flushed; the cache is left without the clean flag. All three files are locked as long; where another program
+/// holds one, it is waited for.
 ///
-/// 0 where the client ended the connection, 1 where the files cannot serve or there is no memory, 3 where a device failed, 4 where
-/// the connection broke.
+/// 0 where the client ended the connection or went between two requests and all was flushed, 1 where the files cannot serve or there is no memory, 3 where
+/// a device failed, 4 where the connection broke.
 pub fn run<
     'a,
     R: Files<File = File>,
-    T: Threads + Wait + Clock + Sync,
+    T: Threads + Wait + Clock + Eprint + Sync,
     I: Read + Drop + Send,
     O: Write + Drop + Send,
->(rt: &R, waits: &T, alloc: Global, table: &'a str, reader: I, writer: O) -> Ended<'a> {
+>(rt: &R, waits: &T, alloc: Global, asked: Asked<'a>, reader: I, writer: O) -> Ended<'a> {
     let pace = Pace::new(SERVERS);
+    let teller = Teller::new(waits, asked.quiet);
     let connection = Connection::new(reader, writer);
-    let Ok(services) = services_of(alloc, waits, &pace, &connection) else {
+    let Ok(services) = services_of(alloc, &teller, &pace, &connection) else {
         return Ended::refused(Refusal::Memory);
     };
-    match serve_all(rt, waits, alloc, table, services) {
+    let mut patience = Patient::new(waits, asked.wait);
+    match serve_all(rt, waits, alloc, asked.table, &mut patience, services) {
         Ok(told) => ended_of(told.as_slice()),
         Err(unserved) => Ended::unserved(unserved),
     }
 }
 
-/// Those who serve, and behind them one who works.
+/// One who works, and behind it those who serve: where no thread can be made the last of them are done first, and nobody waits for one behind
+/// itself. So with too few threads they serve one after the other, and who works finds the connection over.
 fn services_of<'a, T, I, O>(
     alloc: Global,
-    waits: &'a T,
+    teller: &'a Teller<'a, T>,
     pace: &'a Pace,
     connection: &'a Connection<I, O>,
 ) -> Result<Vec<Beside<'a, T, I, O>>, AllocError> {
     let mut services = Vec::new(alloc);
+    services
+        .push(Beside::Work(teller, pace))
+        .map_err(|_| AllocError)?;
     for _ in 0..SERVERS {
         let peer = Peer {
             alloc,
             connection,
             place: Place { pace },
+            teller,
         };
         services.push(Beside::Serve(peer)).map_err(|_| AllocError)?;
     }
-    services
-        .push(Beside::Work(waits, pace))
-        .map_err(|_| AllocError)?;
     Ok(services)
 }
 
-/// How a run ended, by what each told: a connection that broke for one broke, and one that was served by one was served.
+/// How a run ended, by what each told: a connection that broke for one broke, and one that was served by one was served. A client that went between two
+/// requests has not broken it.
 fn ended_of<'a>(told: &[Result<Told, Refusal>]) -> Ended<'a> {
     let mut refused = None;
     let mut unserved = Some(Refusal::Memory);
@@ -74,7 +83,7 @@ fn ended_of<'a>(told: &[Result<Told, Refusal>]) -> Ended<'a> {
                     connection: Err(broken),
                     ..
                 },
-            ) => return Ended::broken(*broken),
+            ) if *broken != Broken::Gone => return Ended::broken(*broken),
             Ok(Told::Served { flushed, .. }) => {
                 unserved = None;
                 if let Err(refusal) = flushed {

@@ -1,0 +1,189 @@
+#!/bin/sh
+# wbnbd in bad weather, by bytes that a client sends: how a connection ends, a device that fails, files that are held, too few threads, descriptors
+# or memory, streams that do not wait, and what it tells. It prints what failed, and at the end 'N passed, N failed'; its status is 0 where
+# nothing failed.
+#
+#     sh scripts/check-nbd.sh WBCACHE WBNBD
+set -u
+top=$(cd "$(dirname "$0")/.." && pwd)
+whole() { echo "$(cd "$(dirname "$1")" && pwd)/$(basename "$1")"; }
+cache=$(whole "$1")
+server=$(whole "$2")
+. "$top/scripts/checks.sh"
+work=$(mktemp -d)
+trap 'rm -rf "$work"' EXIT
+chmod 755 "$work"
+cd "$work" || exit 1
+
+table='cache m.img c.img o.img 64 0 tinylfu 0'
+fresh() { # files of zeros, formatted
+  rm -f m.img c.img o.img
+  truncate -s 2048 m.img
+  truncate -s 131072 c.img
+  truncate -s 327680 o.img
+  "$cache" format "$table" >/dev/null
+}
+bytes() { # a number, how many bytes it has: these, the highest first
+  number=$1 width=$2 spelled=''
+  while test "$width" -gt 0; do
+    spelled="\\0$(printf '%o' $((number % 256)))$spelled"
+    number=$((number / 256))
+    width=$((width - 1))
+  done
+  printf '%b' "$spelled"
+}
+hello() { printf '\000\000\000\003IHAVEOPT\000\000\000\007\000\000\000\006\000\000\000\000\000\000'; }
+request() { # command, cookie, first byte, how many
+  printf '\045\140\225\023\000\000'
+  bytes "$1" 2
+  bytes "$2" 8
+  bytes "$3" 8
+  bytes "$4" 4
+}
+read_of() { request 0 "$@"; }
+write_of() { # cookie, first byte, how many: of zeros
+  request 1 "$@"
+  head -c "$3" /dev/zero
+}
+flush_of() { request 3 "$1" 0 0; }
+goodbye() { request 2 99 0 0; }
+serve() { # arguments: what comes from standard input is sent; out.bin and told.txt have what it answers and tells, status.txt its status
+  timeout 30 "$server" "$@" >out.bin 2>told.txt
+  echo $? >status.txt
+}
+status() { cat status.txt; }
+replies() { # the errors and the cookies of the replies without data, behind the handshake
+  tail -c +105 out.bin | od -An -v -tx1 -w16 | awk '$1 $2 $3 $4 == "67446698" { print $8 ":" $16 }' | sort | tr '\n' ' '
+}
+
+# --- How a connection ends.
+fresh
+{ hello; write_of 1 0 512; flush_of 2; goodbye; } | serve "$table"
+check 'a client that ends the connection' "$(status) $(replies)" '0 00:01 00:02 '
+{ hello; write_of 1 0 512; flush_of 2; } | serve "$table"
+check 'a client that goes between two requests' "$(status) $(replies)" '0 00:01 00:02 '
+{ hello; write_of 1 0 512; request 3 2 0 0 | head -c 20; } | serve "$table"
+check 'a client that goes in the middle of one' "$(status) $(replies)" '4 00:01 '
+has 'and why' "$(cat told.txt)" "wbnbd: the client's end is gone"
+hello | head -c 10 | serve "$table"
+check 'a client that goes before the first request' "$(status)" 4
+{ hello; request 3 1 512 0; request 3 2 0 512; flush_of 3; goodbye; } | serve "$table"
+check 'a flush of a part is invalid' "$(replies)" '00:03 16:01 16:02 '
+
+# --- What is told.
+{ hello; goodbye; } | serve "$table"
+check 'what was opened, and how it stands at the end' "$(sed 's/ [0-9]*\/4 64 .*/ ../' told.txt)" 'wbnbd: opened 640 sectors; 0 of 4 cache blocks mapped, 0 dirty
+wbnbd: 1 ..'
+{ hello; goodbye; } | serve -q "$table"
+check 'nothing is told where that is asked' "$(status)$(cat told.txt)" 0
+echo | serve --wait x "$table"
+check 'a wait of no number' "$(status) $(cat told.txt)" '2 usage: wbnbd [-q] [--wait SECONDS] TABLE'
+
+# --- Files that cannot serve.
+truncate -s 0 n.img
+truncate -s 2048 n.img
+hello | serve 'cache n.img c.img o.img 64 0 tinylfu 0'
+check 'files that are not formatted' "$(status) $(grep -c 'NotFormatted: the metadata file has no valid root' told.txt)" '1 1'
+# shellcheck disable=SC3045 # where the shell has it
+(ulimit -n 40; { hello; goodbye; } | serve "$table")
+check 'too few descriptors' "$(status) $(grep -c 'cannot be opened again: Too many open files' told.txt)" '3 1'
+
+# --- Files that another program holds.
+fresh
+mkfifo script answers
+"$cache" run "$table" <script >answers &
+holder=$!
+exec 3>script 4<answers
+echo 'r 0 1' >&3
+read -r _ <&4
+{ hello; goodbye; } | serve --wait 0 "$table"
+check 'a wait that runs out' "$(status) $(cat told.txt)" "3 wbnbd: metadata file m.img: locked, by another program or as another device of the table"
+(exec 3>&- 4<&-; { hello; goodbye; } | serve --wait 20 "$table") &
+waiting=$!
+exec 3>&- 4<&-
+wait "$holder"
+wait "$waiting"
+check 'a wait that is over in time' "$(status) $(grep -c opened told.txt)" '0 1'
+
+# --- A device that fails: a shell ignores the signal of the limit of the file size.
+fresh
+(trap '' XFSZ; ulimit -f 100; { hello; write_of 1 199680 512; write_of 2 0 512; flush_of 3; goodbye; } | serve "$table")
+check 'a device that fails ends it with 3' "$(status)" 3
+has 'and which is told' "$(cat told.txt)" 'wbnbd: origin file: a read, a write or a sync failed'
+has 'and what it came to' "$(cat told.txt)" 'wbnbd: 6 Failed'
+check 'no reply without an error for a step that failed' "$(replies | tr ' ' '\n' | grep -c '^00:0[13]')" 0
+
+# --- A client that does not listen: what it asks for is not done, once a reply could not be written.
+fresh
+(trap '' PIPE; { hello; for cookie in 1 2 3 4 5 6 7 8; do read_of $cookie 0 65536; done; } 2>/dev/null | timeout 30 "$server" "$table" 2>told.txt >/dev/full; echo $? >status.txt)
+check 'a client that cannot be told anything' "$(status) $(grep -c 'a reply cannot be written' told.txt)" '4 1'
+
+# --- Streams that do not wait: whoever starts the programs may have made them so.
+if command -v python3 >/dev/null; then
+  fresh
+  cat >unwaiting.py <<'SCRIPT'
+import os, subprocess, sys, time
+program, sent = sys.argv[1:-1], sys.argv[-1].encode().decode("unicode_escape").encode("latin-1")
+(their_input, our_input), (our_output, their_output) = os.pipe(), os.pipe()
+os.set_blocking(their_input, False)
+os.set_blocking(their_output, False)
+with subprocess.Popen(program, stdin=their_input, stdout=their_output) as process:
+    os.close(their_input)
+    os.close(their_output)
+    # so that it finds nothing to read at first
+    time.sleep(0.3)
+    os.write(our_input, sent)
+    os.close(our_input)
+    data = b""
+    while more := os.read(our_output, 65536):
+        data += more
+print(process.returncode, len(data))
+SCRIPT
+  check 'a server over streams that do not wait' "$(timeout 30 python3 unwaiting.py "$server" -q "$table" \
+    '\0\0\0\3IHAVEOPT\0\0\0\7\0\0\0\6\0\0\0\0\0\0\x25\x60\x95\x13\0\0\0\0\0\0\0\0\0\0\0\1\0\0\0\0\0\0\0\0\0\4\0\0\x25\x60\x95\x13\0\0\0\2\0\0\0\0\0\0\0\2\0\0\0\0\0\0\0\0\0\0\0\0')" "0 $((104 + 16 + 262144))"
+  check 'a script over streams that do not wait' "$(timeout 30 python3 unwaiting.py "$cache" run "$table" 'w 0 1 11\nr 0 1\n')" '0 8'
+else
+  echo 'not tried: there is no python3, by which streams are made that do not wait'
+fi
+
+# --- Too few threads, and too little address space: it serves, and ends. Root has no limit of threads.
+as_somebody() { if test "$(id -u)" = 0; then setpriv --reuid=65534 --regid=65534 --clear-groups "$@"; else "$@"; fi; }
+cp "$server" few
+chmod 755 few
+for threads in 1 2 5 9; do
+  fresh
+  chmod 666 ./*.img
+  { hello; write_of 1 0 512; read_of 2 512 512; flush_of 3; goodbye; } >sent
+  # shellcheck disable=SC2016 # it is the text of a script
+  as_somebody sh -c 'ulimit -u "$1"; exec timeout 30 "$2" "$3" <sent' few "$threads" ./few "$table" >out.bin 2>told.txt
+  check "no more than $threads threads" "$? $(wc -c <out.bin)" "0 $((104 + 16 + 16 + 512 + 16))"
+done
+fresh
+{ hello; write_of 1 0 512; flush_of 2; goodbye; } >sent
+for space in 20000 40000 60000 90000; do
+  # shellcheck disable=SC3045 # where the shell has it
+  (ulimit -v "$space" && exec timeout 30 "$server" "$table") <sent >out.bin 2>told.txt
+  ended=$?
+  check "$space KB of address space" "$(test "$ended" = 0 || test "$ended" = 1 && echo ends)" ends
+done
+
+# --- An idle server: it wakes seldom, and writes back what is dirty. Nothing but time tells.
+fresh
+mkfifo sends
+timeout 30 "$server" "$table" <sends >out.bin 2>told.txt &
+running=$!
+exec 3>sends
+{ hello; read_of 1 32768 512; read_of 2 32768 512; } >&3
+sleep 1
+write_of 3 32768 512 >&3
+sleep 3
+switches() { awk '/^voluntary_ctxt_switches/ { count += $2 } END { print count }' /proc/"$(pgrep -P "$running" || echo "$running")"/task/*/status; }
+before=$(switches)
+sleep 1
+after=$(switches)
+check 'an idle server wakes seldom' "$(test $((after - before)) -lt 60 && echo yes || echo $((after - before)))" yes
+exec 3>&-
+wait "$running"
+check 'and has nothing dirty' "$(tail -n 1 told.txt | cut -d" " -f12)" 0
+
+tell
