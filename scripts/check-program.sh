@@ -36,6 +36,7 @@ if test $# != 3; then
   done
 fi
 call "$top/scripts/check-nbd.sh" "$cache" "$server"
+call "$top/scripts/check-replays.sh" "$cache"
 cd "$work" || exit 1
 blank() { # files of zeros
   rm -f m.img c.img o.img

@@ -6,21 +6,14 @@
 set -u
 program=${1:?the program wbcache}
 top=$(cd "$(dirname "$0")/.." && pwd)
+. "$top/scripts/checks.sh"
 setup='setup writeback 64 4 10 4'
-passed=0
-failed=0
 
 replayed() { # lines, parted by slashes: what is printed, parted by slashes
   printf '%s' "$1" | tr '/' '\n' | sed 's/^ *//; s/ *$//' | "$program" replay | tr '\n' '/' | sed 's,/$,,'
 }
 compare() { # lines, what they are to print
-  found=$(replayed "$1")
-  if test "$found" = "$2"; then
-    passed=$((passed + 1))
-  else
-    failed=$((failed + 1))
-    printf 'failed: %s\n  wanted: %s\n  found:  %s\n' "$1" "$2" "$found"
-  fi
+  check "the replay '$1'" "$(replayed "$1")" "$2"
 }
 joined() { # texts: those that are not empty, with slashes between them
   all=
@@ -58,12 +51,8 @@ while IFS='|' read -r kind one two three four five six <&3; do
         left=$((left - 1))
       done
       ;;
-    *)
-      failed=$((failed + 1))
-      printf 'failed: a row of no kind: %s\n' "$kind"
-      ;;
+    *) check "a row of no kind: $kind" no yes ;;
   esac
 done 3<"$top/scripts/cases/replays.txt"
 
-echo "$passed passed, $failed failed"
-test "$failed" = 0
+tell
