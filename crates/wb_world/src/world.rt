@@ -18,15 +18,9 @@ use wb_runs::Event;
 use wb_types::{Content, Geometry, Refusal};
 
 /// Three devices in memory, what stands over them, and the trace of what happened, of which all holds that is promised of every run.
+#[derive(Drop)]
 pub struct World {
     machine: Machine,
-}
-
-impl Drop for World {
-    fn drop(self) {
-        let World { machine } = self;
-        drop(machine);
-    }
 }
 
 impl Model for World {
