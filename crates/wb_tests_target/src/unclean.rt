@@ -5,32 +5,51 @@ use crate::questions::{Question, answered_over};
 use std::alloc::Global;
 use std::sync::Wait;
 use std::test::Fail;
-use wb_meta::commit;
+use wb_disk::{Disk, MemDisk};
+use wb_format::{Root, Version};
 use wb_policy::Order;
-use wb_tree::Tree;
-use wb_types::{CBlock, Entry, Geometry, OBlock, Place, Refusal};
+use wb_types::{CBlock, Content, Dev, Geometry, OBlock, Place, Refusal, SECTOR_BYTES};
 
-/// The first four origin blocks, each in the cache block of its number, clean, with these hints.
-fn hinted(alloc: Global, hints: [u8; 4]) -> Result<Tree<Global>, Refusal> {
-    let mut tree = Tree::new(alloc, 4);
-    for number in 0..4u32 {
-        let entry = Entry {
-            origin: OBlock(number),
-            dirty: false,
-            hint: hints[number as usize],
-        };
-        tree.set(CBlock(number), entry)?;
-    }
-    Ok(tree)
+/// Devices whose newest root, with or without the clean flag, names that leaf.
+fn stored(alloc: Global, clean: bool) -> Result<Memory, Refusal> {
+    let mut devices = formatted(alloc)?;
+    let root = Root {
+        generation: 1,
+        version: Version::One,
+        clean,
+        geometry: Geometry::new(64, 4, 10, 4)?,
+        top: Some(Place(2)),
+    };
+    put(&mut devices.metadata, 2, &leaf())?;
+    let mut content = [0; SECTOR_BYTES];
+    root.write(&mut content);
+    put(&mut devices.metadata, 1, &content)?;
+    Ok(devices)
 }
 
-/// Devices whose metadata are of that mapping, with or without the clean flag.
-fn stored(alloc: Global, hints: [u8; 4], clean: bool) -> Result<Memory, Refusal> {
-    let mut devices = formatted(alloc)?;
-    let mut tree = hinted(alloc, hints)?;
-    let image = tree.plan(alloc, &Geometry::new(64, 4, 10, 4)?, 1, clean, &[Place(2)])?;
-    commit(&mut devices.metadata, &image)?;
-    Ok(devices)
+/// A leaf whose first four cache blocks hold the origin blocks of their numbers: clean, with hints 5, 2, 5, 0.
+fn leaf() -> Content {
+    let mut content = [0; SECTOR_BYTES];
+    content[..8].copy_from_slice(b"WBCNODE1");
+    // Generation and level.
+    content[8] = 1;
+    content[16] = 1;
+    // Each word has a bit for the entry, the hint from bit 4 on and the block from bit 16 on.
+    content[32] = 0x51;
+    content[40] = 0x21;
+    content[42] = 1;
+    content[48] = 0x51;
+    content[50] = 2;
+    content[56] = 0x01;
+    content[58] = 3;
+    content
+}
+
+fn put(disk: &mut MemDisk, at: u64, content: &Content) -> Result<(), Refusal> {
+    if at >= disk.sectors() || disk.write(at, content).is_err() {
+        return Err(Refusal::Io(Dev::Metadata));
+    }
+    Ok(())
 }
 
 /// Whether a block that is accessed four times gets this order.
@@ -40,7 +59,7 @@ pub fn orders(rt: &impl Wait, client: &mut Lent<'_>, order: Order) -> bool {
         && worked(rt, client) == Some(order)
 }
 
-/// With hints 5, 2, 5, 0 the block that makes way, and how many blocks are dirty.
+/// The block that makes way, and how many blocks are dirty.
 #[derive(Clone, Copy)]
 struct Row {
     clean: bool,
@@ -64,7 +83,7 @@ const ROWS: [Row; 2] = [
 #[test]
 fn hints_are_taken_with_the_clean_flag_alone(rt: HostRuntime) -> Result<(), Fail> {
     for row in &ROWS {
-        let devices = stored(rt.alloc(), [5, 2, 5, 0], row.clean)?;
+        let devices = stored(rt.alloc(), row.clean)?;
         let order = Order::Replace(OBlock(row.victim), OBlock(5), CBlock(row.victim));
         assert!(rt; answered_over(&rt, rt.alloc(), devices, Question::Orders(order))?);
     }
@@ -74,7 +93,7 @@ fn hints_are_taken_with_the_clean_flag_alone(rt: HostRuntime) -> Result<(), Fail
 #[test]
 fn dirty_bits_are_taken_with_the_clean_flag_alone(rt: HostRuntime) -> Result<(), Fail> {
     for row in &ROWS {
-        let devices = stored(rt.alloc(), [5, 2, 5, 0], row.clean)?;
+        let devices = stored(rt.alloc(), row.clean)?;
         let dirty = Question::CountsDirty(row.dirty);
         assert!(rt; answered_over(&rt, rt.alloc(), devices, dirty)?);
     }

@@ -76,7 +76,7 @@ fn serve<T: Wait>(rt: &HostRuntime, waits: &T) -> u8 {
                     alloc,
                     table,
                     &mut reader,
-                    &mut awaited(rt, io::writer(rt)),
+                    &mut awaited(rt, rt.stdout()),
                     Progress::new(rt, verbose),
                 )
             }
@@ -114,7 +114,7 @@ impl<'a> Consent for Terminal<'a> {
 fn replay(rt: &HostRuntime) -> u8 {
     match BufReader::new(rt.alloc(), awaited(rt, rt.reader())) {
         Ok(mut reader) => {
-            wb_replay::run(rt.alloc(), &mut reader, &mut awaited(rt, io::writer(rt))).code()
+            wb_replay::run(rt.alloc(), &mut reader, &mut awaited(rt, rt.stdout())).code()
         }
         Err(_) => no_memory(rt),
     }
