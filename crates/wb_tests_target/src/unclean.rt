@@ -27,21 +27,14 @@ fn stored(alloc: Global, clean: bool) -> Result<Memory, Refusal> {
     Ok(devices)
 }
 
-/// A leaf whose first four cache blocks hold the origin blocks of their numbers: clean, with hints 5, 2, 5, 0.
+/// The front of a leaf whose first four cache blocks hold the origin blocks of their numbers: clean, with hints 5, 2, 5, 0. A word has a
+/// bit for its entry, the hint from bit 4 on and the block from bit 16 on.
+const LEAF: &[u8; 59] =
+    b"WBCNODE1\x01\0\0\0\0\0\0\0\x01\0\0\0\0\0\0\0\0\0\0\0\0\0\0\0\x51\0\0\0\0\0\0\0\x21\0\x01\0\0\0\0\0\x51\0\x02\0\0\0\0\0\x01\0\x03";
+
 fn leaf() -> Content {
     let mut content = [0; SECTOR_BYTES];
-    content[..8].copy_from_slice(b"WBCNODE1");
-    // Generation and level.
-    content[8] = 1;
-    content[16] = 1;
-    // Each word has a bit for the entry, the hint from bit 4 on and the block from bit 16 on.
-    content[32] = 0x51;
-    content[40] = 0x21;
-    content[42] = 1;
-    content[48] = 0x51;
-    content[50] = 2;
-    content[56] = 0x01;
-    content[58] = 3;
+    content[..LEAF.len()].copy_from_slice(LEAF);
     content
 }
 
