@@ -47,7 +47,7 @@ done
 refused=0 proved=0 bad=0
 begin_edits() { # crate, how many processors it may use, how much it gives way
   # shellcheck disable=SC2016 # it is the text of a script
-  start "$1" 1 nice -n "$3" sh -c 'cd "$1" && RT_JOBS=1 exec rt must-fail "$2"' begin_edits "$copy" "$1"
+  start "$1" 1 "$3" sh -c 'cd "$1" && RT_JOBS=1 exec rt must-fail "$2"' begin_edits "$copy" "$1"
 }
 counted() { grep -c "$1" "$log" || true; }
 end_edits() { # crate, status

@@ -181,7 +181,7 @@ begin_proof() { # crate, how many jobs it may take, how much it gives way
   fi
   crate=$1 may_use=$2 gives_way=$3
   shift 3
-  start "$crate" "$may_use" flock "$top/crates/$crate" nice -n "$gives_way" sh -c "$in_room" in_room "$top/crates/$crate" "$work/$crate/crates/$crate" rt "$@"
+  start "$crate" "$may_use" "$gives_way" flock "$top/crates/$crate" sh -c "$in_room" in_room "$top/crates/$crate" "$work/$crate/crates/$crate" rt "$@"
 }
 end_proof() { # crate, status
   rm -rf "${work:?}/$1"
@@ -225,13 +225,21 @@ catch() {
 }
 
 # Starts a command in a session of its own, so that all that it starts can be found again. At its end a line comes through the pipe.
-# Who is to end it may wait for the shell beside it, which ends once the command has.
-start() { # job, how many processors it may use, command
-  job=$1 may_use=$2
-  shift 2
+# Who is to end it may wait for the shell beside it, which ends once the command has. Where the kernel shares its time out by sessions, what a
+# session gives way is told to it; between processes of several sessions nice says nothing there.
+# shellcheck disable=SC2016 # it is the text of a script
+in_session='
+  trap : TERM
+  log=$1 job=$2 gives_way=$3
+  shift 3
+  test ! -w /proc/self/autogroup || echo "$gives_way" >/proc/self/autogroup
+  nice -n "$gives_way" "$@" >"$log" 2>&1 </dev/null 3>&- 9<&-
+  echo "$job $?" >&3'
+start() { # job, how many processors it may use, how much it gives way, command
+  job=$1 may_use=$2 gives_way=$3
+  shift 3
   busy=yes
-  # shellcheck disable=SC2016 # it is the text of a script
-  setsid sh -c 'trap : TERM; log=$1 job=$2; shift 2; "$@" >"$log" 2>&1 </dev/null 3>&- 9<&-; echo "$job $?" >&3' start "$work/$job.log" "$job" "$@" &
+  setsid sh -c "$in_session" start "$work/$job.log" "$job" "$gives_way" "$@" &
   echo "$job $! $(date +%s) $may_use" >>"$work/running"
   busy=
   test -z "$caught" || exit "$caught"
@@ -283,7 +291,7 @@ one_job() { # job, command
   exec 3<>"$work/ends"
   job=$1
   shift
-  start "$job" "$(processors)" "$@"
+  start "$job" "$(processors)" 0 "$@"
   read -r _ status <&3
   : >"$work/running"
   exec 3<&-
