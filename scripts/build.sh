@@ -18,7 +18,7 @@ cd "$top"
 # What a program is called with to see that it runs: it prints something, and ends with 0.
 trial_of() {
   case $1 in
-    wb_bench) echo 'sketch 64 0' ;;
+    wb_bench) echo 'settles 64 0' ;;
     *) echo '--version' ;;
   esac
 }

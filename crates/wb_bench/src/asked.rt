@@ -3,11 +3,7 @@
 ghost use Rattle.std.specs.Prelude.{◌≤◌};
 
 use crate::cached::{BLOCK, Cached, Call};
-use crate::desks::Accessed;
-use crate::edits::{Edits, Work};
-use crate::shares::{Crowd, Shares};
-use crate::traces::Trace;
-use crate::turnover::Turnover;
+use crate::crowd::Crowd;
 
 /// The most sectors of a request: 1 MiB.
 pub const MOST_SECTORS: u64 = 2_048;
@@ -34,19 +30,11 @@ pub struct Requests<'a> {
 #[derive(Clone, Copy, Debug)]
 pub enum Asked<'a> {
     Requests(Requests<'a>),
-    Accesses { cache_blocks: u32, adds: u64 },
-    /// The one access that resets a sketch for so many cache blocks.
-    Reset { cache_blocks: u32 },
     /// Settle so many accesses, or tick so often, over a cache of so many blocks.
     Settles { cache_blocks: u32, accesses: u64 },
     Ticks { cache_blocks: u32, ticks: u64 },
     /// Requests of a target's clients on cached blocks.
     Cached(Cached<'a>),
-    /// Accesses through a desk.
-    Desk(Accessed<'a>),
-    Turnover(Turnover),
-    Edits(Edits),
-    Shares(Shares),
     /// Write a full mapping of so many cache blocks to a file.
     Mapping { file: &'a str, cache_blocks: u32 },
     /// Read what the metadata device in a file stands for.
@@ -58,11 +46,11 @@ pub fn read_asked(words: &[String]) -> Option<Asked<'_>> {
     match words {
         [_, file, state] => read_state(file.as_str(), state.as_str()),
         [_, first, second, third] => { read_three(first.as_str(), second.as_str(), third.as_str()) }
-        [_, first, second, third, fourth] => read_four(
-            first.as_str(),
-            second.as_str(),
-            third.as_str(),
-            fourth.as_str(),
+        [_, file, direction, sectors, requests] => read_requests(
+            file.as_str(),
+            direction.as_str(),
+            sectors.as_str(),
+            requests.as_str(),
         ),
         _ => read_cached(words),
     }
@@ -112,19 +100,12 @@ fn read_three<'a>(first: &'a str, second: &str, third: &str) -> Option<Asked<'a>
         });
     }
     let cache_blocks = read_u32(second)?;
-    if first == "sketch" && third == "reset" {
-        return Some(Asked::Reset { cache_blocks });
-    }
     read_counted(first, cache_blocks, read_u64(third)?)
 }
 
 /// What is done so many times over so many cache blocks.
 fn read_counted<'a>(word: &str, cache_blocks: u32, times: u64) -> Option<Asked<'a>> {
     match word {
-        "sketch" => Some(Asked::Accesses {
-            cache_blocks,
-            adds: times,
-        }),
         "settles" => Some(Asked::Settles {
             cache_blocks,
             accesses: times,
@@ -135,57 +116,6 @@ fn read_counted<'a>(word: &str, cache_blocks: u32, times: u64) -> Option<Asked<'
         }),
         _ => None,
     }
-}
-
-fn read_four<'a>(first: &'a str, second: &str, third: &str, fourth: &'a str) -> Option<Asked<'a>> {
-    if first == "desk" {
-        return read_desk(second, third, fourth);
-    }
-    if first == "space" {
-        return read_turnover(second, third, fourth);
-    }
-    if first == "tree" {
-        return read_edits(second, third, fourth);
-    }
-    if first == "shares" {
-        return read_shares(second, third, fourth);
-    }
-    read_requests(first, second, third, fourth)
-}
-
-fn read_desk<'a>(cache_blocks: &str, origin_blocks: &str, trace: &'a str) -> Option<Asked<'a>> {
-    Some(Asked::Desk(Accessed {
-        cache_blocks: read_u32(cache_blocks)?,
-        origin_blocks: read_u32(origin_blocks)?,
-        trace: match read_u64(trace) {
-            Some(accesses) => Trace::Zipf(accesses),
-            None => Trace::File(trace),
-        },
-    }))
-}
-
-fn read_turnover<'a>(cache_blocks: &str, rounds: &str, removed: &str) -> Option<Asked<'a>> {
-    Some(Asked::Turnover(Turnover {
-        cache_blocks: read_u32(cache_blocks)?,
-        rounds: read_u64(rounds)?,
-        removed: read_u64(removed)?,
-    }))
-}
-
-fn read_edits<'a>(cache_blocks: &str, work: &str, rounds: &str) -> Option<Asked<'a>> {
-    Some(Asked::Edits(Edits {
-        cache_blocks: read_u32(cache_blocks)?,
-        work: read_work(work)?,
-        rounds: read_u64(rounds)?,
-    }))
-}
-
-fn read_shares<'a>(blocks: &str, threads: &str, rounds: &str) -> Option<Asked<'a>> {
-    Some(Asked::Shares(Shares {
-        crowd: read_crowd(threads)?,
-        apart: read_apart(blocks)?,
-        rounds: read_u32(rounds)?,
-    }))
 }
 
 fn read_requests<'a>(
@@ -224,33 +154,11 @@ fn read_direction(word: &str) -> Option<Direction> {
     }
 }
 
-fn read_work(word: &str) -> Option<Work> {
-    if word == "get" {
-        return Some(Work::Get);
-    }
-    if word == "set" {
-        return Some(Work::Set);
-    }
-    if word == "clear" {
-        return Some(Work::Clear);
-    }
-    Some(Work::Plan(word.parse::<u32>().ok()?))
-}
-
 fn read_crowd(word: &str) -> Option<Crowd> {
     match word.parse::<u32>().ok()? {
         1 => Some(Crowd::One),
         2 => Some(Crowd::Two),
         4 => Some(Crowd::Four),
-        _ => None,
-    }
-}
-
-/// Whether each thread has a block of its own.
-fn read_apart(word: &str) -> Option<bool> {
-    match word {
-        "same" => Some(false),
-        "apart" => Some(true),
         _ => None,
     }
 }

@@ -1,7 +1,7 @@
 //! Requests of a target's clients on blocks that are cached, to be timed.
 
-use crate::clock::passed_by;
-use crate::shares::Crowd;
+use crate::clock::passed;
+use crate::crowd::Crowd;
 use std::alloc::Global;
 use std::sync::Wait;
 use std::thread::Threads;
@@ -88,7 +88,7 @@ impl<'c, C: Clock> Service for Load<'c, C> {
         }
         Some(Answered {
             requests: self.requests,
-            serving: passed_by(self.clock, &start),
+            serving: passed(self.clock, &start),
         })
     }
 }
@@ -147,7 +147,7 @@ impl<'c, C: Clock> Service for Fill<'c, C> {
                 Ok(None) => {}
                 Err(_) => return Err("an order failed"),
             }
-            promoting = promoting.wrapping_add(passed_by(self.clock, &start));
+            promoting = promoting.wrapping_add(passed(self.clock, &start));
         }
         client.settle(rt);
         Ok((promotions, promoting))

@@ -3,12 +3,7 @@
 use std::time::{Clock, Instant};
 
 /// The nanoseconds since then; 0 where the clock cannot be read.
-pub fn passed(rt: &HostRuntime, start: &Instant) -> u64 {
-    passed_by(rt, start)
-}
-
-/// The same by another clock.
-pub fn passed_by<C: Clock>(clock: &C, start: &Instant) -> u64 {
+pub fn passed<C: Clock>(clock: &C, start: &Instant) -> u64 {
     match start.elapsed(clock) {
         Ok(took) => took
             .as_secs()

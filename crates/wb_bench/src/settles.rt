@@ -83,12 +83,12 @@ impl Cache {
 /// Blocks by Zipf's law with exponent 1, by powers of two: ranks from `2^k - 1` to `2^(k+1) - 2` are as likely together
 /// for each k below 20.
 #[derive(Drop)]
-pub(crate) struct Zipf {
+struct Zipf {
     state: u64,
 }
 
 impl Zipf {
-    pub(crate) fn new() -> Zipf {
+    fn new() -> Zipf {
         Zipf { state: 1 }
     }
 
@@ -100,7 +100,7 @@ impl Zipf {
         self.state >> 33
     }
 
-    pub(crate) fn block(&mut self) -> OBlock {
+    fn block(&mut self) -> OBlock {
         let power = ((self.number() & 0xffff) * 20) >> 16;
         let first = (1u64 << (power % 20)) - 1;
         let rank = first + (self.number() & first);

@@ -1,0 +1,25 @@
+//! How many clients take part.
+
+ghost use Rattle.std.specs.Prelude.{◌≤◌};
+
+/// How many clients take part, each on a thread of its own.
+#[derive(Clone, Copy, Debug, PartialEq, Eq)]
+pub enum Crowd {
+    One,
+    Two,
+    Four,
+}
+
+impl Crowd {
+    /// How many they are.
+    pub fn count(self) -> u64
+        ensures some { 1 ≤ result }
+        ensures few { result ≤ 4 }
+    {
+        match self {
+            Crowd::One => 1,
+            Crowd::Two => 2,
+            Crowd::Four => 4,
+        }
+    }
+}
