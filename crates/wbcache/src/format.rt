@@ -9,7 +9,8 @@ use std::fmt::Write as _;
 use std::fs::File;
 use std::io::Write;
 use std::rt::Files;
-use wb_files::{Disks, Hurry, open_table};
+use wb_disk::Disk;
+use wb_files::{Hurry, open_table};
 use wb_opened::Unserved;
 use wb_types::{Geometry, Refusal};
 
@@ -28,26 +29,29 @@ pub fn format_files<'a, R: Files<File = File>, C: Consent, W: Write>(
     consent: &mut C,
     writer: &mut W,
 ) -> Ended<'a> {
-    let (disks, geometry) = match open_table(rt, table, &mut Hurry) {
-        Ok(opened) => opened,
-        Err(unopened) => {
-            return refused(alloc, Unserved::Unopened(unopened), writer);
+    match open_table(rt, table, &mut Hurry) {
+        Ok((mut disks, geometry)) => {
+            format_disk(alloc, &mut disks.metadata, &geometry, consent, writer)
         }
-    };
-    let Disks {
-        mut metadata,
-        cache,
-        origin,
-    } = disks;
-    if let Some(given_up) = find_given_up(alloc, &mut metadata) {
+        Err(unopened) => refused(alloc, Unserved::Unopened(unopened), writer),
+    }
+}
+
+/// Formats a metadata device, where that is consented to.
+fn format_disk<'a, D: Disk, C: Consent, W: Write>(
+    alloc: Global,
+    metadata: &mut D,
+    geometry: &Geometry,
+    consent: &mut C,
+    writer: &mut W,
+) -> Ended<'a> {
+    if let Some(given_up) = find_given_up(alloc, metadata) {
         if !consent.may_give_up(given_up) {
             return Ended::new(Ok(Status::Refused), None);
         }
     }
-    let formatted = wb_meta::format(&mut metadata, &geometry);
-    drop((cache, origin));
-    match formatted {
-        Ok(()) => Ended::new(report(alloc, &geometry, writer), None),
+    match wb_meta::format(metadata, geometry) {
+        Ok(()) => Ended::new(report(alloc, geometry, writer), None),
         Err(refusal) => refused(alloc, Unserved::Refused(refusal), writer),
     }
 }
