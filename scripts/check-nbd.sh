@@ -168,9 +168,11 @@ read -r _ <&4
 read -r told <&4
 check 'what the worker beside met is told at once' "$told" 'wbnbd: cache file: a write failed: File too large (os error 27)'
 goodbye >&3
-exec 3>&- 4<&-
+exec 3>&-
+cat <&4 >told.txt
+exec 4<&-
 wait "$running"
-check 'a server whose last flush is refused does not end with 0' "$?" 3
+check 'a server whose last flush is refused does not end with 0' "$? $(tail -n 1 told.txt)" '3 wbnbd: 6 Failed'
 rm -f sends tells
 
 # --- A client that does not listen: what it asks for is not done, once a reply could not be written.
