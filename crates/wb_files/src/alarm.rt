@@ -60,7 +60,9 @@ impl<'a, T: Eprint> Alarm<'a, T> {
             .is_ok();
         if is_first {
             let program = self.program;
-            let _ = eprintln!(self.rt; "{program}: {device} file: a read, a write or a sync failed");
+            let _ = eprintln!(self.rt;
+                "{program}: {device} file: a read, a write or a sync failed"
+            );
         }
     }
 }

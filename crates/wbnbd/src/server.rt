@@ -42,7 +42,13 @@ pub fn run<
     };
     let mut patience = Patient::new(waits, asked.wait);
     match serve_all(
-        rt, waits, alloc, asked.table, &mut patience, &teller.alarm, services,
+        rt,
+        waits,
+        alloc,
+        asked.table,
+        &mut patience,
+        &teller.alarm,
+        services,
     ) {
         Ok(told) => ended_of(told.as_slice()),
         Err(unserved) => Ended::unserved(unserved),
