@@ -77,7 +77,11 @@ pub(crate) fn open_target<'a, D: Disk + Drop>(
 }
 
 /// Why a target was not opened, with the size that differs where one does.
-fn unserved_of<'a, D: Disk>(devices: &mut Devices<D>, block: u64, refusal: Refusal) -> Unserved<'a> {
+fn unserved_of<'a, D: Disk>(
+    devices: &mut Devices<D>,
+    block: u64,
+    refusal: Refusal,
+) -> Unserved<'a> {
     if refusal == Refusal::Mismatch {
         if let Some(difference) = find_difference(devices, block) {
             return Unserved::Differs(difference);

@@ -108,12 +108,7 @@ fn serve_by<T: Wait, D: Disk + Drop, P: Policy, S: Service + Drop>(
 }
 
 /// Opens the cache on these devices, which are kept open as long, and has clients do services beside one another.
-fn serve_rest<
-    'a,
-    T: Threads + Wait + Sync,
-    D: Disk + Drop + Send,
-    S: Service + Send + Drop,
->(
+fn serve_rest<'a, T: Threads + Wait + Sync, D: Disk + Drop + Send, S: Service + Send + Drop>(
     waits: &T,
     alloc: Global,
     devices: Devices<D>,
