@@ -97,6 +97,11 @@ check 'what was opened, and how it stands at the end' "$(sed 's/ [0-9]*\/4 64 .*
 wbnbd: 1 ..'
 { hello; goodbye; } | serve -q "$table"
 check 'nothing is told where that is asked' "$(status)$(cat told.txt)" 0
+said=$("$server" --help)
+has 'help tells of signals' "$said" 'A signal ends it at once, and what was not
+flushed is lost then'
+has 'and of locks' "$said" 'are locked as long as it runs'
+has 'and of ends' "$said" 'To stop it in order, end the client.'
 echo | serve --wait x "$table"
 check 'a wait of no number' "$(status) $(cat told.txt)" '2 usage: wbnbd [-q] [--wait SECONDS] TABLE'
 
@@ -105,6 +110,13 @@ truncate -s 0 n.img
 truncate -s 2048 n.img
 hello | serve 'cache n.img c.img o.img 64 0 tinylfu 0'
 check 'files that are not formatted' "$(status) $(grep -c 'NotFormatted: the metadata file has no valid root' told.txt)" '1 1'
+fresh
+truncate -s 163840 c.img
+hello | serve "$table"
+check 'a file of another size' "$(status) $(cat told.txt)" '1 wbnbd: 12 Mismatch: the metadata were formatted for a cache of 256 sectors, and it has 320'
+fresh
+hello | serve 'cache m.img c.img o.img 128 0 tinylfu 0'
+check 'another block size' "$(status) $(cat told.txt)" '1 wbnbd: 12 Mismatch: the metadata were formatted for blocks of 64 sectors, and not of 128'
 # shellcheck disable=SC3045 # where the shell has it
 (ulimit -n 40; { hello; goodbye; } | serve "$table")
 check 'too few descriptors' "$(status) $(grep -c 'cannot be opened again: Too many open files' told.txt)" '3 1'

@@ -280,9 +280,18 @@ sys.exit(os.waitstatus_to_exitcode(status))' "$cache" format "$table"; echo "sta
       y) has 'and a yes is one' "$said" 'formatted 4 10' ;;
     esac
   done
+  fresh
+  printf 'r 70 1\nr 70 1\nwork\nflush\n' | "$cache" run "$table" >out.txt
+  said=$(python3 -c 'import os, pty, sys
+sys.exit(os.waitstatus_to_exitcode(pty.spawn(sys.argv[1:])))' "$cache" format --yes "$table" </dev/null; echo "status $?")
+  has 'a yes before it is asked is one' "$said" 'status 0'
+  check 'and then it is not asked' "$(echo "$said" | grep -c 'y/N')" 0
 else
   echo 'not tried: there is no python3, by which a terminal is made'
 fi
+fresh
+truncate -s 163840 c.img
+check 'a file of another size' "$(reason '' -v run "$table")" '1 wbcache: 12 Mismatch: the metadata were formatted for a cache of 256 sectors, and it has 320'
 fresh
 check 'a writer that fails' "$( (printf 'r 0 1\n' | "$cache" -v run "$table" >/dev/full) 2>&1; echo $?)" "$opened
 wbcache: an answer cannot be written
