@@ -32,6 +32,17 @@ bytes() { # a number, how many bytes it has: these, the highest first
   done
   printf '%b' "$spelled"
 }
+hello_to() { # a name: the export of this name
+  printf '\000\000\000\003IHAVEOPT\000\000\000\007'
+  bytes $((6 + ${#1})) 4
+  bytes ${#1} 4
+  printf '%s\000\000' "$1"
+}
+start_at() { # a name: the same, by the option that is answered with the size alone
+  printf '\000\000\000\003IHAVEOPT\000\000\000\001'
+  bytes ${#1} 4
+  printf '%s' "$1"
+}
 hello() { printf '\000\000\000\003IHAVEOPT\000\000\000\007\000\000\000\006\000\000\000\000\000\000'; }
 request() { # command, cookie, first byte, how many
   printf '\045\140\225\023\000\000'
@@ -70,12 +81,27 @@ check 'a client that goes before the first request' "$(status)" 4
 { hello; request 3 1 512 0; request 3 2 0 512; flush_of 3; goodbye; } | serve "$table"
 check 'a flush of a part is invalid' "$(replies)" '00:03 16:01 16:02 '
 
+# --- By which name a client asks, and where it writes past the end.
+for name in disk2 a/long/name/with/many/words/in/it; do
+  { hello_to "$name"; write_of 1 0 512; goodbye; } | serve "$table"
+  check "an export of the name $name" "$(status) $(wc -c <out.bin) $(replies)" "0 $((104 + 16)) 00:01 "
+  { start_at "$name"; write_of 1 0 512; goodbye; } | serve "$table"
+  check "the same by the other option" "$(status) $(wc -c <out.bin)" "0 $((18 + 10 + 16))"
+done
+{ hello; write_of 1 327680 512; write_of 2 327168 1024; read_of 3 327680 512; write_of 4 327168 512; goodbye; } | serve "$table"
+check 'a write past the end finds no room, and a read is invalid' "$(status) $(replies)" '0 00:04 16:03 1c:01 1c:02 '
+
 # --- What is told.
 { hello; goodbye; } | serve "$table"
 check 'what was opened, and how it stands at the end' "$(sed 's/ [0-9]*\/4 64 .*/ ../' told.txt)" 'wbnbd: opened 640 sectors; 0 of 4 cache blocks mapped, 0 dirty
 wbnbd: 1 ..'
 { hello; goodbye; } | serve -q "$table"
 check 'nothing is told where that is asked' "$(status)$(cat told.txt)" 0
+said=$("$server" --help)
+has 'help tells of signals' "$said" 'A signal ends it at once, and what was not
+flushed is lost then'
+has 'and of locks' "$said" 'are locked as long as it runs'
+has 'and of ends' "$said" 'To stop it in order, end the client.'
 echo | serve --wait x "$table"
 check 'a wait of no number' "$(status) $(cat told.txt)" '2 usage: wbnbd [-q] [--wait SECONDS] TABLE'
 
@@ -84,6 +110,13 @@ truncate -s 0 n.img
 truncate -s 2048 n.img
 hello | serve 'cache n.img c.img o.img 64 0 tinylfu 0'
 check 'files that are not formatted' "$(status) $(grep -c 'NotFormatted: the metadata file has no valid root' told.txt)" '1 1'
+fresh
+truncate -s 163840 c.img
+hello | serve "$table"
+check 'a file of another size' "$(status) $(cat told.txt)" '1 wbnbd: 12 Mismatch: the metadata were formatted for a cache of 256 sectors, and it has 320'
+fresh
+hello | serve 'cache m.img c.img o.img 128 0 tinylfu 0'
+check 'another block size' "$(status) $(cat told.txt)" '1 wbnbd: 12 Mismatch: the metadata were formatted for blocks of 64 sectors, and not of 128'
 # shellcheck disable=SC3045 # where the shell has it
 (ulimit -n 40; { hello; goodbye; } | serve "$table")
 check 'too few descriptors' "$(status) $(grep -c 'cannot be opened again: Too many open files' told.txt)" '3 1'
@@ -98,6 +131,7 @@ echo 'r 0 1' >&3
 read -r _ <&4
 { hello; goodbye; } | serve --wait 0 "$table"
 check 'a wait that runs out' "$(status) $(cat told.txt)" "3 wbnbd: metadata file m.img: locked, by another program or as another device of the table"
+check 'and then nothing is served beside the program that holds them' "$(wc -c <out.bin)" 0
 (exec 3>&- 4<&-; { hello; goodbye; } | serve --wait 20 "$table") &
 waiting=$!
 exec 3>&- 4<&-
@@ -109,9 +143,49 @@ check 'a wait that is over in time' "$(status) $(grep -c opened told.txt)" '0 1'
 fresh
 (trap '' XFSZ; ulimit -f 100; { hello; write_of 1 199680 512; write_of 2 0 512; flush_of 3; goodbye; } | serve "$table")
 check 'a device that fails ends it with 3' "$(status)" 3
-has 'and which is told' "$(cat told.txt)" 'wbnbd: origin file: a read, a write or a sync failed'
+check 'and which is told, with the reason, once' "$(grep 'file:' told.txt)" 'wbnbd: origin file: a write failed: File too large (os error 27)'
 has 'and what it came to' "$(cat told.txt)" 'wbnbd: 6 Failed'
 check 'no reply without an error for a step that failed' "$(replies | tr ' ' '\n' | grep -c '^00:0[13]')" 0
+has 'a file that may not grow has no room' "$(replies)" '1c:01'
+
+# The same where the file system is full, in a mount of its own, where such can be had.
+cat >full.sh <<'SCRIPT'
+mount -t tmpfs -o size=1m none mnt || exit 77
+cd mnt || exit 1
+truncate -s 2048 m.img
+truncate -s 131072 c.img
+truncate -s 327680 o.img
+"$1" format "$3" >/dev/null || exit 1
+head -c 2000000 /dev/zero >rest 2>/dev/null
+timeout 30 "$2" "$3" <../sent >../out.bin 2>../told.txt
+SCRIPT
+mkdir mnt
+{ hello; write_of 1 0 512; goodbye; } >sent
+case $(id -u) in 0) alone='unshare -m' ;; *) alone='unshare -rm' ;; esac
+if $alone sh -c 'mount -t tmpfs none mnt' 2>/dev/null; then
+  $alone sh full.sh "$cache" "$server" "$table"
+  check 'a full file system' "$? $(replies) $(grep 'file:' told.txt)" '3 1c:01  wbnbd: origin file: a write failed: No space left on device (os error 28)'
+else
+  echo 'not tried: a full file system, since nothing can be mounted here'
+fi
+
+# A worker that fails beside: it is told at once, and the flush at the end is none.
+fresh
+mkfifo sends tells
+(trap '' XFSZ; ulimit -f 8; exec timeout 30 "$server" "$table" <sends >out.bin 2>tells) &
+running=$!
+exec 3>sends 4<tells
+{ hello; read_of 1 32768 512; read_of 2 32768 512; } >&3
+read -r _ <&4
+read -r told <&4
+check 'what the worker beside met is told at once' "$told" 'wbnbd: cache file: a write failed: File too large (os error 27)'
+goodbye >&3
+exec 3>&-
+cat <&4 >told.txt
+exec 4<&-
+wait "$running"
+check 'a server whose last flush is refused does not end with 0' "$? $(tail -n 1 told.txt)" '3 wbnbd: 6 Failed'
+rm -f sends tells
 
 # --- A client that does not listen: what it asks for is not done, once a reply could not be written.
 fresh

@@ -280,9 +280,18 @@ sys.exit(os.waitstatus_to_exitcode(status))' "$cache" format "$table"; echo "sta
       y) has 'and a yes is one' "$said" 'formatted 4 10' ;;
     esac
   done
+  fresh
+  printf 'r 70 1\nr 70 1\nwork\nflush\n' | "$cache" run "$table" >out.txt
+  said=$(python3 -c 'import os, pty, sys
+sys.exit(os.waitstatus_to_exitcode(pty.spawn(sys.argv[1:])))' "$cache" format --yes "$table" </dev/null; echo "status $?")
+  has 'a yes before it is asked is one' "$said" 'status 0'
+  check 'and then it is not asked' "$(echo "$said" | grep -c 'y/N')" 0
 else
   echo 'not tried: there is no python3, by which a terminal is made'
 fi
+fresh
+truncate -s 163840 c.img
+check 'a file of another size' "$(reason '' -v run "$table")" '1 wbcache: 12 Mismatch: the metadata were formatted for a cache of 256 sectors, and it has 320'
 fresh
 check 'a writer that fails' "$( (printf 'r 0 1\n' | "$cache" -v run "$table" >/dev/full) 2>&1; echo $?)" "$opened
 wbcache: an answer cannot be written
@@ -363,6 +372,7 @@ ok
 70 11
 refused 5 Io origin'
 check 'reads that failed' "$(cat told)" "$opened
+wbcache: origin file: a read failed: unexpected end of file
 wbcache: 3 lines were refused, the first at line 2: 5 Io origin
 3"
 
@@ -371,11 +381,17 @@ fresh
 said=$( (trap '' XFSZ; ulimit -f 100; printf 'w 0 1 11\nw 390 20 22\nr 0 1\nw 0 1 33\nr 640 1\n' | "$cache" -v run "$table") 2>&1)
 check 'a write that fails leaves the target failed' "$? $said" "3 $opened
 ok
+wbcache: origin file: a write failed: File too large (os error 27)
 refused 5 Io origin
 refused 6 Failed
 refused 6 Failed
 refused 1 Range
 wbcache: 4 lines were refused, the first at line 2: 5 Io origin"
+
+fresh
+said=$( (trap '' XFSZ; ulimit -f 0; "$cache" format "$table") 2>&1)
+check 'a device that fails while it is formatted' "$? $said" '3 wbcache: metadata file: a write failed: File too large (os error 27)
+refused 5 Io metadata'
 
 # Help, version and what is not read.
 for words in -h --help 'run --help' 'format -h'; do
@@ -384,6 +400,8 @@ for words in -h --help 'run --help' 'format -h'; do
   has "status of $words" "$? $said" '0 '
   has "$words explains the table" "$said" 'cache <metadata> <cache> <origin> <block size> 0 tinylfu 0'
   has "$words explains the script" "$said" 'w S N hh'
+  has "$words tells of signals" "$said" 'a signal ends it at once: what was not flushed may be lost then'
+  has "$words tells of locks" "$said" 'are locked as long as it runs'
 done
 check 'help is for standard output' "$("$cache" --help 2>&1 >/dev/null)" ''
 check 'the version' "$("$cache" --version)" "wbcache 0.1.0, proved with rattle $(rt version | cut -d' ' -f2-)"

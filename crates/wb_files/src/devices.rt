@@ -6,6 +6,7 @@ ghost use Rattle.wb_types.specs.Limits.{IsWithinLimits};
 use crate::patience::Patience;
 use crate::sizes::find_size_fault;
 use crate::unopened::{Trouble, Unopened};
+use crate::watched::{Watch, Watched, WatchedDisk};
 use std::fs::{File, OpenOptions, TryLockError};
 use std::io;
 use std::rt::Files;
@@ -21,19 +22,21 @@ pub struct Disks<D> {
     pub origin: D,
 }
 
-impl Disks<FileDisk> {
+impl<'w, N: Watch> Disks<WatchedDisk<'w, N>> {
     /// Opens the files of a table, the metadata first and the origin last, and locks each for as long as its disk
     /// lives. The reason is that of the first that cannot be opened for reading and writing, locked or measured: one
-    /// that another program holds longer than it is waited for, or that the table named before, is locked already.
+    /// that another program holds longer than it is waited for, or that the table named before, is locked already. Of steps on them that
+    /// fail from then on the watch is told.
     pub fn open<'a, R: Files<File = File>, P: Patience>(
         rt: &R,
         table: &Table<'a>,
         patience: &mut P,
-    ) -> Result<Disks<FileDisk>, Unopened<'a>> {
+        watch: &'w N,
+    ) -> Result<Disks<WatchedDisk<'w, N>>, Unopened<'a>> {
         Ok(Disks {
-            metadata: open_file(rt, table.metadata, Dev::Metadata, patience)?,
-            cache: open_file(rt, table.cache, Dev::Cache, patience)?,
-            origin: open_file(rt, table.origin, Dev::Origin, patience)?,
+            metadata: open_file(rt, table.metadata, Dev::Metadata, patience, watch)?,
+            cache: open_file(rt, table.cache, Dev::Cache, patience, watch)?,
+            origin: open_file(rt, table.origin, Dev::Origin, patience, watch)?,
         })
     }
 
@@ -41,25 +44,27 @@ impl Disks<FileDisk> {
     pub fn open_again<'a, R: Files<File = File>>(
         rt: &R,
         table: &Table<'a>,
-    ) -> Result<Disks<FileDisk>, Unopened<'a>> {
+        watch: &'w N,
+    ) -> Result<Disks<WatchedDisk<'w, N>>, Unopened<'a>> {
         Ok(Disks {
-            metadata: open_file_again(rt, table.metadata, Dev::Metadata)?,
-            cache: open_file_again(rt, table.cache, Dev::Cache)?,
-            origin: open_file_again(rt, table.origin, Dev::Origin)?,
+            metadata: open_file_again(rt, table.metadata, Dev::Metadata, watch)?,
+            cache: open_file_again(rt, table.cache, Dev::Cache, watch)?,
+            origin: open_file_again(rt, table.origin, Dev::Origin, watch)?,
         })
     }
 }
 
 /// Reads a table, opens its files and measures them: `BadTable`, `Io` for the first that cannot be opened, `Geometry`.
-pub fn open_table<'a, R: Files<File = File>, P: Patience>(
+pub fn open_table<'a, 'w, R: Files<File = File>, P: Patience, N: Watch>(
     rt: &R,
     text: &'a str,
     patience: &mut P,
-) -> Result<(Disks<FileDisk>, Geometry), Unopened<'a>> {
+    watch: &'w N,
+) -> Result<(Disks<WatchedDisk<'w, N>>, Geometry), Unopened<'a>> {
     let Ok(table) = read_table(text) else {
         return Err(Unopened::Table(find_table_fault(text)));
     };
-    let disks = Disks::open(rt, &table, patience)?;
+    let disks = Disks::open(rt, &table, patience, watch)?;
     let (metadata, cache, origin) = (
         disks.metadata.sectors(),
         disks.cache.sectors(),
@@ -71,45 +76,52 @@ pub fn open_table<'a, R: Files<File = File>, P: Patience>(
     }
 }
 
-fn open_file<'a, R: Files<File = File>, P: Patience>(
+/// Opens a file, locks it and measures it.
+fn open_file<'a, 'w, R: Files<File = File>, P: Patience, N: Watch>(
     rt: &R,
     path: &'a str,
     device: Dev,
     patience: &mut P,
-) -> Result<FileDisk, Unopened<'a>> {
-    open_locked(rt, path, patience).map_err(|trouble| Unopened::File {
+    watch: &'w N,
+) -> Result<WatchedDisk<'w, N>, Unopened<'a>> {
+    let opened = match open_locked(rt, path, patience) {
+        Ok(file) => measured(Watched::new(file, device, watch)),
+        Err(trouble) => Err(trouble),
+    };
+    opened.map_err(|trouble| Unopened::File {
         device,
         path,
         trouble,
     })
 }
 
-fn open_file_again<'a, R: Files<File = File>>(
+/// Opens a file and measures it.
+fn open_file_again<'a, 'w, R: Files<File = File>, N: Watch>(
     rt: &R,
     path: &'a str,
     device: Dev,
-) -> Result<FileDisk, Unopened<'a>> {
-    open_unlocked(rt, path).map_err(|error| Unopened::File {
+    watch: &'w N,
+) -> Result<WatchedDisk<'w, N>, Unopened<'a>> {
+    let opened = match open_plain(rt, path) {
+        Ok(file) => measured(Watched::new(file, device, watch)),
+        Err(error) => Err(Trouble::Again(error)),
+    };
+    opened.map_err(|trouble| Unopened::File {
         device,
         path,
-        trouble: Trouble::Again(error),
+        trouble,
     })
 }
 
-/// Opens a file, locks it and measures it.
+/// Opens a file and locks it.
 fn open_locked<R: Files<File = File>, P: Patience>(
     rt: &R,
     path: &str,
     patience: &mut P,
-) -> Result<FileDisk, Trouble> {
+) -> Result<File, Trouble> {
     let file = open_plain(rt, path).map_err(|error| Trouble::System(error))?;
     lock(&file, patience)?;
-    measured(file).map_err(|error| Trouble::System(error))
-}
-
-/// Opens a file and measures it.
-fn open_unlocked<R: Files<File = File>>(rt: &R, path: &str) -> io::Result<FileDisk> {
-    measured(open_plain(rt, path)?)
+    Ok(file)
 }
 
 /// Opens a file for reading and writing.
@@ -119,8 +131,8 @@ fn open_plain<R: Files<File = File>>(rt: &R, path: &str) -> io::Result<File> {
     options.open(rt, path)
 }
 
-fn measured(file: File) -> io::Result<FileDisk> {
-    FileDisk::over(file).map_err(|_| io::Error::from(io::ErrorKind::NotSeekable))
+fn measured<'w, N: Watch>(file: Watched<'w, File, N>) -> Result<WatchedDisk<'w, N>, Trouble> {
+    FileDisk::over(file).map_err(|_| Trouble::System(io::Error::from(io::ErrorKind::NotSeekable)))
 }
 
 /// Locks a file, and waits for whoever holds it as long as there is patience.

@@ -2,7 +2,7 @@
 use Rattle.std.specs.Prelude.{◌≡◌, ◌⊎◌, ℕ, List, Bool, true, false, Option, Some, None, length}
 use Rattle.std.specs.Io.KnownBytes.{Consumes, Appends}
 use Rattle.wb_nbd.specs.declared.option.Wish.{Wish}
-use Rattle.wb_nbd.specs.declared.option.Wish.TheVariants.{Start, StartOther, Abort as AbortWish, List as ListWish, Info, Go, Refuse}
+use Rattle.wb_nbd.specs.declared.option.Wish.TheVariants.{Start, StartLong, Abort as AbortWish, List as ListWish, Info, Go, Refuse}
 use Rattle.wb_nbd.specs.declared.handshake.Agreed.{Agreed}
 use Rattle.wb_nbd.specs.declared.handshake.Agreed.TheVariants.{Serve, Abort}
 use Rattle.wb_nbd.specs.declared.terms.Terms.{Terms}
@@ -24,7 +24,7 @@ abbrev pub LeadsTo : Wish → Option Agreed → Type 0
 LeadsTo Start outcome = outcome ≡ Some Serve
 LeadsTo Go outcome = outcome ≡ Some Serve
 LeadsTo AbortWish outcome = outcome ≡ Some Abort
-LeadsTo StartOther outcome = ⊥
+LeadsTo StartLong outcome = ⊥
 LeadsTo ListWish outcome = outcome ≡ None
 LeadsTo Info outcome = outcome ≡ None
 LeadsTo (Refuse error) outcome = outcome ≡ None

@@ -1,6 +1,6 @@
 -- What has to be done for a request.
 use Rattle.std.specs.Prelude.{◌≡◌, ◌≢◌, ◌≤◌, ◌<◌, ◌+◌, ◌*◌, ◌⊎◌, ◌++◌, ℕ, List, [], Option, Some, None, Bool, true, false, length}
-use Rattle.wb_nbd.specs.declared.errno.Errno.TheVariants.{Io, Memory, Invalid, Shutdown}
+use Rattle.wb_nbd.specs.declared.errno.Errno.TheVariants.{Io, Memory, Invalid, Space, Shutdown}
 use Rattle.wb_nbd.specs.declared.request.Request.{Request}
 use Rattle.wb_nbd.specs.declared.request.Command.{Command}
 use Rattle.wb_nbd.specs.declared.request.Command.TheVariants.{Read, Write, Disconnect, Flush, Other}
@@ -24,16 +24,21 @@ pub record AreSectors (size offset bytes at count : ℕ) : Type 0 where
 abbrev pub IsOutside : ℕ → Request → Type 0
 IsOutside size request = (at count : ℕ) → AreSectors size request.offset request.length at count → ⊥
 
+-- a request for bytes past the end of the export
+abbrev pub IsPastEnd : ℕ → Request → Type 0
+IsPastEnd size request = size * 512 < request.offset + request.length
+
 -- a flush that speaks of a part of the export
 abbrev pub IsPartial : Request → Type 0
 IsPartial request = (request.offset ≢ 0) ⊎ (request.length ≢ 0)
 
--- a request that is not served: an unknown command or flag, a read or a write outside, or a flush of a part
+-- a request that is not served: an unknown command or flag, a read or a write outside, or a flush of a part; a write past the end is
+-- told so
 pub data IsUnserved (size : ℕ) (request : Request) : Type 0 where
   Unknown_command : request.command ≡ Other → IsUnserved size request
   Unknown_flags : request.flags ≡ OtherFlags → IsUnserved size request
   Read_outside : request.command ≡ Read → IsOutside size request → IsUnserved size request
-  Write_outside : request.command ≡ Write → IsOutside size request → IsUnserved size request
+  Write_outside : request.command ≡ Write → IsOutside size request → request.offset + request.length ≤ size * 512 → IsUnserved size request
   Flush_of_a_part : request.command ≡ Flush → IsPartial request → IsUnserved size request
 
 -- a flag that the protocol has, and whether what is written has to be durable
@@ -59,6 +64,7 @@ IsTask size request payload (WriteTask at content durable) =
 IsTask size request payload FlushTask = (request.command ≡ Flush) × (request.offset ≡ 0) × (request.length ≡ 0) × (payload ≡ []) × (request.flags ≢ OtherFlags)
 IsTask size request payload (Refuse Invalid) = IsUnserved size request × (length payload ≡ payload_size request)
 IsTask size request payload (Refuse Memory) = (request.command ≡ Write) × (length payload ≡ request.length)
+IsTask size request payload (Refuse Space) = (request.command ≡ Write) × IsPastEnd size request × (length payload ≡ request.length)
 IsTask size request payload (Refuse Io) = ⊥
 IsTask size request payload (Refuse Shutdown) = ⊥
 

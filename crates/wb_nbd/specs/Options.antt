@@ -2,8 +2,8 @@
 use Rattle.std.specs.Prelude.{◌≡◌, ◌≢◌, ◌≤◌, ◌<◌, ◌+◌, ◌*◌, ◌⊎◌, ◌++◌, ℕ, List, [], length}
 use Rattle.wb_nbd.specs.declared.option.OptionHeader.{OptionHeader}
 use Rattle.wb_nbd.specs.declared.option.Wish.{Wish}
-use Rattle.wb_nbd.specs.declared.option.Wish.TheVariants.{Start, StartOther, Abort, List as ListWish, Info, Go, Refuse}
-use Rattle.wb_nbd.specs.declared.option.OptionError.TheVariants.{Unsupported, Invalid, Unknown, TooBig}
+use Rattle.wb_nbd.specs.declared.option.Wish.TheVariants.{Start, StartLong, Abort, List as ListWish, Info, Go, Refuse}
+use Rattle.wb_nbd.specs.declared.option.OptionError.TheVariants.{Unsupported, Invalid, TooBig}
 use Rattle.wb_nbd.specs.Bytes.{number_at}
 
 -- the letters IHAVEOPT
@@ -37,17 +37,16 @@ pub record IsUnknownOption (number : ℕ) : Type 0 where
   pub no_info : number ≢ 6
   pub no_go : number ≢ 7
 
--- what an option of this number and with these data wants; the one export has the empty name
+-- what an option of this number and with these data wants; the one export is meant by every name, of no more than 4,096 bytes
 abbrev pub IsWish : ℕ → List ℕ → Wish → Type 0
-IsWish number bytes Start = (number ≡ 1) × (bytes ≡ [])
-IsWish number bytes StartOther = (number ≡ 1) × (0 < length bytes)
+IsWish number bytes Start = (number ≡ 1) × (length bytes ≤ 4096)
+IsWish number bytes StartLong = (number ≡ 1) × (4096 < length bytes)
 IsWish number bytes Abort = number ≡ 2
 IsWish number bytes ListWish = (number ≡ 3) × (bytes ≡ [])
-IsWish number bytes Info = (number ≡ 6) × AreAbout 0 bytes
-IsWish number bytes Go = (number ≡ 7) × AreAbout 0 bytes
+IsWish number bytes Info = (number ≡ 6) × ((size : ℕ) × AreAbout size bytes)
+IsWish number bytes Go = (number ≡ 7) × ((size : ℕ) × AreAbout size bytes)
 IsWish number bytes (Refuse Unsupported) = IsUnknownOption number
 IsWish number bytes (Refuse Invalid) = ((number ≡ 3) × (0 < length bytes)) ⊎ (AsksOfExport number × ((size : ℕ) → AreAbout size bytes → ⊥))
-IsWish number bytes (Refuse Unknown) = AsksOfExport number × ((size : ℕ) × (0 < size) × AreAbout size bytes)
 IsWish number bytes (Refuse TooBig) = AsksOfExport number × (4096 < length bytes)
 
 -- these bytes are an option of this number, that wants this

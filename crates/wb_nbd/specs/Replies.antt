@@ -2,7 +2,7 @@
 use Rattle.std.specs.Prelude.{ℕ, List, ◌++◌, flat_map}
 use Rattle.byteorder.specs.Endian.{big_bytes}
 use Rattle.wb_nbd.specs.declared.errno.Errno.{Errno}
-use Rattle.wb_nbd.specs.declared.errno.Errno.TheVariants.{Io, Memory, Invalid, Shutdown}
+use Rattle.wb_nbd.specs.declared.errno.Errno.TheVariants.{Io, Memory, Invalid, Space, Shutdown}
 
 -- 0x67446698
 abbrev pub reply_magic : ℕ
@@ -12,6 +12,7 @@ abbrev pub error_number : Errno → ℕ
 error_number Io = 5
 error_number Memory = 12
 error_number Invalid = 22
+error_number Space = 28
 error_number Shutdown = 108
 
 -- sectors, one after the other

@@ -2,9 +2,9 @@
 use Rattle.std.specs.Prelude.{ℕ, List, [], ◌++◌, replicate, Bool, true, false}
 use Rattle.byteorder.specs.Endian.{big_bytes}
 use Rattle.wb_nbd.specs.declared.option.Wish.{Wish}
-use Rattle.wb_nbd.specs.declared.option.Wish.TheVariants.{Start, StartOther, Abort, List as ListWish, Info, Go, Refuse}
+use Rattle.wb_nbd.specs.declared.option.Wish.TheVariants.{Start, StartLong, Abort, List as ListWish, Info, Go, Refuse}
 use Rattle.wb_nbd.specs.declared.option.OptionError.{OptionError}
-use Rattle.wb_nbd.specs.declared.option.OptionError.TheVariants.{Unsupported, Invalid, Unknown, TooBig}
+use Rattle.wb_nbd.specs.declared.option.OptionError.TheVariants.{Unsupported, Invalid, TooBig}
 use Rattle.wb_nbd.specs.declared.terms.Terms.{Terms}
 use Rattle.wb_nbd.specs.Options.{option_magic}
 
@@ -46,7 +46,6 @@ block_info terms number = (((reply_start number 3 14 ++ big_bytes 2 3) ++ big_by
 abbrev pub error_kind : OptionError → ℕ
 error_kind Unsupported = 2147483649
 error_kind Invalid = 2147483651
-error_kind Unknown = 2147483654
 error_kind TooBig = 2147483657
 
 -- 124 zeros, unless they are to be left out
@@ -57,7 +56,7 @@ zeros false = replicate 124 0
 -- what an option is answered; the flag says that zeros are left out
 abbrev pub answer_to : Terms → Bool → ℕ → Wish → List ℕ
 answer_to terms brief number Start = export_terms terms ++ zeros brief
-answer_to terms brief number StartOther = []
+answer_to terms brief number StartLong = []
 answer_to terms brief number Abort = plain_reply number 1
 answer_to terms brief number ListWish = export_entry number ++ plain_reply number 1
 answer_to terms brief number Info = (export_info terms number ++ block_info terms number) ++ plain_reply number 1

@@ -21,8 +21,8 @@ pub enum Broken {
     /// The client answers the greeting with flags that it was not offered.
     #[error("the client sets flags that it was not offered")]
     ClientFlags,
-    /// The client wants an export that is not there, by an option that has no other answer.
-    #[error("the client wants another export")]
+    /// The client names the export by more than 4,096 bytes, in an option that has no other answer.
+    #[error("the client gives the export too long a name")]
     Name,
     /// There is no memory to talk to the client.
     #[error("out of memory")]

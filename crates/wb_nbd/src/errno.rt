@@ -12,6 +12,8 @@ pub enum Errno {
     Memory,
     /// The request is none that is served: `NBD_EINVAL`.
     Invalid,
+    /// There is no room for what is written, or it goes past the end: `NBD_ENOSPC`.
+    Space,
     /// What is served has failed, and serves nothing more: `NBD_ESHUTDOWN`.
     Shutdown,
 }
@@ -25,6 +27,7 @@ impl Errno {
             Errno::Io => 5,
             Errno::Memory => 12,
             Errno::Invalid => 22,
+            Errno::Space => 28,
             Errno::Shutdown => 108,
         }
     }

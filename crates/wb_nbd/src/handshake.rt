@@ -22,10 +22,11 @@ pub enum Agreed {
     Abort,
 }
 
-/// Greets a client, and answers its options until it begins with requests or ends the connection. The one export has the empty name.
+/// Greets a client, and answers its options until it begins with requests or ends the connection. There is one export, and every
+/// name is its own.
 ///
 /// `Reader` where the client's bytes end or cannot be read; `Magic` where they spell no option; `ClientFlags` where the client
-/// answers the greeting by what it was not offered; `Name` where it wants another export by the option that has no other answer;
+/// answers the greeting by what it was not offered; `Name` where it names the export by more than 4,096 bytes in the option that has no other answer;
 /// `Writer` where an answer cannot be written.
 pub fn shake_hands<R: Read, W: Write>(
     terms: &Terms,
@@ -86,14 +87,14 @@ fn take_turn<R: Read, W: Write>(
     outcome_of(asked.wish)
 }
 
-/// What an option leads to, if anything. `Name` where it wants an export that is not there, and has no other answer.
+/// What an option leads to, if anything. `Name` where the name is too long, which has no other answer.
 fn outcome_of(wish: Wish) -> Result<Option<Agreed>, Broken>
     ensures { IfOk result (LeadsTo wish) }
 {
     match wish {
         Wish::Start | Wish::Go => Ok(Some(Agreed::Serve)),
         Wish::Abort => Ok(Some(Agreed::Abort)),
-        Wish::StartOther => Err(Broken::Name),
+        Wish::StartLong => Err(Broken::Name),
         Wish::List | Wish::Info | Wish::Refuse(_) => Ok(None),
     }
 }

@@ -1,8 +1,10 @@
 //! What has to be done for a request.
 
-ghost use Rattle.std.specs.Prelude.{◌≡◌, ◌≤◌, ◌*◌, ℕ, List, IfOk, OnOk, IfSome, IfNone, length, []};
+ghost use Rattle.std.specs.Prelude.{◌≡◌, ◌≤◌, ◌*◌, ◌⊎◌, ℕ, List, IfOk, OnOk, IfSome, IfNone, length, []};
 ghost use Rattle.std.specs.Io.KnownBytes.{Consumes};
 ghost use Rattle.wb_nbd.specs.declared.request.Command.TheVariants.{Write as WriteCommand, Disconnect as DisconnectCommand};
+ghost use Rattle.wb_nbd.specs.declared.request.Flags.TheVariants.{Other as OtherFlags};
+ghost use Rattle.wb_nbd.specs.declared.job.Task.TheVariants.{Refuse};
 ghost use Rattle.wb_nbd.specs.Requests.{SpellsRequest};
 ghost use Rattle.wb_nbd.specs.Replies.{joined};
 ghost use Rattle.wb_nbd.specs.Jobs.{Asks, IsTask, AreSectors, IsOutside, payload_size};
@@ -38,8 +40,8 @@ pub struct Job {
 /// Takes the next request in, with what it writes, and gives the job that it is on an export of so many sectors; none where the
 /// client ends the connection. What the client sends of a write that is not served is passed over.
 ///
-/// A request is to be refused as `Invalid` where it is none that is served, and as `Memory` where there is none for what it
-/// writes. `Gone` where nothing more is there, `Reader` where no more can be read, `Magic` where the bytes spell no request.
+/// A request is to be refused as `Invalid` where it is none that is served, as `Space` where it writes past the end, and as `Memory` where
+/// there is none for what it writes. `Gone` where nothing more is there, `Reader` where no more can be read, `Magic` where the bytes spell no request.
 pub fn take_job<R: Read>(alloc: Global, size: u64, reader: &mut R) -> Result<Option<Job>, Broken>
     ensures { IfOk result (λ asked. (bytes : List ℕ) × Consumes (R.remaining reader.old) (R.remaining reader.new) bytes × Asks size bytes asked) }
 {
@@ -114,7 +116,7 @@ fn take_write<R: Read>(
     let (false, Some((at, count))) = (request.flags == Flags::Other, find_sectors(size, request))
     else {
         skip(reader, request.length)?;
-        return Ok(Task::Refuse(Errno::Invalid));
+        return Ok(Task::Refuse(reason_of(size, request)));
     };
     let Ok(room) = Vec::with_capacity(alloc, count as usize) else {
         skip(reader, request.length)?;
@@ -122,6 +124,23 @@ fn take_write<R: Read>(
     };
     let content = take_content(reader, count, room)?;
     Ok(Task::Write(at, content, durable))
+}
+
+/// Why a write is not served whose flags are not, or whose bytes are no sectors of the export.
+fn reason_of(size: u64, request: &Request) -> Errno
+    requires write { request.now.command ≡ WriteCommand }
+    requires unserved { (request.now.flags ≡ OtherFlags) ⊎ IsOutside size request.now }
+    ensures { (payload : List ℕ) → length payload ≡ request.now.length → IsTask size request.now payload (Refuse result) }
+{
+    if request.flags == Flags::Other {
+        return Errno::Invalid;
+    }
+    let end = u128::from(request.offset) + u128::from(request.length);
+    if end > u128::from(size) * SECTOR_BYTES as u128 {
+        Errno::Space
+    } else {
+        Errno::Invalid
+    }
 }
 
 /// The sectors that a request speaks of, the first and how many; none where they are no whole ones, none at all, more than one

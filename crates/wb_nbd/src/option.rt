@@ -26,8 +26,8 @@ pub(crate) struct OptionHeader {
 pub(crate) enum Wish {
     /// To begin with requests, in the way that is answered by what is told of the export alone.
     Start,
-    /// The same, with an export that is not there.
-    StartOther,
+    /// The same, by a name that is too long.
+    StartLong,
     /// To end the connection.
     Abort,
     /// To be told which exports there are.
@@ -46,8 +46,6 @@ pub(crate) enum OptionError {
     Unsupported,
     /// Its data are not as they have to be.
     Invalid,
-    /// There is no export of that name.
-    Unknown,
     TooBig,
 }
 
@@ -115,8 +113,7 @@ fn wish_of(number: u32, bytes: &[u8]) -> Wish
     ensures { IsWish number bytes.now result }
 {
     match number {
-        EXPORT_NAME if bytes.is_empty() => Wish::Start,
-        EXPORT_NAME => Wish::StartOther,
+        EXPORT_NAME => Wish::Start,
         ABORT => Wish::Abort,
         LIST if bytes.is_empty() => Wish::List,
         LIST => Wish::Refuse(OptionError::Invalid),
@@ -131,7 +128,7 @@ fn long_wish(number: u32) -> Wish
     ensures { (bytes : List ℕ) → 4096 < length bytes → IsWish number bytes result }
 {
     match number {
-        EXPORT_NAME => Wish::StartOther,
+        EXPORT_NAME => Wish::StartLong,
         ABORT => Wish::Abort,
         LIST => Wish::Refuse(OptionError::Invalid),
         INFO | GO => Wish::Refuse(OptionError::TooBig),
@@ -139,16 +136,15 @@ fn long_wish(number: u32) -> Wish
     }
 }
 
-/// What an option wants that asks of an export, where that is the one.
+/// What an option wants that asks of an export, by whatever name.
 fn wish_about(number: u32, bytes: &[u8], wish: Wish) -> Wish
     requires most { length bytes.now ≤ 4096 }
     requires number { AsksOfExport number }
-    requires wish { AreAbout 0 bytes.now → IsWish number bytes.now wish }
+    requires wish { (size : ℕ) → AreAbout size bytes.now → IsWish number bytes.now wish }
     ensures { IsWish number bytes.now result }
 {
     match name_size(bytes) {
-        Some(0) => wish,
-        Some(_) => Wish::Refuse(OptionError::Unknown),
+        Some(_) => wish,
         None => Wish::Refuse(OptionError::Invalid),
     }
 }

@@ -10,7 +10,7 @@ use crate::terms::Terms;
 use crate::words::{
     GREETING_MAGIC, HANDSHAKE_FLAGS, INFO_BLOCK_SIZE, INFO_EXPORT, MOST_BYTES, OPTION_MAGIC,
     OPTION_REPLY_MAGIC, REPLY_ACK, REPLY_INFO, REPLY_INVALID, REPLY_SERVER, REPLY_TOO_BIG,
-    REPLY_UNKNOWN, REPLY_UNSUPPORTED, TRANSMISSION_FLAGS,
+    REPLY_UNSUPPORTED, TRANSMISSION_FLAGS,
 };
 use byteorder::{BigEndian, WriteBytesExt};
 use std::io;
@@ -62,7 +62,7 @@ fn write_answer<W: Write>(
     let Asked { number, wish } = asked;
     match wish {
         Wish::Start => write_start(writer, terms, brief),
-        Wish::StartOther => Ok(()),
+        Wish::StartLong => Ok(()),
         Wish::Abort => write_plain(writer, number, REPLY_ACK),
         Wish::List => write_list(writer, number),
         Wish::Info | Wish::Go => write_info(writer, terms, number),
@@ -77,7 +77,6 @@ fn kind_of(error: OptionError) -> u32
     match error {
         OptionError::Unsupported => REPLY_UNSUPPORTED,
         OptionError::Invalid => REPLY_INVALID,
-        OptionError::Unknown => REPLY_UNKNOWN,
         OptionError::TooBig => REPLY_TOO_BIG,
     }
 }

@@ -39,8 +39,6 @@ pub(crate) const REPLY_UNSUPPORTED: u32 = 0x8000_0001;
 
 pub(crate) const REPLY_INVALID: u32 = 0x8000_0003;
 
-pub(crate) const REPLY_UNKNOWN: u32 = 0x8000_0006;
-
 pub(crate) const REPLY_TOO_BIG: u32 = 0x8000_0009;
 
 /// What is told of an export: `NBD_INFO_EXPORT` and `NBD_INFO_BLOCK_SIZE`.

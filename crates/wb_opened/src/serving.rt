@@ -9,25 +9,27 @@ use std::rt::Files;
 use std::sync::Wait;
 use std::thread::Threads;
 use wb_devices::Devices;
-use wb_disk::{Disk, FileDisk};
-use wb_files::{Hurry, Patience};
+use wb_disk::Disk;
+use wb_files::{Hurry, Patience, Unwatched, Watch, WatchedDisk};
 use wb_policy::Policy;
 use wb_table::{Table, read_table};
 use wb_target::{Client, Errand, Returned, Sent, Target};
 use wb_types::Refusal;
 
 /// Opens the cache over the files of a table, in write-back mode with TinyLFU, and has one client do a service: what it told. The
-/// files are locked as long. Nothing is flushed at the end, which leaves the cache without the clean flag.
+/// files are locked as long, and who watches is told of each step on them that fails. Nothing is flushed at the end, which leaves the
+/// cache without the clean flag.
 ///
 /// An error where the files cannot serve, the opening is refused or there is no memory for a client.
-pub fn serve_alone<'a, R: Files<File = File>, T: Wait, S: Service + Drop>(
+pub fn serve_alone<'a, R: Files<File = File>, T: Wait, N: Watch, S: Service + Drop>(
     rt: &R,
     waits: &T,
     alloc: Global,
     table: &'a str,
+    watch: &N,
     service: S,
 ) -> Result<S::Told, Unserved<'a>> {
-    let (devices, block) = open_devices(rt, table, &mut Hurry)?;
+    let (devices, block) = open_devices(rt, table, &mut Hurry, watch)?;
     serve_on(waits, alloc, devices, block, service)
 }
 
@@ -39,6 +41,7 @@ pub fn serve_all<
     R: Files<File = File>,
     T: Threads + Wait + Sync,
     P: Patience,
+    N: Watch + Sync,
     S: Service + Send + Drop,
 >(
     rt: &R,
@@ -46,13 +49,14 @@ pub fn serve_all<
     alloc: Global,
     table: &'a str,
     patience: &mut P,
+    watch: &N,
     services: Vec<S>,
 ) -> Result<Vec<Result<S::Told, Refusal>>, Unserved<'a>> {
-    let (devices, block) = open_devices(rt, table, patience)?;
+    let (devices, block) = open_devices(rt, table, patience, watch)?;
     let Ok(table) = read_table(table) else {
         return Err(Unserved::Refused(Refusal::BadTable));
     };
-    let errands = errands_of(rt, alloc, &table, services)?;
+    let errands = errands_of(rt, alloc, &table, watch, services)?;
     serve_rest(waits, alloc, devices, block, errands)
 }
 
@@ -72,16 +76,17 @@ pub fn serve_each<
     first: F,
     services: Vec<S>,
 ) -> Result<(F::Told, Vec<Result<S::Told, Refusal>>), Unserved<'a>> {
-    let devices = open_named(rt, table)?;
-    let errands = errands_of(rt, alloc, table, services)?;
+    let watch = Unwatched;
+    let devices = open_named(rt, table, &watch)?;
+    let errands = errands_of(rt, alloc, table, &watch, services)?;
     serve_first(waits, alloc, devices, table.block, first, errands)
 }
 
 /// Opens the cache on these devices and has one client do a service.
-fn serve_on<'a, T: Wait, S: Service + Drop>(
+fn serve_on<'a, T: Wait, D: Disk + Drop, S: Service + Drop>(
     waits: &T,
     alloc: Global,
-    devices: Devices<FileDisk>,
+    devices: Devices<D>,
     block: u64,
     service: S,
 ) -> Result<S::Told, Unserved<'a>> {
@@ -103,12 +108,12 @@ fn serve_by<T: Wait, D: Disk + Drop, P: Policy, S: Service + Drop>(
 }
 
 /// Opens the cache on these devices, which are kept open as long, and has clients do services beside one another.
-fn serve_rest<'a, T: Threads + Wait + Sync, S: Service + Send + Drop>(
+fn serve_rest<'a, T: Threads + Wait + Sync, D: Disk + Drop + Send, S: Service + Send + Drop>(
     waits: &T,
     alloc: Global,
-    devices: Devices<FileDisk>,
+    devices: Devices<D>,
     block: u64,
-    errands: Vec<Sent<FileDisk, Doing<S>>>,
+    errands: Vec<Sent<D, Doing<S>>>,
 ) -> Result<Vec<Result<S::Told, Refusal>>, Unserved<'a>> {
     let (devices, target) = open_target(alloc, devices, block)?;
     let told = beside_one_another(waits, alloc, &target, errands);
@@ -117,13 +122,19 @@ fn serve_rest<'a, T: Threads + Wait + Sync, S: Service + Send + Drop>(
 }
 
 /// Opens the cache on these devices, has one client do the first service, and the others theirs beside one another.
-fn serve_first<'a, T: Threads + Wait + Sync, F: Service + Drop, S: Service + Send + Drop>(
+fn serve_first<
+    'a,
+    T: Threads + Wait + Sync,
+    D: Disk + Drop + Send,
+    F: Service + Drop,
+    S: Service + Send + Drop,
+>(
     waits: &T,
     alloc: Global,
-    devices: Devices<FileDisk>,
+    devices: Devices<D>,
     block: u64,
     first: F,
-    errands: Vec<Sent<FileDisk, Doing<S>>>,
+    errands: Vec<Sent<D, Doing<S>>>,
 ) -> Result<(F::Told, Vec<Result<S::Told, Refusal>>), Unserved<'a>> {
     let (devices, target) = open_target(alloc, devices, block)?;
     let told = serve_by(waits, &target, devices, first).map_err(|refusal| Unserved::Refused(
@@ -136,11 +147,16 @@ fn serve_first<'a, T: Threads + Wait + Sync, F: Service + Drop, S: Service + Sen
 }
 
 /// Has clients of a target do services beside one another.
-fn beside_one_another<T: Threads + Wait + Sync, P: Policy + Send, S: Service + Send + Drop>(
+fn beside_one_another<
+    T: Threads + Wait + Sync,
+    D: Disk + Drop + Send,
+    P: Policy + Send,
+    S: Service + Send + Drop,
+>(
     waits: &T,
     alloc: Global,
     target: &Target<P>,
-    errands: Vec<Sent<FileDisk, Doing<S>>>,
+    errands: Vec<Sent<D, Doing<S>>>,
 ) -> Result<Vec<Result<S::Told, Refusal>>, AllocError> {
     all_told(alloc, target.together(waits, errands)?)
 }
@@ -166,7 +182,7 @@ impl<S: Service> Errand for Doing<S> {
     }
 }
 
-fn sent<S>(devices: Devices<FileDisk>, service: S) -> Sent<FileDisk, Doing<S>> {
+fn sent<D, S>(devices: Devices<D>, service: S) -> Sent<D, Doing<S>> {
     Sent {
         devices,
         errand: Doing { service },
@@ -174,15 +190,16 @@ fn sent<S>(devices: Devices<FileDisk>, service: S) -> Sent<FileDisk, Doing<S>> {
 }
 
 /// An errand for each service, with files of its own.
-fn errands_of<'a, R: Files<File = File>, S: Service + Drop>(
+fn errands_of<'a, 'w, R: Files<File = File>, N: Watch, S: Service + Drop>(
     rt: &R,
     alloc: Global,
     table: &Table<'a>,
+    watch: &'w N,
     services: Vec<S>,
-) -> Result<Vec<Sent<FileDisk, Doing<S>>>, Unserved<'a>> {
+) -> Result<Vec<Sent<WatchedDisk<'w, N>, Doing<S>>>, Unserved<'a>> {
     let mut errands = Vec::new(alloc);
     for service in services {
-        let devices = open_unlocked(rt, table)?;
+        let devices = open_unlocked(rt, table, watch)?;
         if errands.push(sent(devices, service)).is_err() {
             return Err(Unserved::Refused(Refusal::Memory));
         }
@@ -191,9 +208,9 @@ fn errands_of<'a, R: Files<File = File>, S: Service + Drop>(
 }
 
 /// What each errand told, in order.
-fn all_told<X: Drop>(
+fn all_told<D: Drop, X: Drop>(
     alloc: Global,
-    returned: Vec<Returned<FileDisk, X>>,
+    returned: Vec<Returned<D, X>>,
 ) -> Result<Vec<Result<X, Refusal>>, AllocError> {
     let mut all = Vec::new(alloc);
     for one in returned {

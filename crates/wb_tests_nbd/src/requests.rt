@@ -27,7 +27,7 @@ struct Row {
 }
 
 /// Eight sectors are served, each full of its number.
-const ROWS: [Row; 9] = [
+const ROWS: [Row; 10] = [
     // a read gives the sectors that it names
     Row {
         sent: &[
@@ -117,11 +117,41 @@ const ROWS: [Row; 9] = [
             Part::Request(0, 2, 5, 0, 0),
         ],
         told: &[
-            Part::Reply(22, 1),
+            Part::Reply(28, 1),
             Part::Reply(22, 2),
             Part::Reply(22, 3),
             Part::Reply(0, 4),
             Part::Sectors(0, 1),
+        ],
+        ended: Ok(()),
+        flushes: 0,
+    },
+    // a write past the end finds no room, one of no whole sectors or of none is invalid
+    Row {
+        sent: &[
+            Part::Request(0, 1, 1, 3584, 1024),
+            Part::Sectors(1, 2),
+            Part::Request(1, 1, 2, 4095, 2),
+            Part::Bytes(b"\x61\x62"),
+            Part::Request(0, 1, 3, 0xffffffffffffffff, 1),
+            Part::Bytes(b"\x61"),
+            Part::Request(0, 1, 4, 4095, 1),
+            Part::Bytes(b"\x61"),
+            Part::Request(0, 1, 5, 0, 0),
+            Part::Request(2, 1, 6, 4096, 1),
+            Part::Bytes(b"\x61"),
+            Part::Request(0, 0, 7, 3584, 512),
+            Part::Request(0, 2, 8, 0, 0),
+        ],
+        told: &[
+            Part::Reply(28, 1),
+            Part::Reply(28, 2),
+            Part::Reply(28, 3),
+            Part::Reply(22, 4),
+            Part::Reply(22, 5),
+            Part::Reply(22, 6),
+            Part::Reply(0, 7),
+            Part::Sectors(7, 1),
         ],
         ended: Ok(()),
         flushes: 0,
@@ -298,13 +328,13 @@ const FAULTS: [(u64, Errno, &[Part]); 5] = [
     ),
     (
         4,
-        Errno::Io,
+        Errno::Space,
         &[
             Part::Reply(0, 1),
             Part::Reply(0, 2),
             Part::Reply(0, 3),
             Part::Sectors(2, 1),
-            Part::Reply(5, 4),
+            Part::Reply(28, 4),
         ],
     ),
 ];

@@ -10,7 +10,7 @@ use std::fs::File;
 use std::io::Write;
 use std::rt::Files;
 use wb_disk::Disk;
-use wb_files::{Hurry, open_table};
+use wb_files::{Hurry, Watch, open_table};
 use wb_opened::Unserved;
 use wb_types::{Geometry, Refusal};
 
@@ -22,14 +22,15 @@ use wb_types::{Geometry, Refusal};
 ///
 /// 0 where the metadata were formatted, 1 where that was refused or not consented to, 3 where a device failed, 4 where the writer did. A
 /// formatting that was refused can be repeated.
-pub fn format_files<'a, R: Files<File = File>, C: Consent, W: Write>(
+pub fn format_files<'a, R: Files<File = File>, N: Watch, C: Consent, W: Write>(
     rt: &R,
     alloc: Global,
     table: &'a str,
+    watch: &N,
     consent: &mut C,
     writer: &mut W,
 ) -> Ended<'a> {
-    match open_table(rt, table, &mut Hurry) {
+    match open_table(rt, table, &mut Hurry, watch) {
         Ok((mut disks, geometry)) => {
             format_disk(alloc, &mut disks.metadata, &geometry, consent, writer)
         }

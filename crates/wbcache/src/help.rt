@@ -26,7 +26,12 @@ A script, one answer a line, is read from standard input:
   # ..        nothing; empty lines too
 What is refused prints 'refused <number> <Name>'. What was written is durable
 only after a flush. Status: 0 all was answered, 1 something was refused, 2 the
-arguments, 3 a device failed, 4 a stream failed.
+arguments, 3 a device failed or a file is held, 4 a stream failed. Of the first
+failure of each device standard error tells at once.
+
+To stop it in order, end the script after 'flush'. The end flushes nothing, and
+a signal ends it at once: what was not flushed may be lost then. All three files
+are locked as long as it runs, against programs that lock them too.
 
 Example:
   truncate -s 2048 m; truncate -s 131072 c; truncate -s 327680 o

@@ -27,6 +27,7 @@ use std::io::{BufReader, IsTerminal, Read};
 use std::process::ExitCode;
 use std::sync::Wait;
 use std::{env, io};
+use wb_files::Alarm;
 use wb_streams::{Awaited, hold_streams};
 use wb_types::Refusal;
 
@@ -58,12 +59,14 @@ fn serve<T: Wait>(rt: &HostRuntime, waits: &T) -> u8 {
         Ok(None) => return usage(rt),
         Err(error) => return no_task(rt, &error),
     };
+    let alarm = Alarm::new(rt, "wbcache");
     let ended = match asked {
         Asked::Format(table, consents) => {
             format::format_files(
                 rt,
                 alloc,
                 table,
+                &alarm,
                 &mut Terminal { rt, consents },
                 &mut io::writer(rt),
             )
@@ -75,6 +78,7 @@ fn serve<T: Wait>(rt: &HostRuntime, waits: &T) -> u8 {
                     waits,
                     alloc,
                     table,
+                    &alarm,
                     &mut reader,
                     &mut awaited(rt, rt.stdout()),
                     Progress::new(rt, verbose),

@@ -13,6 +13,7 @@ use std::fs::File;
 use std::io::{BufRead, ErrorKind, Read, Write};
 use std::rt::Files;
 use std::sync::Wait;
+use wb_files::Watch;
 use wb_opened::{Served, Service, serve_alone};
 use wb_types::Refusal;
 
@@ -28,11 +29,12 @@ const MOST_OF_A_LINE: u64 = 1_048_576;
 ///
 /// 0 where each line was answered, 1 where the opening or a line was refused or one was no line of a script, 3 where a device
 /// failed, 4 where the reader or the writer did.
-pub fn run<'a, R: Files<File = File>, T: Wait, I: BufRead, W: Write>(
+pub fn run<'a, R: Files<File = File>, T: Wait, N: Watch, I: BufRead, W: Write>(
     rt: &R,
     waits: &T,
     alloc: Global,
     table: &'a str,
+    watch: &N,
     reader: &mut I,
     writer: &mut W,
     progress: Progress<'_>,
@@ -43,7 +45,7 @@ pub fn run<'a, R: Files<File = File>, T: Wait, I: BufRead, W: Write>(
         writer: &mut *writer,
         progress,
     };
-    match serve_alone(rt, waits, alloc, table, script) {
+    match serve_alone(rt, waits, alloc, table, watch, script) {
         Ok(played) => played.ended(),
         Err(unserved) => refused(alloc, unserved, writer),
     }

@@ -12,14 +12,16 @@ const ABOUT: &str =
 const TEXTS: &str = "\
 TABLE is one argument, words parted by spaces, as 'wbcache format' takes it:
   cache <metadata> <cache> <origin> <block size> 0 tinylfu 0
-The client gets the origin, under the empty name. What it wrote is durable once
-it has flushed, or written with FUA; when the connection ends all is flushed.
+The client gets the origin, by whatever name. What it wrote is durable once it
+has flushed, or written with FUA; when the connection ends all is flushed.
 Status: 0 the client ended it, or went between two requests, and all was
-flushed; 1 the files cannot serve, 2 the arguments, 3 a device failed, 4 the
-connection broke.
+flushed; 1 the files cannot serve, 2 the arguments, 3 a device failed or a file
+is held, 4 the connection broke. Of the first failure of each device standard
+error tells at once; where a file system is full the client is told ENOSPC.
 
 To stop it in order, end the client. A signal ends it at once, and what was not
-flushed is lost then. All three files are locked as long as it runs.
+flushed is lost then. All three files are locked as long as it runs, against
+programs that lock them too.
 
 Example, with files that 'wbcache format' has made a cache of:
   nbdfuse dir/disk --command wbnbd 'cache m c o 64 0 tinylfu 0'

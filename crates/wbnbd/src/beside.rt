@@ -169,7 +169,7 @@ fn work<R: Wait, S: Served, T: Clock + Eprint>(
 /// Tells of a device that failed.
 fn note<T: Eprint>(teller: &Teller<'_, T>, refusal: Refusal) {
     if let Refusal::Io(device) = refusal {
-        teller.failed(device);
+        teller.alarm.note(device);
     }
 }
 

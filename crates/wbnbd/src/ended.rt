@@ -1,6 +1,6 @@
 //! How a run of the program ended.
 
-ghost use Rattle.std.specs.Prelude.{◌≡◌};
+ghost use Rattle.std.specs.Prelude.{◌≡◌, ◌<◌};
 
 use std::fmt;
 use std::fmt::{Display, Formatter};
@@ -37,7 +37,9 @@ impl<'a> Ended<'a> {
     }
 
     /// The files of the table cannot serve, or the target was not opened.
-    pub fn unserved(unserved: Unserved<'a>) -> Ended<'a> {
+    pub fn unserved(unserved: Unserved<'a>) -> Ended<'a>
+        ensures { 0 < result.code }
+    {
         Ended {
             code: code_of(unserved.refusal()),
             reason: Some(Reason::Unserved(unserved)),
@@ -45,7 +47,9 @@ impl<'a> Ended<'a> {
     }
 
     /// There is no memory, or the last flush was refused.
-    pub fn refused(refusal: Refusal) -> Ended<'a> {
+    pub fn refused(refusal: Refusal) -> Ended<'a>
+        ensures { 0 < result.code }
+    {
         Ended::unserved(Unserved::Refused(refusal))
     }
 
@@ -61,7 +65,9 @@ impl<'a> Ended<'a> {
 }
 
 /// The exit status of a refusal.
-fn code_of(refusal: Refusal) -> u8 {
+fn code_of(refusal: Refusal) -> u8
+    ensures { 0 < result }
+{
     match refusal {
         Refusal::Io(_) | Refusal::Failed => 3,
         _ => 1,

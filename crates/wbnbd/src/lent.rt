@@ -6,6 +6,7 @@ ghost use Rattle.wbnbd.specs.Lending.{DoneBy};
 use crate::pace::Pace;
 use crate::teller::Teller;
 use std::sync::Wait;
+use wb_files::Alarm;
 use wb_nbd::{Errno, Export};
 use wb_opened::Served;
 use wb_types::{Content, Refusal, Sector};
@@ -34,7 +35,7 @@ impl<'r, 'c, 'p, R: Wait, C: Served, T: Eprint> Export for Lent<'r, 'c, 'p, R, C
         self.pace.count();
         match self.client.read(self.rt, at, out) {
             Ok(()) => Ok(()),
-            Err(refusal) => Err(errno_of(self.teller, refusal)),
+            Err(refusal) => Err(errno_of(&self.teller.alarm, refusal)),
         }
     }
 
@@ -42,27 +43,32 @@ impl<'r, 'c, 'p, R: Wait, C: Served, T: Eprint> Export for Lent<'r, 'c, 'p, R, C
         self.pace.count();
         match self.client.write(self.rt, at, from) {
             Ok(()) => Ok(()),
-            Err(refusal) => Err(errno_of(self.teller, refusal)),
+            Err(refusal) => Err(errno_of(&self.teller.alarm, refusal)),
         }
     }
 
     fn flush(&mut self) -> Result<(), Errno> {
         match self.client.flush(self.rt) {
             Ok(()) => Ok(()),
-            Err(refusal) => Err(errno_of(self.teller, refusal)),
+            Err(refusal) => Err(errno_of(&self.teller.alarm, refusal)),
         }
     }
 }
 
-/// What a client is told of a refusal; the first failure of a device is told on standard error, too.
-fn errno_of<T: Eprint>(teller: &Teller<'_, T>, refusal: Refusal) -> Errno {
-    if let Refusal::Io(device) = refusal {
-        teller.failed(device);
-    }
+/// What a client is told of a refusal; a device that failed is told of on standard error, too.
+fn errno_of<T: Eprint>(alarm: &Alarm<'_, T>, refusal: Refusal) -> Errno {
     match refusal {
         Refusal::Range => Errno::Invalid,
         Refusal::Failed => Errno::Shutdown,
         Refusal::Memory => Errno::Memory,
+        Refusal::Io(device) => {
+            alarm.note(device);
+            if alarm.is_full(device) {
+                Errno::Space
+            } else {
+                Errno::Io
+            }
+        }
         _ => Errno::Io,
     }
 }

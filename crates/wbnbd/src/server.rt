@@ -41,7 +41,15 @@ pub fn run<
         return Ended::refused(Refusal::Memory);
     };
     let mut patience = Patient::new(waits, asked.wait);
-    match serve_all(rt, waits, alloc, asked.table, &mut patience, services) {
+    match serve_all(
+        rt,
+        waits,
+        alloc,
+        asked.table,
+        &mut patience,
+        &teller.alarm,
+        services,
+    ) {
         Ok(told) => ended_of(told.as_slice()),
         Err(unserved) => Ended::unserved(unserved),
     }

@@ -3,17 +3,19 @@
 ghost use Rattle.std.specs.Prelude.{◌≡◌};
 
 use std::sync::atomic::{AtomicU64, Ordering};
-use wb_types::{Dev, Geometry};
+use wb_files::Alarm;
+use wb_types::Geometry;
 
-/// Tells what was opened, the first failure of a device, and how the cache stands at the end. Whoever tells writes a line at once.
+/// Tells what was opened, the first failure of each device, and how the cache stands at the end. Whoever tells writes a line at once.
 #[derive(Drop)]
 pub struct Teller<'a, T> {
     pub rt: &'a T,
     /// Whether only what went wrong is told.
     quiet: bool,
-    /// How often something was opened or failed, as far as anybody said.
+    /// How often it was told what was opened.
     opened: AtomicU64,
-    failed: AtomicU64,
+    /// Of devices that fail.
+    pub alarm: Alarm<'a, T>,
 }
 
 impl<'a, T: Eprint> Teller<'a, T> {
@@ -22,7 +24,7 @@ impl<'a, T: Eprint> Teller<'a, T> {
             rt,
             quiet,
             opened: AtomicU64::new(0),
-            failed: AtomicU64::new(0),
+            alarm: Alarm::new(rt, "wbnbd"),
         }
     }
 
@@ -42,13 +44,6 @@ impl<'a, T: Eprint> Teller<'a, T> {
         let _ = eprintln!(self.rt;
             "wbnbd: opened {sectors} sectors; {mapped} of {cache_blocks} cache blocks mapped, {dirty} dirty"
         );
-    }
-
-    /// A step of a device failed, which is told of the first.
-    pub fn failed(&self, device: Dev) {
-        if self.failed.fetch_add(1, Ordering::SeqCst) == 0 {
-            let _ = eprintln!(self.rt; "wbnbd: {device} file: a read, a write or a sync failed");
-        }
     }
 
     /// The status line of the cache at the end.
