@@ -10,10 +10,16 @@ use wb_policy::Policy;
 use wb_port::Port;
 
 /// A client: what it reads and writes by, and the target that it is of.
-#[derive(Drop)]
 pub struct Client<'t, D, P: Policy> {
     pub(crate) target: &'t Target<P>,
     pub port: Port<D>,
+}
+
+impl<'t, D: Drop, P: Policy> Drop for Client<'t, D, P> {
+    fn drop(self) {
+        let Client { target: _, port } = self;
+        drop(port);
+    }
 }
 
 impl<'t, D: Disk + Drop, P: Policy> Client<'t, D, P> {

@@ -77,7 +77,7 @@ impl<P: Policy> Target<P> {
     {
         let mut client = client;
         client.settle(rt);
-        let Client { target, port, .. } = client;
+        let Client { target, port } = client;
         target.take_back(rt, port)
     }
 
