@@ -14,23 +14,11 @@ use wb_tasks::{DeviceStep, Got};
 use wb_types::{Content, Dev, Extent};
 
 /// The three devices of a cache. A step is on one of them, and the others stay as they are.
+#[derive(Drop)]
 pub struct Devices<D> {
     pub metadata: D,
     pub cache: D,
     pub origin: D,
-}
-
-impl<D: Drop> Drop for Devices<D> {
-    fn drop(self) {
-        let Devices {
-            metadata,
-            cache,
-            origin,
-        } = self;
-        drop(metadata);
-        drop(cache);
-        drop(origin);
-    }
 }
 
 impl<D: Disk> Devices<D> {

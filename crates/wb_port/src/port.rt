@@ -71,11 +71,7 @@ impl<D: Disk + Drop> Port<D> {
         let Ok(accesses) = Vec::with_capacity(alloc, UNSETTLED) else {
             return Err((seat, devices));
         };
-        let Seat {
-            geometry,
-            cells,
-            pass,
-        } = seat;
+        let (geometry, cells, pass) = seat.apart();
         Ok(Port {
             geometry,
             cells,

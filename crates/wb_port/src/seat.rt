@@ -45,6 +45,18 @@ impl Seat {
         })
     }
 
+    /// Its sizes, its words and its pass.
+    pub(crate) fn apart(self) -> (Geometry, Arc<Cells, Global>, Pass)
+        ensures { (result.0 ≡ self.geometry) × (result.1 ≡ self.cells) × (result.2 ≡ self.pass) }
+    {
+        let Seat {
+            geometry,
+            cells,
+            pass,
+        } = self;
+        (geometry, cells, pass)
+    }
+
     /// One look at a word.
     pub fn look(&mut self, word: Word) -> u64
         requires { IsWord self.old.geometry.origin_blocks word }

@@ -29,6 +29,14 @@ impl<'t, D: Disk + Drop, P: Policy> Client<'t, D, P> {
         Client { target, port }
     }
 
+    /// What it reads and writes by.
+    pub(crate) fn into_port(self) -> Port<D>
+        ensures { result ≡ self.port }
+    {
+        let Client { target: _, port } = self;
+        port
+    }
+
     /// The target that it is of.
     pub fn target(&self) -> &'t Target<P>
         ensures { result ≡ self.now.target }
