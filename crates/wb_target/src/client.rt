@@ -31,7 +31,7 @@ impl<'t, D: Disk + Drop, P: Policy> Client<'t, D, P> {
 
     /// What it reads and writes by.
     pub(crate) fn into_port(self) -> Port<D>
-        ensures { result ≡ self.port }
+        ensures { result ≡ self.entry.port }
     {
         let Client { target: _, port } = self;
         port
