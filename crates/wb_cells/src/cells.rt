@@ -69,9 +69,15 @@ impl Split<View> for Parting {
 }
 
 /// The words that all threads share. Contracts see which words they are, and of how many blocks.
-#[derive(Drop)]
 pub struct Cells {
     pub(crate) words: WordTable,
+}
+
+impl Drop for Cells {
+    fn drop(self) {
+        let Cells { words } = self;
+        drop(words);
+    }
 }
 
 impl Model for Cells {

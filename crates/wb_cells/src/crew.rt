@@ -22,10 +22,17 @@ use wb_types::{CBlock, OBlock, Refusal};
 use wb_words::{Access, CellResult, CellStep, FailBit, Kind, Word, seal_word};
 
 /// Contracts see all words, and each actor's card.
-#[derive(Drop)]
 pub struct Crew {
     words: WordTable,
     seat: Seat<u64, View>,
+}
+
+impl Drop for Crew {
+    fn drop(self) {
+        let Crew { words, seat } = self;
+        drop(words);
+        drop(seat);
+    }
 }
 
 impl Model for Crew {

@@ -18,11 +18,17 @@ use wb_tasks::{DeviceStep, Got};
 use wb_types::{Dev, Refusal};
 
 /// A commit that runs, and how far it has come: its image goes to the metadata device by the steps of `CommitSteps`, one for one.
-#[derive(Drop)]
 pub struct RunningCommit {
     image: Image,
     steps: CommitSteps,
     ghost placed: { HavePlaces image.nodes.items image.root.geometry.meta_sectors },
+}
+
+impl Drop for RunningCommit {
+    fn drop(self) {
+        let RunningCommit { image, steps: _ } = self;
+        drop(image);
+    }
 }
 
 impl RunningCommit {

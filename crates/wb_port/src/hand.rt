@@ -18,12 +18,23 @@ use wb_types::{Content, Dev, Extent};
 
 /// What a client steps with: a pass, which knows what it has done to the shared words, and three devices of its own. Both are
 /// reached by its calls alone: a pass stays with its devices, and these move no extent but of a block that the pass has.
-#[derive(Drop)]
 pub struct Hand<D> {
     pass: Pass,
     /// How many sectors a block has.
     block_sectors: u32,
     devices: Devices<D>,
+}
+
+impl<D: Drop> Drop for Hand<D> {
+    fn drop(self) {
+        let Hand {
+            pass,
+            block_sectors: _,
+            devices,
+        } = self;
+        drop(pass);
+        drop(devices);
+    }
 }
 
 impl<D: Disk> Hand<D> {

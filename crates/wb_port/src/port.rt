@@ -20,7 +20,6 @@ pub const UNSETTLED: usize = 32;
 
 /// A hand between two requests, the shared words that its pass is of, and the accesses that are to be settled, one block for
 /// each part that was counted, in order.
-#[derive(Drop)]
 pub struct Port<D> {
     pub geometry: Geometry,
     pub cells: Arc<Cells, Global>,
@@ -36,6 +35,24 @@ pub struct Port<D> {
     ghost block: { hand.block_sectors ≡ geometry.block },
     ghost few: { length accesses.items ≤ MostUnsettled },
     ghost room: { MostUnsettled ≤ vec_capacity accesses },
+}
+
+impl<D: Drop> Drop for Port<D> {
+    fn drop(self) {
+        let Port {
+            geometry: _,
+            cells,
+            hand,
+            accesses,
+            buffer,
+            commit,
+        } = self;
+        drop(cells);
+        drop(hand);
+        drop(accesses);
+        drop(buffer);
+        drop(commit);
+    }
 }
 
 impl<D: Disk + Drop> Port<D> {
@@ -54,11 +71,7 @@ impl<D: Disk + Drop> Port<D> {
         let Ok(accesses) = Vec::with_capacity(alloc, UNSETTLED) else {
             return Err((seat, devices));
         };
-        let Seat {
-            geometry,
-            cells,
-            pass,
-        } = seat;
+        let (geometry, cells, pass) = seat.apart();
         Ok(Port {
             geometry,
             cells,

@@ -11,7 +11,6 @@ use wb_cells::{Cells, Pass, Word};
 use wb_types::{Geometry, Refusal};
 
 /// The shared words of a target of these sizes, and a pass of them that has no block.
-#[derive(Drop)]
 pub struct Seat {
     pub geometry: Geometry,
     pub cells: Arc<Cells, Global>,
@@ -19,6 +18,18 @@ pub struct Seat {
     ghost at: { pass.table ≡ cells.value.table },
     ghost sized: { cells.value.blocks ≡ geometry.origin_blocks },
     ghost idle: { pass.card.hold ≡ Nothing },
+}
+
+impl Drop for Seat {
+    fn drop(self) {
+        let Seat {
+            geometry: _,
+            cells,
+            pass,
+        } = self;
+        drop(cells);
+        drop(pass);
+    }
 }
 
 impl Seat {
@@ -32,6 +43,18 @@ impl Seat {
             cells: Arc::new(alloc, cells).map_err(|_| Refusal::Memory)?,
             pass,
         })
+    }
+
+    /// Its sizes, its words and its pass.
+    pub(crate) fn apart(self) -> (Geometry, Arc<Cells, Global>, Pass)
+        ensures { (result.0 ≡ self.geometry) × (result.1 ≡ self.cells) × (result.2 ≡ self.pass) }
+    {
+        let Seat {
+            geometry,
+            cells,
+            pass,
+        } = self;
+        (geometry, cells, pass)
     }
 
     /// One look at a word.

@@ -162,7 +162,8 @@ fn served(alloc: Global, block: Option<OBlock>) -> Result<Vec<OBlock>, Refusal>
 {
     let mut blocks = Vec::new(alloc);
     if let Some(block) = block {
-        blocks.push(block).map_err(|_| Refusal::Memory)?;
+        blocks.reserve(1)?;
+        blocks.push_reserved(block);
     }
     Ok(blocks)
 }

@@ -10,10 +10,16 @@ use wb_policy::Policy;
 use wb_port::Port;
 
 /// A client: what it reads and writes by, and the target that it is of.
-#[derive(Drop)]
 pub struct Client<'t, D, P: Policy> {
     pub(crate) target: &'t Target<P>,
     pub port: Port<D>,
+}
+
+impl<'t, D: Drop, P: Policy> Drop for Client<'t, D, P> {
+    fn drop(self) {
+        let Client { target: _, port } = self;
+        drop(port);
+    }
 }
 
 impl<'t, D: Disk + Drop, P: Policy> Client<'t, D, P> {
@@ -21,6 +27,14 @@ impl<'t, D: Disk + Drop, P: Policy> Client<'t, D, P> {
         ensures { result.port ≡ port }
     {
         Client { target, port }
+    }
+
+    /// What it reads and writes by.
+    pub(crate) fn into_port(self) -> Port<D>
+        ensures { result ≡ self.entry.port }
+    {
+        let Client { target: _, port } = self;
+        port
     }
 
     /// The target that it is of.

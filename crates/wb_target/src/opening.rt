@@ -156,8 +156,9 @@ fn seats_of(alloc: Global, seat: Seat) -> Result<(Vec<Seat>, Seat), Refusal> {
     let mut seats = Vec::with_capacity(alloc, CLIENTS)?;
     let mut last = seat;
     for _ in 0..CLIENTS {
+        seats.reserve(1)?;
         let (one, other) = last.split()?;
-        seats.push(one).map_err(|_| Refusal::Memory)?;
+        seats.push_reserved(one);
         last = other;
     }
     Ok((seats, last))

@@ -77,8 +77,8 @@ impl<P: Policy> Target<P> {
     {
         let mut client = client;
         client.settle(rt);
-        let Client { target, port, .. } = client;
-        target.take_back(rt, port)
+        let target = client.target;
+        target.take_back(rt, client.into_port())
     }
 
     /// What the desk counts.

@@ -3,67 +3,151 @@
 ghost use Rattle.std.specs.Prelude.{◌≡◌, ◌<◌};
 ghost use Rattle.wb_words.specs.declared.card.Hold.TheVariants.{Nothing};
 
+use std::alloc::Global;
 use std::test::Fail;
 use wb_cells::{Cells, Grip, Gripped, Pass};
 use wb_types::{CBlock, OBlock, Refusal};
 use wb_words::{Kind, Word};
 
+/// What is asked of passes of the words of ten blocks, none of which holds a block.
+// Letting cells and passes go at each of many exits is dear to prove: `answered` alone does, at one.
+#[derive(Clone, Copy)]
+enum Question {
+    SharersKeepOut,
+    FindsWhatWasLeft,
+    GripsByFive,
+    IsSuspended,
+}
+
+fn answered(alloc: Global, question: Question) -> Result<bool, Refusal> {
+    let (cells, pass) = Cells::new(alloc, 10)?;
+    let (pass, mut third) = cells.split(pass);
+    let (mut first, mut second) = cells.split(pass);
+    Ok(answer(&cells, &mut first, &mut second, &mut third, question))
+}
+
+fn answer(cells: &Cells, p: &mut Pass, q: &mut Pass, r: &mut Pass, question: Question) -> bool
+    requires blocks { cells.now.blocks ≡ 10 }
+    requires at { (p.old.table ≡ cells.now.table) × (q.old.table ≡ cells.now.table) × (r.old.table ≡ cells.now.table) }
+    requires idle { (p.old.card.hold ≡ Nothing) × (q.old.card.hold ≡ Nothing) × (r.old.card.hold ≡ Nothing) }
+{
+    match question {
+        Question::SharersKeepOut => sharers_keep_out(cells, p, q, r),
+        Question::FindsWhatWasLeft => finds_what_was_left(cells, p, r),
+        Question::GripsByFive => grips_by_five(cells, p, q),
+        Question::IsSuspended => is_suspended(cells, p),
+    }
+}
+
+/// Whether two sharers keep a third pass from owning their block until they leave it.
+fn sharers_keep_out(cells: &Cells, p: &mut Pass, q: &mut Pass, r: &mut Pass) -> bool
+    requires blocks { cells.now.blocks ≡ 10 }
+    requires at { (p.old.table ≡ cells.now.table) × (q.old.table ≡ cells.now.table) × (r.old.table ≡ cells.now.table) }
+    requires idle { (p.old.card.hold ≡ Nothing) × (q.old.card.hold ≡ Nothing) × (r.old.card.hold ≡ Nothing) }
+{
+    let four = OBlock(4);
+    let Ok(a) = cells.try_share(p, four) else {
+        return false;
+    };
+    let Ok(b) = cells.try_share(q, four) else {
+        return false;
+    };
+    if !matches!(cells.try_own(r, four), Err(Refusal::Busy)) {
+        return false;
+    }
+    let found = (a.place, a.dirty, a.number) == (None, false, 0)
+        && (b.place, b.dirty, b.number) == (None, false, 0);
+    cells.leave(p, a);
+    cells.leave(q, b);
+    found && cells.try_own(r, four).is_ok()
+}
+
 #[test]
 fn two_sharers_keep_a_third_pass_from_owning(rt: HostRuntime) -> Result<(), Fail> {
-    let (cells, pass) = Cells::new(rt.alloc(), 10)?;
-    let (pass, mut r) = cells.split(pass);
-    let (mut p, mut q) = cells.split(pass);
-    let four = OBlock(4);
-    let a = cells.try_share(&mut p, four)?;
-    let b = cells.try_share(&mut q, four)?;
-    assert!(rt; (a.place, a.dirty, a.number) == (None, false, 0));
-    assert!(rt; (b.place, b.dirty, b.number) == (None, false, 0));
-    assert!(rt; matches!(cells.try_own(&mut r, four), Err(Refusal::Busy)));
-    cells.leave(&mut p, a);
-    cells.leave(&mut q, b);
-    let own = cells.try_own(&mut r, four)?;
-    cells.disown(&mut r, own);
+    assert!(rt; answered(rt.alloc(), Question::SharersKeepOut)?);
     Ok(())
+}
+
+/// Whether a sharer finds what an owner sealed and counted, once that has left, and nobody finds a block after a failure.
+fn finds_what_was_left(cells: &Cells, p: &mut Pass, r: &mut Pass) -> bool
+    requires blocks { cells.now.blocks ≡ 10 }
+    requires at { (p.old.table ≡ cells.now.table) × (r.old.table ≡ cells.now.table) }
+    requires idle { (p.old.card.hold ≡ Nothing) × (r.old.card.hold ≡ Nothing) }
+{
+    let four = OBlock(4);
+    let Ok(mut own) = cells.try_own(r, four) else {
+        return false;
+    };
+    cells.seal(r, &mut own, Some(CBlock(2)), true);
+    if own.number < u64::MAX {
+        cells.finish_write(r, &mut own);
+    }
+    if !matches!(cells.try_share(p, four), Err(Refusal::Busy)) {
+        return false;
+    }
+    cells.disown(r, own);
+    let Ok(a) = cells.try_share(p, four) else {
+        return false;
+    };
+    let found = (a.place, a.dirty, a.number) == (Some(CBlock(2)), true, 1);
+    cells.leave(p, a);
+    cells.fail(r);
+    found && matches!(cells.try_share(p, OBlock(0)), Err(Refusal::Failed))
 }
 
 #[test]
 fn a_sharer_finds_what_an_owner_left(rt: HostRuntime) -> Result<(), Fail> {
-    let (cells, pass) = Cells::new(rt.alloc(), 10)?;
-    let (mut p, mut r) = cells.split(pass);
-    let four = OBlock(4);
-    let mut own = cells.try_own(&mut r, four)?;
-    cells.seal(&mut r, &mut own, Some(CBlock(2)), true);
-    if own.number < u64::MAX {
-        cells.finish_write(&mut r, &mut own);
-    }
-    assert!(rt; matches!(cells.try_share(&mut p, four), Err(Refusal::Busy)));
-    cells.disown(&mut r, own);
-    let a = cells.try_share(&mut p, four)?;
-    assert!(rt; (a.place, a.dirty, a.number) == (Some(CBlock(2)), true, 1));
-    cells.leave(&mut p, a);
-    cells.fail(&mut r);
-    assert!(rt; matches!(cells.try_share(&mut p, OBlock(0)), Err(Refusal::Failed)));
+    assert!(rt; answered(rt.alloc(), Question::FindsWhatWasLeft)?);
     Ok(())
+}
+
+/// Whether a grip shares in five steps, and one that would own is busy in two.
+fn grips_by_five(cells: &Cells, p: &mut Pass, q: &mut Pass) -> bool
+    requires blocks { cells.now.blocks ≡ 10 }
+    requires at { (p.old.table ≡ cells.now.table) × (q.old.table ≡ cells.now.table) }
+    requires idle { (p.old.card.hold ≡ Nothing) × (q.old.card.hold ≡ Nothing) }
+{
+    let mut grip = Grip::share(OBlock(1));
+    let shares = matches!(cells.grip_step(p, &mut grip), Gripped::More(0))
+        && matches!(cells.grip_step(p, &mut grip), Gripped::More(0))
+        && matches!(cells.grip_step(p, &mut grip), Gripped::More(0))
+        && matches!(cells.grip_step(p, &mut grip), Gripped::More(0))
+        && matches!(cells.grip_step(p, &mut grip), Gripped::Shared(_));
+    let mut grip = Grip::own(OBlock(1));
+    shares
+        && matches!(cells.grip_step(q, &mut grip), Gripped::More(0))
+        && matches!(
+            cells.grip_step(q, &mut grip),
+            Gripped::Refused(Refusal::Busy)
+        )
 }
 
 #[test]
 fn a_grip_shares_in_five_steps_and_is_busy_in_two(rt: HostRuntime) -> Result<(), Fail> {
-    let (cells, pass) = Cells::new(rt.alloc(), 2)?;
-    let (mut p, mut q) = cells.split(pass);
-    let mut grip = Grip::share(OBlock(1));
-    assert!(rt; matches!(cells.grip_step(&mut p, &mut grip), Gripped::More(0)));
-    assert!(rt; matches!(cells.grip_step(&mut p, &mut grip), Gripped::More(0)));
-    assert!(rt; matches!(cells.grip_step(&mut p, &mut grip), Gripped::More(0)));
-    assert!(rt; matches!(cells.grip_step(&mut p, &mut grip), Gripped::More(0)));
-    assert!(rt; matches!(cells.grip_step(&mut p, &mut grip), Gripped::Shared(_)));
-    let mut grip = Grip::own(OBlock(1));
-    assert!(rt; matches!(cells.grip_step(&mut q, &mut grip), Gripped::More(0)));
-    assert!(rt;
-        matches!(
-            cells.grip_step(&mut q, &mut grip),
-            Gripped::Refused(Refusal::Busy)
-        )
-    );
+    assert!(rt; answered(rt.alloc(), Question::GripsByFive)?);
+    Ok(())
+}
+
+/// Whether a suspension refuses blocks as a failure does, each by its bit.
+fn is_suspended(cells: &Cells, p: &mut Pass) -> bool
+    requires blocks { cells.now.blocks ≡ 10 }
+    requires at { p.old.table ≡ cells.now.table }
+    requires idle { p.old.card.hold ≡ Nothing }
+{
+    cells.suspended(p);
+    if !matches!(cells.try_own(p, OBlock(0)), Err(Refusal::Failed)) {
+        return false;
+    }
+    if cells.look(p, Word::Fail) != 2 {
+        return false;
+    }
+    cells.fail(p);
+    cells.look(p, Word::Fail) == 3
+}
+
+#[test]
+fn a_suspension_refuses_as_a_failure_does(rt: HostRuntime) -> Result<(), Fail> {
+    assert!(rt; answered(rt.alloc(), Question::IsSuspended)?);
     Ok(())
 }
 
@@ -82,17 +166,6 @@ fn joined_passes_know_the_statistics(rt: HostRuntime) -> Result<(), Fail> {
         cells.look(&mut all, Word::Count(Kind::WriteMiss)),
     ];
     assert!(rt; counts == [2, 0, 0, 1]);
-    Ok(())
-}
-
-#[test]
-fn a_suspension_refuses_as_a_failure_does(rt: HostRuntime) -> Result<(), Fail> {
-    let (cells, mut pass) = Cells::new(rt.alloc(), 1)?;
-    cells.suspended(&mut pass);
-    assert!(rt; matches!(cells.try_own(&mut pass, OBlock(0)), Err(Refusal::Failed)));
-    assert_eq!(rt; cells.look(&mut pass, Word::Fail), 2);
-    cells.fail(&mut pass);
-    assert_eq!(rt; cells.look(&mut pass, Word::Fail), 3);
     Ok(())
 }
 

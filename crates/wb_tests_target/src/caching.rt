@@ -4,6 +4,7 @@ use crate::fixture::{
     Lent, Memory, begun_with, client_of, formatted, open, shows, worked, write_and_read,
 };
 use crate::questions::{Question, answered, answered_over};
+use std::alloc::Global;
 use std::sync::Wait;
 use std::test::Fail;
 use wb_policy::{Order, TinyLfu};
@@ -25,32 +26,35 @@ fn a_block_is_cached_at_its_second_access(rt: HostRuntime) -> Result<(), Fail> {
     Ok(())
 }
 
-/// Caches a block, writes it there, and flushes: the devices then.
-fn cached_and_flushed(
+/// Whether a block is cached, written there, and flushed.
+fn caches_and_flushes(rt: &impl Wait, client: &mut Lent<'_>) -> bool {
+    write_and_read(rt, client, 70, 0x11)
+        && worked(rt, client).is_some()
+        && client.write(rt, Sector(70), &[begun_with(0x22)]).is_ok()
+        && client.flush(rt) == Ok(Flushed::Led)
+}
+
+/// The devices of a target on which that was done, and whether it was.
+fn cached_and_flushed(rt: &impl Wait, alloc: Global) -> Result<(Memory, bool), Refusal> {
+    let (devices, target) = open(alloc, formatted(alloc)?)?;
+    left_by(rt, &target, devices)
+}
+
+fn left_by(
     rt: &impl Wait,
     target: &Target<TinyLfu>,
     devices: Memory,
-) -> Result<Option<Memory>, Refusal> {
+) -> Result<(Memory, bool), Refusal> {
     let mut client = client_of(rt, target, devices)?;
-    let cached = write_and_read(rt, &mut client, 70, 0x11) && worked(rt, &mut client).is_some();
-    let written = client.write(rt, Sector(70), &[begun_with(0x22)]).is_ok();
-    let flushed = client.flush(rt) == Ok(Flushed::Led);
-    let devices = target.retire(rt, client);
-    Ok(if cached && written && flushed {
-        Some(devices)
-    } else {
-        None
-    })
+    let done = caches_and_flushes(rt, &mut client);
+    Ok((target.retire(rt, client), done))
 }
 
 #[test]
 fn what_was_flushed_is_found_in_the_cache(rt: HostRuntime) -> Result<(), Fail> {
-    let (devices, target) = open(rt.alloc(), formatted(rt.alloc())?)?;
-    let devices = cached_and_flushed(&rt, &target, devices)?;
-    assert!(rt; devices.is_some());
-    if let Some(devices) = devices {
-        assert!(rt; answered_over(&rt, rt.alloc(), devices, Question::Shows(70, 0x22))?);
-    }
+    let (devices, done) = cached_and_flushed(&rt, rt.alloc())?;
+    let found = answered_over(&rt, rt.alloc(), devices, Question::Shows(70, 0x22));
+    assert!(rt; done && found?);
     Ok(())
 }
 

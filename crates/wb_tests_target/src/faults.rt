@@ -82,15 +82,31 @@ fn lived(rt: &impl Wait, alloc: Global, devices: Failing) -> (Rounds, Memory, bo
     };
     let (devices, target) = Target::<TinyLfu>::open(alloc, devices, 64, Mode::Writeback, &[]);
     let devices = match target {
-        Ok(target) => match target.client(rt, devices) {
-            Ok(mut client) => {
-                let _ = play(rt, &mut client, &mut rounds);
-                target.retire(rt, client)
-            }
-            Err((devices, _)) => devices,
-        },
+        Ok(target) => played(rt, &target, devices, &mut rounds),
         Err(_) => devices,
     };
+    let (memory, has_failed) = unwrapped(devices);
+    (rounds, memory, has_failed)
+}
+
+/// The devices of a client that has played.
+fn played(
+    rt: &impl Wait,
+    target: &Target<TinyLfu>,
+    devices: Failing,
+    rounds: &mut Rounds,
+) -> Failing {
+    match target.client(rt, devices) {
+        Ok(mut client) => {
+            let _ = play(rt, &mut client, rounds);
+            target.retire(rt, client)
+        }
+        Err((devices, _)) => devices,
+    }
+}
+
+/// What these devices hold, and whether a call of them failed.
+fn unwrapped(devices: Failing) -> (Memory, bool) {
     let Devices {
         metadata,
         cache,
@@ -102,7 +118,7 @@ fn lived(rt: &impl Wait, alloc: Global, devices: Failing) -> (Rounds, Memory, bo
         cache: cache.into_inner(),
         origin: origin.into_inner(),
     };
-    (rounds, memory, has_failed)
+    (memory, has_failed)
 }
 
 /// Crashes devices, each sector at its oldest or its newest content.

@@ -15,13 +15,14 @@ pub type Lent<'t> = Client<'t, MemDisk, TinyLfu>;
 
 /// Devices whose metadata are formatted.
 pub fn formatted(alloc: Global) -> Result<Memory, Refusal> {
-    let mut devices = Devices {
-        metadata: MemDisk::new(alloc, 4)?,
+    let geometry = Geometry::new(64, 4, 10, 4)?;
+    let mut metadata = MemDisk::new(alloc, 4)?;
+    format(&mut metadata, &geometry)?;
+    Ok(Devices {
+        metadata,
         cache: MemDisk::new(alloc, 256)?,
         origin: MemDisk::new(alloc, 640)?,
-    };
-    format(&mut devices.metadata, &Geometry::new(64, 4, 10, 4)?)?;
-    Ok(devices)
+    })
 }
 
 /// A target that is opened over devices.

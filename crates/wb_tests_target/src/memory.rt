@@ -1,6 +1,6 @@
 //! Want of memory: `rt try --test --fail-alloc N` refuses the N-th allocation, and the test passes for each.
 
-use crate::fixture::{Memory, begun_with, formatted};
+use crate::fixture::{Lent, Memory, begun_with, formatted};
 use std::alloc::Global;
 use std::sync::Wait;
 use std::test::Fail;
@@ -38,14 +38,8 @@ fn client<'t>(
     }
 }
 
-/// Four blocks cached and one more that replaces one, as far as there is memory, then a flush, each call once more where there
-/// was none; the devices then.
-fn cached_and_flushed(
-    rt: &impl Wait,
-    target: &Target<TinyLfu>,
-    devices: Memory,
-) -> Result<Memory, Refusal> {
-    let mut client = client(rt, target, devices)?;
+/// Four blocks cached and one more that replaces one, as far as there is memory, then a flush, once more where there was none.
+fn cache_and_flush(rt: &impl Wait, client: &mut Lent<'_>) -> Result<(), Refusal> {
     for block in 0..5 {
         for _ in 0..3 {
             if let Err(stopped) = client.write(rt, Sector(64 * block), &[begun_with(0x22)]) {
@@ -64,13 +58,36 @@ fn cached_and_flushed(
         }
         Err(refusal) => return Err(refusal),
     }
-    Ok(target.retire(rt, client))
+    Ok(())
+}
+
+/// The devices of a target on which that was done.
+fn cached_and_flushed(
+    rt: &impl Wait,
+    target: &Target<TinyLfu>,
+    devices: Memory,
+) -> Result<Memory, Refusal> {
+    let mut client = client(rt, target, devices)?;
+    let done = cache_and_flush(rt, &mut client);
+    let devices = target.retire(rt, client);
+    match done {
+        Ok(()) => Ok(devices),
+        Err(refusal) => Err(refusal),
+    }
 }
 
 /// Whether a new target shows each block as it was written.
 fn all_shown(rt: &impl Wait, alloc: Global, devices: Memory) -> Result<bool, Refusal> {
     let (devices, target) = opened(alloc, devices)?;
-    let mut client = client(rt, &target, devices)?;
+    shown_by(rt, &target, devices)
+}
+
+fn shown_by(rt: &impl Wait, target: &Target<TinyLfu>, devices: Memory) -> Result<bool, Refusal> {
+    let mut client = client(rt, target, devices)?;
+    shows_all(rt, &mut client)
+}
+
+fn shows_all(rt: &impl Wait, client: &mut Lent<'_>) -> Result<bool, Refusal> {
     let mut out = [[0; SECTOR_BYTES]];
     for block in 0..5 {
         if let Err(stopped) = client.read(rt, Sector(64 * block), &mut out) {

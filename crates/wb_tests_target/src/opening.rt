@@ -35,12 +35,20 @@ fn a_value_out_of_range_is_refused_before_the_root_is_written(rt: HostRuntime) -
     Ok(())
 }
 
-/// Whether this is the status line of a new target.
-pub fn tells_status(rt: &impl Wait, alloc: Global, target: &Target<TinyLfu>) -> bool {
+/// Whether this is a target's status line.
+pub fn tells(rt: &impl Wait, alloc: Global, target: &Target<TinyLfu>, wanted: &str) -> bool {
     let mut text = String::new(alloc);
-    let wanted =
-        "1 2/4 64 0/4 0 0 0 0 0 0 0 1 writeback 2 migration_threshold 2048 tinylfu 2 promote_min 2 rw -";
     target.status(rt, &mut text).is_ok() && text.as_str() == wanted
+}
+
+/// Whether it has that of a new target.
+pub fn tells_status(rt: &impl Wait, alloc: Global, target: &Target<TinyLfu>) -> bool {
+    tells(
+        rt,
+        alloc,
+        target,
+        "1 2/4 64 0/4 0 0 0 0 0 0 0 1 writeback 2 migration_threshold 2048 tinylfu 2 promote_min 2 rw -",
+    )
 }
 
 #[test]

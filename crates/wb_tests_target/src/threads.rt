@@ -2,11 +2,14 @@
 
 use crate::files::{Names, images, target_over};
 use crate::fixture::begun_with;
+use crate::opening::tells;
+use std::alloc::AllocError;
 use std::sync::Wait;
 use std::test::Fail;
+use std::thread::Threads;
 use wb_disk::{Disk, FileDisk};
-use wb_policy::Policy;
-use wb_target::{Client, Errand, Sent};
+use wb_policy::{Policy, TinyLfu};
+use wb_target::{Client, Errand, Sent, Target};
 use wb_types::{SECTOR_BYTES, Sector};
 
 /// Reads a sector so many times, and tells whether each was answered.
@@ -49,18 +52,27 @@ fn readers(rt: &HostRuntime, names: &Names) -> Result<Vec<Sent<FileDisk, Reads>>
 
 const READ: Names = ["read_m.img", "read_c.img", "read_o.img"];
 
+/// The status line after these.
+const READ_LINE: &str =
+    "1 2/4 64 0/4 0 400 0 0 0 0 0 1 writeback 2 migration_threshold 2048 tinylfu 2 promote_min 2 rw -";
+
+/// Whether each of them was answered.
+fn all_read<R: Threads + Wait + Sync>(
+    rt: &R,
+    target: &Target<TinyLfu>,
+    errands: Vec<Sent<FileDisk, Reads>>,
+) -> Result<bool, AllocError> {
+    let returned = target.together(rt, errands)?;
+    Ok(returned.iter().all(|one| one.told == Ok(true)))
+}
+
 #[test]
 fn four_clients_read_one_sector(rt: HostRuntime) -> Result<(), Fail> {
     let target = target_over(&rt, &READ)?;
-    let returned = target.together(&rt, readers(&rt, &READ)?)?;
-    for one in &returned {
-        assert!(rt; one.told == Ok(true));
-    }
-    let mut text = String::new(rt.alloc());
-    target.status(&rt, &mut text)?;
-    let wanted =
-        "1 2/4 64 0/4 0 400 0 0 0 0 0 1 writeback 2 migration_threshold 2048 tinylfu 2 promote_min 2 rw -";
-    assert!(rt; text.as_str() == wanted);
+    let read = all_read(&rt, &target, readers(&rt, &READ)?);
+    let told = tells(&rt, rt.alloc(), &target, READ_LINE);
+    drop(target);
+    assert!(rt; told && read?);
     Ok(())
 }
 
@@ -108,14 +120,28 @@ fn writers(rt: &HostRuntime, names: &Names) -> Result<Vec<Sent<FileDisk, Writes>
 
 const WRITTEN: Names = ["written_m.img", "written_c.img", "written_o.img"];
 
+/// Whether each of them read what it wrote.
+fn all_written<R: Threads + Wait + Sync>(
+    rt: &R,
+    target: &Target<TinyLfu>,
+    errands: Vec<Sent<FileDisk, Writes>>,
+) -> Result<bool, AllocError> {
+    let returned = target.together(rt, errands)?;
+    Ok(
+        returned.len() == 2
+            && WRITES
+                .iter()
+                .zip(&returned)
+                .all(|pair| pair.1.told == Ok(Some(pair.0.1))),
+    )
+}
+
 #[test]
 fn clients_read_what_they_wrote_each_in_its_place(rt: HostRuntime) -> Result<(), Fail> {
     let target = target_over(&rt, &WRITTEN)?;
-    let returned = target.together(&rt, writers(&rt, &WRITTEN)?)?;
-    assert!(rt; returned.len() == 2);
-    for ((_, byte), one) in WRITES.iter().zip(&returned) {
-        assert!(rt; one.told == Ok(Some(*byte)));
-    }
-    assert!(rt; target.counts(&rt).promotions == 2);
+    let written = all_written(&rt, &target, writers(&rt, &WRITTEN)?);
+    let promotions = target.counts(&rt).promotions;
+    drop(target);
+    assert!(rt; promotions == 2 && written?);
     Ok(())
 }

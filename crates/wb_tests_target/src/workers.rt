@@ -2,11 +2,14 @@
 
 use crate::files::{Images, Names, client_over, images, target_over};
 use crate::fixture::{Lent, shows, worked, write_and_read};
+use crate::opening::tells;
 use crate::questions::{Question, answered};
+use std::alloc::AllocError;
 use std::sync::Wait;
 use std::sync::atomic::{AtomicU64, Ordering};
 use std::test::Fail;
 use std::thread;
+use std::thread::Threads;
 use std::time::{Clock, Duration};
 use wb_disk::{Disk, FileDisk};
 use wb_policy::{Order, Policy, TinyLfu};
@@ -197,23 +200,38 @@ fn both<'a>(
     Ok(sent)
 }
 
+/// Whether a worker that stands before its steps, and a client beside it, both end as they are to.
+fn both_end<R: Threads + Wait + Sync, C: Clock + Sync>(
+    rt: &R,
+    target: &Target<TinyLfu>,
+    errands: Vec<Sent<FileDisk, Beside<'_, C>>>,
+) -> Result<bool, AllocError> {
+    let returned = target.together(rt, errands)?;
+    Ok(returned.iter().all(|one| one.told == Ok(true)))
+}
+
+/// Whether a client shows block 3 as it was written.
+fn shows_third(rt: &impl Wait, target: &Target<TinyLfu>, images: Images) -> Result<bool, Refusal> {
+    let mut client = client_over(rt, target, images)?;
+    Ok(shows(rt, &mut client, 192, 0x44))
+}
+
+/// The status line after that.
+const HELD_LINE: &str =
+    "1 2/4 64 1/4 1 2 0 1 0 1 0 1 writeback 2 migration_threshold 2048 tinylfu 2 promote_min 2 rw -";
+
 #[test]
 fn a_worker_that_a_gate_holds_keeps_its_block_alone(rt: HostRuntime) -> Result<(), Fail> {
     let target = target_over(&rt, &HELD)?;
-    assert!(rt; order_third(&rt, &target, images(&rt, &HELD)?)?);
     let signals = Signals {
         stands: AtomicU64::new(0),
         goes: AtomicU64::new(0),
     };
-    for one in &target.together(&rt, both(&rt, &signals)?)? {
-        assert!(rt; one.told == Ok(true));
-    }
-    let mut client = client_over(&rt, &target, images(&rt, &HELD)?)?;
-    assert!(rt; shows(&rt, &mut client, 192, 0x44));
-    let mut text = String::new(rt.alloc());
-    target.status(&rt, &mut text)?;
-    let wanted =
-        "1 2/4 64 1/4 1 2 0 1 0 1 0 1 writeback 2 migration_threshold 2048 tinylfu 2 promote_min 2 rw -";
-    assert!(rt; text.as_str() == wanted);
+    let ordered = order_third(&rt, &target, images(&rt, &HELD)?);
+    let ended = both_end(&rt, &target, both(&rt, &signals)?);
+    let shown = shows_third(&rt, &target, images(&rt, &HELD)?);
+    let told = tells(&rt, rt.alloc(), &target, HELD_LINE);
+    drop(target);
+    assert!(rt; told && ordered? && ended? && shown?);
     Ok(())
 }
