@@ -19,22 +19,6 @@ plan-requires-clause-free c =
     (places-unused c.args.geometry.now (length (changed c.args.tree.now (depth_of c.args.geometry.now.cache_blocks))) c.from-first.result c.from-count.result c.deref.result.now (c.deref.ensures.value ∙ c.in_ok-places.ensures)
     c.args.used.now (c.are_outside.ensures c.if-not-are_outside.false) (omega arith) (enough_for c.args.tree.now c.args.geometry.now.cache_blocks c.changed_nodes.result c.from-count.result c.requires.size c.changed_nodes.ensures (omega arith)) (omega arith))
 
-pub returns-clause-planned : goal.returns-clause-planned
-returns-clause-planned c =
-    IfOk-weaker c.plan.result _ _ (λ image h. (
-      record { geometry = c.args.geometry.now; generation = c.args.generation; clean = true; free = c.deref.result.now },
-      refl,
-      refl,
-      record {
-        mapping = c.is_own.ensures c.if-not-is_own.false c.args.geometry.now.origin_blocks (omega arith);
-        free_are = places-unused c.args.geometry.now (length (changed c.args.tree.now (depth_of c.args.geometry.now.cache_blocks))) c.from-first.result c.from-count.result c.deref.result.now (c.deref.ensures.value ∙ c.in_ok-places.ensures)
-            c.args.used.now (c.are_outside.ensures c.if-not-are_outside.false) (omega arith) (enough_for c.args.tree.now c.args.geometry.now.cache_blocks c.changed_nodes.result c.from-count.result c.requires.size c.changed_nodes.ensures (omega arith)) (omega arith);
-        image_is = h;
-        sound = c.plan.ensures.sound;
-        inside = c.plan.ensures.inside;
-      },
-    )) c.plan.ensures.image
-
 pub returns-clause-fits : goal.returns-clause-fits
 returns-clause-fits c =
     let plan : ImagePlan = record { geometry = c.args.geometry.now; generation = c.args.generation; clean = true; free = c.deref.result.now } in
