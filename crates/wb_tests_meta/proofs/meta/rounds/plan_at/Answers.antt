@@ -1,4 +1,4 @@
-use Rattle.std.proofs.Common.{◌≡◌, ◌≤◌, ◌∙◌, ℕ, true, refl, ap, length, arith}
+use Rattle.std.proofs.Common.{◌≡◌, ◌≤◌, ◌∙◌, ℕ, true, ap, length, arith}
 use Rattle.wb_types.specs.Limits.{depth_of}
 use Rattle.wb_tree.specs.Mapping.{Mapping, changed}
 use Rattle.std.proofs.lemmas.Result.{IfOk-weaker}
