@@ -5,12 +5,10 @@ ghost use Rattle.wb_meta.specs.Reads.{FitsDevice};
 
 mod clean;
 mod commits;
-mod compared;
 mod decisions;
 mod memory;
 mod messages;
 mod orders;
-mod slow;
 mod ticks;
 
 use std::alloc::Global;
@@ -151,8 +149,6 @@ enum Call {
     Stands(u32, Option<u32>),
     /// How many nodes a clean image writes that marks the last cache block dirty, and none of the others.
     Marked(usize),
-    /// So many pseudo-random calls come out as the slow desk has them, and more entries come than these.
-    Random(u32, u64),
 }
 
 /// Makes calls of a desk, and tells whether each was done or not, as it says beside.
@@ -222,7 +218,6 @@ fn is_done<P: Policy>(desk: &mut Desk<P>, alloc: Global, call: Call) -> Result<b
         Call::Holds(c, holding) => Ok(is_held_for(desk, c, holding)),
         Call::Stands(b, place) => Ok(desk.place(OBlock(b)) == place.map(CBlock)),
         Call::Marked(nodes) => clean::writes_of_one_mark(desk, alloc, nodes),
-        Call::Random(calls, entries) => compared::is_as_slow(desk, alloc, calls, entries),
     }
 }
 

@@ -3,58 +3,52 @@
 use std::test::Fail;
 use wb_types::*;
 
+/// The sectors of a block, the cache's blocks, the origin's, and the sectors of the metadata.
+type Sizes = (u64, u64, u64, u64);
+
+/// The nodes of a full cache: 32,768 leaves of 32 blocks, 1,024 nodes above them, then 32, then the top.
+const NODES: u64 = 32_768 + 1_024 + 32 + 1;
+
+const REFUSED: [Sizes; 13] = [
+    (96, 1, 1, 4),
+    (32, 1, 1, 4),
+    (2_097_216, 1, 1, 4),
+    // two images have to fit
+    (64, 33, 33, 7),
+    (64, 1_048_575, 1_048_576, 1 + 2 * NODES),
+    (64, 0, 1, 4),
+    (64, 1, 0, 4),
+    (64, 1_048_576, 1, 100_000),
+    (64, 1, 1_048_577, 4),
+    (64, 1, 1, 3),
+    (64, 1, 1, 4_294_967_296),
+    (0, 1, 1, 4),
+    (u64::MAX, u64::MAX, u64::MAX, u64::MAX),
+];
+
+fn is_refused((block, cache, origin, metadata): Sizes) -> bool {
+    matches!(
+        Geometry::new(block, cache, origin, metadata),
+        Err(Refusal::Geometry)
+    )
+}
+
 #[test]
-fn sizes_at_the_limits_of_a_block(rt: HostRuntime) -> Result<(), Fail> {
-    for block in [96, 32, 2_097_216] {
-        assert!(rt; Geometry::new(block, 1, 1, 4) == Err(Refusal::Geometry));
+fn sizes_past_a_limit_are_refused(rt: HostRuntime) {
+    for sizes in REFUSED {
+        assert!(rt; is_refused(sizes));
     }
-    let greatest = Geometry::new(2_097_152, 1, 1, 4)?;
-    assert_eq!(rt; greatest.block, 2_097_152);
-    Ok(())
 }
 
 #[test]
-fn two_images_have_to_fit(rt: HostRuntime) -> Result<(), Fail> {
-    assert!(rt; Geometry::new(64, 33, 33, 7) == Err(Refusal::Geometry));
-    let geometry = Geometry::new(64, 33, 33, 8)?;
-    assert_eq!(rt; geometry.depth(), 2);
-    assert_eq!(rt; geometry.node_count(), 3);
-    Ok(())
-}
-
-#[test]
-fn a_full_cache_has_four_levels(rt: HostRuntime) -> Result<(), Fail> {
-    // 32,768 leaves of 32 blocks, 1,024 nodes above them, then 32, then the top
-    let nodes = 32_768 + 1_024 + 32 + 1;
-    let full = Geometry::new(64, 1_048_575, 1_048_576, 2 + 2 * nodes)?;
-    assert_eq!(rt; full.depth(), 4);
-    assert!(rt; u64::from(full.node_count()) == nodes);
-    assert_eq!(rt; full.origin_sectors(), 67_108_864);
-    assert_eq!(rt; full.cache_sectors(), 67_108_800);
-    let short = Geometry::new(64, 1_048_575, 1_048_576, 1 + 2 * nodes);
-    assert!(rt; short == Err(Refusal::Geometry));
-    Ok(())
-}
-
-#[test]
-fn sizes_past_a_limit_are_refused(rt: HostRuntime) -> Result<(), Fail> {
-    for (block, cache, origin, metadata) in [
-        (64, 0, 1, 4),
-        (64, 1, 0, 4),
-        (64, 1_048_576, 1, 100_000),
-        (64, 1, 1_048_577, 4),
-        (64, 1, 1, 3),
-        (64, 1, 1, 4_294_967_296),
-        (0, 1, 1, 4),
-        (u64::MAX, u64::MAX, u64::MAX, u64::MAX),
-    ] {
-        let geometry = Geometry::new(block, cache, origin, metadata);
-        assert!(rt; geometry == Err(Refusal::Geometry));
-    }
-    assert_eq!(rt;
-        Geometry::new(64, 1, 1, 4_294_967_295)?.meta_sectors,
-        4_294_967_295
-    );
+fn sizes_at_their_limits_are_taken(rt: HostRuntime) -> Result<(), Fail> {
+    let greatest = Geometry::new(2_097_152, 1, 1, 4_294_967_295)?;
+    assert!(rt; greatest.block == 2_097_152 && greatest.meta_sectors == 4_294_967_295);
+    let two = Geometry::new(64, 33, 33, 8)?;
+    assert!(rt; two.depth() == 2 && two.node_count() == 3);
+    let full = Geometry::new(64, 1_048_575, 1_048_576, 2 + 2 * NODES)?;
+    assert!(rt; full.depth() == 4 && u64::from(full.node_count()) == NODES);
+    assert!(rt; full.origin_sectors() == 67_108_864 && full.cache_sectors() == 67_108_800);
     Ok(())
 }
 

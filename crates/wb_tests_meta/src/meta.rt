@@ -6,7 +6,6 @@ ghost use Rattle.wb_meta.specs.Placing.{HavePlaces};
 mod cycle;
 mod damage;
 mod failing;
-mod noise;
 mod reading;
 mod rounds;
 
@@ -128,20 +127,13 @@ const FIRST_COMMIT: [CommitStep; 4] = [
     CommitStep::Sync,
 ];
 
-#[test]
-fn a_formatting_is_for_the_size_of_its_device(rt: HostRuntime) -> Result<(), Fail> {
-    let geometry = Geometry::new(64, 4, 10, 4)?;
-    let mut larger = MemDisk::new(rt.alloc(), 5)?;
-    assert!(rt; format(&mut larger, &geometry) == Err(Refusal::Geometry));
-    assert!(rt; has_sectors(&mut larger, &[&[]]));
-    Ok(())
-}
-
 /// What is asked of a formatted device and the image of its first commit.
 #[derive(Clone, Copy)]
 enum Question<'a> {
     /// Whether they write the sectors that stand above.
     Writes,
+    /// Whether the device is formatted for no other size, and stays as it was.
+    IsOfItsSize,
     /// Whether the device is then read by these sectors, each beside whether the root is known before it.
     ReadBy(&'a [(u64, bool)]),
 }
@@ -161,6 +153,7 @@ fn answer(
 ) -> Result<bool, Refusal> {
     match question {
         Question::Writes => writes(disk, image),
+        Question::IsOfItsSize => is_of_its_size(disk),
         Question::ReadBy(sectors) => reading::is_read_then(alloc, disk, image, sectors),
     }
 }
@@ -174,5 +167,17 @@ fn writes(disk: &mut MemDisk, image: &Image) -> Result<bool, Refusal> {
 #[test]
 fn formatting_and_a_first_commit_write_these_sectors(rt: HostRuntime) -> Result<(), Fail> {
     assert!(rt; answered(rt.alloc(), Question::Writes)?);
+    Ok(())
+}
+
+fn is_of_its_size(disk: &mut MemDisk) -> Result<bool, Refusal> {
+    let larger = Geometry::new(64, 4, 10, 5)?;
+    let is_refused = format(disk, &larger) == Err(Refusal::Geometry);
+    Ok(is_refused && has_sectors(disk, &[&FORMATTED, &[]]))
+}
+
+#[test]
+fn a_formatting_is_for_the_size_of_its_device(rt: HostRuntime) -> Result<(), Fail> {
+    assert!(rt; answered(rt.alloc(), Question::IsOfItsSize)?);
     Ok(())
 }

@@ -2,7 +2,7 @@
 
 ghost use Rattle.std.specs.Prelude.{◌<◌};
 
-use std::alloc::Global;
+use std::alloc::{AllocError, Global};
 use std::test::Fail;
 use wb_bits::BitSet;
 
@@ -80,13 +80,22 @@ fn the_least_member_of_one_word_and_of_many(rt: HostRuntime) {
     }
 }
 
+/// Whether a set is empty once it is cleared, and serves on.
+fn is_cleared(members: &mut BitSet) -> bool {
+    if !fills(members, &[199, 64, 63, 0]) {
+        return false;
+    }
+    members.clear();
+    members.least() == None && !members.has(64) && fills(members, &[130])
+}
+
+fn clears(alloc: Global) -> Result<bool, AllocError> {
+    let mut members = BitSet::new(alloc, 200)?;
+    Ok(is_cleared(&mut members))
+}
+
 #[test]
 fn a_cleared_set_has_no_member(rt: HostRuntime) -> Result<(), Fail> {
-    let mut members = BitSet::new(rt.alloc(), 200)?;
-    assert!(rt; fills(&mut members, &[199, 64, 63, 0]));
-    members.clear();
-    assert!(rt; members.least() == None);
-    assert!(rt; !members.has(64));
-    assert!(rt; fills(&mut members, &[130]));
+    assert!(rt; clears(rt.alloc())?);
     Ok(())
 }

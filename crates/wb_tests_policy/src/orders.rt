@@ -1,5 +1,6 @@
 //! What no contract says: that memory serves, and that orders come and go as they were worked by hand.
 
+use std::alloc::Global;
 use wb_orders::LiveOrders;
 use wb_policy::Order;
 use wb_types::{CBlock, OBlock, Refusal};
@@ -70,24 +71,31 @@ fn end(orders: &mut LiveOrders, c: CBlock) {
     }
 }
 
-/// The number of the first call that is answered otherwise.
-fn first_wrong(orders: &mut LiveOrders, lines: &[Line]) -> Option<usize> {
-    for (number, (call, order, cost)) in lines.iter().enumerate() {
+/// Whether each call is answered as its line says.
+fn are_answered(orders: &mut LiveOrders, lines: &[Line]) -> bool {
+    for (call, order, cost) in lines {
         if answer(orders, *call) != *order || orders.cost() != *cost {
-            return Some(number);
+            return false;
         }
     }
-    None
+    true
+}
+
+fn come_and_go(orders: &mut LiveOrders) -> bool {
+    are_answered(orders, &GIVEN)
+        && are_answered(orders, &TAKEN)
+        && orders.given() == 4
+        && orders.busy() == [false, false, false, false, true, false, false, true].as_slice()
+}
+
+/// Whether orders of three cache blocks and eight origin blocks do.
+fn orders_do(alloc: Global) -> Result<bool, Refusal> {
+    let mut orders = LiveOrders::new(alloc, 3, 8)?;
+    Ok(come_and_go(&mut orders))
 }
 
 #[test]
 fn orders_come_and_go(rt: HostRuntime) -> Result<(), Refusal> {
-    let mut orders = LiveOrders::new(rt.alloc(), 3, 8)?;
-    let wrong = first_wrong(&mut orders, &GIVEN);
-    assert!(rt; wrong.is_none(), "call {wrong:?}");
-    let wrong = first_wrong(&mut orders, &TAKEN);
-    assert!(rt; wrong.is_none(), "call {wrong:?}");
-    assert!(rt; orders.given() == 4);
-    assert!(rt; orders.busy() == [false, false, false, false, true, false, false, true].as_slice());
+    assert!(rt; orders_do(rt.alloc())?);
     Ok(())
 }

@@ -3,8 +3,6 @@
 ghost use Rattle.std.specs.Prelude.{OnOk};
 ghost use Rattle.std.specs.List.Sorted.{IsNonDecreasingBy};
 
-mod compared;
-mod plain;
 mod rows;
 
 use std::alloc::{AllocError, Global};

@@ -8,15 +8,14 @@ mod promotions;
 mod replacements;
 mod requests;
 mod runs;
-mod stretches;
 mod views;
 
-use self::demotions::{DEMOTIONS, demoted};
+use self::demotions::DEMOTIONS;
 use self::flushes::FLUSHES;
 use self::line::{Act, FIRST_SECTOR, Line, OPENING, READING, Row, Task, WRITING};
 use self::openings::{CRASHES, FAILURES, OPENINGS, ROOTS};
-use self::promotions::{PROMOTIONS, promoted};
-use self::replacements::{REPLACEMENTS, replaced};
+use self::promotions::PROMOTIONS;
+use self::replacements::REPLACEMENTS;
 use self::requests::{FAILED_REQUESTS, REQUESTS, WRITE_AND_READ, WRITTEN_AND_GIVEN};
 use self::runs::ran;
 use self::views::VIEWS;
@@ -306,35 +305,14 @@ fn promotions_go_as_their_rows_say(rt: HostRuntime) -> Result<(), Fail> {
     compare(rt.alloc(), &PROMOTIONS)
 }
 
-/// A list of events in which a block is promoted is run to its end.
-#[test]
-fn a_promotion_is_run_to_its_end(rt: HostRuntime) -> Result<(), Fail> {
-    assert!(rt; promoted(rt.alloc())?);
-    Ok(())
-}
-
 #[test]
 fn demotions_go_as_their_rows_say(rt: HostRuntime) -> Result<(), Fail> {
     compare(rt.alloc(), &DEMOTIONS)
 }
 
-/// A list of events in which a block is written back and demoted is run to its end.
-#[test]
-fn a_demotion_is_run_to_its_end(rt: HostRuntime) -> Result<(), Fail> {
-    assert!(rt; demoted(rt.alloc())?);
-    Ok(())
-}
-
 #[test]
 fn replacements_go_as_their_rows_say(rt: HostRuntime) -> Result<(), Fail> {
     compare(rt.alloc(), &REPLACEMENTS)
-}
-
-/// A list of events in which a block takes the place of another is run to its end.
-#[test]
-fn a_replacement_is_run_to_its_end(rt: HostRuntime) -> Result<(), Fail> {
-    assert!(rt; replaced(rt.alloc())?);
-    Ok(())
 }
 
 /// A list of events that is run goes to its end, and its trace tells what each of them did and what its reads were given.

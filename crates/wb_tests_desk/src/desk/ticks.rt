@@ -13,7 +13,7 @@ use wb_policy::{Cleaner, Order, Policy, TinyLfu};
 use wb_types::{CBlock, Key, Mode, OBlock, Refusal};
 
 /// The mapped blocks of these cache blocks, by rising cache block.
-pub(super) fn seen<P: Policy>(
+fn seen<P: Policy>(
     desk: &Desk<P>,
     alloc: Global,
     dirty: &[bool],

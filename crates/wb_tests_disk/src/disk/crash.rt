@@ -1,6 +1,6 @@
 //! Crashes by each kind of choice.
 
-use super::{Step, are_done, got};
+use super::{Step, are_done};
 use std::alloc::{AllocError, Global};
 use std::test::Fail;
 use wb_disk::{Base, CrashChoice, MemDisk, NamedContent};
@@ -34,54 +34,49 @@ const WRITTEN: [Step; 6] = [
 ];
 
 /// Whether what a crash left is durable, and nothing else is there any more.
-fn stays(alloc: Global, disk: &mut MemDisk, kept: Option<u8>) -> bool {
+fn stays(alloc: Global, disk: &mut MemDisk, kept: u8) -> bool {
     for base in [Base::Durable, Base::Newest] {
         let again = CrashChoice::new(base, Vec::new(alloc));
-        if !disk.stop(Dev::Cache, &again) || got(disk, 1).ok() != kept {
+        if !disk.stop(Dev::Cache, &again) || !are_done(disk, &[Step::Got(1, kept)]) {
             return false;
         }
     }
     true
 }
 
-/// Whether a choice applies to a cache device that was written so, and what sector 1 holds after a crash by it; none where the crash
-/// goes otherwise than the choice applies, or does not last.
-fn after_crash(
+/// Whether a choice applies to a cache device or not, as is said, and what sector 1 holds after a crash by it is this, and lasts.
+fn is_kept_by(
     alloc: Global,
     disk: &mut MemDisk,
     choice: &CrashChoice,
-) -> Option<(bool, Option<u8>)> {
-    let applies = disk.applies(Dev::Cache, choice);
-    if disk.stop(Dev::Cache, choice) != applies || got(disk, 0) != Ok(0) {
-        return None;
-    }
-    let kept = got(disk, 1).ok();
-    (!applies || stays(alloc, disk, kept)).then_some((applies, kept))
+    applies: bool,
+    kept: u8,
+) -> bool {
+    disk.applies(Dev::Cache, choice) == applies
+        && disk.stop(Dev::Cache, choice) == applies
+        && are_done(disk, &[Step::Got(0, 0), Step::Got(1, kept)])
+        && (!applies || stays(alloc, disk, kept))
 }
 
-fn sector_after(
+/// The same of a device that was written so.
+fn leaves_by(
     alloc: Global,
-    base: Base,
-    named: &[(Dev, u64, u64)],
-) -> Result<Option<(bool, Option<u8>)>, Refusal> {
-    let choice = choice_of(alloc, base, named)?;
-    sector_by(alloc, &choice)
-}
-
-fn sector_by(alloc: Global, choice: &CrashChoice) -> Result<Option<(bool, Option<u8>)>, Refusal> {
+    choice: &CrashChoice,
+    applies: bool,
+    kept: u8,
+) -> Result<bool, Refusal> {
     let mut disk = MemDisk::new(alloc, 2)?;
-    Ok(sector_of(alloc, &mut disk, choice))
+    Ok(leaves_on(alloc, &mut disk, choice, applies, kept))
 }
 
-fn sector_of(
+fn leaves_on(
     alloc: Global,
     disk: &mut MemDisk,
     choice: &CrashChoice,
-) -> Option<(bool, Option<u8>)> {
-    if !are_done(disk, &WRITTEN) {
-        return None;
-    }
-    after_crash(alloc, disk, choice)
+    applies: bool,
+    kept: u8,
+) -> bool {
+    are_done(disk, &WRITTEN) && is_kept_by(alloc, disk, choice, applies, kept)
 }
 
 /// The base of a choice, the sectors that it names, whether it applies, and what sector 1 then holds.
@@ -141,10 +136,15 @@ const BY_OTHER_NAMES: [Row; 6] = [
     ),
 ];
 
-/// Whether each choice leaves what its row says.
+/// Whether a choice leaves what its row says.
+fn leaves(alloc: Global, (base, named, applies, kept): &Row) -> Result<bool, Refusal> {
+    let choice = choice_of(alloc, *base, named)?;
+    leaves_by(alloc, &choice, *applies, *kept)
+}
+
 fn leave(alloc: Global, rows: &[Row]) -> Result<bool, Refusal> {
-    for (base, named, applies, kept) in rows {
-        if sector_after(alloc, *base, named)? != Some((*applies, Some(*kept))) {
+    for row in rows {
+        if !leaves(alloc, row)? {
             return Ok(false);
         }
     }

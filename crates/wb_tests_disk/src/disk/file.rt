@@ -3,6 +3,8 @@
 use super::fake_file::FakeFile;
 use super::{Step, are_done, get_extent, got, put, put_extent};
 use std::cell::Cell;
+use std::fs::File;
+use std::rt::Files;
 use std::test::Fail;
 use std::{fs, io};
 use wb_disk::{Disk, DiskFault, FileDisk};
@@ -29,20 +31,30 @@ fn is_cut_short(disk: &mut impl Disk) -> bool {
         && get_extent(disk, 1, &mut [[0; 512]; 2]) == Err(DiskFault)
 }
 
+/// Whether a file is a disk that keeps what is written.
+fn keeps_in<R: Files<File = File>>(rt: &R, name: &str) -> Result<bool, DiskFault> {
+    let mut disk = FileDisk::open(rt, name)?;
+    Ok(keeps(&mut disk))
+}
+
+/// Whether it is there when the file is opened again, and is gone once that is cut short.
+fn loses<R: Files<File = File>>(rt: &R, name: &str, short: &[u8]) -> Result<bool, DiskFault> {
+    let mut disk = FileDisk::open(rt, name)?;
+    let is_there = got(&mut disk, 2) == Ok(7);
+    fs::write(rt, name, short).map_err(|_| DiskFault)?;
+    Ok(is_there && is_cut_short(&mut disk))
+}
+
 #[test]
 fn a_file_keeps_what_was_written(rt: HostRuntime) -> Result<(), Fail> {
     let name = "wb_disk_test.img";
-    let zeros = vec![in rt.alloc(); 0u8; 512 * 3 + 100]?;
-    fs::write(&rt, name, zeros.as_slice())?;
-    let mut disk = FileDisk::open(&rt, name)?;
-    assert!(rt; keeps(&mut disk));
-    let mut other = FileDisk::open(&rt, name)?;
-    assert!(rt; got(&mut other, 2) == Ok(7));
-    fs::write(&rt, name, &zeros[..1100])?;
-    assert!(rt; is_cut_short(&mut other));
+    let zeros = [0u8; 512 * 3 + 100];
+    fs::write(&rt, name, &zeros)?;
+    assert!(rt; keeps_in(&rt, name)?);
+    assert!(rt; loses(&rt, name, &zeros[..1100])?);
     fs::remove_file(&rt, name)?;
-    assert!(rt; FileDisk::open(&rt, name).is_err());
-    assert!(rt; FileDisk::open(&rt, ".").is_err());
+    assert!(rt; keeps_in(&rt, name).is_err());
+    assert!(rt; keeps_in(&rt, ".").is_err());
     Ok(())
 }
 

@@ -51,14 +51,14 @@ fn a_read_gives_the_latest_write(rt: HostRuntime) -> Result<(), Fail> {
 fn lands(disk: &mut MemDisk) -> bool {
     let wrote = put_extent(disk, 1, &[[5; 512], [6; 512]]).is_ok();
     let mut out = [[9; 512]; 4];
-    if get_extent(disk, 0, &mut out).is_err() || (out[0][0], out[3][511]) != (0, 0) {
+    if get_extent(disk, 0, &mut out).is_err() || out[0][0] != 0 || out[3][511] != 0 {
         return false;
     }
-    let landed = (out[1][0], out[2][511], disk.faults());
+    let (first, second) = (out[1][0], out[2][511]);
     if wrote {
-        landed == (5, 6, 0)
+        first == 5 && second == 6 && disk.faults() == 0
     } else {
-        landed == (0, 0, 1) || landed == (5, 0, 1)
+        (first == 0 || first == 5) && second == 0 && disk.faults() == 1
     }
 }
 

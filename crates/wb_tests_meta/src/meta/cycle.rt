@@ -236,7 +236,7 @@ fn a_second_commit_goes_to_the_places_that_are_left(rt: HostRuntime) -> Result<(
 }
 
 /// Commits what a device stands for, with these changes.
-fn commit_changes(
+pub(super) fn commit_changes(
     alloc: Global,
     disk: &mut MemDisk,
     changes: &[(u32, u8)],

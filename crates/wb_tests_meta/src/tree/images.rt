@@ -5,9 +5,12 @@ use wb_trial::{change, plan_at};
 
 /// Whether this is the first leaf with the entry of cache block 0.
 fn is_first_leaf(place: Place, leaf: &Node) -> bool {
-    place == Place(2)
-        && (leaf.generation, leaf.level, leaf.index) == (1, 1, 0)
-        && (leaf.words[0], leaf.words[1]) == (1, 0)
+    place.0 == 2
+        && leaf.generation == 1
+        && leaf.level == 1
+        && leaf.index == 0
+        && leaf.words[0] == 1
+        && leaf.words[1] == 0
 }
 
 /// Whether an image is of the first leaf alone.
@@ -94,7 +97,10 @@ const ROWS: [Row; 5] = [
 /// Whether an image is what a row says.
 fn is_as(image: &Image, row: &Row) -> bool {
     for (at, node) in image.nodes.iter().enumerate() {
-        if row.nodes.get(at) != Some(&(node.1.level, node.1.index, node.0.0)) {
+        let Some((level, index, place)) = row.nodes.get(at) else {
+            return false;
+        };
+        if *level != node.1.level || *index != node.1.index || *place != node.0.0 {
             return false;
         }
     }
@@ -134,16 +140,23 @@ fn an_image_writes_the_nodes_that_changed(rt: HostRuntime) -> Result<(), Fail> {
     Ok(())
 }
 
+/// Whether the places above cache block 33 are told once its image is planned, and none before.
+fn are_told(alloc: Global) -> Result<bool, Refusal> {
+    let geometry = Geometry::new(64, 40, 40, 8)?;
+    let mut tree = Tree::new(alloc, 40);
+    change(&mut tree, 33, Some(0))?;
+    let before = tree.places_above(CBlock(33));
+    plan_at(alloc, &mut tree, &geometry, 1, 2)?;
+    let (leaf, top) = (Some(Place(2)), Some(Place(3)));
+    Ok(
+        before == [None, None, None, None]
+            && tree.places_above(CBlock(33)) == [leaf, top, None, None]
+            && tree.places_above(CBlock(0)) == [None, top, None, None],
+    )
+}
+
 #[test]
 fn the_places_above_a_block_are_told(rt: HostRuntime) -> Result<(), Fail> {
-    let geometry = Geometry::new(64, 40, 40, 8)?;
-    let mut tree = Tree::new(rt.alloc(), 40);
-    change(&mut tree, 33, Some(0))?;
-    assert!(rt; tree.places_above(CBlock(33)) == [None, None, None, None]);
-    plan_at(rt.alloc(), &mut tree, &geometry, 1, 2)?;
-    let leaf = Some(Place(2));
-    let top = Some(Place(3));
-    assert!(rt; tree.places_above(CBlock(33)) == [leaf, top, None, None]);
-    assert!(rt; tree.places_above(CBlock(0)) == [None, top, None, None]);
+    assert!(rt; are_told(rt.alloc())?);
     Ok(())
 }

@@ -46,12 +46,21 @@ fn replaces_each(tiny: &mut TinyLfu, busy: &mut [bool], rising: &[u32]) -> bool 
     true
 }
 
+/// Whether mapped blocks are replaced by their place.
+fn replaces_by_place(tiny: &mut TinyLfu) -> bool {
+    let mut busy = [false; 10];
+    let _first = settle(tiny, 9, None, 128, &busy);
+    replaces_each(tiny, &mut busy, &[3, 1, 0, 2])
+}
+
+fn placed_are_replaced(alloc: Global) -> Result<bool, Refusal> {
+    let mut tiny = policy::<TinyLfu>(alloc, PLACED)?;
+    Ok(replaces_by_place(&mut tiny))
+}
+
 #[test]
 fn mapped_blocks_are_placed_by_hint_then_by_cache_block(rt: HostRuntime) -> Result<(), Fail> {
-    let mut tiny = policy::<TinyLfu>(rt.alloc(), PLACED)?;
-    let mut busy = [false; 10];
-    let _first = settle(&mut tiny, 9, None, 128, &busy);
-    assert!(rt; replaces_each(&mut tiny, &mut busy, &[3, 1, 0, 2]));
+    assert!(rt; placed_are_replaced(rt.alloc())?);
     Ok(())
 }
 
@@ -109,30 +118,37 @@ const REPLACING: [Access; 5] = [
     (0, None, 128, None),
 ];
 
-/// The number of the first access that is answered otherwise; a promotion is carried out.
-fn first_wrong(tiny: &mut TinyLfu, accesses: &[Access]) -> Result<Option<usize>, Refusal> {
-    for (number, (block, free, room, want)) in accesses.iter().enumerate() {
+/// Whether each access is answered so; a promotion is carried out.
+fn are_answered(tiny: &mut TinyLfu, accesses: &[Access]) -> Result<bool, Refusal> {
+    for (block, free, room, want) in accesses {
         let order = settle(tiny, *block, *free, *room, &[]);
         if order != *want {
-            return Ok(Some(number));
+            return Ok(false);
         }
         if let Some(Order::Promote(b, c)) = order {
             tiny.mapped(b, c)?;
         }
     }
-    Ok(None)
+    Ok(true)
+}
+
+fn all_are_answered(tiny: &mut TinyLfu) -> Result<bool, Refusal> {
+    Ok(
+        are_answered(tiny, &FIRST_TWO)?
+            && are_answered(tiny, &NEXT_TWO)?
+            && are_answered(tiny, &REPLACING)?,
+    )
+}
+
+/// Whether a cache without entries fills, and replaces then.
+fn fills_and_replaces(alloc: Global) -> Result<bool, Refusal> {
+    let mut tiny = policy::<TinyLfu>(alloc, NO_ENTRIES)?;
+    all_are_answered(&mut tiny)
 }
 
 #[test]
 fn a_full_cache_replaces_only_by_a_greater_estimate(rt: HostRuntime) -> Result<(), Fail> {
-    let mut tiny = policy::<TinyLfu>(rt.alloc(), NO_ENTRIES)?;
-    for (number, accesses) in [&FIRST_TWO[..], &NEXT_TWO[..], &REPLACING[..]]
-        .iter()
-        .enumerate()
-    {
-        let wrong = first_wrong(&mut tiny, accesses)?;
-        assert!(rt; wrong.is_none(), "table {number}, line {wrong:?}");
-    }
+    assert!(rt; fills_and_replaces(rt.alloc())?);
     Ok(())
 }
 

@@ -1,8 +1,6 @@
-//! Blocks that leave the cache, or are written back: what the cache and the origin show of them, by events one at a time and by `run`.
+//! Blocks that leave the cache, or are written back: what the cache and the origin show of them.
 
-use super::line::{Act, FIRST_SECTOR, Line, Row};
-use super::stretches::{Stretch, goes};
-use std::alloc::Global;
+use super::line::{Act, Line, Row};
 use wb_runs::What;
 use wb_types::{CBlock, Extent, Mode, OBlock, Refusal};
 
@@ -80,38 +78,3 @@ pub const DEMOTIONS: [Row; 4] = [
         ],
     },
 ];
-
-/// A dirty block is written back, 64 sectors of it, and demoted as a clean one, and so is read on the origin.
-const STRETCHES: [Stretch; 6] = [
-    Stretch {
-        act: Act::Open(0, Mode::Writeback),
-        steps: 8,
-    },
-    Stretch {
-        act: Act::Promote(0, FIRST_BLOCK, CBlock(0)),
-        steps: 137,
-    },
-    Stretch {
-        act: Act::WriteOf(0, FIRST_SECTOR, 0x22),
-        steps: 11,
-    },
-    Stretch {
-        act: Act::Clean(0, FIRST_BLOCK),
-        steps: 137,
-    },
-    Stretch {
-        act: Act::Demote(0, FIRST_BLOCK),
-        steps: 9,
-    },
-    Stretch {
-        act: Act::Read(0, BOTH_SECTORS),
-        steps: 10,
-    },
-];
-
-const GIVEN: [u8; 2] = [0x22, 0];
-
-/// Whether the run of these events goes to its end, and the read is given what was written, and what was not.
-pub fn demoted(alloc: Global) -> Result<bool, Refusal> {
-    goes(alloc, &STRETCHES, 6, &GIVEN)
-}

@@ -1,8 +1,6 @@
-//! Blocks that are promoted: what the cache and the origin show of them after crashes, by events one at a time and by `run`.
+//! Blocks that are promoted: what the cache and the origin show of them after crashes.
 
 use super::line::{Act, FIRST_SECTOR, Line, Row};
-use super::stretches::{Stretch, goes};
-use std::alloc::Global;
 use wb_runs::What;
 use wb_types::{CBlock, Dev, Extent, Mode, OBlock, Refusal};
 
@@ -87,46 +85,3 @@ pub const PROMOTIONS: [Row; 4] = [
         ],
     },
 ];
-
-/// The same as events: a promotion reads and writes 64 sectors, the flush behind it one node, and so the opening reads one more.
-const STRETCHES: [Stretch; 8] = [
-    Stretch {
-        act: Act::Open(0, Mode::Writeback),
-        steps: 8,
-    },
-    Stretch {
-        act: Act::WriteOf(0, FIRST_SECTOR, 0x11),
-        steps: 10,
-    },
-    Stretch {
-        act: Act::Promote(0, FIRST_BLOCK, CBlock(0)),
-        steps: 137,
-    },
-    Stretch {
-        act: Act::Flush(0),
-        steps: 10,
-    },
-    Stretch {
-        act: Act::WriteOf(0, BOTH_SECTORS, 0x22),
-        steps: 12,
-    },
-    Stretch {
-        act: Act::CrashButOf(Dev::Cache, 1, 1),
-        steps: 0,
-    },
-    Stretch {
-        act: Act::Open(0, Mode::Writeback),
-        steps: 9,
-    },
-    Stretch {
-        act: Act::Read(0, BOTH_SECTORS),
-        steps: 10,
-    },
-];
-
-const GIVEN: [u8; 2] = [0x11, 0x22];
-
-/// Whether the run of these events goes to its end, and the read is given what each sector has kept.
-pub fn promoted(alloc: Global) -> Result<bool, Refusal> {
-    goes(alloc, &STRETCHES, 7, &GIVEN)
-}

@@ -1,8 +1,6 @@
-//! Blocks that make way for others: what the cache and the origin show of both, by events one at a time and by `run`.
+//! Blocks that make way for others: what the cache and the origin show of both.
 
 use super::line::{Act, FIRST_SECTOR, Line, Row};
-use super::stretches::{Stretch, goes};
-use std::alloc::Global;
 use wb_runs::What;
 use wb_types::{CBlock, Extent, Mode, OBlock, Refusal};
 
@@ -93,46 +91,3 @@ pub const REPLACEMENTS: [Row; 4] = [
         ],
     },
 ];
-
-/// A dirty block makes way for another: it is copied home, 64 sectors of it, a flush serves its order, and the other is promoted under it.
-const STRETCHES: [Stretch; 8] = [
-    Stretch {
-        act: Act::Open(0, Mode::Writeback),
-        steps: 8,
-    },
-    Stretch {
-        act: Act::Promote(0, OLD, CBlock(0)),
-        steps: 137,
-    },
-    Stretch {
-        act: Act::WriteOf(0, FIRST_SECTOR, 0x22),
-        steps: 11,
-    },
-    Stretch {
-        act: Act::Replace(0, OLD, NEW),
-        steps: 137,
-    },
-    Stretch {
-        act: Act::Flush(0),
-        steps: 9,
-    },
-    Stretch {
-        act: FOLLOWS,
-        steps: 137,
-    },
-    Stretch {
-        act: Act::Read(0, FIRST_SECTOR),
-        steps: 9,
-    },
-    Stretch {
-        act: Act::Read(0, NEW_SECTOR),
-        steps: 9,
-    },
-];
-
-const GIVEN: [u8; 2] = [0x22, 0];
-
-/// Whether the run of these events goes to its end, and the reads are given what was written, and what was not.
-pub fn replaced(alloc: Global) -> Result<bool, Refusal> {
-    goes(alloc, &STRETCHES, 8, &GIVEN)
-}

@@ -145,7 +145,7 @@ fn are_of(records: &[Record], parts: &[Part]) -> bool {
 }
 
 /// Whether these records gave contents that are each full of one of these bytes, in this order.
-pub fn give(records: &[Record], bytes: &[u8]) -> bool {
+fn give(records: &[Record], bytes: &[u8]) -> bool {
     let mut left = bytes.iter();
     for record in records {
         for content in &record.read {
@@ -160,10 +160,12 @@ pub fn give(records: &[Record], bytes: &[u8]) -> bool {
 
 /// Whether a task wanted memory.
 fn lacked_memory(records: &[Record]) -> bool {
-    records.iter().any(|record| matches!(
-        &record.what,
-        What::Stepped(_, Got::Refused(Refusal::Memory))
-    ))
+    for record in records {
+        if let What::Stepped(_, Got::Refused(Refusal::Memory)) = &record.what {
+            return true;
+        }
+    }
+    false
 }
 
 /// Whether the run of all parts goes as they say, and its read is given what it says. `Memory` where the run, or a task in it, lacked it.

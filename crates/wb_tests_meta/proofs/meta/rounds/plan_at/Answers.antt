@@ -1,4 +1,4 @@
-use Rattle.std.proofs.Common.{◌≡◌, ◌≤◌, ◌∙◌, ℕ, true, refl, ap, length, arith}
+use Rattle.std.proofs.Common.{◌≡◌, ◌≤◌, ◌∙◌, ℕ, true, ap, length, arith}
 use Rattle.wb_types.specs.Limits.{depth_of}
 use Rattle.wb_tree.specs.Mapping.{Mapping, changed}
 use Rattle.std.proofs.lemmas.Result.{IfOk-weaker}
@@ -18,22 +18,6 @@ plan-requires-clause-free c =
     free_of_unused c.args.tree.now c.args.geometry.now c.args.used.now c.deref.result.now c.requires.used
     (places-unused c.args.geometry.now (length (changed c.args.tree.now (depth_of c.args.geometry.now.cache_blocks))) c.from-first.result c.from-count.result c.deref.result.now (c.deref.ensures.value ∙ c.in_ok-places.ensures)
     c.args.used.now (c.are_outside.ensures c.if-not-are_outside.false) (omega arith) (enough_for c.args.tree.now c.args.geometry.now.cache_blocks c.changed_nodes.result c.from-count.result c.requires.size c.changed_nodes.ensures (omega arith)) (omega arith))
-
-pub returns-clause-planned : goal.returns-clause-planned
-returns-clause-planned c =
-    IfOk-weaker c.plan.result _ _ (λ image h. (
-      record { geometry = c.args.geometry.now; generation = c.args.generation; clean = true; free = c.deref.result.now },
-      refl,
-      refl,
-      record {
-        mapping = c.is_own.ensures c.if-not-is_own.false c.args.geometry.now.origin_blocks (omega arith);
-        free_are = places-unused c.args.geometry.now (length (changed c.args.tree.now (depth_of c.args.geometry.now.cache_blocks))) c.from-first.result c.from-count.result c.deref.result.now (c.deref.ensures.value ∙ c.in_ok-places.ensures)
-            c.args.used.now (c.are_outside.ensures c.if-not-are_outside.false) (omega arith) (enough_for c.args.tree.now c.args.geometry.now.cache_blocks c.changed_nodes.result c.from-count.result c.requires.size c.changed_nodes.ensures (omega arith)) (omega arith);
-        image_is = h;
-        sound = c.plan.ensures.sound;
-        inside = c.plan.ensures.inside;
-      },
-    )) c.plan.ensures.image
 
 pub returns-clause-fits : goal.returns-clause-fits
 returns-clause-fits c =

@@ -1,5 +1,0 @@
-use Rattle.std.proofs.Common.{◌≡◌}
-use Rattle.wb_tests_meta.proofs.tree.comparing.reread.Given as goal
-
-abbrev pub invariant-loop : goal.invariant-loop
-invariant-loop l = l.loader.root.geometry.cache_blocks ≡ l.root.geometry.cache_blocks
