@@ -4,7 +4,7 @@ use Rattle.std.proofs.lemmas.Bool.{cases_eq}
 use Rattle.wb_contents.specs.Volume.{Volume, changed}
 use Rattle.wb_contents.proofs.Positions.{changed_same, changed_other}
 use Rattle.wb_disk.specs.Device.{Content}
-use Rattle.wb_link.specs.Tables.{Order, Job, Reading, Writing, Writing_through, Flushing, Suspending, Promoting, Demoting, Cleaning, Invalidating, Failed, Finished, Look_fail, End, Done, Flag, acquire}
+use Rattle.wb_link.specs.Tables.{Order, Job, Reading, Writing, Writing_through, Flushing, Suspending, Promoting, Returning, Invalidating, Failed, Finished, Look_fail, End, Done, Flag, acquire}
 use Rattle.wb_link.specs.World.{Shared, Held, Actor, World, Apart, aside, taken, actor_after, Release, release_order, after_record, given_back}
 use Rattle.wb_link.proofs.Link.{NobodyAlone, Safe, SetAside, Linked}
 use Rattle.wb_link.proofs.Givings.{at_work, script_of, Comes, resting_safe, quietly, gives_flag_is, gives_end}
@@ -156,8 +156,7 @@ kept_ends (Writing_through b os x) (suc n) size a held order leads c s d f = λ 
 kept_ends (Flushing q) (suc n) size a held order leads c s d f = λ t e got o g v r. gives_end t Failed (λ k. Comes n size a (Flushing q) [] Failed held order leads c t e k) (quietly size a (λ y u h. Safe n size a y u h) _ _ (End Failed) Done t e g (inr (o.fail f)) tt (record { reads = tt; histories = refl; flushes = tt }) (resting_safe n size a held order leads c t e)) got v
 kept_ends Suspending (suc n) size a held order leads c s d f = λ t e got o g v r. gives_end t Failed (λ k. Comes n size a Suspending [] Failed held order leads c t e k) (quietly size a (λ y u h. Safe n size a y u h) _ _ (End Failed) Done t e g (inr (o.fail f)) (inl (o.fail f)) (record { reads = tt; histories = refl; flushes = tt }) (resting_safe n size a held order leads c t e)) got v
 kept_ends (Promoting p os) (suc n) size a held order leads c s d f = λ t e got o g v r. gives_end t Failed (λ k. Comes n size a (Promoting p os) [] Failed held order leads c t e k) (quietly size a (λ y u h. Safe n size a y u h) _ _ (End Failed) Done t e g (inr (o.fail f)) tt (record { reads = tt; histories = refl; flushes = tt }) (resting_safe n size a held order leads c t e)) got v
-kept_ends (Demoting p os) (suc n) size a held order leads c s d f = λ t e got o g v r. gives_end t Failed (λ k. Comes n size a (Demoting p os) [] Failed held order leads c t e k) (quietly size a (λ y u h. Safe n size a y u h) _ _ (End Failed) Done t e g (inr (o.fail f)) tt (record { reads = tt; histories = refl; flushes = tt }) (resting_safe n size a held order leads c t e)) got v
-kept_ends (Cleaning p os) (suc n) size a held order leads c s d f = λ t e got o g v r. gives_end t Failed (λ k. Comes n size a (Cleaning p os) [] Failed held order leads c t e k) (quietly size a (λ y u h. Safe n size a y u h) _ _ (End Failed) Done t e g (inr (o.fail f)) tt (record { reads = tt; histories = refl; flushes = tt }) (resting_safe n size a held order leads c t e)) got v
+kept_ends (Returning leaves p os) (suc n) size a held order leads c s d f = λ t e got o g v r. gives_end t Failed (λ k. Comes n size a (Returning leaves p os) [] Failed held order leads c t e k) (quietly size a (λ y u h. Safe n size a y u h) _ _ (End Failed) Done t e g (inr (o.fail f)) tt (record { reads = tt; histories = refl; flushes = tt }) (resting_safe n size a held order leads c t e)) got v
 kept_ends (Invalidating b) (suc n) size a held order leads c s d f = λ t e got o g v r. gives_end t Failed (λ k. Comes n size a (Invalidating b) [] Failed held order leads c t e k) (quietly size a (λ y u h. Safe n size a y u h) _ _ (End Failed) Done t e g (inr (o.fail f)) tt (record { reads = tt; histories = refl; flushes = tt }) (resting_safe n size a held order leads c t e)) got v
 
 -- so, whatever it is given, it only answers
@@ -175,9 +174,7 @@ kept_safe Suspending (suc n) size a held order leads c s d f = λ t e got o g v 
     (subst (λ (w : Bool). Safe n size a (actor_after (at_work Suspending (Look_fail ∷ acquire Suspending) Finished held order leads c) (script_of Suspending (Look_fail ∷ acquire Suspending) Finished) Look_fail (Flag w)) t e) (sym (is ∙ o.fail f)) (kept_ends Suspending n size a held order leads c t e (o.fail f)))) got v
 kept_safe (Promoting p os) (suc n) size a held order leads c s d f = λ t e got o g v r. gives_flag_is t (λ k. Comes n size a (Promoting p os) (Look_fail ∷ acquire (Promoting p os)) Finished held order leads c t e k) (λ flag is. quietly size a (λ y u h. Safe n size a y u h) _ _ Look_fail (Flag flag) t e g tt tt (record { reads = tt; histories = refl; flushes = tt })
     (subst (λ (w : Bool). Safe n size a (actor_after (at_work (Promoting p os) (Look_fail ∷ acquire (Promoting p os)) Finished held order leads c) (script_of (Promoting p os) (Look_fail ∷ acquire (Promoting p os)) Finished) Look_fail (Flag w)) t e) (sym (is ∙ o.fail f)) (kept_ends (Promoting p os) n size a held order leads c t e (o.fail f)))) got v
-kept_safe (Demoting p os) (suc n) size a held order leads c s d f = λ t e got o g v r. gives_flag_is t (λ k. Comes n size a (Demoting p os) (Look_fail ∷ acquire (Demoting p os)) Finished held order leads c t e k) (λ flag is. quietly size a (λ y u h. Safe n size a y u h) _ _ Look_fail (Flag flag) t e g tt tt (record { reads = tt; histories = refl; flushes = tt })
-    (subst (λ (w : Bool). Safe n size a (actor_after (at_work (Demoting p os) (Look_fail ∷ acquire (Demoting p os)) Finished held order leads c) (script_of (Demoting p os) (Look_fail ∷ acquire (Demoting p os)) Finished) Look_fail (Flag w)) t e) (sym (is ∙ o.fail f)) (kept_ends (Demoting p os) n size a held order leads c t e (o.fail f)))) got v
-kept_safe (Cleaning p os) (suc n) size a held order leads c s d f = λ t e got o g v r. gives_flag_is t (λ k. Comes n size a (Cleaning p os) (Look_fail ∷ acquire (Cleaning p os)) Finished held order leads c t e k) (λ flag is. quietly size a (λ y u h. Safe n size a y u h) _ _ Look_fail (Flag flag) t e g tt tt (record { reads = tt; histories = refl; flushes = tt })
-    (subst (λ (w : Bool). Safe n size a (actor_after (at_work (Cleaning p os) (Look_fail ∷ acquire (Cleaning p os)) Finished held order leads c) (script_of (Cleaning p os) (Look_fail ∷ acquire (Cleaning p os)) Finished) Look_fail (Flag w)) t e) (sym (is ∙ o.fail f)) (kept_ends (Cleaning p os) n size a held order leads c t e (o.fail f)))) got v
+kept_safe (Returning leaves p os) (suc n) size a held order leads c s d f = λ t e got o g v r. gives_flag_is t (λ k. Comes n size a (Returning leaves p os) (Look_fail ∷ acquire (Returning leaves p os)) Finished held order leads c t e k) (λ flag is. quietly size a (λ y u h. Safe n size a y u h) _ _ Look_fail (Flag flag) t e g tt tt (record { reads = tt; histories = refl; flushes = tt })
+    (subst (λ (w : Bool). Safe n size a (actor_after (at_work (Returning leaves p os) (Look_fail ∷ acquire (Returning leaves p os)) Finished held order leads c) (script_of (Returning leaves p os) (Look_fail ∷ acquire (Returning leaves p os)) Finished) Look_fail (Flag w)) t e) (sym (is ∙ o.fail f)) (kept_ends (Returning leaves p os) n size a held order leads c t e (o.fail f)))) got v
 kept_safe (Invalidating b) (suc n) size a held order leads c s d f = λ t e got o g v r. gives_flag_is t (λ k. Comes n size a (Invalidating b) (Look_fail ∷ acquire (Invalidating b)) Finished held order leads c t e k) (λ flag is. quietly size a (λ y u h. Safe n size a y u h) _ _ Look_fail (Flag flag) t e g tt tt (record { reads = tt; histories = refl; flushes = tt })
     (subst (λ (w : Bool). Safe n size a (actor_after (at_work (Invalidating b) (Look_fail ∷ acquire (Invalidating b)) Finished held order leads c) (script_of (Invalidating b) (Look_fail ∷ acquire (Invalidating b)) Finished) Look_fail (Flag w)) t e) (sym (is ∙ o.fail f)) (kept_ends (Invalidating b) n size a held order leads c t e (o.fail f)))) got v

@@ -15,7 +15,7 @@ pub mod Reading
 pub mod Writing
 pub mod Flushing
 pub mod Promoting
-pub mod Demoting
+pub mod Returning
 pub mod Suspending
 pub mod Starting
 pub mod Runs
@@ -23,6 +23,5 @@ pub mod WritingThrough
 pub mod Noting
 pub mod Opening
 pub mod Lives
-pub mod Cleaning
 pub mod Invalidating
 pub mod Witness

@@ -8,7 +8,7 @@ use Rattle.wb_types.specs.declared.mode.Mode.TheVariants.{Passthrough}
 use Rattle.wb_contents.specs.Acts.{Act, Write, Write_origin, Write_cache, Fail_write, Finish, Fill_cache, Copy_back, Map, Unmap, Make_dirty, Make_clean, Begin_commit, Begin_suspend, Sync_cache, Sync_origin, Fail_cache_sync, Fail_origin_sync, Write_root, End_commit, Begin_flush, End_flush, after_all as after_acts}
 use Rattle.wb_contents.specs.Conditions.{IsUnnamed, IsRun as IsActs}
 use Rattle.wb_contents.proofs.Run.{KeepsAll}
-use Rattle.wb_link.specs.Tables.{Order, Job, Reading, Writing, Writing_through, Flushing, Suspending, Promoting, Demoting, Cleaning, Invalidating, Seal, Answer, Finished, Want, Look_fail, Share, Own, Set_seal, Leave, Disown, Read_at, Write_at, Begin, Begin_clean, Sync_cache_device, Sync_origin_device, Put_root, End_running, Map_to, Unmap_from, Unmap_plain, Give_up, End, Got, Done, Flag, Gave, Fault, Script, want}
+use Rattle.wb_link.specs.Tables.{Order, Job, Reading, Writing, Writing_through, Flushing, Suspending, Promoting, Returning, Invalidating, Seal, Answer, Finished, Want, Look_fail, Share, Own, Set_seal, Leave, Disown, Read_at, Write_at, Begin, Begin_clean, Sync_cache_device, Sync_origin_device, Put_root, End_running, Map_to, Unmap_from, Unmap_plain, Give_up, End, Got, Done, Flag, Gave, Fault, Script, want}
 use Rattle.wb_link.specs.World.{Block, Free, Mapped, Reserved, Quarantined, Retained, Shared, Held, Nothing, Shares, Owns, Actor, World, effect, actor_after, Gives, Apart, NextIsUnmapped, is_alone, job_alone, drops}
 use Rattle.wb_link.specs.Clerk.{histories_after}
 use Rattle.wb_link.proofs.Views.{BlockView, block_view, commit_view, Holds}
@@ -67,17 +67,16 @@ promote_acts order c (Write_at location b o) (Fault choice) = if_so choice.lande
 promote_acts order c (Map_to o) got = Map order.block order.cache ∷ []
 promote_acts order c w got = []
 
-abbrev pub demote_acts : Order → Want → Got → List Act
-demote_acts order (Write_at location b o) Done = Copy_back order.block o ∷ []
-demote_acts order (Write_at location b o) (Fault choice) = if_so choice.landed (Copy_back order.block o ∷ [])
-demote_acts order (Unmap_from o) got = Unmap order.block ∷ []
-demote_acts order w got = []
+abbrev pub clean_acts : (leaves : Bool) → ℕ → List Act
+clean_acts true b = []
+clean_acts false b = Make_clean b ∷ []
 
-abbrev pub clean_acts : Order → Want → Got → List Act
-clean_acts order (Set_seal b seal) got = Make_clean order.block ∷ []
-clean_acts order (Write_at location b o) Done = Copy_back order.block o ∷ []
-clean_acts order (Write_at location b o) (Fault choice) = if_so choice.landed (Copy_back order.block o ∷ [])
-clean_acts order w got = []
+abbrev pub return_acts : (leaves : Bool) → Order → Want → Got → List Act
+return_acts leaves order (Write_at location b o) Done = Copy_back order.block o ∷ []
+return_acts leaves order (Write_at location b o) (Fault choice) = if_so choice.landed (Copy_back order.block o ∷ [])
+return_acts leaves order (Unmap_from o) got = Unmap order.block ∷ []
+return_acts leaves order (Set_seal b seal) got = clean_acts leaves order.block
+return_acts leaves order w got = []
 
 abbrev pub drop_acts : Want → Got → List Act
 drop_acts (Unmap_plain b k) got = Unmap b ∷ []
@@ -91,8 +90,7 @@ acts_of locations a (Invalidating b) buffer w got = drop_acts w got
 acts_of locations a (Flushing order) buffer w got = flush_acts a w got
 acts_of locations a Suspending buffer w got = flush_acts a w got
 acts_of locations a (Promoting order os) buffer w got = promote_acts order buffer w got
-acts_of locations a (Demoting order os) buffer w got = demote_acts order w got
-acts_of locations a (Cleaning order os) buffer w got = clean_acts order w got
+acts_of locations a (Returning leaves order os) buffer w got = return_acts leaves order w got
 
 -- a flush begins with its task
 abbrev pub start_acts : ℕ → Job → List Act

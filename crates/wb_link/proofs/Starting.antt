@@ -8,7 +8,7 @@ use Rattle.wb_types.specs.declared.mode.Mode.TheVariants.{Writethrough, Passthro
 use Rattle.wb_contents.specs.Acts.{after_all as after_acts}
 use Rattle.wb_contents.specs.Conditions.{IsRun as IsActs}
 use Rattle.wb_contents.proofs.Positions.{changed_same, changed_other}
-use Rattle.wb_link.specs.Tables.{Order, Job, Reading, Writing, Writing_through, Flushing, Suspending, Promoting, Demoting, Cleaning, Invalidating, Seal, Finished, Look_fail, acquire, Script}
+use Rattle.wb_link.specs.Tables.{Order, Job, Reading, Writing, Writing_through, Flushing, Suspending, Promoting, Returning, Invalidating, Seal, Finished, Look_fail, acquire, Script}
 use Rattle.wb_link.specs.World.{job_alone, Within, Covers, Block, Free, Mapped, Reserved, Retained, Shared, Nothing, Owns, Actor, World, Start, reserved, order_of, given, start_actor, Apart, MayStart, MayBegin, after_record, drops, job_drops, Again, again_actor, aside, taken, MayAgain, MayRepeat}
 use Rattle.wb_link.proofs.Views.{block_view}
 use Rattle.wb_link.proofs.Acts.{Keeps}
@@ -28,8 +28,7 @@ use Rattle.wb_link.proofs.Flushing.{flushing_safe}
 use Rattle.wb_link.proofs.Suspending.{suspending_safe}
 use Rattle.wb_link.proofs.Promoting.{Granted, promoting_safe}
 use Rattle.wb_link.proofs.Invalidating.{invalidating_safe}
-use Rattle.wb_link.proofs.Cleaning.{cleaning_safe}
-use Rattle.wb_link.proofs.Demoting.{demoting_safe}
+use Rattle.wb_link.proofs.Returning.{returning_safe}
 
 -- What a job's start has to give its task.
 abbrev Startable : ℕ → ℕ → Job → Shared → Volume → Type 0
@@ -40,8 +39,7 @@ Startable size a (Invalidating b) t e = e.mode ≡ Passthrough
 Startable size a (Flushing q) t e = e.ticket a ≤ e.began + 1
 Startable size a Suspending t e = (e.ticket a ≤ e.began + 1) × (t.fail ≡ false → e.live ≡ true)
 Startable size a (Promoting p os) t e = Within size os × Covers size os × Granted p t e
-Startable size a (Cleaning p os) t e = Within size os × Covers size os × (e.mapping p.block ≡ Some p.cache)
-Startable size a (Demoting p os) t e = Within size os × Covers size os × (e.mapping p.block ≡ Some p.cache)
+Startable size a (Returning leaves p os) t e = Within size os × Covers size os × (e.mapping p.block ≡ Some p.cache)
 
 abbrev beginner : Job → Content → Actor
 beginner job c = at_work job (Look_fail ∷ acquire job) Finished Nothing (order_of job) false c
@@ -54,8 +52,7 @@ job_safe n size a (Invalidating b) c t e k = invalidating_safe n size a b c t e 
 job_safe n size a (Flushing q) c t e k = flushing_safe q n size a c t e k
 job_safe n size a Suspending c t e k = suspending_safe n size a c t e k.0 k.1
 job_safe n size a (Promoting p os) c t e k = promoting_safe n size a p os c t e k.0 k.1 k.2
-job_safe n size a (Cleaning p os) c t e k = cleaning_safe n size a p os c t e k.0 k.1 k.2
-job_safe n size a (Demoting p os) c t e k = demoting_safe n size a p os c t e k.0 k.1 k.2
+job_safe n size a (Returning leaves p os) c t e k = returning_safe n size a leaves p os c t e k.0 k.1 k.2
 
 -- What a start changes that is shared.
 record Reserves (size a : ℕ) (x : Actor) (job : Job) (s t : Shared) (d e : Volume) : Type 0 where
@@ -131,21 +128,7 @@ reserves size w d a x (Promoting p os) g l m = record {
   placed = λ q e. let same : p ≡ q = cc in subst (λ (v : Order). Placing (reserved w.shared (Promoting p os)) v) same (λ f. m.4, λ f. let was = changed_same w.shared.blocks p.cache Reserved in absurd (cc), λ f. m.4, m.6);
   stands = λ q e. inl (inl (let same : p ≡ q = cc in ap (λ (v : Order). changed w.shared.blocks p.cache Reserved v.cache) (sym same) ∙ changed_same w.shared.blocks p.cache Reserved));
 }
-reserves size w d a x (Cleaning p os) g l m = record {
-  agrees = g.agrees;
-  sound = g.sound;
-  seals = refl;
-  committing = refl;
-  root_written = refl;
-  fail = refl;
-  keeps = record { seal = λ b n. refl; state = λ h k n r. inl refl };
-  turns = λ k r. inl refl;
-  startable = (m.0, m.1, sym (ap (λ f. f p.block) g.agrees.mapping) ∙ m.4);
-  mapping = refl;
-  placed = λ q e. let same : p ≡ q = cc in subst (λ (v : Order). Placing w.shared v) same (λ f. let was = m.5 in absurd (cc), λ f. m.4, λ f. let was : Mapped ≡ Retained f.0 = sym m.5 ∙ f.1 in absurd (cc), m.6);
-  stands = λ q e. inl (inr (let same : p ≡ q = cc in ap (λ (v : Order). w.shared.blocks v.cache) (sym same) ∙ m.5));
-}
-reserves size w d a x (Demoting p os) g l m = record {
+reserves size w d a x (Returning leaves p os) g l m = record {
   agrees = g.agrees;
   sound = g.sound;
   seals = refl;
@@ -169,8 +152,7 @@ ungiven size w (Invalidating b) m k y p q g e f = absurd (cc)
 ungiven size w (Flushing o) m k y p q g e f = absurd (cc)
 ungiven size w Suspending m k y p q g e f = absurd (cc)
 ungiven size w (Promoting o os) m k y p q g e f = let same : o ≡ p = cc in subst (λ (v : Order). Apart q v) same (m.2.0 k y q g f)
-ungiven size w (Cleaning o os) m k y p q g e f = let same : o ≡ p = cc in subst (λ (v : Order). Apart q v) same (m.2.0 k y q g f)
-ungiven size w (Demoting o os) m k y p q g e f = let same : o ≡ p = cc in subst (λ (v : Order). Apart q v) same (m.2.0 k y q g f)
+ungiven size w (Returning leaves o os) m k y p q g e f = let same : o ≡ p = cc in subst (λ (v : Order). Apart q v) same (m.2.0 k y q g f)
 
 -- and from all that are aside
 unwaiting : (size : ℕ) (w : World) (job : Job) → MayStart size w job → (k : ℕ) (p q : Order) → w.waiting k ≡ Some q → order_of job ≡ Some p → Apart q p
@@ -181,8 +163,7 @@ unwaiting size w (Invalidating b) m k p q g e = absurd (cc)
 unwaiting size w (Flushing o) m k p q g e = absurd (cc)
 unwaiting size w Suspending m k p q g e = absurd (cc)
 unwaiting size w (Promoting o os) m k p q g e = let same : o ≡ p = cc in subst (λ (v : Order). Apart q v) same (m.2.1 k q g)
-unwaiting size w (Cleaning o os) m k p q g e = let same : o ≡ p = cc in subst (λ (v : Order). Apart q v) same (m.2.1 k q g)
-unwaiting size w (Demoting o os) m k p q g e = let same : o ≡ p = cc in subst (λ (v : Order). Apart q v) same (m.2.1 k q g)
+unwaiting size w (Returning leaves o os) m k p q g e = let same : o ≡ p = cc in subst (λ (v : Order). Apart q v) same (m.2.1 k q g)
 
 -- and from its actor's, which is put aside then
 aside_ungiven : (size : ℕ) (w : World) (a : ℕ) (x : Actor) (job : Job) → MayStart size w job → slice_get w.actors a ≡ Some x → (k : ℕ) (p q : Order) → aside w.waiting x.order k ≡ Some p → order_of job ≡ Some q → Apart q p
@@ -199,8 +180,7 @@ start_run a d (Invalidating b) = tt
 start_run a d (Flushing o) = (tt, tt)
 start_run a d Suspending = (tt, tt)
 start_run a d (Promoting p os) = tt
-start_run a d (Cleaning p os) = tt
-start_run a d (Demoting p os) = tt
+start_run a d (Returning leaves p os) = tt
 
 start_mine : (size a : ℕ) (x : Actor) (busy : Bool) (job : Job) → x.task ≡ None → AllMine size a x busy (start_acts a job)
 start_mine size a x busy (Reading past b os) f = tt
@@ -210,14 +190,12 @@ start_mine size a x busy (Invalidating b) f = tt
 start_mine size a x busy (Flushing o) f = ((refl, f), tt)
 start_mine size a x busy Suspending f = ((refl, f), tt)
 start_mine size a x busy (Promoting p os) f = tt
-start_mine size a x busy (Cleaning p os) f = tt
-start_mine size a x busy (Demoting p os) f = tt
+start_mine size a x busy (Returning leaves p os) f = tt
 
 -- orders outside passthrough alone, unmapping without one in it alone
 start_order : (size : ℕ) (w : World) (job : Job) (p : Order) → MayStart size w job → order_of job ≡ Some p → w.shared.mode ≢ Passthrough
 start_order size w (Promoting o os) p m e = m.3
-start_order size w (Demoting o os) p m e = m.3
-start_order size w (Cleaning o os) p m e = m.3
+start_order size w (Returning leaves o os) p m e = m.3
 start_order size w job p m e = absurd (cc)
 
 start_drops : (size : ℕ) (w : World) (job : Job) → MayStart size w job → job_drops job ≡ true → w.shared.mode ≡ Passthrough
@@ -334,23 +312,20 @@ start_keeps size w d a x job i m = let done = acted size a x w.shared.committing
 
 again_startable : (size a : ℕ) (s : Shared) (d : Volume) (job : Job) (p : Order) → Agrees s d → MayAgain size s job → order_of job ≡ Some p → Placing s p → Startable size a job s (after_acts d (start_acts a job))
 again_startable size a s d (Promoting o os) p g m e h = let same : p ≡ o = cc in let at = subst (λ (v : Order). Placing s v) same h in (m.0, m.1, record { unmapped = sym (ap (λ f. f o.block) g.mapping) ∙ at.0 m.2; reserved = m.2 })
-again_startable size a s d (Demoting o os) p g m e h = let same : p ≡ o = cc in let at = subst (λ (v : Order). Placing s v) same h in (m.0, m.1, sym (ap (λ f. f o.block) g.mapping) ∙ at.1 m.2)
-again_startable size a s d (Cleaning o os) p g m e h = let same : p ≡ o = cc in let at = subst (λ (v : Order). Placing s v) same h in (m.0, m.1, sym (ap (λ f. f o.block) g.mapping) ∙ at.1 m.2)
+again_startable size a s d (Returning leaves o os) p g m e h = let same : p ≡ o = cc in let at = subst (λ (v : Order). Placing s v) same h in (m.0, m.1, sym (ap (λ f. f o.block) g.mapping) ∙ at.1 m.2)
 again_startable size a s d (Flushing q) p g m e h = let f = changed_same d.ticket a (d.began + 1) in omega (arith, f)
 again_startable size a s d job p g m e h = absurd m
 
 -- a replacement's flush begins with its task
 again_agrees : (size a : ℕ) (s : Shared) (d : Volume) (job : Job) → MayAgain size s job → Agrees s d → Agrees s (after_acts d (start_acts a job))
 again_agrees size a s d (Promoting o os) m g = g
-again_agrees size a s d (Demoting o os) m g = g
-again_agrees size a s d (Cleaning o os) m g = g
+again_agrees size a s d (Returning leaves o os) m g = g
 again_agrees size a s d (Flushing q) m g = asked_agrees s d a g
 again_agrees size a s d job m g = absurd m
 
 again_alone : (size : ℕ) (s : Shared) (job : Job) → MayAgain size s job → (job_alone job ≡ false) × (job_drops job ≡ false)
 again_alone size s (Promoting o os) m = (refl, refl)
-again_alone size s (Demoting o os) m = (refl, refl)
-again_alone size s (Cleaning o os) m = (refl, refl)
+again_alone size s (Returning leaves o os) m = (refl, refl)
 again_alone size s (Flushing q) m = (refl, refl)
 again_alone size s job m = absurd m
 

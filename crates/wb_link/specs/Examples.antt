@@ -4,7 +4,7 @@ use Rattle.std.specs.Prelude.{◌++◌, Bool, true, false, cond, List, [], ◌�
 use Rattle.wb_disk.specs.Device.{Content, newest}
 use Rattle.wb_contents.specs.Volume.{at_location, changed}
 use Rattle.wb_types.specs.declared.mode.Mode.TheVariants.{Writeback, Writethrough, Passthrough}
-use Rattle.wb_link.specs.Tables.{Order, Seal, Reading, Writing, Suspending, Promoting, Demoting, Flushing, Finished, Look_fail, Share, Leave, Own, Look_seal, Set_seal, Disown, Read_at, Write_at, Begin, Sync_cache_device, Sync_origin_device, Put_root, Sync_metadata, End_running, Make_room, Map_to, Unmap_from, Unmap_plain, Begin_clean, Set_suspended, Failed, Short, End, Done, Flag, Seen, Gave, Ticket, Served}
+use Rattle.wb_link.specs.Tables.{Order, Seal, Reading, Writing, Suspending, Promoting, Returning, Flushing, Finished, Look_fail, Share, Leave, Own, Look_seal, Set_seal, Disown, Read_at, Write_at, Begin, Sync_cache_device, Sync_origin_device, Put_root, Sync_metadata, End_running, Make_room, Map_to, Unmap_from, Unmap_plain, Begin_clean, Set_suspended, Failed, Short, End, Done, Flag, Seen, Gave, Ticket, Served}
 use Rattle.wb_link.specs.World.{Mapped, Shared, Start, Again, Step, Record}
 use Rattle.wb_link.specs.Openings.{Learnt, Stopping, Settled, Fine, Learns, Refused, Broke, Shown, Event, On, Stopped, Begins, Advances}
 
@@ -51,7 +51,7 @@ one_actor = Start 0 (Writing false 0 (0 ∷ []) (7 ∷ [])) ∷
     Step 0 Sync_metadata Done ∷
     Step 0 End_running Done ∷
     Step 0 (End Finished) Done ∷
-    Start 0 (Demoting order (0 ∷ [])) ∷
+    Start 0 (Returning true order (0 ∷ [])) ∷
     Step 0 Look_fail (Flag false) ∷
     Step 0 (Own 0) Done ∷
     Step 0 (Look_seal 0) (Seen (record { location = Some 0; dirty = true })) ∷
@@ -72,7 +72,7 @@ follower = record { block = 1; cache = 0; next = None }
 -- two flushes wait for the next commit, and the one that leads it serves both
 abbrev pub replaced : List Record
 replaced = promoted [] ++
-    Start 0 (Demoting replacement (0 ∷ [])) ∷
+    Start 0 (Returning true replacement (0 ∷ [])) ∷
     Step 0 Look_fail (Flag false) ∷
     Step 0 (Own 0) Done ∷
     Step 0 (Look_seal 0) (Seen (record { location = Some 0; dirty = false })) ∷

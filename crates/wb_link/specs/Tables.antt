@@ -18,8 +18,8 @@ pub data Job : Type 0 where
   Flushing : (order : Option Order) → Job
   Suspending : Job
   Promoting : Order → List ℕ → Job
-  Demoting : Order → List ℕ → Job
-  Cleaning : Order → List ℕ → Job
+  -- a dirty block's sectors come home: a demotion, after which it leaves the cache, or a write-back, after which it is clean there
+  Returning : (leaves : Bool) → Order → List ℕ → Job
   Invalidating : (block : ℕ) → Job
 
 pub record Seal : Type 0 where
@@ -118,6 +118,10 @@ unmapping order = Unmap_from order ∷ Set_seal order.block (record { location =
 abbrev pub cleaning : Order → List Want
 cleaning order = Set_seal order.block (record { location = Some order.cache; dirty = false }) ∷ Disown order.block ∷ Give_up order ∷ []
 
+abbrev pub returned : (leaves : Bool) → Order → List Want
+returned true order = unmapping order
+returned false order = cleaning order
+
 abbrev pub entering : Order → List Want
 entering order = Map_to order ∷ Set_seal order.block (record { location = Some order.cache; dirty = false }) ∷ Disown order.block ∷ []
 
@@ -148,8 +152,7 @@ work (Invalidating b) seal = dropping b seal.location (Disown b ∷ [])
 work (Flushing order) seal = []
 work Suspending seal = []
 work (Promoting order os) seal = copy_each None (Some order.cache) order.block os (mapping_on order)
-work (Cleaning order os) seal = copy_dirty seal.dirty order os (cleaning order)
-work (Demoting order os) seal = copy_dirty seal.dirty order os (unmapping order)
+work (Returning leaves order os) seal = copy_dirty seal.dirty order os (returned leaves order)
 
 abbrev pub acquire : Job → List Want
 acquire (Reading past b os) = Share b ∷ Look_seal b ∷ []
@@ -159,8 +162,7 @@ acquire (Invalidating b) = Own b ∷ Look_seal b ∷ []
 acquire (Flushing order) = Begin None ∷ Sync_cache_device ∷ Sync_origin_device ∷ Put_root ∷ Sync_metadata ∷ End_running ∷ []
 acquire Suspending = Begin_clean ∷ Sync_cache_device ∷ Sync_origin_device ∷ Put_root ∷ Sync_metadata ∷ End_running ∷ Set_suspended ∷ []
 acquire (Promoting order os) = Own order.block ∷ Look_seal order.block ∷ []
-acquire (Cleaning order os) = Own order.block ∷ Look_seal order.block ∷ []
-acquire (Demoting order os) = Own order.block ∷ Look_seal order.block ∷ []
+acquire (Returning leaves order os) = Own order.block ∷ Look_seal order.block ∷ []
 
 abbrev pub table : Job → Script
 table job = record { job = job; steps = Look_fail ∷ acquire job; answer = Finished }
@@ -173,8 +175,7 @@ release (Invalidating b) = Disown b ∷ []
 release (Flushing order) = []
 release Suspending = []
 release (Promoting order os) = Disown order.block ∷ Give_up order ∷ []
-release (Cleaning order os) = Disown order.block ∷ Give_up order ∷ []
-release (Demoting order os) = Disown order.block ∷ Give_up order ∷ []
+release (Returning leaves order os) = Disown order.block ∷ Give_up order ∷ []
 
 abbrev pub first_of_steps : List Want → Answer → Want
 first_of_steps [] answer = End answer
@@ -209,8 +210,7 @@ until_failed ws = Set_failed ∷ []
 abbrev pub steps_after_fault : Job → (more : Bool) → List Want → List Want
 steps_after_fault (Writing past b os c) true ws = until_failed ws
 steps_after_fault (Promoting order os) true ws = until_failed ws
-steps_after_fault (Cleaning order os) true ws = until_failed ws
-steps_after_fault (Demoting order os) true ws = until_failed ws
+steps_after_fault (Returning leaves order os) true ws = until_failed ws
 steps_after_fault job more ws = breaking job
 
 abbrev pub after_fault : Script → (more : Bool) → Want → Script

@@ -6,7 +6,7 @@ use Rattle.wb_contents.specs.Volume.{Locations, changed, changed_at}
 use Rattle.wb_types.specs.declared.mode.Mode.{Mode}
 use Rattle.wb_types.specs.declared.mode.Mode.TheVariants.{Writeback, Writethrough, Passthrough}
 use Rattle.wb_contents.specs.Acts.{all_synced, partly_synced}
-use Rattle.wb_link.specs.Tables.{Begin, Begin_clean, Break_commits, Broken, Demoting, Disown, Done, End, End_running, Fault, Flag, Flushing, Gave, Give_up, Got, Invalidating, Job, Leave, Look_fail, Look_seal, Lost, Make_room, Map_to, Order, Own, Writing_through, Promoting, Read_at, Reading, Script, Seal, Seen, Served, Set_failed, Set_seal, Set_suspended, Share, Short, Suspending, Sync_origin_device, Sync_cache_device, Sync_metadata, Ticket, Unmap_from, Unmap_plain, Want, Cleaning, Write_at, Put_root, Writing, after, table, want}
+use Rattle.wb_link.specs.Tables.{Begin, Begin_clean, Break_commits, Broken, Disown, Done, End, End_running, Fault, Flag, Flushing, Gave, Give_up, Got, Invalidating, Job, Leave, Look_fail, Look_seal, Lost, Make_room, Map_to, Order, Own, Writing_through, Promoting, Read_at, Reading, Script, Seal, Seen, Served, Set_failed, Set_seal, Set_suspended, Share, Short, Suspending, Sync_origin_device, Sync_cache_device, Sync_metadata, Ticket, Unmap_from, Unmap_plain, Want, Returning, Write_at, Put_root, Writing, after, table, want}
 
 pub data Block : Type 0 where
   Free : Block
@@ -225,8 +225,7 @@ Wins actors w got = Unit {0}
 
 abbrev pub order_of : Job → Option Order
 order_of (Promoting order os) = Some order
-order_of (Cleaning order os) = Some order
-order_of (Demoting order os) = Some order
+order_of (Returning leaves order os) = Some order
 order_of (Flushing order) = order
 order_of job = None
 
@@ -267,8 +266,7 @@ MayStart size w (Invalidating b) = w.shared.mode ≡ Passthrough
 MayStart size w (Flushing order) = order ≡ None
 MayStart size w Suspending = (a : ℕ) (x : Actor) → slice_get w.actors a ≡ Some x → x.task ≡ None
 MayStart size w (Promoting order os) = Within size os × Covers size os × Ungiven w order × (w.shared.mode ≢ Passthrough) × (w.shared.mapping order.block ≡ None) × (w.shared.blocks order.cache ≡ Free) × NextIsUnmapped w.shared order
-MayStart size w (Cleaning order os) = Within size os × Covers size os × Ungiven w order × (w.shared.mode ≢ Passthrough) × (w.shared.mapping order.block ≡ Some order.cache) × (w.shared.blocks order.cache ≡ Mapped) × NextIsUnmapped w.shared order
-MayStart size w (Demoting order os) = Within size os × Covers size os × Ungiven w order × (w.shared.mode ≢ Passthrough) × (w.shared.mapping order.block ≡ Some order.cache) × (w.shared.blocks order.cache ≡ Mapped) × NextIsUnmapped w.shared order
+MayStart size w (Returning leaves order os) = Within size os × Covers size os × Ungiven w order × (w.shared.mode ≢ Passthrough) × (w.shared.mapping order.block ≡ Some order.cache) × (w.shared.blocks order.cache ≡ Mapped) × NextIsUnmapped w.shared order
 
 -- Records.
 
@@ -368,8 +366,7 @@ pub record MayBegin (size : ℕ) (w : World) (a : ℕ) (job : Job) (x : Actor) :
 -- what an order says still: its cache block is reserved, or mapped
 abbrev pub MayAgain : ℕ → Shared → Job → Type 0
 MayAgain size s (Promoting order os) = Within size os × Covers size os × (s.blocks order.cache ≡ Reserved)
-MayAgain size s (Demoting order os) = Within size os × Covers size os × (s.blocks order.cache ≡ Mapped)
-MayAgain size s (Cleaning order os) = Within size os × Covers size os × (s.blocks order.cache ≡ Mapped)
+MayAgain size s (Returning leaves order os) = Within size os × Covers size os × (s.blocks order.cache ≡ Mapped)
 MayAgain size s (Flushing order) = (p : Order) × (order ≡ Some p)
 MayAgain size s job = ⊥
 
