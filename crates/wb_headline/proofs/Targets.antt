@@ -17,7 +17,7 @@ use Rattle.wb_runs.specs.Effects.{actor_then, task_then, card_then, orders_then,
 use Rattle.wb_runs.specs.Clerk.{Notes}
 use Rattle.wb_runs.proofs.Images.{Images, later_of}
 use Rattle.wb_runs.proofs.Metadata.{MetadataKept, AtDesk, kept_readable}
-use Rattle.wb_link.specs.Tables.{Flag, table, Script, Order as AbstractOrder, Job as AbstractJob, Promoting, Demoting, Cleaning, want}
+use Rattle.wb_link.specs.Tables.{Flag, table, Script, Order as AbstractOrder, Job as AbstractJob, Promoting, Returning, want}
 use Rattle.wb_link.specs.World.{World, Record, Start, Again, Step, Release, release_order, Actor as AbstractActor, after_all, after_record, start_actor, again_actor, step_actor, step_task, actor_after, given, job_alone}
 use Rattle.wb_simulation.specs.Noting.{NotesAgree}
 use Rattle.wb_simulation.specs.Noted.{told}
@@ -43,8 +43,7 @@ IsPlainTelling telling = Unit {0}
 
 migrating_plain : (job : AbstractJob) → IsMigrating job → job_alone job ≡ false
 migrating_plain (Promoting order os) m = refl
-migrating_plain (Demoting order os) m = refl
-migrating_plain (Cleaning order os) m = refl
+migrating_plain (Returning leaves order os) m = refl
 migrating_plain job m = absurd m
 
 resumed_plain : (a : ℕ) (task : Option Script) (rs : List Record) → IsResumed a task rs → ArePlainRecords rs

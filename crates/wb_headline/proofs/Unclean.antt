@@ -3,7 +3,7 @@ use Rattle.std.proofs.Common.{◌≡◌, inl, inr, ℕ, Bool, true, false, List,
 use Rattle.wb_types.proofs.Lists.{set_cases}
 use Rattle.wb_disk.specs.Device.{Content}
 use Rattle.wb_types.specs.declared.mode.Mode.{Mode}
-use Rattle.wb_link.specs.Tables.{Job, Reading, Writing, Writing_through, Flushing, Suspending, Promoting, Demoting, Cleaning, Invalidating, Order, Script, Seal, Want, Begin, Begin_clean, End_running, Read_at, Write_at, Sync_cache_device, Sync_origin_device, End, Got, Done, Lost, Flag, Seen, Gave, Ticket, Served, Broken, Short, Fault, read_each, write_each, copy_each, write_through_each, dirtying, copy_dirty, dropping, read_from, write_work, work, table, want, first_of_steps, later_steps, until_failed, breaking, steps_after_fault, after_fault, letting, release, after}
+use Rattle.wb_link.specs.Tables.{Job, Reading, Writing, Writing_through, Flushing, Suspending, Promoting, Returning, Invalidating, Order, Script, Seal, Want, Begin, Begin_clean, End_running, Read_at, Write_at, Sync_cache_device, Sync_origin_device, End, Got, Done, Lost, Flag, Seen, Gave, Ticket, Served, Broken, Short, Fault, read_each, write_each, copy_each, write_through_each, dirtying, copy_dirty, dropping, read_from, write_work, work, table, want, first_of_steps, later_steps, until_failed, breaking, steps_after_fault, after_fault, letting, release, after}
 use Rattle.wb_link.specs.World.{World, Shared, Actor, Record, Start, Again, Step, Release, release_order, effect, if_landed, put_sector, task_after, actor_after, step_task, step_actor, start_actor, again_actor, reserved, after_record, after_all, job_alone, given}
 use Rattle.wb_link.specs.Openings.{Site, Phase, Stands, Gone, Opens, Stage, Settling, Caching, Basing, Rooting, Answering, Outcome, Settled, Fine, Learns, Refused, Broke, Shown, Event, On, Stopped, Begins, Advances, after_event, advance, advanced, found_clean, emptied, stopped}
 use Rattle.wb_link.proofs.Lists.{replicated}
@@ -84,8 +84,7 @@ work_plain (Invalidating b) seal = dropping_plain b seal.location _ (tt, tt)
 work_plain (Flushing order) seal = tt
 work_plain Suspending seal = tt
 work_plain (Promoting order os) seal = copy_plain None (Some order.cache) order.block os _ (tt, (tt, (tt, (tt, tt))))
-work_plain (Cleaning order os) seal = dirty_plain seal.dirty order os _ (tt, (tt, (tt, tt)))
-work_plain (Demoting order os) seal = dirty_plain seal.dirty order os _ (tt, (tt, (tt, tt)))
+work_plain (Returning leaves order os) seal = dirty_plain seal.dirty order os _ (tt, (tt, (tt, tt)))
 
 table_plain : (job : Job) → job_alone job ≡ false → IsPlainTask (Some (table job))
 table_plain (Reading past b os) j = (j, (tt, (tt, (tt, tt))))
@@ -95,8 +94,7 @@ table_plain (Invalidating b) j = (j, (tt, (tt, (tt, tt))))
 table_plain (Flushing order) j = (j, (tt, (tt, (tt, (tt, (tt, (tt, (tt, tt))))))))
 table_plain Suspending j = absurd (cc)
 table_plain (Promoting order os) j = (j, (tt, (tt, (tt, tt))))
-table_plain (Cleaning order os) j = (j, (tt, (tt, (tt, tt))))
-table_plain (Demoting order os) j = (j, (tt, (tt, (tt, tt))))
+table_plain (Returning leaves order os) j = (j, (tt, (tt, (tt, tt))))
 
 later_plain : (ws : List Want) → ArePlain ws → ArePlain (later_steps ws)
 later_plain [] p = tt
@@ -116,12 +114,10 @@ breaking_plain job = (tt, tt)
 fault_plain : (job : Job) (more : Bool) (ws : List Want) → ArePlain (steps_after_fault job more ws)
 fault_plain (Writing past b os c) true ws = until_plain ws
 fault_plain (Promoting order os) true ws = until_plain ws
-fault_plain (Cleaning order os) true ws = until_plain ws
-fault_plain (Demoting order os) true ws = until_plain ws
+fault_plain (Returning leaves order os) true ws = until_plain ws
 fault_plain (Writing past b os c) false ws = (tt, tt)
 fault_plain (Promoting order os) false ws = (tt, tt)
-fault_plain (Cleaning order os) false ws = (tt, tt)
-fault_plain (Demoting order os) false ws = (tt, tt)
+fault_plain (Returning leaves order os) false ws = (tt, tt)
 fault_plain (Reading past b os) more ws = (tt, tt)
 fault_plain (Writing_through b os c) more ws = (tt, tt)
 fault_plain (Invalidating b) more ws = (tt, tt)
@@ -132,8 +128,7 @@ release_plain : (job : Job) → ArePlain (release job)
 release_plain (Flushing order) = tt
 release_plain Suspending = tt
 release_plain (Promoting order os) = (tt, (tt, tt))
-release_plain (Cleaning order os) = (tt, (tt, tt))
-release_plain (Demoting order os) = (tt, (tt, tt))
+release_plain (Returning leaves order os) = (tt, (tt, tt))
 release_plain job = (tt, tt)
 
 letting_plain : (job : Job) → ArePlain (letting job)

@@ -13,7 +13,7 @@ use Rattle.wb_tasks.specs.declared.step.Want.{Want}
 use Rattle.wb_tasks.specs.declared.step.Want.TheVariants.{Cell, Desk}
 use Rattle.wb_tasks.specs.Tables.{BlockRange, Migrating, OnBlock, work}
 use Rattle.wb_tasks.specs.Plan.{first_steps}
-use Rattle.wb_link.specs.Tables.{Order, Got, Done, Flag, Lost, Seen, Short, Promoting, Demoting, Own, Set_seal, Map_to, Unmap_from, Give_up, Answer as AbstractAnswer, Finished as AnsweredDone, Busy as AnsweredBusy, Failed as AnsweredFailed, Io as AnsweredIo}
+use Rattle.wb_link.specs.Tables.{Order, Got, Done, Flag, Lost, Seen, Short, Promoting, Returning, Own, Set_seal, Map_to, Unmap_from, Give_up, Answer as AbstractAnswer, Finished as AnsweredDone, Busy as AnsweredBusy, Failed as AnsweredFailed, Io as AnsweredIo}
 use Rattle.wb_link.specs.World.{aside, taken, Shared, Nothing, Actor, World, Start, Again, May, MayStart, MayAgain, after_record, reserved, effect, following}
 use Rattle.wb_refines.specs.Translation.{number_of, offsets}
 use Rattle.wb_refines.specs.Going.{WinsBeside, shared_after, gone, MayGo}
@@ -86,7 +86,7 @@ pub record CarryingFollowed : Type 0 where
   -- a demotion's order ends, or goes on with the block that follows
   pub unmaps : (size : ℕ) (actors : List Actor) (a : ℕ) (s : Shared) (order : Order) (os : List ℕ) (block : OBlock) (later : List Want) (answer : AbstractAnswer) (buffer : Content) →
       GoesTo actors a s (migrating size order os Demote (Desk (Unmap block) ∷ later) answer buffer) (Done ∷ [])
-      (effect s (Demoting order os) buffer (Unmap_from order) Done) (under (following order.cache order.next) (migrating size order os Demote later answer buffer))
+      (effect s (Returning true order os) buffer (Unmap_from order) Done) (under (following order.cache order.next) (migrating size order os Demote later answer buffer))
   pub gives_up : (size : ℕ) (actors : List Actor) (a : ℕ) (s : Shared) (order : Order) (os : List ℕ) (migration : Migration) (block : OBlock) (later : List Want) (answer : AbstractAnswer) (buffer : Content) →
       GoesTo actors a s (without_block (migrating size order os migration (Desk (ReleaseOrder block) ∷ later) answer buffer)) (Done ∷ [])
       (effect s (job_under order os migration) buffer (Give_up order) Done) (without_block (under None (migrating size order os migration later answer buffer)))

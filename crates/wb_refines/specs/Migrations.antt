@@ -1,7 +1,7 @@
 -- The table of a migration as that of the abstract world. A real step reads or writes an extent, of up to hundreds of sectors; the
 -- abstract actor has the content of one sector at most. So a read stands for nothing by itself, and a write for the read and
 -- the write of each of its sectors: the block is owned, so its source is then what it was when it was read.
-use Rattle.std.specs.Prelude.{◌≡◌, ◌<◌, ℕ, Bool, List, [], ◌∷◌, Option, Some, None}
+use Rattle.std.specs.Prelude.{◌≡◌, ◌<◌, ℕ, Bool, List, [], ◌∷◌, Option, Some, None, true, false}
 use Rattle.wb_types.specs.declared.number.CBlock.{CBlock}
 use Rattle.wb_tasks.specs.declared.step.Migration.{Migration}
 use Rattle.wb_tasks.specs.declared.step.Migration.TheVariants.{Promote, Demote, Clean}
@@ -12,14 +12,14 @@ use Rattle.wb_tasks.specs.declared.step.Want.TheVariants.{Cell, Device, Desk}
 use Rattle.wb_words.specs.declared.step.CellStep.TheVariants.{SetFailed}
 use Rattle.wb_tasks.specs.Tables.{BlockRange, Migrating, OnBlock, work}
 use Rattle.wb_tasks.specs.Plan.{first_steps, lets_go}
-use Rattle.wb_link.specs.Tables.{Order, Job as AbstractJob, Promoting, Demoting, Cleaning, Want as AbstractWant, Make_room, Map_to, Unmap_from, Give_up, copy_each, table as table_there, work as work_there, release as release_there, breaking}
+use Rattle.wb_link.specs.Tables.{Order, Job as AbstractJob, Promoting, Returning, Want as AbstractWant, Make_room, Map_to, Unmap_from, Give_up, copy_each, table as table_there, work as work_there, release as release_there, breaking}
 use Rattle.wb_refines.specs.Translation.{location_at, offsets_in, offsets, cell_wants, number_of}
 
 -- a migration under this order, of these sectors
 abbrev pub job_under : Order → List ℕ → Migration → AbstractJob
 job_under order os (Promote c) = Promoting order os
-job_under order os Demote = Demoting order os
-job_under order os Clean = Cleaning order os
+job_under order os Demote = Returning true order os
+job_under order os Clean = Returning false order os
 
 -- where its sectors are read
 abbrev pub source : Order → Migration → Option ℕ

@@ -19,7 +19,7 @@ use Rattle.wb_tasks.specs.declared.step.Want.{Want}
 use Rattle.wb_tasks.specs.declared.step.Want.TheVariants.{Cell, Desk}
 use Rattle.wb_stage.specs.Asking.{is_of}
 use Rattle.wb_devices.specs.declared.devices.Devices.{Devices}
-use Rattle.wb_link.specs.Tables.{Order as AbstractOrder, Got, Done as DoneThere, Short, Map_to, Unmap_from, Give_up, Promoting, Demoting, Failed as AnsweredFailed}
+use Rattle.wb_link.specs.Tables.{Order as AbstractOrder, Got, Done as DoneThere, Short, Map_to, Unmap_from, Give_up, Promoting, Returning, Failed as AnsweredFailed}
 use Rattle.wb_link.specs.World.{World, Shared, Nothing, effect, Actor as AbstractActor}
 use Rattle.wb_link.proofs.Lists.{get_set_same, get_set_other}
 use Rattle.wb_refines.specs.Translation.{offsets}
@@ -231,7 +231,7 @@ module _ (size most blocks : ℕ) (words : Words) (committing : Bool) (orders : 
     y_away = y_is size most blocks words committing orders devices actors a x s y g ex ey migration block part (Desk (Unmap part.block)) ws answer f (λ n. n) (ap held_of suits_away.0)
 
     abbrev t_away : Shared
-    t_away = effect s.shared (Demoting own_away os) f.at.buffer (Unmap_from own_away) DoneThere
+    t_away = effect s.shared (Returning true own_away os) f.at.buffer (Unmap_from own_away) DoneThere
 
     abbrev z_away : AbstractActor
     z_away = under (following f.c.0 f.next) (migrating size own_away os migration ws f.at.answer f.at.buffer)

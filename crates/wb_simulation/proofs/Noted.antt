@@ -9,7 +9,7 @@ use Rattle.wb_disk.specs.Device.{Content, History, only}
 use Rattle.wb_contents.specs.Volume.{changed}
 use Rattle.wb_contents.specs.Devices.{by_block}
 use Rattle.wb_contents.proofs.Positions.{changed_same, changed_other}
-use Rattle.wb_link.specs.Tables.{Script, Job as AbstractJob, Reading, Writing, Writing_through, Promoting, Demoting, Cleaning, Flushing, Suspending, Want, Write_at, End, Got, Gave, Fault, Done, Answer as AbstractAnswer, Finished as AnsweredDone, want, after, table, read_each, write_each}
+use Rattle.wb_link.specs.Tables.{Script, Job as AbstractJob, Reading, Writing, Writing_through, Promoting, Returning, Flushing, Suspending, Want, Write_at, End, Got, Gave, Fault, Done, Answer as AbstractAnswer, Finished as AnsweredDone, want, after, table, read_each, write_each}
 use Rattle.wb_link.specs.World.{Release, release_order, World, Shared, Record, Start, Again, Actor as AbstractActor, resting, after_all, after_record, actor_after, task_after, start_actor, again_actor, reserved, given, effect}
 use Rattle.wb_link.specs.Clerk.{Notes as AbstractNotes, Entry, histories_after, entered_after, finished_after, floors_after, job_noted, note, noted_step, opened, raised as raised_there}
 use Rattle.wb_link.specs.Openings.{On, AllRight}
@@ -316,8 +316,7 @@ no_counts size shown = sym (everywhere (counts_by_block size (map (λ (c : Conte
 -- a migration's steps are noted as nothing, whatever they are
 migrating_note : (m : AbstractNotes) (a : ℕ) (job : AbstractJob) (next : Want) → IsMigrating job → noted_step m a (Some job) next ≡ record m { jobs = changed m.jobs a (job_noted job next) }
 migrating_note m a (Promoting order os) next i = λ k. record { histories = m.histories; finished = m.finished; floors = λ b o. m.floors b o; jobs = changed m.jobs a (job_noted (Promoting order os) next); entered = changed_nothing m.entered a (m.entered a) refl k; asked = m.asked }
-migrating_note m a (Demoting order os) next i = λ k. record { histories = m.histories; finished = m.finished; floors = λ b o. m.floors b o; jobs = changed m.jobs a (job_noted (Demoting order os) next); entered = changed_nothing m.entered a (m.entered a) refl k; asked = m.asked }
-migrating_note m a (Cleaning order os) next i = λ k. record { histories = m.histories; finished = m.finished; floors = λ b o. m.floors b o; jobs = changed m.jobs a (job_noted (Cleaning order os) next); entered = changed_nothing m.entered a (m.entered a) refl k; asked = m.asked }
+migrating_note m a (Returning leaves order os) next i = λ k. record { histories = m.histories; finished = m.finished; floors = λ b o. m.floors b o; jobs = changed m.jobs a (job_noted (Returning leaves order os) next); entered = changed_nothing m.entered a (m.entered a) refl k; asked = m.asked }
 migrating_note m a job next i = absurd i
 
 carried_goes : (task : Option Script) (gots : List Got) → AreCarried task gots → AreGoing task gots
@@ -421,8 +420,7 @@ module _ (size a : ℕ) (s : World) (y : AbstractActor) (n : Notes) (m : Abstrac
 
   stops : (j : AbstractJob) → IsMigrating j → ((after (table j) (Flag true)).steps ≡ []) × IsMigrating (after (table j) (Flag true)).job
   stops (Promoting order os) i = (refl, tt)
-  stops (Demoting order os) i = (refl, tt)
-  stops (Cleaning order os) i = (refl, tt)
+  stops (Returning leaves order os) i = (refl, tt)
   stops j i = absurd i
 
   abbrev s3 : World

@@ -5,7 +5,7 @@ use Rattle.wb_disk.specs.Device.{Content}
 use Rattle.wb_words.specs.SharedWords.{flag}
 use Rattle.wb_tasks.specs.declared.step.Answer.{Answer}
 use Rattle.wb_tasks.specs.declared.step.Answer.TheVariants.{Done as Finished, Refused as Refuses}
-use Rattle.wb_link.specs.Tables.{Script, Flag, table, Job, Reading, Writing, Promoting, Demoting, Cleaning, Want, Write_at, End, Got, Gave, Done, Fault, Finished as AnsweredDone, Answer as AbstractAnswer, want, read_each, write_each}
+use Rattle.wb_link.specs.Tables.{Script, Flag, table, Job, Reading, Writing, Promoting, Returning, Want, Write_at, End, Got, Gave, Done, Fault, Finished as AnsweredDone, Answer as AbstractAnswer, want, read_each, write_each}
 use Rattle.wb_link.specs.World.{Release, Record, Start, Again, task_after}
 use Rattle.wb_refines.specs.Going.{records}
 
@@ -38,8 +38,7 @@ writing block all content steps answer = record { job = Writing false block all 
 -- a job of which nothing is noted: a migration writes nothing new, and its answer makes nothing finished or durable
 abbrev pub IsMigrating : Job → Type 0
 IsMigrating (Promoting order os) = Unit {0}
-IsMigrating (Demoting order os) = Unit {0}
-IsMigrating (Cleaning order os) = Unit {0}
+IsMigrating (Returning leaves order os) = Unit {0}
 IsMigrating job = ⊥
 
 -- none of the steps answers
