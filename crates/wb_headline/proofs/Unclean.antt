@@ -84,7 +84,8 @@ work_plain (Invalidating b) seal = dropping_plain b seal.location _ (tt, tt)
 work_plain (Flushing order) seal = tt
 work_plain Suspending seal = tt
 work_plain (Promoting order os) seal = copy_plain None (Some order.cache) order.block os _ (tt, (tt, (tt, (tt, tt))))
-work_plain (Returning leaves order os) seal = dirty_plain seal.dirty order os _ (tt, (tt, (tt, tt)))
+work_plain (Returning true order os) seal = dirty_plain seal.dirty order os _ (tt, (tt, (tt, tt)))
+work_plain (Returning false order os) seal = dirty_plain seal.dirty order os _ (tt, (tt, (tt, tt)))
 
 table_plain : (job : Job) → job_alone job ≡ false → IsPlainTask (Some (table job))
 table_plain (Reading past b os) j = (j, (tt, (tt, (tt, tt))))
