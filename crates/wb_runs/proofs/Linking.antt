@@ -82,12 +82,6 @@ MovesNone (Read extent) step = ⊥
 MovesNone (Write extent content) step = ⊥
 MovesNone job step = Unit {0}
 
--- a step that a request takes
-abbrev IsRequests : BlockJob → DeviceStep → Type 0
-IsRequests (ReadingPart part) (ReadExtent d e) = Unit {0}
-IsRequests (WritingPart part) (WriteExtent d e) = Unit {0}
-IsRequests job step = ⊥
-
 module _ (shape : Shape) (shown : List Bytes) (n : Notes) (a : ℕ) (x : Actor) (doing : Doing) (noted : slice_get n.doings a ≡ Some (Some doing)) (job : Job) (plan : Plan) (j : doing.job ≡ job) where
   -- what is claimed of the actor after a step
   abbrev Then : Want → Got → List Bytes → Type 0

@@ -12,7 +12,6 @@ use Rattle.wb_orders.specs.Named.{first_of, IsNamed}
 use Rattle.wb_orders.specs.Orders.{AreOrders, order_at}
 use Rattle.wb_desk.specs.Desks.{DeskState, IsLive, MayReserve}
 use Rattle.wb_desk.specs.Calls.{reserved}
-use Rattle.wb_desk.specs.Entries.{Brings}
 use Rattle.wb_stage.specs.Asking.{is_of}
 use Rattle.wb_runs.specs.States.{Actor}
 use Rattle.wb_runs.specs.Effects.{dropped}
@@ -27,12 +26,6 @@ of_named b (Promote x c) e = inl (grind arith)
 of_named b (Replace v x c) e = grind arith
 of_named b (Demote x) e = inl (grind arith)
 of_named b (Clean x) e = inl (grind arith)
-
-brings_named : (b : OBlock) (order : Order) → Brings b order → IsNamed order b.0
-brings_named b (Promote x c) h = inl (ap (λ (o : OBlock). o.0) h)
-brings_named b (Replace v x c) h = inr (ap (λ (o : OBlock). o.0) h)
-brings_named b (Demote x) h = absurd h
-brings_named b (Clean x) h = absurd h
 
 -- what is left of orders was there, and is of another block
 pub dropped_is : (b : OBlock) (orders : List Order) (order : Order) → Contains (dropped b orders) order → Contains orders order × (is_of b order ≡ false)
