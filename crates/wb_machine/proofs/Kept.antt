@@ -45,5 +45,3 @@ keeps_where desk kept old new cache mapping at k =
     let same = mapped_once desk.geometry.cache_blocks desk.geometry.origin_blocks desk.tree.entries old.0 k.0.0 cache.0 mapping k.2 at in
     subst (λ (n : ℕ). Contains kept (Replace old new (record { 0 = n }))) same k.1
 
-pub keeps_nowhere : (desk : DeskState Quiet) (kept : List Order) (old new : OBlock) → IsUnmapped (holdings desk) old.0 → KeepsReplacement desk kept old new → ⊥
-keeps_nowhere desk kept old new none k = absurd (none k.0.0 k.2)

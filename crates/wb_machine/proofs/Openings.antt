@@ -143,10 +143,6 @@ calm : (n : ℕ) → flag n ≡ false → n ≡ 0
 calm zero e = refl
 calm (suc n) e = absurd (cc)
 
-not_true : (b : Bool) → not b ≡ true → false ≡ b
-not_true false e = refl
-not_true true e = absurd (cc)
-
 has_not : (b : Bool) → not b ≡ false → b ≡ false → ⊥
 has_not false e f = cc
 has_not true e f = cc
@@ -161,29 +157,12 @@ busy_starts devices n (Underway o) a job h e =
     inr (inl (subst (λ k. OfSome (slice_get (actors_of n (Underway o)) k) (λ (x : Actor). OfSome x.task (λ doing. Unit {0}))) same (busy n o (λ doing. Unit {0}) h tt)))
 busy_starts devices n (Standing t members) a job h e = inr (inl (busy_there members.items t.crew.cards a (let l = h.0 in let k = h.1 in omega (arith, l, k)) e))
 
--- no opening in another mode starts
-pub no_mode : (devices : Devices Memory) (n : ℕ) (o : Phase) (a : ℕ) (job : Job) → is_opening job ≡ false → wants_target job ≡ false → DoesNotApply (state_of n devices o) (Start a job)
-no_mode devices n o a (Open Writeback) e f = absurd (cc)
-no_mode devices n o a (Open mode) e f = inr (inr (inr (λ same. cc)))
-no_mode devices n o a job e f = absurd (cc)
-
 -- no other job starts where no target stands
 pub no_target : (devices : Devices Memory) (n : ℕ) (o : Phase) (a : ℕ) (job : Job) → stands o ≡ false → wants_target job ≡ true → DoesNotApply (state_of n devices o) (Start a job)
 no_target devices n o a (Open mode) e f = absurd (cc)
 no_target devices n Closed a job e f = inr (inr (λ t. t))
 no_target devices n (Underway o) a job e f = inr (inr (λ t. t))
 no_target devices n (Standing t members) a job e f = absurd (cc)
-
-pub not_standing : (o : Phase) → ((t : _) (members : _) → o ≡ Standing t members → ⊥) → stands o ≡ false
-not_standing Closed h = refl
-not_standing (Underway o) h = refl
-not_standing (Standing t members) h = absurd (h t members refl)
-
--- nor does one over a target that has not failed
-pub too_early : (g : Geometry) (devices : Devices Memory) (n : ℕ) (o : Phase) → StandsSo g n o → (a : ℕ) (job : Job) → is_opening job ≡ true → is_sound o ≡ true → DoesNotApply (state_of n devices o) (Start a job)
-too_early g devices n (Standing t members) s a (Open Writeback) e f = inr (inr (inl (calm t.crew.words.fail (sym s.failed ∙ sym (not_true t.failed f)))))
-too_early g devices n (Standing t members) s a job e f = absurd (cc)
-too_early g devices n o s a job e f = absurd (cc)
 
 begun_state : (n : ℕ) (devices : Devices Memory) (o : Phase) → IsThere n o → (a : ℕ) (plan : Plan) (new : Opener) → new.actor ≡ a → new.task ≡ plan → reading_of new ≡ None → new.opening.commit ≡ None →
     state_of n devices (Underway new) ≡ record { devices = contents_of devices; commit = None; phase = Opens Writeback None; actors = slice_set (all_resting (actors_of n o)) a (opening_actor plan) }

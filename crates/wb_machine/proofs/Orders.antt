@@ -48,10 +48,6 @@ module _ (shape : Shape) (desk : DeskState Quiet) (m : Member) (job : Job) where
   pub starts_of : (what : What) (desk' : DeskState Quiet) (m' : Member) → m.task ≡ None → GetsJob shape desk m job what desk' m' → Starts shape desk m job what desk' m'
   starts_of what desk' m' e g = subst (λ (b : Bool). StartsIf b shape desk m job what desk' m') (sym (is_idle m.task e)) g
 
-  -- any other start is skipped
-  pub busy_passed : is_some m.task ≡ true → Starts shape desk m job Skipped desk m
-  busy_passed e = subst (λ (t : Bool). StartsIf t shape desk m job Skipped desk m) (sym (is_busy m.task e)) (record { what_is = refl; desk_is = refl; member_is = refl })
-
 -- a request is refused for what it asks
 pub refused_request : (shape : Shape) (desk : DeskState Quiet) (m : Member) (job : Job) (refusal : Refusal) → job_refusal shape job ≡ Some refusal → GetsJob shape desk m job (Refused refusal) desk m
 refused_request shape desk m (Read extent) refusal e = record { chosen = Plain; gives = λ words card. e; leaves = (refl, refl) }
@@ -133,15 +129,6 @@ started_ordered shape desk m (Open mode) desk' m' plan e t p = absurd (cc)
 
 -- ---- who takes an order
 
--- under one that it has
-pub takes_kept : (desk : DeskState Quiet) (m : Member) (job : Job) → KeepsFor desk m.orders job → TakesOrder desk m job true desk m
-takes_kept desk m job k = inl (k, refl, refl)
-
--- under one that is given, or not
-pub takes_migration : (desk : DeskState Quiet) (m : Member) (migration : Migration) (block : OBlock) (b : Bool) (desk' : DeskState Quiet) (m' : Member) → ¬ KeepsMigration desk m.orders migration block → GetsOrder desk m (order_for migration block) b desk' m' → TakesOrder desk m (Migrate migration block) b desk' m'
-takes_migration desk m migration block true desk' m' n g = inr (g.0, (order_for migration block, refl, g.1, g.2, g.3))
-takes_migration desk m migration block false desk' m' n g = (n, (λ cache order e may. let same : order_for migration block ≡ order = cc in g.0 cache (subst (λ (o : Order). MayReserve desk cache o) (sym same) may)), g.1, g.2)
-
 -- a replacement takes the cache block where its block is
 takes_where : (desk : DeskState Quiet) (old new : OBlock) (cache : CBlock) (order : Order) → order_by (Replace old new) cache ≡ Some order → MayReserve desk cache order → IsMappedAt (holdings desk) old.0 cache.0
 takes_where desk old new cache order e may = let same : ReplaceOrder old new cache ≡ order = cc in (subst (λ (o : Order). MayReserve desk cache o) (sym same) may).lawful.1
@@ -160,10 +147,6 @@ takes_replacement desk m old new cache false desk' m' kept at n g = (
   g.1,
   g.2,
 )
-
--- one whose block is nowhere is given none
-pub takes_none : (desk : DeskState Quiet) (m : Member) (old new : OBlock) → IsUnmapped (holdings desk) old.0 → ¬ KeepsReplacement desk m.orders old new → TakesOrder desk m (Replace old new) false desk m
-takes_none desk m old new none n = (n, (λ cache order e may. none cache.0 (takes_where desk old new cache order e may)), refl, refl)
 
 -- orders that were dropped are those that were sorted out
 pub dropped_is : (block : OBlock) (orders : List Order) → dropped block orders ≡ filter (λ (o : Order). not (is_of block o)) orders

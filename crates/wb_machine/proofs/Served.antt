@@ -439,20 +439,3 @@ roomy_free nodes zero b x e = absurd (cc)
 roomy_free nodes (suc n) zero x e = let same : free ≡ x = cc in subst (λ (v : Member). IsRoomy nodes v.task) same tt
 roomy_free nodes (suc n) (suc b) x e = roomy_free nodes n b x e
 
-enough_by : (nodes : ℕ) (job : TaskJob) (next : Want) → IsOwnStep job next → AllowsImages nodes job → Allows nodes next
-enough_by nodes (Flushing serves most) (Desk (BeginCommit clean n)) own r = subst (λ k. nodes ≤ k) (sym own.1) r
-enough_by nodes (OnBlock (Reading part)) (Desk (BeginCommit clean n)) own r = absurd own
-enough_by nodes (OnBlock (Writing part)) (Desk (BeginCommit clean n)) own r = absurd own
-enough_by nodes (OnBlock (Migrating migration part)) (Desk (BeginCommit clean n)) own r = absurd own
-enough_by nodes (OpeningOf left) (Desk (BeginCommit clean n)) own r = absurd own
-enough_by nodes job (Desk (Map block place)) own r = tt
-enough_by nodes job (Desk (Unmap block)) own r = tt
-enough_by nodes job (Desk (ReleaseOrder block)) own r = tt
-enough_by nodes job (Desk EndCommit) own r = tt
-enough_by nodes job (Cell step) own r = tt
-enough_by nodes job (Device step) own r = tt
-enough_by nodes job (End answer) own r = tt
-
--- so a commit may have any image where one begins
-pub begins_enough : (nodes blocks : ℕ) (card : Card) (doing : Job × Plan) → TaskSuits blocks card (Some doing) → IsRoomy nodes (Some doing) → Allows nodes (want doing.1)
-begins_enough nodes blocks card doing s r = enough_by nodes doing.1.job (want doing.1) (is_own_step blocks doing.1 card s) r
