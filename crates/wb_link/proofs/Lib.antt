@@ -10,6 +10,7 @@ pub mod Copying
 pub mod Steps
 pub mod Aside
 pub mod Givings
+pub mod Calm
 pub mod Unmapped
 pub mod Reading
 pub mod Writing
