@@ -8,9 +8,9 @@ pub mod Actors
 pub mod Agreeing
 pub mod Copying
 pub mod Steps
-pub mod Aside
 pub mod Givings
 pub mod Calm
+pub mod Aside
 pub mod Unmapped
 pub mod Reading
 pub mod Writing
