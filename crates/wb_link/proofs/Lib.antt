@@ -10,6 +10,7 @@ pub mod Copying
 pub mod Steps
 pub mod Givings
 pub mod Calm
+pub mod Committing
 pub mod Migrating
 pub mod Aside
 pub mod Unmapped
