@@ -144,8 +144,15 @@ module _ (size a : ℕ) (job : Job) (commits : Commits job) (order : Option Orde
         right = commit_right a job commits Sync_origin_device tt Done e (after_act e Sync_origin) refl;
         left = rooting n _ (after_act e Sync_origin) (record { ticket = now.ticket; is_cached = now.is_cached; is_based = λ f. refl; is_rooted = λ f. absurd (cc) });
       }))
-      (λ choice. by n steps Finished Sync_origin_device (Fault choice) t _ e (record { run = (tt, tt); mine = (refl, tt); agrees = based_partly_agrees t e choice.settled g.agrees; ready = tt; owes = tt; right = commit_right a job commits Sync_origin_device tt (Fault choice) e (after_act e (Fail_origin_sync choice.settled)) refl;
-          left = failing n _ (after_act e (Fail_origin_sync choice.settled)) }))
+      (λ choice. by n steps Finished Sync_origin_device (Fault choice) t _ e (record {
+        run = (tt, tt);
+        mine = (refl, tt);
+        agrees = based_partly_agrees t e choice.settled g.agrees;
+        ready = tt;
+        owes = tt;
+        right = commit_right a job commits Sync_origin_device tt (Fault choice) e (after_act e (Fail_origin_sync choice.settled)) refl;
+        left = failing n _ (after_act e (Fail_origin_sync choice.settled));
+      }))
       got v
 
   -- from its begin on
@@ -162,6 +169,13 @@ module _ (size a : ℕ) (job : Job) (commits : Commits job) (order : Option Orde
         right = commit_right a job commits Sync_cache_device tt Done e (after_act e Sync_cache) refl;
         left = basing n _ (after_act e Sync_cache) (record { ticket = now.ticket; is_cached = λ f. refl; is_based = λ f. absurd (cc); is_rooted = λ f. absurd (cc) });
       }))
-      (λ choice. by n steps Finished Sync_cache_device (Fault choice) t _ e (record { run = (tt, tt); mine = (refl, tt); agrees = cached_partly_agrees t e choice.settled g.agrees; ready = tt; owes = tt; right = commit_right a job commits Sync_cache_device tt (Fault choice) e (after_act e (Fail_cache_sync choice.settled)) refl;
-          left = failing n _ (after_act e (Fail_cache_sync choice.settled)) }))
+      (λ choice. by n steps Finished Sync_cache_device (Fault choice) t _ e (record {
+        run = (tt, tt);
+        mine = (refl, tt);
+        agrees = cached_partly_agrees t e choice.settled g.agrees;
+        ready = tt;
+        owes = tt;
+        right = commit_right a job commits Sync_cache_device tt (Fault choice) e (after_act e (Fail_cache_sync choice.settled)) refl;
+        left = failing n _ (after_act e (Fail_cache_sync choice.settled));
+      }))
       got v

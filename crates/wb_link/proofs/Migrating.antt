@@ -95,16 +95,30 @@ module _ {size a : ℕ} {job : Job} {p : Order} {from to : Option ℕ} {Knows : 
       })
       (λ choice. let acts = acts_of t.mapping a job c (Write_at to p.block q) Done in
       subst (λ (ys : List Act). Goes size a (λ y u f. Safe n size a y u f) (write_left whole q os c) (script_of job (writing whole q os) (answer_of whole)) (Write_at to p.block q) (Fault choice)
-          t (if_landed choice.landed (put_sector t to p.block q (content_for job c)) t) e (after_acts e ys) ys) (sym (way.lands t.mapping c q choice)) (failed choice t e acts g now.0 done choice.landed))
+      t (if_landed choice.landed (put_sector t to p.block q (content_for job c)) t) e (after_acts e ys) ys) (sym (way.lands t.mapping c q choice)) (failed choice t e acts g now.0 done choice.landed))
       got v
     where
       failed : (choice : Choice) (t : Shared) (e : Volume) (acts : List Act) → Good size t e → Knows t e → Wrote size a p Knows source target q c e (put_sector t to p.block q (content_for job c)) (after_acts e acts) acts → (landed : Bool) →
           Goes size a (λ y u f. Safe n size a y u f) (write_left whole q os c) (script_of job (writing whole q os) (answer_of whole)) (Write_at to p.block q) (Fault choice)
           t (if_landed landed (put_sector t to p.block q (content_for job c)) t) e (after_acts e (if_so landed acts)) (if_so landed acts)
-      failed choice t e acts g now done true = record { run = done.run; mine = done.mine (write_left whole q os c) t.committing refl refl; agrees = done.agrees; ready = refl; owes = tt; right = way.right (Write_at to p.block q) (Fault choice) e _ done.histories;
-          left = faulted n whole choice.more os c _ _ (next false _ _ (done.knows, λ y. absurd (cc))) }
-      failed choice t e acts g now done false = record { run = tt; mine = tt; agrees = g.agrees; ready = refl; owes = tt; right = way.right (Write_at to p.block q) (Fault choice) e e refl;
-          left = faulted n whole choice.more os c t e (next false t e (now, λ y. absurd (cc))) }
+      failed choice t e acts g now done true = record {
+        run = done.run;
+        mine = done.mine (write_left whole q os c) t.committing refl refl;
+        agrees = done.agrees;
+        ready = refl;
+        owes = tt;
+        right = way.right (Write_at to p.block q) (Fault choice) e _ done.histories;
+        left = faulted n whole choice.more os c _ _ (next false _ _ (done.knows, λ y. absurd (cc)));
+      }
+      failed choice t e acts g now done false = record {
+        run = tt;
+        mine = tt;
+        agrees = g.agrees;
+        ready = refl;
+        owes = tt;
+        right = way.right (Write_at to p.block q) (Fault choice) e e refl;
+        left = faulted n whole choice.more os c t e (next false t e (now, λ y. absurd (cc)));
+      }
 
   read : (n : ℕ) (whole : Bool) (q : ℕ) (os : List ℕ) (c : Content) (s : Shared) (d : Volume) → Came size Knows source target whole (q ∷ os) s d →
       ((x : Content) (t : Shared) (e : Volume) → x ≡ source e q → Came size Knows source target whole (q ∷ os) t e → Safe n size a (write_left whole q os x) t e) → Safe (suc n) size a (read_left whole (q ∷ os) c) s d
