@@ -5,7 +5,7 @@ use Rattle.wb_disk.specs.Device.{Content}
 use Rattle.wb_contents.specs.Volume.{Volume, changed}
 use Rattle.wb_contents.specs.Conditions.{IsUnnamed}
 use Rattle.wb_contents.proofs.Positions.{changed_same, changed_other}
-use Rattle.wb_link.specs.Tables.{Order, Job, Suspending, Answer, Finished, Busy, Failed, Io, Want, Share, Own, Leave, Disown, Read_at, Write_at, Begin, Begin_clean, Sync_cache_device, Sync_origin_device, End_running, Map_to, Unmap_from, Unmap_plain, Give_up, End, Got, Done, Lost, Flag, Seen, Gave, Ticket, Served, Broken, Short, Fault, Script, after, after_fault, after_flag, want}
+use Rattle.wb_link.specs.Tables.{Order, Job, Suspending, Answer, Finished, Busy, Failed, Io, Want, Share, Own, Leave, Disown, Read_at, Write_at, Begin, Begin_clean, Sync_cache_device, Sync_origin_device, End_running, Map_to, Unmap_from, Unmap_plain, Give_up, End, Got, Done, Flag, Fault, Script, after, after_fault, after_flag, want}
 use Rattle.wb_link.specs.World.{Block, Mapped, Reserved, Retained, removed, following, Names, Apart, Shared, Held, Nothing, Shares, Owns, Actor, effect, held_after, order_after, leads_after, task_after, actor_after, is_alone, job_alone, drops, job_drops, Gives}
 use Rattle.wb_link.proofs.Views.{Holds}
 use Rattle.wb_link.proofs.Acts.{Keeps}
@@ -88,15 +88,9 @@ flag_on script false = refl
 
 pub job_on : (script : Script) (got : Got) → (after script got).job ≡ script.job
 job_on script Done = refl
-job_on script Lost = refl
 job_on script (Flag f) = flag_on script f
-job_on script (Seen seal) = refl
-job_on script (Gave c) = refl
-job_on script (Ticket number) = refl
-job_on script Served = refl
-job_on script Broken = refl
-job_on script Short = refl
 job_on script (Fault choice) = fault_on script choice.more (want script)
+job_on script got = refl
 
 -- a task that is alone was so
 pub alone_was : (script : Script) (w : Want) (got : Got) → is_alone (task_after script w got) ≡ true → job_alone script.job ≡ true
@@ -152,27 +146,11 @@ busy_desk s t i e = i.committing ∙ e
 
 begin_busy : (s : Shared) (job : Job) (buffer : Content) (ticket : Option ℕ) (got : Got) → s.committing ≡ true → (effect s job buffer (Begin ticket) got).committing ≡ true
 begin_busy s job buffer ticket Done e = refl
-begin_busy s job buffer ticket Lost e = e
-begin_busy s job buffer ticket (Flag g) e = e
-begin_busy s job buffer ticket (Seen seal) e = e
-begin_busy s job buffer ticket (Gave c) e = e
-begin_busy s job buffer ticket (Ticket number) e = e
-begin_busy s job buffer ticket Served e = e
-begin_busy s job buffer ticket Broken e = e
-begin_busy s job buffer ticket Short e = e
-begin_busy s job buffer ticket (Fault choice) e = e
+begin_busy s job buffer ticket got e = e
 
 suspend_busy : (s : Shared) (job : Job) (buffer : Content) (got : Got) → s.committing ≡ true → (effect s job buffer Begin_clean got).committing ≡ true
 suspend_busy s job buffer Done e = refl
-suspend_busy s job buffer Lost e = e
-suspend_busy s job buffer (Flag g) e = e
-suspend_busy s job buffer (Seen seal) e = e
-suspend_busy s job buffer (Gave c) e = e
-suspend_busy s job buffer (Ticket number) e = e
-suspend_busy s job buffer Served e = e
-suspend_busy s job buffer Broken e = e
-suspend_busy s job buffer Short e = e
-suspend_busy s job buffer (Fault choice) e = e
+suspend_busy s job buffer got e = e
 
 pub other_busy : (x : Actor) (s : Shared) (job : Job) (buffer : Content) (w : Want) (got : Got) → (x.leads ≡ true → ⊥) → Ready w x s → s.committing ≡ true → (effect s job buffer w got).committing ≡ true
 other_busy x s job buffer (Write_at location b o) got n r e = busy_desk s _ (write_desk s job buffer location b o got) e
@@ -200,27 +178,11 @@ own_desk s t k i = inl (ap (λ f. f k) i.blocks)
 
 begin_state : (s : Shared) (job : Job) (buffer : Content) (ticket : Option ℕ) (got : Got) (k : ℕ) → Ordered (s.blocks k) → Turns (s.blocks k) ((effect s job buffer (Begin ticket) got).blocks k)
 begin_state s job buffer ticket Done k i = begun_turns (s.blocks k) i
-begin_state s job buffer ticket Lost k i = inl refl
-begin_state s job buffer ticket (Flag g) k i = inl refl
-begin_state s job buffer ticket (Seen seal) k i = inl refl
-begin_state s job buffer ticket (Gave c) k i = inl refl
-begin_state s job buffer ticket (Ticket number) k i = inl refl
-begin_state s job buffer ticket Served k i = inl refl
-begin_state s job buffer ticket Broken k i = inl refl
-begin_state s job buffer ticket Short k i = inl refl
-begin_state s job buffer ticket (Fault choice) k i = inl refl
+begin_state s job buffer ticket got k i = inl refl
 
 suspend_state : (s : Shared) (job : Job) (buffer : Content) (got : Got) (k : ℕ) → Ordered (s.blocks k) → Turns (s.blocks k) ((effect s job buffer Begin_clean got).blocks k)
 suspend_state s job buffer Done k i = begun_turns (s.blocks k) i
-suspend_state s job buffer Lost k i = inl refl
-suspend_state s job buffer (Flag g) k i = inl refl
-suspend_state s job buffer (Seen seal) k i = inl refl
-suspend_state s job buffer (Gave c) k i = inl refl
-suspend_state s job buffer (Ticket number) k i = inl refl
-suspend_state s job buffer Served k i = inl refl
-suspend_state s job buffer Broken k i = inl refl
-suspend_state s job buffer Short k i = inl refl
-suspend_state s job buffer (Fault choice) k i = inl refl
+suspend_state s job buffer got k i = inl refl
 
 pub own_state : (x : Actor) (s : Shared) (job : Job) (buffer : Content) (w : Want) (got : Got) (p : Order) → Stays w → Ready w x s → (x.order ≡ Some p → drops x.task ≡ false) → order_after x.order w ≡ Some p → Ordered (s.blocks p.cache) → Turns (s.blocks p.cache) ((effect s job buffer w got).blocks p.cache)
 own_state x s job buffer (Write_at location b o) got p st r f e i = own_desk s _ p.cache (write_desk s job buffer location b o got)

@@ -6,7 +6,7 @@ use Rattle.wb_contents.specs.Volume.{Locations, Volume, changed}
 use Rattle.wb_contents.specs.Conditions.{IsUnnamed}
 use Rattle.wb_contents.proofs.Positions.{changed_same, changed_other}
 use Rattle.wb_contents.proofs.Floors.{HasHomes}
-use Rattle.wb_link.specs.Tables.{Order, Job, Want, Set_seal, Set_failed, Set_suspended, Break_commits, Write_at, Begin, Begin_clean, Sync_cache_device, Sync_origin_device, Put_root, End_running, Map_to, Unmap_from, Unmap_plain, Give_up, Got, Done, Lost, Flag, Seen, Gave, Ticket, Served, Broken, Short, Fault}
+use Rattle.wb_link.specs.Tables.{Order, Job, Want, Set_seal, Set_failed, Set_suspended, Break_commits, Write_at, Begin, Begin_clean, Sync_cache_device, Sync_origin_device, Put_root, End_running, Map_to, Unmap_from, Unmap_plain, Give_up, Got, Done, Fault}
 use Rattle.wb_link.specs.World.{Block, Free, Mapped, Reserved, Quarantined, Retained, removed, Shared, Owns, Actor, effect, put_sector, if_landed, content_for, begun, ended, given_back, drops}
 use Rattle.wb_link.proofs.Acts.{NotCache}
 use Rattle.wb_link.proofs.Link.{Ordered, Turns, Good, Sound, AllSound, Ready}
@@ -43,38 +43,17 @@ landed_desk false s location b o c = desk_same s
 pub write_desk : (s : Shared) (job : Job) (buffer : Content) (location : Option ℕ) (b o : ℕ) (got : Got) → SameDesk s (effect s job buffer (Write_at location b o) got)
 write_desk s job buffer location b o Done = put_sector_desk s location b o (content_for job buffer)
 write_desk s job buffer location b o (Fault choice) = landed_desk choice.landed s location b o (content_for job buffer)
-write_desk s job buffer location b o Lost = desk_same s
-write_desk s job buffer location b o (Flag f) = desk_same s
-write_desk s job buffer location b o (Seen seal) = desk_same s
-write_desk s job buffer location b o (Gave c) = desk_same s
-write_desk s job buffer location b o (Ticket number) = desk_same s
-write_desk s job buffer location b o Served = desk_same s
-write_desk s job buffer location b o Broken = desk_same s
-write_desk s job buffer location b o Short = desk_same s
+write_desk s job buffer location b o got = desk_same s
 
 pub sync_cached_desk : (s : Shared) (job : Job) (buffer : Content) (got : Got) → SameDesk s (effect s job buffer Sync_cache_device got)
 sync_cached_desk s job buffer Done = record { seals = refl; mapping = refl; blocks = refl; committing = refl; committed = refl; running = refl; root_written = refl; fail = refl }
 sync_cached_desk s job buffer (Fault choice) = record { seals = refl; mapping = refl; blocks = refl; committing = refl; committed = refl; running = refl; root_written = refl; fail = refl }
-sync_cached_desk s job buffer Lost = desk_same s
-sync_cached_desk s job buffer (Flag f) = desk_same s
-sync_cached_desk s job buffer (Seen seal) = desk_same s
-sync_cached_desk s job buffer (Gave c) = desk_same s
-sync_cached_desk s job buffer (Ticket number) = desk_same s
-sync_cached_desk s job buffer Served = desk_same s
-sync_cached_desk s job buffer Broken = desk_same s
-sync_cached_desk s job buffer Short = desk_same s
+sync_cached_desk s job buffer got = desk_same s
 
 pub sync_based_desk : (s : Shared) (job : Job) (buffer : Content) (got : Got) → SameDesk s (effect s job buffer Sync_origin_device got)
 sync_based_desk s job buffer Done = record { seals = refl; mapping = refl; blocks = refl; committing = refl; committed = refl; running = refl; root_written = refl; fail = refl }
 sync_based_desk s job buffer (Fault choice) = record { seals = refl; mapping = refl; blocks = refl; committing = refl; committed = refl; running = refl; root_written = refl; fail = refl }
-sync_based_desk s job buffer Lost = desk_same s
-sync_based_desk s job buffer (Flag f) = desk_same s
-sync_based_desk s job buffer (Seen seal) = desk_same s
-sync_based_desk s job buffer (Gave c) = desk_same s
-sync_based_desk s job buffer (Ticket number) = desk_same s
-sync_based_desk s job buffer Served = desk_same s
-sync_based_desk s job buffer Broken = desk_same s
-sync_based_desk s job buffer Short = desk_same s
+sync_based_desk s job buffer got = desk_same s
 
 by_desk : (x : Actor) (s t : Shared) → SameDesk s t → KeepsShared x s t
 by_desk x s t i = same x s t i.seals i.blocks
@@ -112,27 +91,11 @@ order_keeps x s p m b e = record { seal = λ c n. refl; state = λ h k n r. inl 
 
 begin_keeps : (x : Actor) (s : Shared) (job : Job) (buffer : Content) (ticket : Option ℕ) (got : Got) → KeepsShared x s (effect s job buffer (Begin ticket) got)
 begin_keeps x s job buffer ticket Done = record { seal = λ b n. refl; state = λ h k n r. begun_turns (s.blocks k) r }
-begin_keeps x s job buffer ticket Lost = by_desk x s s (desk_same s)
-begin_keeps x s job buffer ticket (Flag f) = by_desk x s s (desk_same s)
-begin_keeps x s job buffer ticket (Seen seal) = by_desk x s s (desk_same s)
-begin_keeps x s job buffer ticket (Gave c) = by_desk x s s (desk_same s)
-begin_keeps x s job buffer ticket (Ticket number) = by_desk x s s (desk_same s)
-begin_keeps x s job buffer ticket Served = by_desk x s s (desk_same s)
-begin_keeps x s job buffer ticket Broken = by_desk x s s (desk_same s)
-begin_keeps x s job buffer ticket Short = by_desk x s s (desk_same s)
-begin_keeps x s job buffer ticket (Fault choice) = by_desk x s s (desk_same s)
+begin_keeps x s job buffer ticket got = by_desk x s s (desk_same s)
 
 suspend_keeps : (x : Actor) (s : Shared) (job : Job) (buffer : Content) (got : Got) → KeepsShared x s (effect s job buffer Begin_clean got)
 suspend_keeps x s job buffer Done = record { seal = λ b n. refl; state = λ h k n r. begun_turns (s.blocks k) r }
-suspend_keeps x s job buffer Lost = by_desk x s s (desk_same s)
-suspend_keeps x s job buffer (Flag f) = by_desk x s s (desk_same s)
-suspend_keeps x s job buffer (Seen seal) = by_desk x s s (desk_same s)
-suspend_keeps x s job buffer (Gave c) = by_desk x s s (desk_same s)
-suspend_keeps x s job buffer (Ticket number) = by_desk x s s (desk_same s)
-suspend_keeps x s job buffer Served = by_desk x s s (desk_same s)
-suspend_keeps x s job buffer Broken = by_desk x s s (desk_same s)
-suspend_keeps x s job buffer Short = by_desk x s s (desk_same s)
-suspend_keeps x s job buffer (Fault choice) = by_desk x s s (desk_same s)
+suspend_keeps x s job buffer got = by_desk x s s (desk_same s)
 
 pub effect_keeps : (x : Actor) (s : Shared) (job : Job) (buffer : Content) (w : Want) (got : Got) → Ready w x s → KeepsShared x s (effect s job buffer w got)
 effect_keeps x s job buffer (Set_seal b seal) got r = record { seal = λ c n. changed_other s.seals b c seal (λ e. n (r ∙ ap (λ v. Owns v) (sym e))); state = λ h k n i. inl refl }
@@ -221,27 +184,11 @@ unnamed_now m home b k homes e c y = elim (cases_eq c b) [
 
 begin_sound : (s : Shared) (job : Job) (buffer : Content) (ticket : Option ℕ) (got : Got) → AllSound s → AllSound (effect s job buffer (Begin ticket) got)
 begin_sound s job buffer ticket Done all k = sound_begun (s.blocks k) s.mapping s.committed s.running k (all k)
-begin_sound s job buffer ticket Lost all k = all k
-begin_sound s job buffer ticket (Flag f) all k = all k
-begin_sound s job buffer ticket (Seen seal) all k = all k
-begin_sound s job buffer ticket (Gave c) all k = all k
-begin_sound s job buffer ticket (Ticket number) all k = all k
-begin_sound s job buffer ticket Served all k = all k
-begin_sound s job buffer ticket Broken all k = all k
-begin_sound s job buffer ticket Short all k = all k
-begin_sound s job buffer ticket (Fault choice) all k = all k
+begin_sound s job buffer ticket got all k = all k
 
 suspend_sound : (s : Shared) (job : Job) (buffer : Content) (got : Got) → AllSound s → AllSound (effect s job buffer Begin_clean got)
 suspend_sound s job buffer Done all k = sound_begun (s.blocks k) s.mapping s.committed s.running k (all k)
-suspend_sound s job buffer Lost all k = all k
-suspend_sound s job buffer (Flag f) all k = all k
-suspend_sound s job buffer (Seen seal) all k = all k
-suspend_sound s job buffer (Gave c) all k = all k
-suspend_sound s job buffer (Ticket number) all k = all k
-suspend_sound s job buffer Served all k = all k
-suspend_sound s job buffer Broken all k = all k
-suspend_sound s job buffer Short all k = all k
-suspend_sound s job buffer (Fault choice) all k = all k
+suspend_sound s job buffer got all k = all k
 
 pub effect_sound : (size : ℕ) (x : Actor) (s : Shared) (d : Volume) (job : Job) (buffer : Content) (w : Want) (got : Got) → Good size s d → Ready w x s → AllSound (effect s job buffer w got)
 effect_sound size x s d job buffer (Set_seal b seal) got i r = i.sound
@@ -273,27 +220,11 @@ idle_desk s t i f e = i.root_written ∙ f (sym i.committing ∙ e)
 
 begin_idle : (s : Shared) (job : Job) (buffer : Content) (ticket : Option ℕ) (got : Got) → (s.committing ≡ false → s.root_written ≡ false) → (effect s job buffer (Begin ticket) got).committing ≡ false → (effect s job buffer (Begin ticket) got).root_written ≡ false
 begin_idle s job buffer ticket Done f e = absurd (cc)
-begin_idle s job buffer ticket Lost f e = f e
-begin_idle s job buffer ticket (Flag g) f e = f e
-begin_idle s job buffer ticket (Seen seal) f e = f e
-begin_idle s job buffer ticket (Gave c) f e = f e
-begin_idle s job buffer ticket (Ticket number) f e = f e
-begin_idle s job buffer ticket Served f e = f e
-begin_idle s job buffer ticket Broken f e = f e
-begin_idle s job buffer ticket Short f e = f e
-begin_idle s job buffer ticket (Fault choice) f e = f e
+begin_idle s job buffer ticket got f e = f e
 
 suspend_idle : (s : Shared) (job : Job) (buffer : Content) (got : Got) → (s.committing ≡ false → s.root_written ≡ false) → (effect s job buffer Begin_clean got).committing ≡ false → (effect s job buffer Begin_clean got).root_written ≡ false
 suspend_idle s job buffer Done f e = absurd (cc)
-suspend_idle s job buffer Lost f e = f e
-suspend_idle s job buffer (Flag g) f e = f e
-suspend_idle s job buffer (Seen seal) f e = f e
-suspend_idle s job buffer (Gave c) f e = f e
-suspend_idle s job buffer (Ticket number) f e = f e
-suspend_idle s job buffer Served f e = f e
-suspend_idle s job buffer Broken f e = f e
-suspend_idle s job buffer Short f e = f e
-suspend_idle s job buffer (Fault choice) f e = f e
+suspend_idle s job buffer got f e = f e
 
 pub effect_idle : (x : Actor) (s : Shared) (job : Job) (buffer : Content) (w : Want) (got : Got) → (x.leads ≡ true → s.committing ≡ true) → Ready w x s → (s.committing ≡ false → s.root_written ≡ false) →
     (effect s job buffer w got).committing ≡ false → (effect s job buffer w got).root_written ≡ false
