@@ -4,7 +4,7 @@ use Rattle.std.proofs.Common.{◌≡◌, ◌≢◌, ◌≤◌, ◌<◌, ◌+◌,
 use Rattle.std.proofs.lemmas.Bool.{cases_eq}
 use Rattle.wb_disk.specs.Device.{Content, History, newest, added}
 use Rattle.wb_contents.specs.Volume.{Volume, Standing, Whole, Half, Torn, location, at_location, changed, changed_at}
-use Rattle.wb_contents.specs.Acts.{Act, Write, Write_origin, Write_cache, Fail_write, Finish, Fill_cache, Copy_back, Map, Unmap, Make_dirty, Make_clean, Begin_commit, Begin_suspend, Sync_cache, Sync_origin, Fail_cache_sync, Fail_origin_sync, Write_root, End_commit, Begin_flush, End_flush, Crash, Find_image, Write_opening_root, Open, after as after_act, sector_written, written_through, all_synced, partly_synced}
+use Rattle.wb_contents.specs.Acts.{Act, Write, Write_origin, Write_cache, Fail_write, Finish, Fill_cache, Copy_back, Map, Unmap, Make_dirty, Make_clean, Begin_commit, Begin_suspend, Sync_cache, Sync_origin, Fail_cache_sync, Fail_origin_sync, Write_root, End_commit, Begin_flush, End_flush, after as after_act, sector_written, written_through, all_synced, partly_synced}
 use Rattle.wb_contents.specs.Conditions.{MayAct, IsUnnamed}
 use Rattle.wb_contents.proofs.Positions.{changed_same, changed_other}
 use Rattle.wb_contents.proofs.Floors.{shorter_synced, shorter_partly, finished_bound}
@@ -305,7 +305,4 @@ act_keeps size a x busy d (End_flush actor) i z m k = record {
   live = λ n. refl;
   mode = refl;
 }
-act_keeps size a x busy d (Crash origin cache new_root) i z m k = absurd k
-act_keeps size a x busy d (Find_image new_root) i z m k = absurd k
-act_keeps size a x busy d Write_opening_root i z m k = absurd k
-act_keeps size a x busy d (Open mode) i z m k = absurd k
+act_keeps size a x busy d act i z m k = absurd k

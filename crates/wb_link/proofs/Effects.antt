@@ -89,22 +89,14 @@ ended_turns (Quarantined true) i = absurd (none i)
 order_keeps : (x : Actor) (s : Shared) (p : Order) (m : Locations) (b : Block) → x.order ≡ Some p → KeepsShared x s (record s { mapping = m; blocks = changed s.blocks p.cache b })
 order_keeps x s p m b e = record { seal = λ c n. refl; state = λ h k n r. inl (changed_other s.blocks p.cache k b (λ y. n p e (sym y))) }
 
-begin_keeps : (x : Actor) (s : Shared) (job : Job) (buffer : Content) (ticket : Option ℕ) (got : Got) → KeepsShared x s (effect s job buffer (Begin ticket) got)
-begin_keeps x s job buffer ticket Done = record { seal = λ b n. refl; state = λ h k n r. begun_turns (s.blocks k) r }
-begin_keeps x s job buffer ticket got = by_desk x s s (desk_same s)
-
-suspend_keeps : (x : Actor) (s : Shared) (job : Job) (buffer : Content) (got : Got) → KeepsShared x s (effect s job buffer Begin_clean got)
-suspend_keeps x s job buffer Done = record { seal = λ b n. refl; state = λ h k n r. begun_turns (s.blocks k) r }
-suspend_keeps x s job buffer got = by_desk x s s (desk_same s)
-
 pub effect_keeps : (x : Actor) (s : Shared) (job : Job) (buffer : Content) (w : Want) (got : Got) → Ready w x s → KeepsShared x s (effect s job buffer w got)
 effect_keeps x s job buffer (Set_seal b seal) got r = record { seal = λ c n. changed_other s.seals b c seal (λ e. n (r ∙ ap (λ v. Owns v) (sym e))); state = λ h k n i. inl refl }
 effect_keeps x s job buffer Set_failed got r = same x s (effect s job buffer Set_failed got) refl refl
 effect_keeps x s job buffer (Write_at location b o) got r = by_desk x s _ (write_desk s job buffer location b o got)
-effect_keeps x s job buffer (Begin ticket) got r = begin_keeps x s job buffer ticket got
+effect_keeps x s job buffer (Begin ticket) Done r = record { seal = λ b n. refl; state = λ h k n r. begun_turns (s.blocks k) r }
 effect_keeps x s job buffer Break_commits got r = same x s (effect s job buffer Break_commits got) refl refl
 effect_keeps x s job buffer Set_suspended got r = same x s (effect s job buffer Set_suspended got) refl refl
-effect_keeps x s job buffer Begin_clean got r = suspend_keeps x s job buffer got
+effect_keeps x s job buffer Begin_clean Done r = record { seal = λ b n. refl; state = λ h k n r. begun_turns (s.blocks k) r }
 effect_keeps x s job buffer Sync_cache_device got r = by_desk x s _ (sync_cached_desk s job buffer got)
 effect_keeps x s job buffer Sync_origin_device got r = by_desk x s _ (sync_based_desk s job buffer got)
 effect_keeps x s job buffer Put_root got r = same x s (effect s job buffer Put_root got) refl refl
@@ -140,12 +132,7 @@ sound_ended (Retained false) m c r k i = i
 
 pub sound_given : (b : Block) (m c r : Locations) (k : ℕ) → Sound b m c r k → Sound (given_back b) m c r k
 sound_given Free m c r k i = i
-sound_given Mapped m c r k i = i
-sound_given Reserved m c r k i = i
-sound_given (Quarantined true) m c r k i = i
-sound_given (Quarantined false) m c r k i = i
-sound_given (Retained true) m c r k i = i
-sound_given (Retained false) m c r k i = i
+sound_given b m c r k i = i
 
 -- the mapping changes, and this block is not named by the new one where it was not by the old one
 sound_moved : (b : Block) (m n c r : Locations) (k : ℕ) → (IsUnnamed m k → IsUnnamed n k) → Sound b m c r k → Sound b n c r k
@@ -182,25 +169,12 @@ unnamed_now m home b k homes e c y = elim (cases_eq c b) [
       let one : Some c ≡ Some b = sym (homes c k there) ∙ homes b k e in let is : c ≡ b = cc in absurd (n is)
 ]
 
-begin_sound : (s : Shared) (job : Job) (buffer : Content) (ticket : Option ℕ) (got : Got) → AllSound s → AllSound (effect s job buffer (Begin ticket) got)
-begin_sound s job buffer ticket Done all k = sound_begun (s.blocks k) s.mapping s.committed s.running k (all k)
-begin_sound s job buffer ticket got all k = all k
-
-suspend_sound : (s : Shared) (job : Job) (buffer : Content) (got : Got) → AllSound s → AllSound (effect s job buffer Begin_clean got)
-suspend_sound s job buffer Done all k = sound_begun (s.blocks k) s.mapping s.committed s.running k (all k)
-suspend_sound s job buffer got all k = all k
-
 pub effect_sound : (size : ℕ) (x : Actor) (s : Shared) (d : Volume) (job : Job) (buffer : Content) (w : Want) (got : Got) → Good size s d → Ready w x s → AllSound (effect s job buffer w got)
-effect_sound size x s d job buffer (Set_seal b seal) got i r = i.sound
-effect_sound size x s d job buffer Set_failed got i r = i.sound
 effect_sound size x s d job buffer (Write_at location b o) got i r = sound_desk s _ (write_desk s job buffer location b o got) i.sound
-effect_sound size x s d job buffer (Begin ticket) got i r = begin_sound s job buffer ticket got i.sound
-effect_sound size x s d job buffer Break_commits got i r = i.sound
-effect_sound size x s d job buffer Set_suspended got i r = i.sound
-effect_sound size x s d job buffer Begin_clean got i r = suspend_sound s job buffer got i.sound
+effect_sound size x s d job buffer (Begin ticket) Done i r = λ k. sound_begun (s.blocks k) s.mapping s.committed s.running k (i.sound k)
+effect_sound size x s d job buffer Begin_clean Done i r = λ k. sound_begun (s.blocks k) s.mapping s.committed s.running k (i.sound k)
 effect_sound size x s d job buffer Sync_cache_device got i r = sound_desk s _ (sync_cached_desk s job buffer got) i.sound
 effect_sound size x s d job buffer Sync_origin_device got i r = sound_desk s _ (sync_based_desk s job buffer got) i.sound
-effect_sound size x s d job buffer Put_root got i r = i.sound
 effect_sound size x s d job buffer End_running got i r = λ k. sound_ended (s.blocks k) s.mapping s.committed s.running k (i.sound k)
 effect_sound size x s d job buffer (Map_to p) got i r = sound_put s p.cache Mapped (changed s.mapping p.block (Some p.cache)) tt
     (λ j n u. unnamed_put s.mapping p.block j (Some p.cache) (λ e. n (cc)) u) i.sound
@@ -218,19 +192,11 @@ effect_sound size x s d job buffer w got i r = i.sound
 idle_desk : (s t : Shared) → SameDesk s t → (s.committing ≡ false → s.root_written ≡ false) → t.committing ≡ false → t.root_written ≡ false
 idle_desk s t i f e = i.root_written ∙ f (sym i.committing ∙ e)
 
-begin_idle : (s : Shared) (job : Job) (buffer : Content) (ticket : Option ℕ) (got : Got) → (s.committing ≡ false → s.root_written ≡ false) → (effect s job buffer (Begin ticket) got).committing ≡ false → (effect s job buffer (Begin ticket) got).root_written ≡ false
-begin_idle s job buffer ticket Done f e = absurd (cc)
-begin_idle s job buffer ticket got f e = f e
-
-suspend_idle : (s : Shared) (job : Job) (buffer : Content) (got : Got) → (s.committing ≡ false → s.root_written ≡ false) → (effect s job buffer Begin_clean got).committing ≡ false → (effect s job buffer Begin_clean got).root_written ≡ false
-suspend_idle s job buffer Done f e = absurd (cc)
-suspend_idle s job buffer got f e = f e
-
 pub effect_idle : (x : Actor) (s : Shared) (job : Job) (buffer : Content) (w : Want) (got : Got) → (x.leads ≡ true → s.committing ≡ true) → Ready w x s → (s.committing ≡ false → s.root_written ≡ false) →
     (effect s job buffer w got).committing ≡ false → (effect s job buffer w got).root_written ≡ false
 effect_idle x s job buffer (Write_at location b o) got l r f = idle_desk s _ (write_desk s job buffer location b o got) f
-effect_idle x s job buffer (Begin ticket) got l r f = begin_idle s job buffer ticket got f
-effect_idle x s job buffer Begin_clean got l r f = suspend_idle s job buffer got f
+effect_idle x s job buffer (Begin ticket) Done l r f = λ e. absurd (cc)
+effect_idle x s job buffer Begin_clean Done l r f = λ e. absurd (cc)
 effect_idle x s job buffer Sync_cache_device got l r f = idle_desk s _ (sync_cached_desk s job buffer got) f
 effect_idle x s job buffer Sync_origin_device got l r f = idle_desk s _ (sync_based_desk s job buffer got) f
 effect_idle x s job buffer Put_root got l r f = λ e. let busy = l r in absurd (cc)

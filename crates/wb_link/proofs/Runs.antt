@@ -37,7 +37,6 @@ pub record Moves (size : ℕ) (w : World) (d : Volume) (n : Notes) (r : Record) 
 
 start_books : (a : ℕ) (d : Volume) (job : Job) → (after_acts d (start_acts a job)).histories ≡ d.histories
 start_books a d (Flushing o) = refl
-start_books a d Suspending = refl
 start_books a d job = refl
 
 -- a task goes on with its job, or it is answered
