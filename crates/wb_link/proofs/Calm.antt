@@ -64,9 +64,12 @@ pub calmly : (size a : ℕ) (rest : Actor → Shared → Volume → Type 0) (x :
 calmly size a rest x script w got t u e acts none agrees ready owes right left =
     subst (λ (ys : List Act). Goes size a rest x script w got t u e (after_acts e ys) ys) (sym none) (record { run = tt; mine = tt; agrees = agrees; ready = ready; owes = owes; right = right; left = left })
 
--- others leave a block at rest that is held
+-- others leave a block that is held, and its seal
+pub held_on : (P : Seal → BlockView → Type 0) (a b : ℕ) (x : Actor) (s t : Shared) (d e : Volume) → Others a x s d t e → Holds x.held b → P (s.seals b) (block_view d b) → P (t.seals b) (block_view e b)
+held_on P a b x s t d e o h k = subst (λ (w : BlockView). P (t.seals b) w) (sym (o.block b h)) (subst (λ (w : Seal). P w (block_view d b)) (sym (o.seal b h)) k)
+
 pub rests_on : (a b : ℕ) (x : Actor) (s t : Shared) (d e : Volume) → Others a x s d t e → Holds x.held b → RestsAt s d b → RestsAt t e b
-rests_on a b x s t d e o h k = subst (λ (w : BlockView). Rests (t.seals b) w) (sym (o.block b h)) (subst (λ (w : Seal). Rests w (block_view d b)) (sym (o.seal b h)) k)
+rests_on a b x s t d e o h k = held_on (λ w v. Rests w v) a b x s t d e o h k
 
 pub ending : (n size a : ℕ) (job : Job) → IsPlain job → (answer : Answer) (held : Held) (order : Option Order) (c : Content) (s : Shared) (d : Volume) → MayEnd answer held s → Safe n size a (at_work job [] answer held order false c) s d
 ending zero size a job plain answer held order c s d h = tt

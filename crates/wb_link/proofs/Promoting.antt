@@ -12,7 +12,7 @@ use Rattle.wb_link.proofs.Views.{BlockView, block_view}
 use Rattle.wb_link.proofs.Link.{Good, Sound, Rests, RestsAt, Others, Right, Safe}
 use Rattle.wb_link.proofs.Agreeing.{fill_agrees, map_agrees, seal_agrees}
 use Rattle.wb_link.proofs.Copying.{equal_all, past_equal}
-use Rattle.wb_link.proofs.Calm.{returning, disowned, beginning}
+use Rattle.wb_link.proofs.Calm.{rests_on, returning, disowned, beginning}
 use Rattle.wb_link.proofs.Migrating.{Way, Came, came_on, copying}
 use Rattle.wb_link.proofs.Givings.{at_work, Comes, quietly, gives_set, gives_room, gives_map}
 
@@ -83,7 +83,7 @@ pub record Filling (p : Order) (s : Shared) (d : Volume) : Type 0 where
 
 filling_on : (a : ℕ) (p : Order) (os : List ℕ) (steps : List Want) (answer : Answer) (c : Content) (s t : Shared) (d e : Volume) → Others a (promoting p os steps answer (Owns p.block) (Some p) c) s d t e → Filling p s d → Filling p t e
 filling_on a p os steps answer c s t d e o k = record {
-  rests = subst (λ (w : BlockView). Rests (t.seals p.block) w) (sym (o.block p.block refl)) (subst (λ (w : Seal). Rests w (block_view d p.block)) (sym (o.seal p.block refl)) k.rests);
+  rests = rests_on a p.block _ s t d e o refl k.rests;
   granted = granted_on a (promoting p os steps answer (Owns p.block) (Some p) c) p s t d e refl o k.granted;
   live = o.live ∙ k.live;
 }

@@ -1,5 +1,5 @@
 -- What is left of a demotion or a write-back is safe, from its start on: the copy home, and then either end.
-use Rattle.std.proofs.Common.{◌≡◌, ◌⊎◌, inl, inr, ℕ, zero, suc, Bool, true, false, List, [], ◌∷◌, Option, Some, None, refl, sym, ap, subst, ◌∙◌}
+use Rattle.std.proofs.Common.{◌≡◌, ◌⊎◌, inl, inr, ℕ, zero, suc, Bool, true, false, List, [], ◌∷◌, Option, Some, None, refl, sym, ap, ◌∙◌}
 use Rattle.wb_disk.specs.Device.{Content, added, newest}
 use Rattle.wb_contents.specs.Volume.{Volume, location, at_location, changed}
 use Rattle.wb_contents.specs.Acts.{after as after_act, Unmap, Make_clean}
@@ -14,7 +14,7 @@ use Rattle.wb_link.proofs.Actors.{others_same}
 use Rattle.wb_link.proofs.Agreeing.{empty_agrees, unmap_agrees, seal_agrees}
 use Rattle.wb_link.proofs.Copying.{equal_all, past_equal}
 use Rattle.wb_link.proofs.Unmapped.{Left, left_rests, unmapped_seal}
-use Rattle.wb_link.proofs.Calm.{returning, disowned, beginning}
+use Rattle.wb_link.proofs.Calm.{rests_on, returning, disowned, beginning}
 use Rattle.wb_link.proofs.Migrating.{Way, Came, came_on, copying}
 use Rattle.wb_link.proofs.Givings.{at_work, Comes, gives_set, gives_unmap}
 
@@ -35,7 +35,7 @@ pub record Placed (p : Order) (s : Shared) (d : Volume) : Type 0 where
 
 placed_on : (a : ℕ) (leaves : Bool) (p : Order) (os : List ℕ) (steps : List Want) (answer : Answer) (c : Content) (s t : Shared) (d e : Volume) → Others a (returning_of leaves p os steps answer (Owns p.block) (Some p) c) s d t e → Placed p s d → Placed p t e
 placed_on a leaves p os steps answer c s t d e o k = record {
-  rests = subst (λ (w : BlockView). Rests (t.seals p.block) w) (sym (o.block p.block refl)) (subst (λ (w : Seal). Rests w (block_view d p.block)) (sym (o.seal p.block refl)) k.rests);
+  rests = rests_on a p.block _ s t d e o refl k.rests;
   mapped = o.location p refl ∙ k.mapped;
   live = o.live ∙ k.live;
 }

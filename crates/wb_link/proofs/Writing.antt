@@ -11,11 +11,11 @@ use Rattle.wb_contents.proofs.Sectors.{here_is, elsewhere_is}
 use Rattle.wb_link.specs.Tables.{Job, Writing, Answer, Finished, Io, Want, Look_fail, Own, Look_seal, Set_seal, Disown, Set_failed, Write_at, Choice, Got, Done, Fault, Seal, Unmap_plain, dropping, write_work, write_each, until_failed, steps_after_fault}
 use Rattle.wb_link.specs.World.{Shared, Held, Nothing, Owns, Actor, Within, put_sector, if_landed}
 use Rattle.wb_link.specs.Clerk.{histories_after}
-use Rattle.wb_link.proofs.Views.{BlockView, block_view, Holds}
+use Rattle.wb_link.proofs.Views.{BlockView, block_view}
 use Rattle.wb_link.proofs.Effects.{put_sector_desk}
-use Rattle.wb_link.proofs.Link.{Good, Rests, RestsAt, Others, Right, Goes, Safe, landed_write}
+use Rattle.wb_link.proofs.Link.{Good, Rests, RestsAt, Right, Goes, Safe, landed_write}
 use Rattle.wb_link.proofs.Agreeing.{write_agrees, finish_agrees, lose_agrees, seal_agrees, unmap_agrees}
-use Rattle.wb_link.proofs.Calm.{rests_on, failing, disowned, beginning}
+use Rattle.wb_link.proofs.Calm.{held_on, rests_on, failing, disowned, beginning}
 use Rattle.wb_link.proofs.Givings.{at_work, script_of, Comes, Life, life_on, gives_set, gives_write, gives_drop}
 use Rattle.wb_link.proofs.Unmapped.{Left, left_rests, unmapped_seal}
 
@@ -39,12 +39,6 @@ pub record Owning (to : Option ℕ) (seal : Seal) (v : BlockView) : Type 0 where
 abbrev pub mode_of : Bool → Mode
 mode_of past = cond past Passthrough Writeback
 
--- others leave it so
-owning_on : (a b : ℕ) (x : Actor) (to : Option ℕ) (s t : Shared) (d e : Volume) → x.held ≡ Owns b → Others a x s d t e → Owning to (s.seals b) (block_view d b) → Owning to (t.seals b) (block_view e b)
-owning_on a b x to s t d e h o k = subst (λ (v : BlockView). Owning to (t.seals b) v) (sym (o.block b has)) (subst (λ (v : Seal). Owning to v (block_view d b)) (sym (o.seal b has)) k) where
-  has : Holds x.held b
-  has = subst (λ (v : Held). Holds v b) (sym h) refl
-
 plain : (a : ℕ) (past : Bool) (b : ℕ) (os : List ℕ) (x : Content) (w : Want) (got : Got) (d e : Volume) → e.histories ≡ histories_after d.histories (Writing past b os x) w → Right a (Writing past b os x) w got d e
 plain a past b os x w got d e r = record { reads = tt; histories = r; flushes = tt }
 
@@ -58,10 +52,11 @@ pub written_books : (e : Volume) (p : Option ℕ) (b o : ℕ) (x : Content) → 
 written_books e None b o x = refl
 written_books e (Some j) b o x = refl
 
-whole_still : (f : ℕ → ℕ → Standing) (b o : ℕ) → ((i : ℕ) → f b i ≡ Whole) → (i : ℕ) → changed_at f b o Whole b i ≡ Whole
+-- a sector is whole, and the others were
+pub whole_still : (f : ℕ → ℕ → Standing) (b o : ℕ) → ((i : ℕ) → i ≢ o → f b i ≡ Whole) → (i : ℕ) → changed_at f b o Whole b i ≡ Whole
 whole_still f b o k i = elim (cases_eq i o) [
   | inl e ↦ ap (changed_at f b o Whole b) e ∙ here_is f b o Whole
-  | inr n ↦ elsewhere_is f b o b i Whole (inr n) ∙ k i
+  | inr n ↦ elsewhere_is f b o b i Whole (inr n) ∙ k i n
 ]
 
 -- the last write of a sector is finished, and those of the others were
@@ -74,9 +69,13 @@ finished_all f histories g b o same k i = elim (cases_eq i o) [
 pub book_elsewhere : (histories : ℕ → ℕ → History) (b o : ℕ) (h : History) (i : ℕ) → i ≢ o → changed_at histories b o h b i ≡ histories b i
 book_elsewhere histories b o h i n = elsewhere_is histories b o b i h (inr n)
 
+pub written_rests : (seal : Seal) (e : Volume) (p : Option ℕ) (b o : ℕ) (x : Content) → Rests seal (block_view e b) → Rests seal (block_view (after_act (sector_written e p b o x) (Finish b o)) b)
+written_rests seal e None b o x k = record { whole = whole_still e.standing b o (λ i n. k.whole i); location = k.location; dirty = k.dirty; done = finished_all e.finished e.histories (changed_at e.histories b o (added (e.histories b o) x)) b o (book_elsewhere e.histories b o (added (e.histories b o) x)) (λ i n. k.done i) }
+written_rests seal e (Some j) b o x k = record { whole = whole_still e.standing b o (λ i n. k.whole i); location = k.location; dirty = k.dirty; done = finished_all e.finished e.histories (changed_at e.histories b o (added (e.histories b o) x)) b o (book_elsewhere e.histories b o (added (e.histories b o) x)) (λ i n. k.done i) }
+
 written_owning : (to : Option ℕ) (seal : Seal) (e : Volume) (p : Option ℕ) (b o : ℕ) (x : Content) → Owning to seal (block_view e b) → Owning to seal (block_view (after_act (sector_written e p b o x) (Finish b o)) b)
-written_owning to seal e None b o x k = record { rests = record { whole = whole_still e.standing b o k.rests.whole; location = k.rests.location; dirty = k.rests.dirty; done = finished_all e.finished e.histories (changed_at e.histories b o (added (e.histories b o) x)) b o (book_elsewhere e.histories b o (added (e.histories b o) x)) (λ i n. k.rests.done i) }; writable = k.writable; route = k.route }
-written_owning to seal e (Some j) b o x k = record { rests = record { whole = whole_still e.standing b o k.rests.whole; location = k.rests.location; dirty = k.rests.dirty; done = finished_all e.finished e.histories (changed_at e.histories b o (added (e.histories b o) x)) b o (book_elsewhere e.histories b o (added (e.histories b o) x)) (λ i n. k.rests.done i) }; writable = k.writable; route = k.route }
+written_owning to seal e None b o x k = record { rests = written_rests seal e None b o x k.rests; writable = k.writable; route = k.route }
+written_owning to seal e (Some j) b o x k = record { rests = written_rests seal e (Some j) b o x k.rests; writable = k.writable; route = k.route }
 
 pub written_life : (m : Mode) (e : Volume) (p : Option ℕ) (b o : ℕ) (x : Content) → Life m e → Life m (sector_written e p b o x)
 written_life m e None b o x l = l
@@ -85,9 +84,6 @@ written_life m e (Some j) b o x l = l
 -- What a write still knows of its block after a fault: what is unmapped or dirty may be written.
 abbrev Reaches : Option ℕ → BlockView → Type 0
 Reaches to v = Writable v × (to ≡ v.location)
-
-reaches_on : (a b : ℕ) (x : Actor) (to : Option ℕ) (s t : Shared) (d e : Volume) → x.held ≡ Owns b → Others a x s d t e → Reaches to (block_view d b) → Reaches to (block_view e b)
-reaches_on a b x to s t d e h o k = subst (λ (v : BlockView). Reaches to v) (sym (o.block b (subst (λ (v : Held). Holds v b) (sym h) refl))) k
 
 reaches_written : (to : Option ℕ) (e : Volume) (p : Option ℕ) (b o : ℕ) (x : Content) → Reaches to (block_view e b) → Reaches to (block_view (sector_written e p b o x) b)
 reaches_written to e None b o x k = k
@@ -133,7 +129,7 @@ failing_one : (n size a : ℕ) (past : Bool) (b : ℕ) (all : List ℕ) (q : ℕ
     Safe (suc n) size a (writing_of past b all x (write_each to b (q ∷ os) (Set_failed ∷ [])) Io (Owns b) c) s d
 failing_one n size a past b all q os x to c s d m l k next = λ t e got o g v r.
     let life : Life (mode_of past) e = life_on a (writing_of past b all x (write_each to b (q ∷ os) (Set_failed ∷ [])) Io (Owns b) c) s t d e (mode_of past) o l in
-    let now : Reaches to (block_view e b) = reaches_on a b _ to s t d e refl o k in
+    let now : Reaches to (block_view e b) = held_on (λ w v. Reaches to v) a b _ s t d e o refl k in
     gives_write t to b q (λ w. Result n size a (Writing past b all x) (write_each to b (q ∷ os) (Set_failed ∷ [])) Io (Owns b) c t e w)
     (record {
       run = ((life.0, now.0), (written_whole e (e.mapping b) b q x, tt));
@@ -157,7 +153,7 @@ writing zero size a past b all os x to c s d m l k = tt
 writing (suc n) size a past b all [] x to c s d m l k = disowned (suc n) size a (Writing past b all x) tt b Finished None c s d k.rests
 writing (suc n) size a past b all (q ∷ os) x to c s d m l k = λ t e got o g v r.
     let life : Life (mode_of past) e = life_on a (writing_of past b all x (write_each to b (q ∷ os) (Disown b ∷ [])) Finished (Owns b) c) s t d e (mode_of past) o l in
-    let now : Owning to (t.seals b) (block_view e b) = owning_on a b _ to s t d e refl o k in
+    let now : Owning to (t.seals b) (block_view e b) = held_on (λ w v. Owning to w v) a b _ s t d e o refl k in
     gives_write t to b q (λ w. Result n size a (Writing past b all x) (write_each to b (q ∷ os) (Disown b ∷ [])) Finished (Owns b) c t e w)
     (record {
       run = ((life.0, now.writable), (written_whole e (e.mapping b) b q x, tt));

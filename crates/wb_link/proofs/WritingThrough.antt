@@ -1,20 +1,19 @@
 -- What is left of a write by write-through is safe, from its start on.
 use Rattle.std.proofs.Common.{◌≡◌, ◌≢◌, ◌<◌, inl, inr, ℕ, zero, suc, Bool, true, false, List, [], ◌∷◌, Option, Some, None, refl, sym, ap, subst, ◌∙◌, length}
 use Rattle.wb_disk.specs.Device.{Content, History, added, newest}
-use Rattle.wb_contents.specs.Volume.{Volume, Standing, Whole, Half, changed_at}
+use Rattle.wb_contents.specs.Volume.{Volume, Whole, Half}
 use Rattle.wb_types.specs.declared.mode.Mode.TheVariants.{Writethrough}
 use Rattle.wb_contents.specs.Acts.{sector_written, written_through, after as after_act, Write, Write_origin, Write_cache, Finish, Fail_write, after_all as after_acts}
-use Rattle.std.proofs.lemmas.Bool.{cases_eq}
 use Rattle.wb_contents.proofs.Positions.{last_of-append}
 use Rattle.wb_contents.proofs.Sectors.{here_is, elsewhere_is}
 use Rattle.wb_link.specs.Tables.{Job, Writing_through, Answer, Finished, Want, Look_fail, Own, Look_seal, Disown, Write_at, Choice, Got, Done, Fault, Seal, write_each, write_through_each}
 use Rattle.wb_link.specs.World.{Shared, Held, Nothing, Owns, Actor, Within, effect, put_sector, if_landed}
 use Rattle.wb_link.specs.Clerk.{histories_after}
-use Rattle.wb_link.proofs.Views.{BlockView, block_view, Holds}
-use Rattle.wb_link.proofs.Link.{Agrees, Good, Rests, RestsAt, Others, Right, Goes, Safe, landed_write, landed_through, write_through_acts, if_so}
+use Rattle.wb_link.proofs.Views.{BlockView, block_view}
+use Rattle.wb_link.proofs.Link.{Agrees, Good, Rests, RestsAt, Right, Goes, Safe, landed_write, landed_through, write_through_acts, if_so}
 use Rattle.wb_link.proofs.Agreeing.{write_agrees, based_write_agrees, through_agrees, finish_agrees, lose_agrees}
-use Rattle.wb_link.proofs.Writing.{finished_all, book_elsewhere, written_whole, written_books, written_life}
-use Rattle.wb_link.proofs.Calm.{failing, disowned, beginning}
+use Rattle.wb_link.proofs.Writing.{whole_still, written_rests, finished_all, book_elsewhere, written_whole, written_books, written_life}
+use Rattle.wb_link.proofs.Calm.{held_on, failing, disowned, beginning}
 use Rattle.wb_link.proofs.Givings.{at_work, script_of, Comes, Life, quietly, gives_write}
 
 -- the write of this content to sectors of a block
@@ -29,12 +28,6 @@ pub record Owning (to : Option ℕ) (seal : Seal) (v : BlockView) : Type 0 where
   pub rests : Rests seal v
   pub route : to ≡ v.location
 
--- others leave it so
-owning_on : (a b : ℕ) (x : Actor) (to : Option ℕ) (s t : Shared) (d e : Volume) → x.held ≡ Owns b → Others a x s d t e → Owning to (s.seals b) (block_view d b) → Owning to (t.seals b) (block_view e b)
-owning_on a b x to s t d e h o k = subst (λ (v : BlockView). Owning to (t.seals b) v) (sym (o.block b has)) (subst (λ (v : Seal). Owning to v (block_view d b)) (sym (o.seal b has)) k) where
-  has : Holds x.held b
-  has = subst (λ (v : Held). Holds v b) (sym h) refl
-
 plain : (a b : ℕ) (os : List ℕ) (x : Content) (w : Want) (got : Got) (d e : Volume) → e.histories ≡ histories_after d.histories (Writing_through b os x) w → Right a (Writing_through b os x) w got d e
 plain a b os x w got d e r = record { reads = tt; histories = r; flushes = tt }
 
@@ -48,15 +41,9 @@ GoesBy n size a b all x steps c w got t e p = Goes size a (λ y u f. Safe n size
 stands_at : (t : Shared) (e : Volume) (b : ℕ) (to : Option ℕ) → Agrees t e → to ≡ e.mapping b → t.mapping b ≡ to
 stands_at t e b to g r = ap (λ f. f b) g.mapping ∙ sym r
 
-whole_still : (f : ℕ → ℕ → Standing) (b o : ℕ) → ((i : ℕ) → i ≢ o → f b i ≡ Whole) → (i : ℕ) → changed_at f b o Whole b i ≡ Whole
-whole_still f b o k i = elim (cases_eq i o) [
-  | inl e ↦ ap (changed_at f b o Whole b) e ∙ here_is f b o Whole
-  | inr n ↦ elsewhere_is f b o b i Whole (inr n) ∙ k i n
-]
-
 written_owning : (seal : Seal) (e : Volume) (p : Option ℕ) (b o : ℕ) (x : Content) → Owning None seal (block_view e b) → Owning None seal (block_view (after_act (sector_written e p b o x) (Finish b o)) b)
-written_owning seal e None b o x k = record { rests = record { whole = whole_still e.standing b o (λ i n. k.rests.whole i); location = k.rests.location; dirty = k.rests.dirty; done = finished_all e.finished e.histories (changed_at e.histories b o (added (e.histories b o) x)) b o (book_elsewhere e.histories b o (added (e.histories b o) x)) (λ i n. k.rests.done i) }; route = k.route }
-written_owning seal e (Some j) b o x k = record { rests = record { whole = whole_still e.standing b o (λ i n. k.rests.whole i); location = k.rests.location; dirty = k.rests.dirty; done = finished_all e.finished e.histories (changed_at e.histories b o (added (e.histories b o) x)) b o (book_elsewhere e.histories b o (added (e.histories b o) x)) (λ i n. k.rests.done i) }; route = k.route }
+written_owning seal e None b o x k = record { rests = written_rests seal e None b o x k.rests; route = k.route }
+written_owning seal e (Some j) b o x k = record { rests = written_rests seal e (Some j) b o x k.rests; route = k.route }
 
 abbrev origin_left : ℕ → List ℕ → List Want
 origin_left b os = write_each None b os (Disown b ∷ [])
@@ -66,7 +53,7 @@ origin_write : (n size a b : ℕ) (all : List ℕ) (q : ℕ) (os : List ℕ) (x 
     Safe (suc n) size a (writing_through_of b all x (origin_left b (q ∷ os)) Finished (Owns b) c) s d
 origin_write n size a b all q os x c s d m l k next = λ t e got o g v r.
     let life : Life Writethrough e = (o.live ∙ l.0, o.mode ∙ l.1) in
-    let now : Owning None (t.seals b) (block_view e b) = owning_on a b _ None s t d e refl o k in
+    let now : Owning None (t.seals b) (block_view e b) = held_on (λ w v. Owning None w v) a b _ s t d e o refl k in
     gives_write t None b q (λ w. Result n size a (Writing_through b all x) (origin_left b (q ∷ os)) Finished (Owns b) c t e w)
     (done t e g life now (t.mapping b) (stands_at t e b None g.agrees now.route))
     (λ choice. failed choice t e g life now (t.mapping b) (stands_at t e b None g.agrees now.route))
@@ -131,7 +118,7 @@ first_write : (n size a b : ℕ) (all : List ℕ) (q : ℕ) (os : List ℕ) (x :
     Safe (suc n) size a (writing_through_of b all x (first_left b all x k (q ∷ os)) Finished (Owns b) c) s d
 first_write n size a b all q os x k c s d m l h next = λ t e got o g v r.
     let life : Life Writethrough e = (o.live ∙ l.0, o.mode ∙ l.1) in
-    let now : Owning (Some k) (t.seals b) (block_view e b) = owning_on a b _ (Some k) s t d e refl o h in
+    let now : Owning (Some k) (t.seals b) (block_view e b) = held_on (λ w v. Owning (Some k) w v) a b _ s t d e o refl h in
     gives_write t None b q (λ w. Result n size a (Writing_through b all x) (first_left b all x k (q ∷ os)) Finished (Owns b) c t e w)
     (done t e g life now (t.mapping b) (stands_at t e b (Some k) g.agrees now.route))
     (λ choice. failed choice t e g life now (t.mapping b) (stands_at t e b (Some k) g.agrees now.route))
@@ -181,7 +168,7 @@ second_write : (n size a b : ℕ) (all : List ℕ) (q : ℕ) (os : List ℕ) (x 
     Safe (suc n) size a (writing_through_of b all x (second_left b all x k q os) Finished (Owns b) c) s d
 second_write n size a b all q os x k c s d m l h next = λ t e got o g v r.
     let life : Life Writethrough e = (o.live ∙ l.0, o.mode ∙ l.1) in
-    let now : Halfway k q x (t.seals b) (block_view e b) = subst (λ (w : BlockView). Halfway k q x (t.seals b) w) (sym (o.block b refl)) (subst (λ (w : Seal). Halfway k q x w (block_view d b)) (sym (o.seal b refl)) h) in
+    let now : Halfway k q x (t.seals b) (block_view e b) = held_on (λ w v. Halfway k q x w v) a b _ s t d e o refl h in
     gives_write t (Some k) b q (λ w. Result n size a (Writing_through b all x) (second_left b all x k q os) Finished (Owns b) c t e w)
     (done t e life now (second_done size k q b x t e (e.mapping b) (sym now.route) g.agrees life now) (t.mapping b) (stands_at t e b (Some k) g.agrees now.route))
     (λ choice. failed choice t e g life now (second_done size k q b x t e (e.mapping b) (sym now.route) g.agrees life now) (t.mapping b) (stands_at t e b (Some k) g.agrees now.route))
