@@ -5,7 +5,7 @@ use Rattle.wb_disk.specs.Device.{Content}
 use Rattle.wb_contents.specs.Volume.{Volume, changed}
 use Rattle.wb_contents.specs.Conditions.{IsUnnamed}
 use Rattle.wb_contents.proofs.Positions.{changed_same, changed_other}
-use Rattle.wb_link.specs.Tables.{Order, Job, Suspending, Answer, Finished, Busy, Failed, Io, Want, Share, Own, Leave, Disown, Read_at, Write_at, Begin, Begin_clean, Sync_cache_device, Sync_origin_device, End_running, Map_to, Unmap_from, Unmap_plain, Give_up, End, Got, Done, Lost, Flag, Seen, Gave, Ticket, Served, Broken, Short, Fault, Script, after, after_fault, after_flag, want}
+use Rattle.wb_link.specs.Tables.{Order, Job, Suspending, Answer, Finished, Want, Share, Own, Leave, Disown, Read_at, Write_at, Begin, Begin_clean, Sync_cache_device, Sync_origin_device, End_running, Map_to, Unmap_from, Unmap_plain, Give_up, End, Got, Done, Flag, Fault, Script, after, after_fault, after_flag, want}
 use Rattle.wb_link.specs.World.{Block, Mapped, Reserved, Retained, removed, following, Names, Apart, Shared, Held, Nothing, Shares, Owns, Actor, effect, held_after, order_after, leads_after, task_after, actor_after, is_alone, job_alone, drops, job_drops, Gives}
 use Rattle.wb_link.proofs.Views.{Holds}
 use Rattle.wb_link.proofs.Acts.{Keeps}
@@ -79,7 +79,6 @@ leads_was s leads w got g e = inl e
 -- a task goes on with its job
 fault_on : (script : Script) (more : Bool) (w : Want) → (after_fault script more w).job ≡ script.job
 fault_on script more (Read_at location b o) = refl
-fault_on script more (Write_at location b o) = refl
 fault_on script more w = refl
 
 flag_on : (script : Script) (f : Bool) → (after_flag script f).job ≡ script.job
@@ -88,15 +87,9 @@ flag_on script false = refl
 
 pub job_on : (script : Script) (got : Got) → (after script got).job ≡ script.job
 job_on script Done = refl
-job_on script Lost = refl
 job_on script (Flag f) = flag_on script f
-job_on script (Seen seal) = refl
-job_on script (Gave c) = refl
-job_on script (Ticket number) = refl
-job_on script Served = refl
-job_on script Broken = refl
-job_on script Short = refl
 job_on script (Fault choice) = fault_on script choice.more (want script)
+job_on script got = refl
 
 -- a task that is alone was so
 pub alone_was : (script : Script) (w : Want) (got : Got) → is_alone (task_after script w got) ≡ true → job_alone script.job ≡ true
@@ -113,9 +106,7 @@ owes_alone job answer t e n o = absurd (cc)
 
 pub may_end : (answer : Answer) (held : Held) (s : Shared) → MayEnd answer held s → (held ≡ Nothing) ⊎ (s.fail ≡ true)
 may_end Finished held s h = inl h
-may_end Busy held s h = h
-may_end Failed held s h = h
-may_end Io held s h = h
+may_end answer held s h = h
 
 pub drops_was : (script : Script) (w : Want) (got : Got) → drops (task_after script w got) ≡ true → job_drops script.job ≡ true
 drops_was script (End answer) got e = absurd (cc)
@@ -150,34 +141,10 @@ disjoint_right x y script s w got ready g task wins l i = record {
 busy_desk : (s t : Shared) → SameDesk s t → s.committing ≡ true → t.committing ≡ true
 busy_desk s t i e = i.committing ∙ e
 
-begin_busy : (s : Shared) (job : Job) (buffer : Content) (ticket : Option ℕ) (got : Got) → s.committing ≡ true → (effect s job buffer (Begin ticket) got).committing ≡ true
-begin_busy s job buffer ticket Done e = refl
-begin_busy s job buffer ticket Lost e = e
-begin_busy s job buffer ticket (Flag g) e = e
-begin_busy s job buffer ticket (Seen seal) e = e
-begin_busy s job buffer ticket (Gave c) e = e
-begin_busy s job buffer ticket (Ticket number) e = e
-begin_busy s job buffer ticket Served e = e
-begin_busy s job buffer ticket Broken e = e
-begin_busy s job buffer ticket Short e = e
-begin_busy s job buffer ticket (Fault choice) e = e
-
-suspend_busy : (s : Shared) (job : Job) (buffer : Content) (got : Got) → s.committing ≡ true → (effect s job buffer Begin_clean got).committing ≡ true
-suspend_busy s job buffer Done e = refl
-suspend_busy s job buffer Lost e = e
-suspend_busy s job buffer (Flag g) e = e
-suspend_busy s job buffer (Seen seal) e = e
-suspend_busy s job buffer (Gave c) e = e
-suspend_busy s job buffer (Ticket number) e = e
-suspend_busy s job buffer Served e = e
-suspend_busy s job buffer Broken e = e
-suspend_busy s job buffer Short e = e
-suspend_busy s job buffer (Fault choice) e = e
-
 pub other_busy : (x : Actor) (s : Shared) (job : Job) (buffer : Content) (w : Want) (got : Got) → (x.leads ≡ true → ⊥) → Ready w x s → s.committing ≡ true → (effect s job buffer w got).committing ≡ true
 other_busy x s job buffer (Write_at location b o) got n r e = busy_desk s _ (write_desk s job buffer location b o got) e
-other_busy x s job buffer (Begin ticket) got n r e = begin_busy s job buffer ticket got e
-other_busy x s job buffer Begin_clean got n r e = suspend_busy s job buffer got e
+other_busy x s job buffer (Begin ticket) Done n r e = refl
+other_busy x s job buffer Begin_clean Done n r e = refl
 other_busy x s job buffer Sync_cache_device got n r e = busy_desk s _ (sync_cached_desk s job buffer got) e
 other_busy x s job buffer Sync_origin_device got n r e = busy_desk s _ (sync_based_desk s job buffer got) e
 other_busy x s job buffer End_running got n r e = absurd (n r)
@@ -186,9 +153,7 @@ other_busy x s job buffer w got n r e = e
 pub leader_busy : (x : Actor) (s : Shared) (job : Job) (buffer : Content) (w : Want) (got : Got) → (x.leads ≡ true → s.committing ≡ true) → leads_after x.leads w got ≡ true → (effect s job buffer w got).committing ≡ true
 leader_busy x s job buffer (Write_at location b o) got l e = busy_desk s _ (write_desk s job buffer location b o got) (l e)
 leader_busy x s job buffer (Begin ticket) Done l e = refl
-leader_busy x s job buffer (Begin ticket) got l e = l e
 leader_busy x s job buffer Begin_clean Done l e = refl
-leader_busy x s job buffer Begin_clean got l e = l e
 leader_busy x s job buffer Sync_cache_device got l e = busy_desk s _ (sync_cached_desk s job buffer got) (l e)
 leader_busy x s job buffer Sync_origin_device got l e = busy_desk s _ (sync_based_desk s job buffer got) (l e)
 leader_busy x s job buffer End_running got l e = absurd (cc)
@@ -198,34 +163,10 @@ leader_busy x s job buffer w got l e = l e
 own_desk : (s t : Shared) (k : ℕ) → SameDesk s t → Turns (s.blocks k) (t.blocks k)
 own_desk s t k i = inl (ap (λ f. f k) i.blocks)
 
-begin_state : (s : Shared) (job : Job) (buffer : Content) (ticket : Option ℕ) (got : Got) (k : ℕ) → Ordered (s.blocks k) → Turns (s.blocks k) ((effect s job buffer (Begin ticket) got).blocks k)
-begin_state s job buffer ticket Done k i = begun_turns (s.blocks k) i
-begin_state s job buffer ticket Lost k i = inl refl
-begin_state s job buffer ticket (Flag g) k i = inl refl
-begin_state s job buffer ticket (Seen seal) k i = inl refl
-begin_state s job buffer ticket (Gave c) k i = inl refl
-begin_state s job buffer ticket (Ticket number) k i = inl refl
-begin_state s job buffer ticket Served k i = inl refl
-begin_state s job buffer ticket Broken k i = inl refl
-begin_state s job buffer ticket Short k i = inl refl
-begin_state s job buffer ticket (Fault choice) k i = inl refl
-
-suspend_state : (s : Shared) (job : Job) (buffer : Content) (got : Got) (k : ℕ) → Ordered (s.blocks k) → Turns (s.blocks k) ((effect s job buffer Begin_clean got).blocks k)
-suspend_state s job buffer Done k i = begun_turns (s.blocks k) i
-suspend_state s job buffer Lost k i = inl refl
-suspend_state s job buffer (Flag g) k i = inl refl
-suspend_state s job buffer (Seen seal) k i = inl refl
-suspend_state s job buffer (Gave c) k i = inl refl
-suspend_state s job buffer (Ticket number) k i = inl refl
-suspend_state s job buffer Served k i = inl refl
-suspend_state s job buffer Broken k i = inl refl
-suspend_state s job buffer Short k i = inl refl
-suspend_state s job buffer (Fault choice) k i = inl refl
-
 pub own_state : (x : Actor) (s : Shared) (job : Job) (buffer : Content) (w : Want) (got : Got) (p : Order) → Stays w → Ready w x s → (x.order ≡ Some p → drops x.task ≡ false) → order_after x.order w ≡ Some p → Ordered (s.blocks p.cache) → Turns (s.blocks p.cache) ((effect s job buffer w got).blocks p.cache)
 own_state x s job buffer (Write_at location b o) got p st r f e i = own_desk s _ p.cache (write_desk s job buffer location b o got)
-own_state x s job buffer (Begin ticket) got p st r f e i = begin_state s job buffer ticket got p.cache i
-own_state x s job buffer Begin_clean got p st r f e i = suspend_state s job buffer got p.cache i
+own_state x s job buffer (Begin ticket) Done p st r f e i = begun_turns (s.blocks p.cache) i
+own_state x s job buffer Begin_clean Done p st r f e i = begun_turns (s.blocks p.cache) i
 own_state x s job buffer Sync_cache_device got p st r f e i = own_desk s _ p.cache (sync_cached_desk s job buffer got)
 own_state x s job buffer Sync_origin_device got p st r f e i = own_desk s _ p.cache (sync_based_desk s job buffer got)
 own_state x s job buffer End_running got p st r f e i = ended_turns (s.blocks p.cache) i

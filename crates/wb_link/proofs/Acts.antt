@@ -4,7 +4,7 @@ use Rattle.std.proofs.Common.{◌≡◌, ◌≢◌, ◌≤◌, ◌<◌, ◌+◌,
 use Rattle.std.proofs.lemmas.Bool.{cases_eq}
 use Rattle.wb_disk.specs.Device.{Content, History, newest, added}
 use Rattle.wb_contents.specs.Volume.{Volume, Standing, Whole, Half, Torn, location, at_location, changed, changed_at}
-use Rattle.wb_contents.specs.Acts.{Act, Write, Write_origin, Write_cache, Fail_write, Finish, Fill_cache, Copy_back, Map, Unmap, Make_dirty, Make_clean, Begin_commit, Begin_suspend, Sync_cache, Sync_origin, Fail_cache_sync, Fail_origin_sync, Write_root, End_commit, Begin_flush, End_flush, Crash, Find_image, Write_opening_root, Open, after as after_act, sector_written, written_through, all_synced, partly_synced}
+use Rattle.wb_contents.specs.Acts.{Act, Write, Write_origin, Write_cache, Fail_write, Finish, Fill_cache, Copy_back, Map, Unmap, Make_dirty, Make_clean, Begin_commit, Begin_suspend, Sync_cache, Sync_origin, Fail_cache_sync, Fail_origin_sync, Write_root, End_commit, Begin_flush, End_flush, after as after_act, sector_written, written_through, all_synced, partly_synced}
 use Rattle.wb_contents.specs.Conditions.{MayAct, IsUnnamed}
 use Rattle.wb_contents.proofs.Positions.{changed_same, changed_other}
 use Rattle.wb_contents.proofs.Floors.{shorter_synced, shorter_partly, finished_bound}
@@ -192,16 +192,16 @@ fill_keeps a x busy d k o c p e f free = record {
   mode = refl;
 }
 
--- A block moves, by its owner under its order.
-moved_keeps : (a : ℕ) (x : Actor) (busy : Bool) (d : Volume) (b : ℕ) (to : Option ℕ) (dirty : ℕ → Bool) (p : Order) → x.held ≡ Owns b → x.order ≡ Some p → p.block ≡ b → ((k : ℕ) → to ≡ Some k → p.cache ≡ k) → ((c : ℕ) → c ≢ b → dirty c ≡ d.dirty c) →
+-- A block moves, by its owner: under its order, or unmapped without one.
+moved_keeps : (a : ℕ) (x : Actor) (busy : Bool) (d : Volume) (b : ℕ) (to : Option ℕ) (dirty : ℕ → Bool) → x.held ≡ Owns b → (drops x.task ≡ false → NotBlock x b → ⊥) → ((k : ℕ) → to ≡ Some k → NotCache x k → ⊥) → ((c : ℕ) → c ≢ b → dirty c ≡ d.dirty c) →
     Keeps a x busy d (record d { mapping = changed d.mapping b to; dirty = dirty })
-moved_keeps a x busy d b to dirty p own e f only f' = record {
+moved_keeps a x busy d b to dirty own away onto f' = record {
   block = λ c n. let m : c ≢ b = another x b c own n in let y = changed_other d.mapping b c to m in
       same_view d (record d { mapping = changed d.mapping b to; dirty = dirty }) c y (f' c m) (λ q. ap (λ v. newest (at_location d.origin d.cache v c q)) y) (λ q. refl) refl refl refl;
-  location = λ h c n. changed_other d.mapping b c to (λ s. n p e (f ∙ sym s));
+  location = λ h c n. changed_other d.mapping b c to (λ s. away h (λ p e f. n p e (f ∙ sym s)));
   cached = λ j n u q. refl;
   unnamed = λ j n u c y. elim (cases_eq c b) [
-    | inl s ↦ n p e (only j (sym (changed_same d.mapping b to) ∙ ap (changed d.mapping b to) (sym s) ∙ y))
+    | inl s ↦ onto j (sym (changed_same d.mapping b to) ∙ ap (changed d.mapping b to) (sym s) ∙ y) n
     | inr m ↦ u c (sym (changed_other d.mapping b c to m) ∙ y)
   ];
   commit = λ y l. refl;
@@ -210,27 +210,6 @@ moved_keeps a x busy d b to dirty p own e f only f' = record {
   ended = omega arith;
   grows = grows_same d _ refl refl refl;
   then_finished = λ b n. refl;
-  live = λ n. refl;
-  mode = refl;
-}
-
--- A block is unmapped by its owner under no order.
-dropped_keeps : (a : ℕ) (x : Actor) (busy : Bool) (d : Volume) (b : ℕ) → x.held ≡ Owns b → drops x.task ≡ true → Keeps a x busy d (record d { mapping = changed d.mapping b None })
-dropped_keeps a x busy d b own free = record {
-  block = λ c n. let m : c ≢ b = another x b c own n in let y = changed_other d.mapping b c None m in
-      same_view d (record d { mapping = changed d.mapping b None }) c y refl (λ q. ap (λ v. newest (at_location d.origin d.cache v c q)) y) (λ q. refl) refl refl refl;
-  location = λ h c n. absurd (cc);
-  cached = λ j n u q. refl;
-  unnamed = λ j n u c y. elim (cases_eq c b) [
-    | inl s ↦ let bad : None ≡ Some j = sym (changed_same d.mapping b None) ∙ ap (changed d.mapping b None) (sym s) ∙ y in absurd (cc)
-    | inr m ↦ u c (sym (changed_other d.mapping b c None m) ∙ y)
-  ];
-  commit = λ y l. refl;
-  ticket = λ c n. refl;
-  began = omega arith;
-  ended = omega arith;
-  grows = grows_same d _ refl refl refl;
-  then_finished = λ c n. refl;
   live = λ n. refl;
   mode = refl;
 }
@@ -282,8 +261,8 @@ act_keeps size a x busy d (Fill_cache k o c) i z m j = fill_keeps a x busy d k o
 act_keeps size a x busy d (Copy_back b o) i z m k = owner_keeps a x busy d (after_act d (Copy_back b o)) b k.0
     (origin_view d b o (added (d.origin b o) (newest (location d d.mapping b o))) d.histories d.standing (λ j n. refl) (λ j n. refl))
     refl (λ j u q. refl) refl refl refl refl (grows_same d (after_act d (Copy_back b o)) refl refl refl) refl
-act_keeps size a x busy d (Map b k) i z m j = moved_keeps a x busy d b (Some k) (changed d.dirty b false) j.1.0 j.0 j.1.1 j.1.2 (λ c e. let s : k ≡ c = cc in j.1.3 ∙ s) (λ c n. changed_other d.dirty b c false n)
-act_keeps size a x busy d (Unmap b) i z m j = elim j.1 [ inl o ↦ moved_keeps a x busy d b None d.dirty o.0 j.0 o.1 o.2 (λ c e. absurd (cc)) (λ c n. refl) | inr h ↦ dropped_keeps a x busy d b j.0 h ]
+act_keeps size a x busy d (Map b k) i z m j = moved_keeps a x busy d b (Some k) (changed d.dirty b false) j.0 (λ h n. n j.1.0 j.1.1 j.1.2) (λ c e n. let s : k ≡ c = cc in n j.1.0 j.1.1 (j.1.3 ∙ s)) (λ c n. changed_other d.dirty b c false n)
+act_keeps size a x busy d (Unmap b) i z m j = elim j.1 [ inl o ↦ moved_keeps a x busy d b None d.dirty j.0 (λ h n. n o.0 o.1 o.2) (λ c e n. absurd (cc)) (λ c n. refl) | inr h ↦ moved_keeps a x busy d b None d.dirty j.0 (λ f n. absurd (cc)) (λ c e n. absurd (cc)) (λ c n. refl) ]
 act_keeps size a x busy d (Make_dirty b) i z m k = dirty_keeps a x busy d b true k
 act_keeps size a x busy d (Make_clean b) i z m k = dirty_keeps a x busy d b false k
 act_keeps size a x busy d Begin_commit i z m k = commit_keeps a x busy d (after_act d Begin_commit) (λ b. refl) refl (λ j o. refl) (λ t l. absurd (cc)) refl (omega arith) (omega arith) (λ n. refl) refl (grows_same d _ refl refl refl) refl
@@ -326,7 +305,4 @@ act_keeps size a x busy d (End_flush actor) i z m k = record {
   live = λ n. refl;
   mode = refl;
 }
-act_keeps size a x busy d (Crash origin cache new_root) i z m k = absurd k
-act_keeps size a x busy d (Find_image new_root) i z m k = absurd k
-act_keeps size a x busy d Write_opening_root i z m k = absurd k
-act_keeps size a x busy d (Open mode) i z m k = absurd k
+act_keeps size a x busy d act i z m k = absurd k

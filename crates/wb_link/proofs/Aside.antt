@@ -4,10 +4,11 @@ use Rattle.std.proofs.lemmas.Bool.{cases_eq}
 use Rattle.wb_contents.specs.Volume.{Volume, changed}
 use Rattle.wb_contents.proofs.Positions.{changed_same, changed_other}
 use Rattle.wb_disk.specs.Device.{Content}
-use Rattle.wb_link.specs.Tables.{Order, Job, Reading, Writing, Writing_through, Flushing, Suspending, Promoting, Returning, Invalidating, Failed, Finished, Look_fail, End, Done, Flag, acquire}
+use Rattle.wb_link.specs.Tables.{Order, Job, Suspending, Failed, Finished, Look_fail, End, Done, Flag, acquire}
 use Rattle.wb_link.specs.World.{Shared, Held, Actor, World, Apart, aside, taken, actor_after, Release, release_order, after_record, given_back}
-use Rattle.wb_link.proofs.Link.{NobodyAlone, Safe, SetAside, Linked}
-use Rattle.wb_link.proofs.Givings.{at_work, script_of, Comes, resting_safe, quietly, gives_flag_is, gives_end}
+use Rattle.wb_link.proofs.Link.{NobodyAlone, Owes, Right, Safe, SetAside, Linked, acts_of}
+use Rattle.wb_link.proofs.Calm.{calmly}
+use Rattle.wb_link.proofs.Givings.{at_work, script_of, Comes, resting_safe, gives_flag_is, gives_end}
 use Rattle.wb_link.proofs.Lists.{get_set_other}
 use Rattle.wb_link.proofs.Steps.{in_set}
 use Rattle.wb_link.proofs.Actors.{turned, placing_on, safe_on}
@@ -148,33 +149,24 @@ release_linked size w d k p i e nobody = record {
 
 -- ---- who has kept something at a failure begins nothing: it finds that the target has failed
 
+refusal : (a : ℕ) (job : Job) (c : Content) (t : Shared) (e : Volume) → t.fail ≡ true → (acts_of t.mapping a job c (End Failed) Done ≡ []) × Owes job (End Failed) t e × Right a job (End Failed) Done e e
+refusal a Suspending c t e f = (refl, inl f, record { reads = tt; histories = refl; flushes = tt })
+refusal a job c t e f = (refl, tt, record { reads = tt; histories = refl; flushes = tt })
+
+look : (a : ℕ) (job : Job) (c : Content) (flag : Bool) (t : Shared) (e : Volume) → (acts_of t.mapping a job c Look_fail (Flag flag) ≡ []) × Right a job Look_fail (Flag flag) e e
+look a Suspending c flag t e = (refl, record { reads = tt; histories = refl; flushes = tt })
+look a job c flag t e = (refl, record { reads = tt; histories = refl; flushes = tt })
+
 kept_ends : (job : Job) (n size a : ℕ) (held : Held) (order : Option Order) (leads : Bool) (c : Content) (s : Shared) (d : Volume) → s.fail ≡ true → Safe n size a (at_work job [] Failed held order leads c) s d
 kept_ends job zero size a held order leads c s d f = tt
-kept_ends (Reading past b os) (suc n) size a held order leads c s d f = λ t e got o g v r. gives_end t Failed (λ k. Comes n size a (Reading past b os) [] Failed held order leads c t e k) (quietly size a (λ y u h. Safe n size a y u h) _ _ (End Failed) Done t e g (inr (o.fail f)) tt (record { reads = tt; histories = refl; flushes = tt }) (resting_safe n size a held order leads c t e)) got v
-kept_ends (Writing past b os x) (suc n) size a held order leads c s d f = λ t e got o g v r. gives_end t Failed (λ k. Comes n size a (Writing past b os x) [] Failed held order leads c t e k) (quietly size a (λ y u h. Safe n size a y u h) _ _ (End Failed) Done t e g (inr (o.fail f)) tt (record { reads = tt; histories = refl; flushes = tt }) (resting_safe n size a held order leads c t e)) got v
-kept_ends (Writing_through b os x) (suc n) size a held order leads c s d f = λ t e got o g v r. gives_end t Failed (λ k. Comes n size a (Writing_through b os x) [] Failed held order leads c t e k) (quietly size a (λ y u h. Safe n size a y u h) _ _ (End Failed) Done t e g (inr (o.fail f)) tt (record { reads = tt; histories = refl; flushes = tt }) (resting_safe n size a held order leads c t e)) got v
-kept_ends (Flushing q) (suc n) size a held order leads c s d f = λ t e got o g v r. gives_end t Failed (λ k. Comes n size a (Flushing q) [] Failed held order leads c t e k) (quietly size a (λ y u h. Safe n size a y u h) _ _ (End Failed) Done t e g (inr (o.fail f)) tt (record { reads = tt; histories = refl; flushes = tt }) (resting_safe n size a held order leads c t e)) got v
-kept_ends Suspending (suc n) size a held order leads c s d f = λ t e got o g v r. gives_end t Failed (λ k. Comes n size a Suspending [] Failed held order leads c t e k) (quietly size a (λ y u h. Safe n size a y u h) _ _ (End Failed) Done t e g (inr (o.fail f)) (inl (o.fail f)) (record { reads = tt; histories = refl; flushes = tt }) (resting_safe n size a held order leads c t e)) got v
-kept_ends (Promoting p os) (suc n) size a held order leads c s d f = λ t e got o g v r. gives_end t Failed (λ k. Comes n size a (Promoting p os) [] Failed held order leads c t e k) (quietly size a (λ y u h. Safe n size a y u h) _ _ (End Failed) Done t e g (inr (o.fail f)) tt (record { reads = tt; histories = refl; flushes = tt }) (resting_safe n size a held order leads c t e)) got v
-kept_ends (Returning leaves p os) (suc n) size a held order leads c s d f = λ t e got o g v r. gives_end t Failed (λ k. Comes n size a (Returning leaves p os) [] Failed held order leads c t e k) (quietly size a (λ y u h. Safe n size a y u h) _ _ (End Failed) Done t e g (inr (o.fail f)) tt (record { reads = tt; histories = refl; flushes = tt }) (resting_safe n size a held order leads c t e)) got v
-kept_ends (Invalidating b) (suc n) size a held order leads c s d f = λ t e got o g v r. gives_end t Failed (λ k. Comes n size a (Invalidating b) [] Failed held order leads c t e k) (quietly size a (λ y u h. Safe n size a y u h) _ _ (End Failed) Done t e g (inr (o.fail f)) tt (record { reads = tt; histories = refl; flushes = tt }) (resting_safe n size a held order leads c t e)) got v
+kept_ends job (suc n) size a held order leads c s d f = λ t e got o g v r. let no = refusal a job c t e (o.fail f) in
+    gives_end t Failed (λ k. Comes n size a job [] Failed held order leads c t e k)
+    (calmly size a (λ y u h. Safe n size a y u h) _ _ (End Failed) Done t t e _ no.0 g.agrees (inr (o.fail f)) no.1 no.2 (resting_safe n size a held order leads c t e)) got v
 
 -- so, whatever it is given, it only answers
 pub kept_safe : (job : Job) (n size a : ℕ) (held : Held) (order : Option Order) (leads : Bool) (c : Content) (s : Shared) (d : Volume) → s.fail ≡ true → Safe n size a (at_work job (Look_fail ∷ acquire job) Finished held order leads c) s d
 kept_safe job zero size a held order leads c s d f = tt
-kept_safe (Reading past b os) (suc n) size a held order leads c s d f = λ t e got o g v r. gives_flag_is t (λ k. Comes n size a (Reading past b os) (Look_fail ∷ acquire (Reading past b os)) Finished held order leads c t e k) (λ flag is. quietly size a (λ y u h. Safe n size a y u h) _ _ Look_fail (Flag flag) t e g tt tt (record { reads = tt; histories = refl; flushes = tt })
-    (subst (λ (w : Bool). Safe n size a (actor_after (at_work (Reading past b os) (Look_fail ∷ acquire (Reading past b os)) Finished held order leads c) (script_of (Reading past b os) (Look_fail ∷ acquire (Reading past b os)) Finished) Look_fail (Flag w)) t e) (sym (is ∙ o.fail f)) (kept_ends (Reading past b os) n size a held order leads c t e (o.fail f)))) got v
-kept_safe (Writing past b os x) (suc n) size a held order leads c s d f = λ t e got o g v r. gives_flag_is t (λ k. Comes n size a (Writing past b os x) (Look_fail ∷ acquire (Writing past b os x)) Finished held order leads c t e k) (λ flag is. quietly size a (λ y u h. Safe n size a y u h) _ _ Look_fail (Flag flag) t e g tt tt (record { reads = tt; histories = refl; flushes = tt })
-    (subst (λ (w : Bool). Safe n size a (actor_after (at_work (Writing past b os x) (Look_fail ∷ acquire (Writing past b os x)) Finished held order leads c) (script_of (Writing past b os x) (Look_fail ∷ acquire (Writing past b os x)) Finished) Look_fail (Flag w)) t e) (sym (is ∙ o.fail f)) (kept_ends (Writing past b os x) n size a held order leads c t e (o.fail f)))) got v
-kept_safe (Writing_through b os x) (suc n) size a held order leads c s d f = λ t e got o g v r. gives_flag_is t (λ k. Comes n size a (Writing_through b os x) (Look_fail ∷ acquire (Writing_through b os x)) Finished held order leads c t e k) (λ flag is. quietly size a (λ y u h. Safe n size a y u h) _ _ Look_fail (Flag flag) t e g tt tt (record { reads = tt; histories = refl; flushes = tt })
-    (subst (λ (w : Bool). Safe n size a (actor_after (at_work (Writing_through b os x) (Look_fail ∷ acquire (Writing_through b os x)) Finished held order leads c) (script_of (Writing_through b os x) (Look_fail ∷ acquire (Writing_through b os x)) Finished) Look_fail (Flag w)) t e) (sym (is ∙ o.fail f)) (kept_ends (Writing_through b os x) n size a held order leads c t e (o.fail f)))) got v
-kept_safe (Flushing q) (suc n) size a held order leads c s d f = λ t e got o g v r. gives_flag_is t (λ k. Comes n size a (Flushing q) (Look_fail ∷ acquire (Flushing q)) Finished held order leads c t e k) (λ flag is. quietly size a (λ y u h. Safe n size a y u h) _ _ Look_fail (Flag flag) t e g tt tt (record { reads = tt; histories = refl; flushes = tt })
-    (subst (λ (w : Bool). Safe n size a (actor_after (at_work (Flushing q) (Look_fail ∷ acquire (Flushing q)) Finished held order leads c) (script_of (Flushing q) (Look_fail ∷ acquire (Flushing q)) Finished) Look_fail (Flag w)) t e) (sym (is ∙ o.fail f)) (kept_ends (Flushing q) n size a held order leads c t e (o.fail f)))) got v
-kept_safe Suspending (suc n) size a held order leads c s d f = λ t e got o g v r. gives_flag_is t (λ k. Comes n size a Suspending (Look_fail ∷ acquire Suspending) Finished held order leads c t e k) (λ flag is. quietly size a (λ y u h. Safe n size a y u h) _ _ Look_fail (Flag flag) t e g tt tt (record { reads = tt; histories = refl; flushes = tt })
-    (subst (λ (w : Bool). Safe n size a (actor_after (at_work Suspending (Look_fail ∷ acquire Suspending) Finished held order leads c) (script_of Suspending (Look_fail ∷ acquire Suspending) Finished) Look_fail (Flag w)) t e) (sym (is ∙ o.fail f)) (kept_ends Suspending n size a held order leads c t e (o.fail f)))) got v
-kept_safe (Promoting p os) (suc n) size a held order leads c s d f = λ t e got o g v r. gives_flag_is t (λ k. Comes n size a (Promoting p os) (Look_fail ∷ acquire (Promoting p os)) Finished held order leads c t e k) (λ flag is. quietly size a (λ y u h. Safe n size a y u h) _ _ Look_fail (Flag flag) t e g tt tt (record { reads = tt; histories = refl; flushes = tt })
-    (subst (λ (w : Bool). Safe n size a (actor_after (at_work (Promoting p os) (Look_fail ∷ acquire (Promoting p os)) Finished held order leads c) (script_of (Promoting p os) (Look_fail ∷ acquire (Promoting p os)) Finished) Look_fail (Flag w)) t e) (sym (is ∙ o.fail f)) (kept_ends (Promoting p os) n size a held order leads c t e (o.fail f)))) got v
-kept_safe (Returning leaves p os) (suc n) size a held order leads c s d f = λ t e got o g v r. gives_flag_is t (λ k. Comes n size a (Returning leaves p os) (Look_fail ∷ acquire (Returning leaves p os)) Finished held order leads c t e k) (λ flag is. quietly size a (λ y u h. Safe n size a y u h) _ _ Look_fail (Flag flag) t e g tt tt (record { reads = tt; histories = refl; flushes = tt })
-    (subst (λ (w : Bool). Safe n size a (actor_after (at_work (Returning leaves p os) (Look_fail ∷ acquire (Returning leaves p os)) Finished held order leads c) (script_of (Returning leaves p os) (Look_fail ∷ acquire (Returning leaves p os)) Finished) Look_fail (Flag w)) t e) (sym (is ∙ o.fail f)) (kept_ends (Returning leaves p os) n size a held order leads c t e (o.fail f)))) got v
-kept_safe (Invalidating b) (suc n) size a held order leads c s d f = λ t e got o g v r. gives_flag_is t (λ k. Comes n size a (Invalidating b) (Look_fail ∷ acquire (Invalidating b)) Finished held order leads c t e k) (λ flag is. quietly size a (λ y u h. Safe n size a y u h) _ _ Look_fail (Flag flag) t e g tt tt (record { reads = tt; histories = refl; flushes = tt })
-    (subst (λ (w : Bool). Safe n size a (actor_after (at_work (Invalidating b) (Look_fail ∷ acquire (Invalidating b)) Finished held order leads c) (script_of (Invalidating b) (Look_fail ∷ acquire (Invalidating b)) Finished) Look_fail (Flag w)) t e) (sym (is ∙ o.fail f)) (kept_ends (Invalidating b) n size a held order leads c t e (o.fail f)))) got v
+kept_safe job (suc n) size a held order leads c s d f = λ t e got o g v r. let steps = Look_fail ∷ acquire job in
+    gives_flag_is t (λ k. Comes n size a job steps Finished held order leads c t e k) (λ flag is. let no = look a job c flag t e in
+    calmly size a (λ y u h. Safe n size a y u h) _ _ Look_fail (Flag flag) t t e _ no.0 g.agrees tt tt no.1
+    (subst (λ (w : Bool). Safe n size a (actor_after (at_work job steps Finished held order leads c) (script_of job steps Finished) Look_fail (Flag w)) t e) (sym (is ∙ o.fail f)) (kept_ends job n size a held order leads c t e (o.fail f)))) got v

@@ -6,7 +6,7 @@ use Rattle.wb_contents.specs.Volume.{Locations, Volume, changed}
 use Rattle.wb_contents.specs.Conditions.{IsUnnamed}
 use Rattle.wb_contents.proofs.Positions.{changed_same, changed_other}
 use Rattle.wb_contents.proofs.Floors.{HasHomes}
-use Rattle.wb_link.specs.Tables.{Order, Job, Want, Set_seal, Set_failed, Set_suspended, Break_commits, Write_at, Begin, Begin_clean, Sync_cache_device, Sync_origin_device, Put_root, End_running, Map_to, Unmap_from, Unmap_plain, Give_up, Got, Done, Lost, Flag, Seen, Gave, Ticket, Served, Broken, Short, Fault}
+use Rattle.wb_link.specs.Tables.{Order, Job, Want, Set_seal, Set_failed, Set_suspended, Break_commits, Write_at, Begin, Begin_clean, Sync_cache_device, Sync_origin_device, Put_root, End_running, Map_to, Unmap_from, Unmap_plain, Give_up, Got, Done, Fault}
 use Rattle.wb_link.specs.World.{Block, Free, Mapped, Reserved, Quarantined, Retained, removed, Shared, Owns, Actor, effect, put_sector, if_landed, content_for, begun, ended, given_back, drops}
 use Rattle.wb_link.proofs.Acts.{NotCache}
 use Rattle.wb_link.proofs.Link.{Ordered, Turns, Good, Sound, AllSound, Ready}
@@ -43,38 +43,17 @@ landed_desk false s location b o c = desk_same s
 pub write_desk : (s : Shared) (job : Job) (buffer : Content) (location : Option ℕ) (b o : ℕ) (got : Got) → SameDesk s (effect s job buffer (Write_at location b o) got)
 write_desk s job buffer location b o Done = put_sector_desk s location b o (content_for job buffer)
 write_desk s job buffer location b o (Fault choice) = landed_desk choice.landed s location b o (content_for job buffer)
-write_desk s job buffer location b o Lost = desk_same s
-write_desk s job buffer location b o (Flag f) = desk_same s
-write_desk s job buffer location b o (Seen seal) = desk_same s
-write_desk s job buffer location b o (Gave c) = desk_same s
-write_desk s job buffer location b o (Ticket number) = desk_same s
-write_desk s job buffer location b o Served = desk_same s
-write_desk s job buffer location b o Broken = desk_same s
-write_desk s job buffer location b o Short = desk_same s
+write_desk s job buffer location b o got = desk_same s
 
 pub sync_cached_desk : (s : Shared) (job : Job) (buffer : Content) (got : Got) → SameDesk s (effect s job buffer Sync_cache_device got)
 sync_cached_desk s job buffer Done = record { seals = refl; mapping = refl; blocks = refl; committing = refl; committed = refl; running = refl; root_written = refl; fail = refl }
 sync_cached_desk s job buffer (Fault choice) = record { seals = refl; mapping = refl; blocks = refl; committing = refl; committed = refl; running = refl; root_written = refl; fail = refl }
-sync_cached_desk s job buffer Lost = desk_same s
-sync_cached_desk s job buffer (Flag f) = desk_same s
-sync_cached_desk s job buffer (Seen seal) = desk_same s
-sync_cached_desk s job buffer (Gave c) = desk_same s
-sync_cached_desk s job buffer (Ticket number) = desk_same s
-sync_cached_desk s job buffer Served = desk_same s
-sync_cached_desk s job buffer Broken = desk_same s
-sync_cached_desk s job buffer Short = desk_same s
+sync_cached_desk s job buffer got = desk_same s
 
 pub sync_based_desk : (s : Shared) (job : Job) (buffer : Content) (got : Got) → SameDesk s (effect s job buffer Sync_origin_device got)
 sync_based_desk s job buffer Done = record { seals = refl; mapping = refl; blocks = refl; committing = refl; committed = refl; running = refl; root_written = refl; fail = refl }
 sync_based_desk s job buffer (Fault choice) = record { seals = refl; mapping = refl; blocks = refl; committing = refl; committed = refl; running = refl; root_written = refl; fail = refl }
-sync_based_desk s job buffer Lost = desk_same s
-sync_based_desk s job buffer (Flag f) = desk_same s
-sync_based_desk s job buffer (Seen seal) = desk_same s
-sync_based_desk s job buffer (Gave c) = desk_same s
-sync_based_desk s job buffer (Ticket number) = desk_same s
-sync_based_desk s job buffer Served = desk_same s
-sync_based_desk s job buffer Broken = desk_same s
-sync_based_desk s job buffer Short = desk_same s
+sync_based_desk s job buffer got = desk_same s
 
 by_desk : (x : Actor) (s t : Shared) → SameDesk s t → KeepsShared x s t
 by_desk x s t i = same x s t i.seals i.blocks
@@ -110,38 +89,14 @@ ended_turns (Quarantined true) i = absurd (none i)
 order_keeps : (x : Actor) (s : Shared) (p : Order) (m : Locations) (b : Block) → x.order ≡ Some p → KeepsShared x s (record s { mapping = m; blocks = changed s.blocks p.cache b })
 order_keeps x s p m b e = record { seal = λ c n. refl; state = λ h k n r. inl (changed_other s.blocks p.cache k b (λ y. n p e (sym y))) }
 
-begin_keeps : (x : Actor) (s : Shared) (job : Job) (buffer : Content) (ticket : Option ℕ) (got : Got) → KeepsShared x s (effect s job buffer (Begin ticket) got)
-begin_keeps x s job buffer ticket Done = record { seal = λ b n. refl; state = λ h k n r. begun_turns (s.blocks k) r }
-begin_keeps x s job buffer ticket Lost = by_desk x s s (desk_same s)
-begin_keeps x s job buffer ticket (Flag f) = by_desk x s s (desk_same s)
-begin_keeps x s job buffer ticket (Seen seal) = by_desk x s s (desk_same s)
-begin_keeps x s job buffer ticket (Gave c) = by_desk x s s (desk_same s)
-begin_keeps x s job buffer ticket (Ticket number) = by_desk x s s (desk_same s)
-begin_keeps x s job buffer ticket Served = by_desk x s s (desk_same s)
-begin_keeps x s job buffer ticket Broken = by_desk x s s (desk_same s)
-begin_keeps x s job buffer ticket Short = by_desk x s s (desk_same s)
-begin_keeps x s job buffer ticket (Fault choice) = by_desk x s s (desk_same s)
-
-suspend_keeps : (x : Actor) (s : Shared) (job : Job) (buffer : Content) (got : Got) → KeepsShared x s (effect s job buffer Begin_clean got)
-suspend_keeps x s job buffer Done = record { seal = λ b n. refl; state = λ h k n r. begun_turns (s.blocks k) r }
-suspend_keeps x s job buffer Lost = by_desk x s s (desk_same s)
-suspend_keeps x s job buffer (Flag f) = by_desk x s s (desk_same s)
-suspend_keeps x s job buffer (Seen seal) = by_desk x s s (desk_same s)
-suspend_keeps x s job buffer (Gave c) = by_desk x s s (desk_same s)
-suspend_keeps x s job buffer (Ticket number) = by_desk x s s (desk_same s)
-suspend_keeps x s job buffer Served = by_desk x s s (desk_same s)
-suspend_keeps x s job buffer Broken = by_desk x s s (desk_same s)
-suspend_keeps x s job buffer Short = by_desk x s s (desk_same s)
-suspend_keeps x s job buffer (Fault choice) = by_desk x s s (desk_same s)
-
 pub effect_keeps : (x : Actor) (s : Shared) (job : Job) (buffer : Content) (w : Want) (got : Got) → Ready w x s → KeepsShared x s (effect s job buffer w got)
 effect_keeps x s job buffer (Set_seal b seal) got r = record { seal = λ c n. changed_other s.seals b c seal (λ e. n (r ∙ ap (λ v. Owns v) (sym e))); state = λ h k n i. inl refl }
 effect_keeps x s job buffer Set_failed got r = same x s (effect s job buffer Set_failed got) refl refl
 effect_keeps x s job buffer (Write_at location b o) got r = by_desk x s _ (write_desk s job buffer location b o got)
-effect_keeps x s job buffer (Begin ticket) got r = begin_keeps x s job buffer ticket got
+effect_keeps x s job buffer (Begin ticket) Done r = record { seal = λ b n. refl; state = λ h k n r. begun_turns (s.blocks k) r }
 effect_keeps x s job buffer Break_commits got r = same x s (effect s job buffer Break_commits got) refl refl
 effect_keeps x s job buffer Set_suspended got r = same x s (effect s job buffer Set_suspended got) refl refl
-effect_keeps x s job buffer Begin_clean got r = suspend_keeps x s job buffer got
+effect_keeps x s job buffer Begin_clean Done r = record { seal = λ b n. refl; state = λ h k n r. begun_turns (s.blocks k) r }
 effect_keeps x s job buffer Sync_cache_device got r = by_desk x s _ (sync_cached_desk s job buffer got)
 effect_keeps x s job buffer Sync_origin_device got r = by_desk x s _ (sync_based_desk s job buffer got)
 effect_keeps x s job buffer Put_root got r = same x s (effect s job buffer Put_root got) refl refl
@@ -177,12 +132,7 @@ sound_ended (Retained false) m c r k i = i
 
 pub sound_given : (b : Block) (m c r : Locations) (k : ℕ) → Sound b m c r k → Sound (given_back b) m c r k
 sound_given Free m c r k i = i
-sound_given Mapped m c r k i = i
-sound_given Reserved m c r k i = i
-sound_given (Quarantined true) m c r k i = i
-sound_given (Quarantined false) m c r k i = i
-sound_given (Retained true) m c r k i = i
-sound_given (Retained false) m c r k i = i
+sound_given b m c r k i = i
 
 -- the mapping changes, and this block is not named by the new one where it was not by the old one
 sound_moved : (b : Block) (m n c r : Locations) (k : ℕ) → (IsUnnamed m k → IsUnnamed n k) → Sound b m c r k → Sound b n c r k
@@ -219,41 +169,12 @@ unnamed_now m home b k homes e c y = elim (cases_eq c b) [
       let one : Some c ≡ Some b = sym (homes c k there) ∙ homes b k e in let is : c ≡ b = cc in absurd (n is)
 ]
 
-begin_sound : (s : Shared) (job : Job) (buffer : Content) (ticket : Option ℕ) (got : Got) → AllSound s → AllSound (effect s job buffer (Begin ticket) got)
-begin_sound s job buffer ticket Done all k = sound_begun (s.blocks k) s.mapping s.committed s.running k (all k)
-begin_sound s job buffer ticket Lost all k = all k
-begin_sound s job buffer ticket (Flag f) all k = all k
-begin_sound s job buffer ticket (Seen seal) all k = all k
-begin_sound s job buffer ticket (Gave c) all k = all k
-begin_sound s job buffer ticket (Ticket number) all k = all k
-begin_sound s job buffer ticket Served all k = all k
-begin_sound s job buffer ticket Broken all k = all k
-begin_sound s job buffer ticket Short all k = all k
-begin_sound s job buffer ticket (Fault choice) all k = all k
-
-suspend_sound : (s : Shared) (job : Job) (buffer : Content) (got : Got) → AllSound s → AllSound (effect s job buffer Begin_clean got)
-suspend_sound s job buffer Done all k = sound_begun (s.blocks k) s.mapping s.committed s.running k (all k)
-suspend_sound s job buffer Lost all k = all k
-suspend_sound s job buffer (Flag f) all k = all k
-suspend_sound s job buffer (Seen seal) all k = all k
-suspend_sound s job buffer (Gave c) all k = all k
-suspend_sound s job buffer (Ticket number) all k = all k
-suspend_sound s job buffer Served all k = all k
-suspend_sound s job buffer Broken all k = all k
-suspend_sound s job buffer Short all k = all k
-suspend_sound s job buffer (Fault choice) all k = all k
-
 pub effect_sound : (size : ℕ) (x : Actor) (s : Shared) (d : Volume) (job : Job) (buffer : Content) (w : Want) (got : Got) → Good size s d → Ready w x s → AllSound (effect s job buffer w got)
-effect_sound size x s d job buffer (Set_seal b seal) got i r = i.sound
-effect_sound size x s d job buffer Set_failed got i r = i.sound
 effect_sound size x s d job buffer (Write_at location b o) got i r = sound_desk s _ (write_desk s job buffer location b o got) i.sound
-effect_sound size x s d job buffer (Begin ticket) got i r = begin_sound s job buffer ticket got i.sound
-effect_sound size x s d job buffer Break_commits got i r = i.sound
-effect_sound size x s d job buffer Set_suspended got i r = i.sound
-effect_sound size x s d job buffer Begin_clean got i r = suspend_sound s job buffer got i.sound
+effect_sound size x s d job buffer (Begin ticket) Done i r = λ k. sound_begun (s.blocks k) s.mapping s.committed s.running k (i.sound k)
+effect_sound size x s d job buffer Begin_clean Done i r = λ k. sound_begun (s.blocks k) s.mapping s.committed s.running k (i.sound k)
 effect_sound size x s d job buffer Sync_cache_device got i r = sound_desk s _ (sync_cached_desk s job buffer got) i.sound
 effect_sound size x s d job buffer Sync_origin_device got i r = sound_desk s _ (sync_based_desk s job buffer got) i.sound
-effect_sound size x s d job buffer Put_root got i r = i.sound
 effect_sound size x s d job buffer End_running got i r = λ k. sound_ended (s.blocks k) s.mapping s.committed s.running k (i.sound k)
 effect_sound size x s d job buffer (Map_to p) got i r = sound_put s p.cache Mapped (changed s.mapping p.block (Some p.cache)) tt
     (λ j n u. unnamed_put s.mapping p.block j (Some p.cache) (λ e. n (cc)) u) i.sound
@@ -271,35 +192,11 @@ effect_sound size x s d job buffer w got i r = i.sound
 idle_desk : (s t : Shared) → SameDesk s t → (s.committing ≡ false → s.root_written ≡ false) → t.committing ≡ false → t.root_written ≡ false
 idle_desk s t i f e = i.root_written ∙ f (sym i.committing ∙ e)
 
-begin_idle : (s : Shared) (job : Job) (buffer : Content) (ticket : Option ℕ) (got : Got) → (s.committing ≡ false → s.root_written ≡ false) → (effect s job buffer (Begin ticket) got).committing ≡ false → (effect s job buffer (Begin ticket) got).root_written ≡ false
-begin_idle s job buffer ticket Done f e = absurd (cc)
-begin_idle s job buffer ticket Lost f e = f e
-begin_idle s job buffer ticket (Flag g) f e = f e
-begin_idle s job buffer ticket (Seen seal) f e = f e
-begin_idle s job buffer ticket (Gave c) f e = f e
-begin_idle s job buffer ticket (Ticket number) f e = f e
-begin_idle s job buffer ticket Served f e = f e
-begin_idle s job buffer ticket Broken f e = f e
-begin_idle s job buffer ticket Short f e = f e
-begin_idle s job buffer ticket (Fault choice) f e = f e
-
-suspend_idle : (s : Shared) (job : Job) (buffer : Content) (got : Got) → (s.committing ≡ false → s.root_written ≡ false) → (effect s job buffer Begin_clean got).committing ≡ false → (effect s job buffer Begin_clean got).root_written ≡ false
-suspend_idle s job buffer Done f e = absurd (cc)
-suspend_idle s job buffer Lost f e = f e
-suspend_idle s job buffer (Flag g) f e = f e
-suspend_idle s job buffer (Seen seal) f e = f e
-suspend_idle s job buffer (Gave c) f e = f e
-suspend_idle s job buffer (Ticket number) f e = f e
-suspend_idle s job buffer Served f e = f e
-suspend_idle s job buffer Broken f e = f e
-suspend_idle s job buffer Short f e = f e
-suspend_idle s job buffer (Fault choice) f e = f e
-
 pub effect_idle : (x : Actor) (s : Shared) (job : Job) (buffer : Content) (w : Want) (got : Got) → (x.leads ≡ true → s.committing ≡ true) → Ready w x s → (s.committing ≡ false → s.root_written ≡ false) →
     (effect s job buffer w got).committing ≡ false → (effect s job buffer w got).root_written ≡ false
 effect_idle x s job buffer (Write_at location b o) got l r f = idle_desk s _ (write_desk s job buffer location b o got) f
-effect_idle x s job buffer (Begin ticket) got l r f = begin_idle s job buffer ticket got f
-effect_idle x s job buffer Begin_clean got l r f = suspend_idle s job buffer got f
+effect_idle x s job buffer (Begin ticket) Done l r f = λ e. absurd (cc)
+effect_idle x s job buffer Begin_clean Done l r f = λ e. absurd (cc)
 effect_idle x s job buffer Sync_cache_device got l r f = idle_desk s _ (sync_cached_desk s job buffer got) f
 effect_idle x s job buffer Sync_origin_device got l r f = idle_desk s _ (sync_based_desk s job buffer got) f
 effect_idle x s job buffer Put_root got l r f = λ e. let busy = l r in absurd (cc)

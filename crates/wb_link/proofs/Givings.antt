@@ -4,7 +4,7 @@ use Rattle.wb_disk.specs.Device.{Content}
 use Rattle.wb_contents.specs.Volume.{Volume}
 use Rattle.wb_types.specs.declared.mode.Mode.{Mode}
 use Rattle.wb_contents.specs.Acts.{after_all as after_acts}
-use Rattle.wb_link.specs.Tables.{Order, Job, Seal, Answer, Finished, Busy, Failed, Io, Want, Look_fail, Share, Own, Look_seal, Set_seal, Leave, Disown, Set_failed, Set_suspended, Break_commits, Read_at, Write_at, Begin, Begin_clean, Sync_cache_device, Sync_origin_device, Put_root, Sync_metadata, End_running, Make_room, Map_to, Unmap_from, Unmap_plain, Give_up, End, Choice, Got, Done, Lost, Flag, Seen, Gave, Ticket, Served, Broken, Short, Fault, Script, first_of_steps}
+use Rattle.wb_link.specs.Tables.{Order, Job, Seal, Answer, Finished, Want, Look_fail, Share, Own, Look_seal, Set_seal, Leave, Disown, Set_failed, Set_suspended, Break_commits, Read_at, Write_at, Begin, Begin_clean, Sync_cache_device, Sync_origin_device, Put_root, Sync_metadata, End_running, Make_room, Map_to, Unmap_from, Unmap_plain, Give_up, End, Choice, Got, Done, Lost, Flag, Seen, Gave, Ticket, Served, Broken, Short, Fault, Script, first_of_steps}
 use Rattle.wb_link.specs.World.{Serves, Shared, Held, Nothing, Actor, actor_after, newest_at, Gives, effect}
 use Rattle.wb_link.proofs.Link.{Good, Others, MayEnd, Ready, Owes, Right, Goes, Safe, acts_of}
 
@@ -156,15 +156,11 @@ life_on a x s t d e m o l = (o.live ∙ l.0, o.mode ∙ l.1)
 
 pub may_end_on : (a : ℕ) (x : Actor) (s t : Shared) (d e : Volume) (answer : Answer) (held : Held) → Others a x s d t e → MayEnd answer held s → MayEnd answer held t
 may_end_on a x s t d e Finished held o h = h
-may_end_on a x s t d e Busy held o h = elim h [ inl m ↦ inl m | inr f ↦ inr (o.fail f) ]
-may_end_on a x s t d e Failed held o h = elim h [ inl m ↦ inl m | inr f ↦ inr (o.fail f) ]
-may_end_on a x s t d e Io held o h = elim h [ inl m ↦ inl m | inr f ↦ inr (o.fail f) ]
+may_end_on a x s t d e answer held o h = elim h [ inl m ↦ inl m | inr f ↦ inr (o.fail f) ]
 
 pub holds_nothing : (answer : Answer) (s : Shared) → MayEnd answer Nothing s
 holds_nothing Finished s = refl
-holds_nothing Busy s = inl refl
-holds_nothing Failed s = inl refl
-holds_nothing Io s = inl refl
+holds_nothing answer s = inl refl
 
 pub gives_flag_is : (s : Shared) (P : Got → Type 0) → ((f : Bool) → f ≡ s.fail → P (Flag f)) → (got : Got) → Gives s Look_fail got → P got
 gives_flag_is s P p (Flag f) g = p f g

@@ -8,8 +8,11 @@ pub mod Actors
 pub mod Agreeing
 pub mod Copying
 pub mod Steps
-pub mod Aside
 pub mod Givings
+pub mod Calm
+pub mod Committing
+pub mod Migrating
+pub mod Aside
 pub mod Unmapped
 pub mod Reading
 pub mod Writing

@@ -3,11 +3,12 @@ use Rattle.std.proofs.Common.{◌≡◌, ◌⊎◌, inl, inr, ℕ, zero, suc, Bo
 use Rattle.wb_disk.specs.Device.{Content, newest}
 use Rattle.wb_contents.specs.Volume.{Volume, Whole, at_location}
 use Rattle.wb_types.specs.declared.mode.Mode.TheVariants.{Passthrough}
-use Rattle.wb_link.specs.Tables.{Job, Reading, Answer, Finished, Busy, Failed, Io, Want, Look_fail, Share, Look_seal, Leave, Read_at, End, Got, Done, Lost, Flag, Seen, Gave, Fault, Seal, read_each, read_from}
+use Rattle.wb_link.specs.Tables.{Job, Reading, Answer, Finished, Busy, Failed, Io, Want, Look_fail, Share, Look_seal, Leave, Read_at, Got, Done, Lost, Flag, Seen, Gave, Fault, read_each, read_from}
 use Rattle.wb_link.specs.World.{Shared, Held, Nothing, Shares, Actor, newest_at, actor_after}
 use Rattle.wb_link.proofs.Views.{BlockView, block_view}
-use Rattle.wb_link.proofs.Link.{Good, Rests, RestsAt, Receives, ReadsRight, Right, Safe}
-use Rattle.wb_link.proofs.Givings.{at_work, script_of, Comes, holds_nothing, resting_safe, quietly, gives_flag, gives_share, gives_seal, gives_leave, gives_read, gives_end}
+use Rattle.wb_link.proofs.Link.{Good, RestsAt, Receives, ReadsRight, Right, Safe}
+use Rattle.wb_link.proofs.Calm.{rests_on, ending}
+use Rattle.wb_link.proofs.Givings.{at_work, script_of, Comes, holds_nothing, quietly, gives_flag, gives_share, gives_seal, gives_leave, gives_read}
 
 abbrev at : Bool → ℕ → List ℕ → List Want → Answer → Held → Content → Actor
 at past b os steps answer held c = at_work (Reading past b os) steps answer held None false c
@@ -23,15 +24,10 @@ Sharing to v = ((to ≡ v.location) ⊎ ((to ≡ None) × ((k : ℕ) → v.locat
 plain : (a : ℕ) (past : Bool) (b : ℕ) (os : List ℕ) (w : Want) (got : Got) (e : Volume) → ReadsRight (Reading past b os) w got e → Right a (Reading past b os) w got e e
 plain a past b os w got e r = record { reads = r; histories = refl; flushes = tt }
 
-ending : (n size a : ℕ) (past : Bool) (b : ℕ) (os : List ℕ) (answer : Answer) (c : Content) (s : Shared) (d : Volume) → Safe n size a (at past b os [] answer Nothing c) s d
-ending zero size a past b os answer c s d = tt
-ending (suc n) size a past b os answer c s d = λ t e got o g v r. gives_end t answer (λ k. Result n size a (Reading past b os) [] answer Nothing c t e k)
-    (quietly size a (λ y u f. Safe n size a y u f) _ _ (End answer) Done t e g (holds_nothing answer t) tt (plain a past b os (End answer) Done e tt) (resting_safe n size a Nothing None false c t e)) got v
-
 leaving : (n size a : ℕ) (past : Bool) (b : ℕ) (os : List ℕ) (answer : Answer) (c : Content) (s : Shared) (d : Volume) → Safe n size a (at past b os (Leave b ∷ []) answer (Shares b) c) s d
 leaving zero size a past b os answer c s d = tt
 leaving (suc n) size a past b os answer c s d = λ t e got o g v r. gives_leave t b (λ k. Result n size a (Reading past b os) (Leave b ∷ []) answer (Shares b) c t e k)
-    (quietly size a (λ y u f. Safe n size a y u f) _ _ (Leave b) Done t e g refl tt (plain a past b os (Leave b) Done e tt) (ending n size a past b os answer c t e)) got v
+    (quietly size a (λ y u f. Safe n size a y u f) _ _ (Leave b) Done t e g refl tt (plain a past b os (Leave b) Done e tt) (ending n size a (Reading past b os) tt answer Nothing None c t e (holds_nothing answer t))) got v
 
 -- the sector is the last write
 latest : (size b o : ℕ) (to : Option ℕ) (t : Shared) (e : Volume) → Good size t e → Sharing to (block_view e b) → newest_at t to b o ≡ newest (e.histories b o)
@@ -63,7 +59,7 @@ reading (suc n) size a past b all (q ∷ os) to c s d k = λ t e got o g v r.
 sealed : (n size a : ℕ) (past : Bool) (b : ℕ) (os : List ℕ) (c : Content) (s : Shared) (d : Volume) → (past ≡ true → d.mode ≡ Passthrough) → RestsAt s d b → Safe n size a (at past b os (Look_seal b ∷ []) Finished (Shares b) c) s d
 sealed zero size a past b os c s d l k = tt
 sealed (suc n) size a past b os c s d l k = λ t e got o g v r.
-    let now : RestsAt t e b = subst (λ (w : BlockView). Rests (t.seals b) w) (sym (o.block b refl)) (subst (λ (w : Seal). Rests w (block_view d b)) (sym (o.seal b refl)) k) in
+    let now : RestsAt t e b = rests_on a b _ s t d e o refl k in
     gives_seal t b (λ w. Result n size a (Reading past b os) (Look_seal b ∷ []) Finished (Shares b) c t e w)
     (λ seal is. quietly size a (λ y u f. Safe n size a y u f) _ _ (Look_seal b) (Seen seal) t e g tt tt (plain a past b os (Look_seal b) (Seen seal) e tt) (reading n size a past b os os (read_from past seal.location) c t e (shared size b past seal.location t e g (λ p. o.mode ∙ l p) (ap (λ w. w.location) is ∙ now.location) now.whole)))
     got v
@@ -73,7 +69,7 @@ sharing zero size a past b os c s d l = tt
 sharing (suc n) size a past b os c s d l = λ t e got o g v r.
     gives_share t b (λ w. Receives (at past b os (Share b ∷ Look_seal b ∷ []) Finished Nothing c) (Reading past b os) (Share b) w t e → Result n size a (Reading past b os) (Share b ∷ Look_seal b ∷ []) Finished Nothing c t e w)
     (λ k. quietly size a (λ y u f. Safe n size a y u f) _ _ (Share b) Done t e g refl tt (plain a past b os (Share b) Done e tt) (sealed n size a past b os c t e (λ p. o.mode ∙ l p) k))
-    (λ k. quietly size a (λ y u f. Safe n size a y u f) _ _ (Share b) Lost t e g refl tt (plain a past b os (Share b) Lost e tt) (ending n size a past b os Busy c t e))
+    (λ k. quietly size a (λ y u f. Safe n size a y u f) _ _ (Share b) Lost t e g refl tt (plain a past b os (Share b) Lost e tt) (ending n size a (Reading past b os) tt Busy Nothing None c t e (inl refl)))
     got v r
 
 pub reading_safe : (n size a : ℕ) (past : Bool) (b : ℕ) (os : List ℕ) (c : Content) (s : Shared) (d : Volume) → (past ≡ true → d.mode ≡ Passthrough) → Safe n size a (at past b os (Look_fail ∷ Share b ∷ Look_seal b ∷ []) Finished Nothing c) s d
@@ -83,5 +79,5 @@ reading_safe (suc n) size a past b os c s d l = λ t e got o g v r.
     (λ f. quietly size a (λ y u f. Safe n size a y u f) _ _ Look_fail (Flag f) t e g tt tt (plain a past b os Look_fail (Flag f) e tt) (on f n size a past b os c t e (λ p. o.mode ∙ l p))) got v
   where
     on : (f : Bool) (n size a : ℕ) (past : Bool) (b : ℕ) (os : List ℕ) (c : Content) (t : Shared) (e : Volume) → (past ≡ true → e.mode ≡ Passthrough) → Safe n size a (actor_after (at past b os (Look_fail ∷ Share b ∷ Look_seal b ∷ []) Finished Nothing c) (script_of (Reading past b os) (Look_fail ∷ Share b ∷ Look_seal b ∷ []) Finished) Look_fail (Flag f)) t e
-    on true n size a past b os c t e l = ending n size a past b os Failed c t e
+    on true n size a past b os c t e l = ending n size a (Reading past b os) tt Failed Nothing None c t e (inl refl)
     on false n size a past b os c t e l = sharing n size a past b os c t e l

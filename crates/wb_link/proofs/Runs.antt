@@ -5,7 +5,7 @@ use Rattle.wb_contents.specs.Volume.{Volume, changed}
 use Rattle.wb_contents.specs.Acts.{Act, after_all as after_acts}
 use Rattle.wb_contents.specs.Conditions.{IsRun as IsActs}
 use Rattle.wb_contents.proofs.Positions.{changed_same, changed_other}
-use Rattle.wb_link.specs.Tables.{Want, End, Got, Gave, Job, Flushing, Suspending, Script, want, after, table, Reading, Writing, Writing_through, Promoting, Returning, Invalidating, Read_at}
+use Rattle.wb_link.specs.Tables.{Want, End, Got, Gave, Job, Flushing, Suspending, Script, want, after, table, Reading, Read_at}
 use Rattle.wb_link.specs.World.{Release, Held, effect, Actor, World, Record, Start, Step, actor_after, task_after, given, resting, after_record, May, MayStep, Again}
 use Rattle.wb_link.specs.Clerk.{Notes, note, histories_after, noted_step, entered_after, Entry, job_noted, GivesLatest, IsRight, opened}
 use Rattle.wb_link.proofs.Link.{Linked, acts_of, start_acts, Ready, ReadsRight}
@@ -36,14 +36,8 @@ pub record Moves (size : ℕ) (w : World) (d : Volume) (n : Notes) (r : Record) 
   pub right : IsRight n r
 
 start_books : (a : ℕ) (d : Volume) (job : Job) → (after_acts d (start_acts a job)).histories ≡ d.histories
-start_books a d (Reading past b os) = refl
-start_books a d (Writing past b os c) = refl
-start_books a d (Writing_through b os c) = refl
-start_books a d (Invalidating b) = refl
 start_books a d (Flushing o) = refl
-start_books a d Suspending = refl
-start_books a d (Promoting p os) = refl
-start_books a d (Returning leaves p os) = refl
+start_books a d job = refl
 
 -- a task goes on with its job, or it is answered
 same_job : (script : Script) (w : Want) (got : Got) (later : Script) → task_after script w got ≡ Some later → (job_noted script.job w ≡ Some later.job) × (later.job ≡ script.job)

@@ -1,6 +1,6 @@
 -- A start of a task: what is known between two steps is known after it, and all that is left is safe. The one location
 -- that names every task.
-use Rattle.std.proofs.Common.{◌≡◌, ◌≢◌, ◌≤◌, ◌+◌, ◌⊎◌, inl, inr, ℕ, Bool, true, false, ◌∷◌, Option, Some, None, refl, sym, ap, subst, ◌∙◌, arith, slice_get, slice_set}
+use Rattle.std.proofs.Common.{◌≡◌, ◌≢◌, ◌≤◌, ◌+◌, ◌⊎◌, inl, inr, ℕ, Bool, true, false, List, ◌∷◌, Option, Some, None, refl, sym, ap, subst, ◌∙◌, arith, slice_get, slice_set}
 use Rattle.std.proofs.lemmas.Bool.{cases_eq}
 use Rattle.wb_disk.specs.Device.{Content}
 use Rattle.wb_contents.specs.Volume.{Volume, Locations, changed}
@@ -9,7 +9,7 @@ use Rattle.wb_contents.specs.Acts.{after_all as after_acts}
 use Rattle.wb_contents.specs.Conditions.{IsRun as IsActs}
 use Rattle.wb_contents.proofs.Positions.{changed_same, changed_other}
 use Rattle.wb_link.specs.Tables.{Order, Job, Reading, Writing, Writing_through, Flushing, Suspending, Promoting, Returning, Invalidating, Seal, Finished, Look_fail, acquire, Script}
-use Rattle.wb_link.specs.World.{job_alone, Within, Covers, Block, Free, Mapped, Reserved, Retained, Shared, Nothing, Owns, Actor, World, Start, reserved, order_of, given, start_actor, Apart, MayStart, MayBegin, after_record, drops, job_drops, Again, again_actor, aside, taken, MayAgain, MayRepeat}
+use Rattle.wb_link.specs.World.{IsFree, job_alone, Within, Covers, Block, Free, Mapped, Reserved, Retained, Shared, Nothing, Owns, Actor, World, Start, reserved, order_of, given, start_actor, Apart, MayStart, MayBegin, after_record, drops, job_drops, Again, again_actor, aside, taken, MayAgain, MayRepeat}
 use Rattle.wb_link.proofs.Views.{block_view}
 use Rattle.wb_link.proofs.Acts.{Keeps}
 use Rattle.wb_link.proofs.Link.{Ordered, Turns, SetAside, Agrees, Placing, Good, Sound, AllSound, Rests, Safe, Disjoint, Unowned, Linked, AllMine, start_acts}
@@ -69,6 +69,23 @@ record Reserves (size a : ℕ) (x : Actor) (job : Job) (s t : Shared) (d e : Vol
   placed : (p : Order) → order_of job ≡ Some p → Placing t p
   stands : (p : Order) → order_of job ≡ Some p → Ordered (t.blocks p.cache)
 
+-- most change nothing
+unmoved : (size a : ℕ) (x : Actor) (job : Job) (s : Shared) (d e : Volume) → Agrees s e → AllSound s → Startable size a job s e → ((p : Order) → order_of job ≡ Some p → Placing s p) → ((p : Order) → order_of job ≡ Some p → Ordered (s.blocks p.cache)) → Reserves size a x job s s d e
+unmoved size a x job s d e agrees sound startable placed stands = record {
+  agrees = agrees;
+  sound = sound;
+  seals = refl;
+  committing = refl;
+  root_written = refl;
+  fail = refl;
+  keeps = record { seal = λ b n. refl; state = λ h k n r. inl refl };
+  startable = startable;
+  turns = λ k r. inl refl;
+  mapping = refl;
+  placed = placed;
+  stands = stands;
+}
+
 sound_free : (b : Block) (m c r : Locations) (k : ℕ) → b ≡ Free → Sound b m c r k → Sound Reserved m c r k
 sound_free b m c r k e i = subst (λ (v : Block). Sound v m c r k) e i
 
@@ -78,39 +95,13 @@ not_free b e (inl (inr f)) = absurd (cc)
 not_free b e (inr f) = let bad : Free ≡ Retained f.0 = sym e ∙ f.1 in absurd (cc)
 
 reserves : (size : ℕ) (w : World) (d : Volume) (a : ℕ) (x : Actor) (job : Job) → Good size w.shared d → (w.shared.fail ≡ false → d.live ≡ true) → MayStart size w job → Reserves size a x job w.shared (reserved w.shared job) d (after_acts d (start_acts a job))
-reserves size w d a x (Reading false b os) g l m = record { agrees = g.agrees; sound = g.sound; seals = refl; committing = refl; root_written = refl; fail = refl; keeps = record { seal = λ b n. refl; state = λ h k n r. inl refl }; turns = λ k r. inl refl; startable = λ f. absurd (cc); mapping = refl; placed = λ p e. absurd (cc); stands = λ p e. absurd (cc) }
-reserves size w d a x (Reading true b os) g l m = record { agrees = g.agrees; sound = g.sound; seals = refl; committing = refl; root_written = refl; fail = refl; keeps = record { seal = λ b n. refl; state = λ h k n r. inl refl }; turns = λ k r. inl refl; startable = λ f. sym g.agrees.mode ∙ m.1; mapping = refl; placed = λ p e. absurd (cc); stands = λ p e. absurd (cc) }
-reserves size w d a x (Writing past b os c) g l m = record { agrees = g.agrees; sound = g.sound; seals = refl; committing = refl; root_written = refl; fail = refl; keeps = record { seal = λ b n. refl; state = λ h k n r. inl refl }; turns = λ k r. inl refl; startable = (m.0, sym g.agrees.mode ∙ m.1); mapping = refl; placed = λ p e. absurd (cc); stands = λ p e. absurd (cc) }
-reserves size w d a x (Writing_through b os c) g l m = record { agrees = g.agrees; sound = g.sound; seals = refl; committing = refl; root_written = refl; fail = refl; keeps = record { seal = λ b n. refl; state = λ h k n r. inl refl }; turns = λ k r. inl refl; startable = (m.0, sym g.agrees.mode ∙ m.1); mapping = refl; placed = λ p e. absurd (cc); stands = λ p e. absurd (cc) }
-reserves size w d a x (Invalidating b) g l m = record { agrees = g.agrees; sound = g.sound; seals = refl; committing = refl; root_written = refl; fail = refl; keeps = record { seal = λ b n. refl; state = λ h k n r. inl refl }; turns = λ k r. inl refl; startable = sym g.agrees.mode ∙ m; mapping = refl; placed = λ p e. absurd (cc); stands = λ p e. absurd (cc) }
-reserves size w d a x (Flushing q) g l m = record {
-  agrees = asked_agrees w.shared d a g.agrees;
-  sound = g.sound;
-  seals = refl;
-  committing = refl;
-  root_written = refl;
-  fail = refl;
-  keeps = record { seal = λ b n. refl; state = λ h k n r. inl refl };
-  turns = λ k r. inl refl;
-  startable = let e = changed_same d.ticket a (d.began + 1) in omega (arith, e);
-  mapping = refl;
-  placed = λ p e. absurd (cc);
-  stands = λ p e. absurd (cc);
-}
-reserves size w d a x Suspending g l m = record {
-  agrees = asked_agrees w.shared d a g.agrees;
-  sound = g.sound;
-  seals = refl;
-  committing = refl;
-  root_written = refl;
-  fail = refl;
-  keeps = record { seal = λ b n. refl; state = λ h k n r. inl refl };
-  turns = λ k r. inl refl;
-  startable = (let e = changed_same d.ticket a (d.began + 1) in omega (arith, e), l);
-  mapping = refl;
-  placed = λ p e. absurd (cc);
-  stands = λ p e. absurd (cc);
-}
+reserves size w d a x (Reading false b os) g l m = unmoved size a x _ w.shared d d g.agrees g.sound (λ f. absurd (cc)) (λ p e. absurd (cc)) (λ p e. absurd (cc))
+reserves size w d a x (Reading true b os) g l m = unmoved size a x _ w.shared d d g.agrees g.sound (λ f. sym g.agrees.mode ∙ m.1) (λ p e. absurd (cc)) (λ p e. absurd (cc))
+reserves size w d a x (Writing past b os c) g l m = unmoved size a x _ w.shared d d g.agrees g.sound (m.0, sym g.agrees.mode ∙ m.1) (λ p e. absurd (cc)) (λ p e. absurd (cc))
+reserves size w d a x (Writing_through b os c) g l m = unmoved size a x _ w.shared d d g.agrees g.sound (m.0, sym g.agrees.mode ∙ m.1) (λ p e. absurd (cc)) (λ p e. absurd (cc))
+reserves size w d a x (Invalidating b) g l m = unmoved size a x _ w.shared d d g.agrees g.sound (sym g.agrees.mode ∙ m) (λ p e. absurd (cc)) (λ p e. absurd (cc))
+reserves size w d a x (Flushing q) g l m = unmoved size a x _ w.shared d _ (asked_agrees w.shared d a g.agrees) g.sound (let e = changed_same d.ticket a (d.began + 1) in omega (arith, e)) (λ p e. absurd (cc)) (λ p e. absurd (cc))
+reserves size w d a x Suspending g l m = unmoved size a x _ w.shared d _ (asked_agrees w.shared d a g.agrees) g.sound (let e = changed_same d.ticket a (d.began + 1) in omega (arith, e), l) (λ p e. absurd (cc)) (λ p e. absurd (cc))
 reserves size w d a x (Promoting p os) g l m = record {
   agrees = blocks_agrees w.shared d _ g.agrees;
   sound = sound_put w.shared p.cache Reserved w.shared.mapping (sound_free (w.shared.blocks p.cache) w.shared.mapping w.shared.committed w.shared.running p.cache m.5 (g.sound p.cache)) (λ j n u. u) g.sound;
@@ -128,42 +119,21 @@ reserves size w d a x (Promoting p os) g l m = record {
   placed = λ q e. let same : p ≡ q = cc in subst (λ (v : Order). Placing (reserved w.shared (Promoting p os)) v) same (λ f. m.4, λ f. let was = changed_same w.shared.blocks p.cache Reserved in absurd (cc), λ f. m.4, m.6);
   stands = λ q e. inl (inl (let same : p ≡ q = cc in ap (λ (v : Order). changed w.shared.blocks p.cache Reserved v.cache) (sym same) ∙ changed_same w.shared.blocks p.cache Reserved));
 }
-reserves size w d a x (Returning leaves p os) g l m = record {
-  agrees = g.agrees;
-  sound = g.sound;
-  seals = refl;
-  committing = refl;
-  root_written = refl;
-  fail = refl;
-  keeps = record { seal = λ b n. refl; state = λ h k n r. inl refl };
-  turns = λ k r. inl refl;
-  startable = (m.0, m.1, sym (ap (λ f. f p.block) g.agrees.mapping) ∙ m.4);
-  mapping = refl;
-  placed = λ q e. let same : p ≡ q = cc in subst (λ (v : Order). Placing w.shared v) same (λ f. let was = m.5 in absurd (cc), λ f. m.4, λ f. let was : Mapped ≡ Retained f.0 = sym m.5 ∙ f.1 in absurd (cc), m.6);
-  stands = λ q e. inl (inr (let same : p ≡ q = cc in ap (λ (v : Order). w.shared.blocks v.cache) (sym same) ∙ m.5));
-}
+reserves size w d a x (Returning leaves p os) g l m = unmoved size a x _ w.shared d d g.agrees g.sound (m.0, m.1, sym (ap (λ f. f p.block) g.agrees.mapping) ∙ m.4)
+    (λ q e. let same : p ≡ q = cc in subst (λ (v : Order). Placing w.shared v) same (λ f. let was = m.5 in absurd (cc), λ f. m.4, λ f. let was : Mapped ≡ Retained f.0 = sym m.5 ∙ f.1 in absurd (cc), m.6))
+    (λ q e. inl (inr (let same : p ≡ q = cc in ap (λ (v : Order). w.shared.blocks v.cache) (sym same) ∙ m.5)))
 
 -- its order is apart from all others
 ungiven : (size : ℕ) (w : World) (job : Job) → MayStart size w job → (b : ℕ) (y : Actor) (p q : Order) → slice_get w.actors b ≡ Some y → order_of job ≡ Some p → y.order ≡ Some q → Apart q p
-ungiven size w (Reading past b os) m k y p q g e f = absurd (cc)
-ungiven size w (Writing past b os c) m k y p q g e f = absurd (cc)
-ungiven size w (Writing_through b os c) m k y p q g e f = absurd (cc)
-ungiven size w (Invalidating b) m k y p q g e f = absurd (cc)
-ungiven size w (Flushing o) m k y p q g e f = absurd (cc)
-ungiven size w Suspending m k y p q g e f = absurd (cc)
 ungiven size w (Promoting o os) m k y p q g e f = let same : o ≡ p = cc in subst (λ (v : Order). Apart q v) same (m.2.0 k y q g f)
 ungiven size w (Returning leaves o os) m k y p q g e f = let same : o ≡ p = cc in subst (λ (v : Order). Apart q v) same (m.2.0 k y q g f)
+ungiven size w job m k y p q g e f = absurd (cc)
 
 -- and from all that are aside
 unwaiting : (size : ℕ) (w : World) (job : Job) → MayStart size w job → (k : ℕ) (p q : Order) → w.waiting k ≡ Some q → order_of job ≡ Some p → Apart q p
-unwaiting size w (Reading past b os) m k p q g e = absurd (cc)
-unwaiting size w (Writing past b os c) m k p q g e = absurd (cc)
-unwaiting size w (Writing_through b os c) m k p q g e = absurd (cc)
-unwaiting size w (Invalidating b) m k p q g e = absurd (cc)
-unwaiting size w (Flushing o) m k p q g e = absurd (cc)
-unwaiting size w Suspending m k p q g e = absurd (cc)
 unwaiting size w (Promoting o os) m k p q g e = let same : o ≡ p = cc in subst (λ (v : Order). Apart q v) same (m.2.1 k q g)
 unwaiting size w (Returning leaves o os) m k p q g e = let same : o ≡ p = cc in subst (λ (v : Order). Apart q v) same (m.2.1 k q g)
+unwaiting size w job m k p q g e = absurd (cc)
 
 -- and from its actor's, which is put aside then
 aside_ungiven : (size : ℕ) (w : World) (a : ℕ) (x : Actor) (job : Job) → MayStart size w job → slice_get w.actors a ≡ Some x → (k : ℕ) (p q : Order) → aside w.waiting x.order k ≡ Some p → order_of job ≡ Some q → Apart q p
@@ -173,24 +143,14 @@ aside_ungiven size w a x job m here k p q e f = elim (aside_cases w.waiting x.or
 ]
 
 pub start_run : (a : ℕ) (d : Volume) (job : Job) → IsActs d (start_acts a job)
-start_run a d (Reading past b os) = tt
-start_run a d (Writing past b os c) = tt
-start_run a d (Writing_through b os c) = tt
-start_run a d (Invalidating b) = tt
 start_run a d (Flushing o) = (tt, tt)
 start_run a d Suspending = (tt, tt)
-start_run a d (Promoting p os) = tt
-start_run a d (Returning leaves p os) = tt
+start_run a d job = tt
 
 start_mine : (size a : ℕ) (x : Actor) (busy : Bool) (job : Job) → x.task ≡ None → AllMine size a x busy (start_acts a job)
-start_mine size a x busy (Reading past b os) f = tt
-start_mine size a x busy (Writing past b os c) f = tt
-start_mine size a x busy (Writing_through b os c) f = tt
-start_mine size a x busy (Invalidating b) f = tt
 start_mine size a x busy (Flushing o) f = ((refl, f), tt)
 start_mine size a x busy Suspending f = ((refl, f), tt)
-start_mine size a x busy (Promoting p os) f = tt
-start_mine size a x busy (Returning leaves p os) f = tt
+start_mine size a x busy job f = tt
 
 -- orders outside passthrough alone, unmapping without one in it alone
 start_order : (size : ℕ) (w : World) (job : Job) (p : Order) → MayStart size w job → order_of job ≡ Some p → w.shared.mode ≢ Passthrough
@@ -214,6 +174,22 @@ started w a x job = record { shared = reserved w.shared job; actors = slice_set 
 pub start_is : (size : ℕ) (w : World) (a : ℕ) (job : Job) (x : Actor) → MayBegin size w a job x → after_record w (Start a job) ≡ started w a x job
 start_is size w a job x m = ap (λ o. start_actor w a o job) m.actor
 
+-- its task is safe, and so it is on a failed target, whatever it has kept
+begins_safe : (n size a : ℕ) (x : Actor) (job : Job) (t : Shared) (e : Volume) → IsFree t x → Startable size a job t e → Safe n size a (given x job) t e
+begins_safe n size a x job t e free startable = elim free [
+  | inl f ↦ subst (λ (v : Actor). Safe n size a v t e) (begun f.0 f.1) (job_safe n size a job x.buffer t e startable)
+  | inr f ↦ kept_safe job n size a x.held (order_of job) x.leads x.buffer t e f
+] where
+  begun : x.held ≡ Nothing → x.leads ≡ false → beginner job x.buffer ≡ given x job
+  begun h l = λ j. record { task = Some (record { job = job; steps = Look_fail ∷ acquire job; answer = Finished }); held = sym h j; order = order_of job; leads = sym l j; buffer = x.buffer }
+
+-- it owns what it has kept
+was_unowned : (actors : List Actor) (a : ℕ) (x : Actor) (job : Job) (b : ℕ) → slice_get actors a ≡ Some x → Unowned (slice_set actors a (given x job)) b → Unowned actors b
+was_unowned actors a x job b here u c z g = elim (cases_eq c a) [
+  | inl is ↦ let now : Some x ≡ Some z = sym here ∙ ap (λ k. slice_get actors k) (sym is) ∙ g in let same : x ≡ z = cc in subst (λ (v : Actor). v.held ≢ Owns b) same (u a (given x job) (get_set_same actors a x (given x job) here))
+  | inr o ↦ u c z (get_set_other actors a c _ o ∙ g)
+]
+
 pub start_linked : (size : ℕ) (w : World) (d : Volume) (a : ℕ) (x : Actor) (job : Job) → Linked size w d → MayBegin size w a job x → Linked size (started w a x job) (after_acts d (start_acts a job))
 start_linked size w d a x job i m = record {
   good = record {
@@ -223,7 +199,7 @@ start_linked size w d a x job i m = record {
     sound = res.sound;
     idle = λ e. res.root_written ∙ i.good.idle (sym res.committing ∙ e);
   };
-  rests = λ b u. subst (λ (v : _). Rests (t.seals b) v) (sym (done.keeps.block b (u a y (get_set_same w.actors a x y m.actor)))) (subst (λ (f : ℕ → Seal). Rests (f b) (block_view d b)) (sym res.seals) (i.rests b (was_unowned b u)));
+  rests = λ b u. subst (λ (v : _). Rests (t.seals b) v) (sym (done.keeps.block b (u a y (get_set_same w.actors a x y m.actor)))) (subst (λ (f : ℕ → Seal). Rests (f b) (block_view d b)) (sym res.seals) (i.rests b (was_unowned w.actors a x job b m.actor u)));
   disjoint = λ b c z v g h n. in_set w.actors a x y m.actor (λ k p. (q : Actor) (j : ℕ) → slice_get (slice_set w.actors a y) j ≡ Some q → k ≢ j → Disjoint p q)
       (λ q j f k. in_set w.actors a x y m.actor (λ l r. a ≢ l → Disjoint y r) (λ bad. absurd (bad refl))
       (λ l r o f' k'. record { held = (i.disjoint a l x r m.actor f' k').held; order = λ p q e f. apart_back q p (ungiven size w job m.may l r p q f' e f); leads = (i.disjoint a l x r m.actor f' k').leads; alone = λ e. start_alone size w job m.may e l r f' }) j q f k)
@@ -239,7 +215,7 @@ start_linked size w d a x job i m = record {
       (λ k v o f q r. let was = i.stands k v q f r in turned (s.blocks q.cache) (t.blocks q.cache) was (res.turns q.cache was))
       b z g p;
   safe = λ b z n g. in_set w.actors a x y m.actor (λ k v. Safe n size k v t e)
-      (begins_safe n)
+      (begins_safe n size a x job t e (elim m.free [ inl f ↦ inl f | inr f ↦ inr (res.fail ∙ f) ]) res.startable)
       (λ k v o f. safe_on n size k v s t d e (others_of size a k x v s t d e o i.good (i.disjoint a k x v m.actor f (λ z. o (sym z))) (m.nobody_alone a x m.actor) (m.nobody_alone k v f) (λ h. res.fail ∙ h) (λ q r. idle_drops) (i.leads k v f) (λ q r. i.stands k v q f r) res.keeps done.keeps) (i.safe k v n f))
       b z g;
   placed = λ b z p g. in_set w.actors a x y m.actor (λ k v. (q : Order) → v.order ≡ Some q → Placing t q)
@@ -287,23 +263,8 @@ start_linked size w d a x job i m = record {
   set : SetAside w.shared (slice_set w.actors a (given x job)) (aside w.waiting x.order) d.mode
   set = put_aside size w d a x (given x job) i m.actor (λ k p q e f. aside_ungiven size w a x job m.may m.actor k p q e f)
 
-  begins_safe : (n : ℕ) → Safe n size a (given x job) (reserved w.shared job) (after_acts d (start_acts a job))
-  begins_safe n = elim m.free [
-    | inl f ↦ subst (λ (v : Actor). Safe n size a v (reserved w.shared job) (after_acts d (start_acts a job))) (begun f.0 f.1) (job_safe n size a job x.buffer (reserved w.shared job) (after_acts d (start_acts a job)) res.startable)
-    | inr f ↦ kept_safe job n size a x.held (order_of job) x.leads x.buffer (reserved w.shared job) (after_acts d (start_acts a job)) (res.fail ∙ f)
-  ]
-    where
-      begun : x.held ≡ Nothing → x.leads ≡ false → beginner job x.buffer ≡ given x job
-      begun h l = λ j. record { task = Some (record { job = job; steps = Look_fail ∷ acquire job; answer = Finished }); held = sym h j; order = order_of job; leads = sym l j; buffer = x.buffer }
-
   idle_drops : drops x.task ≡ false
   idle_drops = ap (λ (o : Option Script). drops o) m.task
-
-  was_unowned : (b : ℕ) → Unowned (slice_set w.actors a (given x job)) b → Unowned w.actors b
-  was_unowned b u c z g = elim (cases_eq c a) [
-    | inl is ↦ let now : Some x ≡ Some z = sym m.actor ∙ ap (λ k. slice_get w.actors k) (sym is) ∙ g in let same : x ≡ z = cc in subst (λ (v : Actor). v.held ≢ Owns b) same (u a (given x job) (get_set_same w.actors a x (given x job) m.actor))
-    | inr o ↦ u c z (get_set_other w.actors a c _ o ∙ g)
-  ]
 
 pub start_keeps : (size : ℕ) (w : World) (d : Volume) (a : ℕ) (x : Actor) (job : Job) → Linked size w d → MayBegin size w a job x → Keeps a x w.shared.committing d (after_acts d (start_acts a job))
 start_keeps size w d a x job i m = let done = acted size a x w.shared.committing d (start_acts a job) i.good.kept i.good.bounded (start_run a d job) (start_mine size a x w.shared.committing job m.task) in done.keeps
@@ -341,7 +302,7 @@ again_acted size w d a x job i m = acted size a x w.shared.committing d (start_a
 pub again_linked : (size : ℕ) (w : World) (d : Volume) (a : ℕ) (x : Actor) (job : Job) → Linked size w d → MayRepeat size w a job x → Linked size (repeated w a x job) (after_acts d (start_acts a job))
 again_linked size w d a x job i m = record {
   good = record { kept = done.kept; agrees = again_agrees size a w.shared d job m.may i.good.agrees; bounded = done.bounded; sound = i.good.sound; idle = i.good.idle };
-  rests = λ b u. subst (λ (v : _). Rests (w.shared.seals b) v) (sym (done.keeps.block b (u a y (get_set_same w.actors a x y m.actor)))) (i.rests b (was_unowned b u));
+  rests = λ b u. subst (λ (v : _). Rests (w.shared.seals b) v) (sym (done.keeps.block b (u a y (get_set_same w.actors a x y m.actor)))) (i.rests b (was_unowned w.actors a x job b m.actor u));
   disjoint = λ b c z v g h n. in_set w.actors a x y m.actor (λ k p. (q : Actor) (j : ℕ) → slice_get (slice_set w.actors a y) j ≡ Some q → k ≢ j → Disjoint p q)
       (λ q j f k. in_set w.actors a x y m.actor (λ l r. a ≢ l → Disjoint y r) (λ bad. absurd (bad refl))
       (λ l r o f' k'. let old = i.disjoint a l x r m.actor f' k' in record { held = old.held; order = λ p q e f. apart_back q p (set_out.apart p.cache p l r q (is_out p e) (there l r (λ z. k' (sym z)) f') f); leads = old.leads; alone = λ e. let not = only.0 in absurd (cc) }) j q f k)
@@ -361,7 +322,7 @@ again_linked size w d a x job i m = record {
   aside = record { at = set.at; stands = set.stands; placed = set.placed; apart = set.apart; each = set.each; modes = λ k p f h. set.modes k p f (sym done.keeps.mode ∙ h) };
   living = λ nobody f. done.keeps.live (m.nobody_alone a x m.actor) ∙ i.living m.nobody_alone f;
   safe = λ b z n g. in_set w.actors a x y m.actor (λ k v. Safe n size k v w.shared e)
-      (begins_safe n)
+      (begins_safe n size a x job w.shared e m.free startable)
       (λ k v o f. safe_on n size k v w.shared w.shared d e (others_of size a k x v w.shared w.shared d e o i.good (i.disjoint a k x v m.actor f (λ z. o (sym z))) (m.nobody_alone a x m.actor) (m.nobody_alone k v f) (λ h. h) (λ q r. idle_drops) (i.leads k v f) (λ q r. i.stands k v q f r) (record { seal = λ b n. refl; state = λ h k n r. inl refl }) done.keeps) (i.safe k v n f))
       b z g;
 } where
@@ -395,18 +356,3 @@ again_linked size w d a x job i m = record {
 
   startable : Startable size a job w.shared (after_acts d (start_acts a job))
   startable = again_startable size a w.shared d job m.order.0 i.good.agrees m.may m.order.1 (set_out.placed m.order.0.cache m.order.0 m.order.2)
-
-  begins_safe : (n : ℕ) → Safe n size a (given x job) w.shared (after_acts d (start_acts a job))
-  begins_safe n = elim m.free [
-    | inl f ↦ subst (λ (v : Actor). Safe n size a v w.shared (after_acts d (start_acts a job))) (begun f.0 f.1) (job_safe n size a job x.buffer w.shared (after_acts d (start_acts a job)) startable)
-    | inr f ↦ kept_safe job n size a x.held (order_of job) x.leads x.buffer w.shared (after_acts d (start_acts a job)) f
-  ]
-    where
-      begun : x.held ≡ Nothing → x.leads ≡ false → beginner job x.buffer ≡ given x job
-      begun h l = λ j. record { task = Some (record { job = job; steps = Look_fail ∷ acquire job; answer = Finished }); held = sym h j; order = order_of job; leads = sym l j; buffer = x.buffer }
-
-  was_unowned : (b : ℕ) → Unowned (slice_set w.actors a (given x job)) b → Unowned w.actors b
-  was_unowned b u c z g = elim (cases_eq c a) [
-    | inl is ↦ let now : Some x ≡ Some z = sym m.actor ∙ ap (λ k. slice_get w.actors k) (sym is) ∙ g in let same : x ≡ z = cc in subst (λ (v : Actor). v.held ≢ Owns b) same (u a (given x job) (get_set_same w.actors a x (given x job) m.actor))
-    | inr o ↦ u c z (get_set_other w.actors a c _ o ∙ g)
-  ]

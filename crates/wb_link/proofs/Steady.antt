@@ -2,7 +2,7 @@
 use Rattle.std.proofs.Common.{◌≡◌, ◌≤◌, ◌<◌, inr, ℕ, Bool, true, false, cond, Option, Some, None, List, [], ◌∷◌, refl, ap, ◌∙◌, arith}
 use Rattle.wb_disk.specs.Device.{Content, History, newest, only}
 use Rattle.wb_contents.specs.Volume.{Volume, changed_at}
-use Rattle.wb_contents.specs.Acts.{Act, Write, Write_origin, Write_cache, Fail_write, Finish, Fill_cache, Copy_back, Map, Unmap, Make_dirty, Make_clean, Begin_commit, Begin_suspend, Sync_cache, Sync_origin, Fail_cache_sync, Fail_origin_sync, Write_root, End_commit, Begin_flush, End_flush, Crash, Find_image, Write_opening_root, Open, after as after_act, sector_written, written_through, after_all as after_acts}
+use Rattle.wb_contents.specs.Acts.{Act, Write, Write_origin, Write_cache, Fail_write, Finish, Fill_cache, Copy_back, Map, Unmap, Make_dirty, Make_clean, Begin_commit, Begin_suspend, Sync_cache, Sync_origin, Fail_cache_sync, Fail_origin_sync, Write_root, End_commit, Begin_flush, End_flush, after as after_act, sector_written, written_through, after_all as after_acts}
 use Rattle.wb_contents.specs.Conditions.{IsRun as IsActs}
 use Rattle.wb_contents.proofs.Sectors.{elsewhere_is}
 use Rattle.wb_contents.proofs.Run.{KeepsAll, act_kept}
@@ -59,10 +59,7 @@ act_steady size a x busy d Write_root m = quiet size d (after_act d Write_root) 
 act_steady size a x busy d End_commit m = quiet size d (after_act d End_commit) refl refl
 act_steady size a x busy d (Begin_flush actor) m = quiet size d (after_act d (Begin_flush actor)) refl refl
 act_steady size a x busy d (End_flush actor) m = quiet size d (after_act d (End_flush actor)) refl refl
-act_steady size a x busy d (Crash origin cache new_root) m = absurd m
-act_steady size a x busy d (Find_image new_root) m = absurd m
-act_steady size a x busy d Write_opening_root m = absurd m
-act_steady size a x busy d (Open mode) m = absurd m
+act_steady size a x busy d act m = absurd m
 
 -- After all acts of a step: what is kept, what others keep, what is steady.
 pub record Acted (size a : ℕ) (x : Actor) (busy : Bool) (d e : Volume) : Type 0 where

@@ -9,6 +9,11 @@ use Rattle.wb_link.specs.Openings.{Site, site, MayStop, Happens}
 use Rattle.wb_link.specs.Tables.{Order, Seal}
 use Rattle.wb_link.specs.World.{Shared, Actor, Nothing, Owns, Shares, Apart, IsRun, begins, is_alone}
 
+infixr 30 ◌▸◌
+-- one record, and then the rest of the run
+◌▸◌ : {A B : Type 0} → A → B → A × B
+a ▸ b = (a, b)
+
 only_one : (x y : Actor) (a : ℕ) → slice_get (x ∷ []) a ≡ Some y → x ≡ y
 only_one x y zero e = cc
 only_one x y (suc a) e = absurd (cc)
@@ -26,142 +31,53 @@ covers : (o : ℕ) → o < 1 → Contains (0 ∷ []) o
 covers o l = (0, omega arith, omega arith)
 
 pub one_actor_runs : IsRun 1 (begins 1 []) one_actor
-one_actor_runs = (
-  (_, record { actor = refl; task = refl; free = inl (refl, refl); nobody_alone = nobody _ refl; may = ((omega arith, tt), refl) }),
-  (
-    (_, _, record { actor = refl; task = refl; asked = refl; gives = refl; wins = tt }),
-    (
-      (_, _, record { actor = refl; task = refl; asked = refl; gives = tt; wins = free _ refl }),
-      (
-        (_, _, record { actor = refl; task = refl; asked = refl; gives = refl; wins = tt }),
-        (
-          (_, _, record { actor = refl; task = refl; asked = refl; gives = tt; wins = tt }),
-          (
-            (_, _, record { actor = refl; task = refl; asked = refl; gives = tt; wins = tt }),
-            (
-              (_, _, record { actor = refl; task = refl; asked = refl; gives = tt; wins = tt }),
-              (
-                (_, record { actor = refl; task = refl; free = inl (refl, refl); nobody_alone = nobody _ refl; may = ((omega arith, tt), covers, (ungiven _ refl, (λ k o e. absurd (cc))), (λ e. absurd (cc)), refl, refl, (λ b e. absurd (cc))) }),
-                (
-                  (_, _, record { actor = refl; task = refl; asked = refl; gives = refl; wins = tt }),
-                  (
-                    (_, _, record { actor = refl; task = refl; asked = refl; gives = tt; wins = free _ refl }),
-                    (
-                      (_, _, record { actor = refl; task = refl; asked = refl; gives = refl; wins = tt }),
-                      (
-                        (_, _, record { actor = refl; task = refl; asked = refl; gives = refl; wins = tt }),
-                        (
-                          (_, _, record { actor = refl; task = refl; asked = refl; gives = tt; wins = tt }),
-                          (
-                            (_, _, record { actor = refl; task = refl; asked = refl; gives = tt; wins = tt }),
-                            (
-                              (_, _, record { actor = refl; task = refl; asked = refl; gives = tt; wins = tt }),
-                              (
-                                (_, _, record { actor = refl; task = refl; asked = refl; gives = tt; wins = tt }),
-                                (
-                                  (_, _, record { actor = refl; task = refl; asked = refl; gives = tt; wins = tt }),
-                                  (
-                                    (_, _, record { actor = refl; task = refl; asked = refl; gives = tt; wins = tt }),
-                                    (
-                                      (_, record { actor = refl; task = refl; free = inl (refl, refl); nobody_alone = nobody _ refl; may = ((omega arith, tt), refl) }),
-                                      (
-                                        (_, _, record { actor = refl; task = refl; asked = refl; gives = refl; wins = tt }),
-                                        (
-                                          (_, _, record { actor = refl; task = refl; asked = refl; gives = tt; wins = free _ refl }),
-                                          (
-                                            (_, _, record { actor = refl; task = refl; asked = refl; gives = refl; wins = tt }),
-                                            (
-                                              (_, _, record { actor = refl; task = refl; asked = refl; gives = tt; wins = tt }),
-                                              (
-                                                (_, _, record { actor = refl; task = refl; asked = refl; gives = tt; wins = tt }),
-                                                (
-                                                  (_, _, record { actor = refl; task = refl; asked = refl; gives = tt; wins = tt }),
-                                                  (
-                                                    (_, _, record { actor = refl; task = refl; asked = refl; gives = tt; wins = tt }),
-                                                    (
-                                                      (_, record { actor = refl; task = refl; free = inl (refl, refl); nobody_alone = nobody _ refl; may = refl }),
-                                                      (
-                                                        (_, _, record { actor = refl; task = refl; asked = refl; gives = refl; wins = tt }),
-                                                        (
-                                                          (_, _, record { actor = refl; task = refl; asked = refl; gives = (refl, refl, tt); wins = tt }),
-                                                          (
-                                                            (_, _, record { actor = refl; task = refl; asked = refl; gives = tt; wins = tt }),
-                                                            (
-                                                              (_, _, record { actor = refl; task = refl; asked = refl; gives = tt; wins = tt }),
-                                                              (
-                                                                (_, _, record { actor = refl; task = refl; asked = refl; gives = tt; wins = tt }),
-                                                                (
-                                                                  (_, _, record { actor = refl; task = refl; asked = refl; gives = tt; wins = tt }),
-                                                                  (
-                                                                    (_, _, record { actor = refl; task = refl; asked = refl; gives = tt; wins = tt }),
-                                                                    (
-                                                                      (_, _, record { actor = refl; task = refl; asked = refl; gives = tt; wins = tt }),
-                                                                      (
-                                                                        (_, record { actor = refl; task = refl; free = inl (refl, refl); nobody_alone = nobody _ refl; may = ((omega arith, tt), covers, (ungiven _ refl, (λ k o e. absurd (cc))), (λ e. absurd (cc)), refl, refl, (λ b e. absurd (cc))) }),
-                                                                        (
-                                                                          (_, _, record { actor = refl; task = refl; asked = refl; gives = refl; wins = tt }),
-                                                                          (
-                                                                            (_, _, record { actor = refl; task = refl; asked = refl; gives = tt; wins = free _ refl }),
-                                                                            (
-                                                                              (_, _, record { actor = refl; task = refl; asked = refl; gives = refl; wins = tt }),
-                                                                              (
-                                                                                (_, _, record { actor = refl; task = refl; asked = refl; gives = refl; wins = tt }),
-                                                                                (
-                                                                                  (_, _, record { actor = refl; task = refl; asked = refl; gives = tt; wins = tt }),
-                                                                                  (
-                                                                                    (_, _, record { actor = refl; task = refl; asked = refl; gives = tt; wins = tt }),
-                                                                                    (
-                                                                                      (_, _, record { actor = refl; task = refl; asked = refl; gives = tt; wins = tt }),
-                                                                                      (
-                                                                                        (_, _, record { actor = refl; task = refl; asked = refl; gives = tt; wins = tt }),
-                                                                                        (
-                                                                                          (_, _, record { actor = refl; task = refl; asked = refl; gives = tt; wins = tt }),
-                                                                                          tt,
-                                                                                        ),
-                                                                                      ),
-                                                                                    ),
-                                                                                  ),
-                                                                                ),
-                                                                              ),
-                                                                            ),
-                                                                          ),
-                                                                        ),
-                                                                      ),
-                                                                    ),
-                                                                  ),
-                                                                ),
-                                                              ),
-                                                            ),
-                                                          ),
-                                                        ),
-                                                      ),
-                                                    ),
-                                                  ),
-                                                ),
-                                              ),
-                                            ),
-                                          ),
-                                        ),
-                                      ),
-                                    ),
-                                  ),
-                                ),
-                              ),
-                            ),
-                          ),
-                        ),
-                      ),
-                    ),
-                  ),
-                ),
-              ),
-            ),
-          ),
-        ),
-      ),
-    ),
-  ),
-)
+one_actor_runs =
+    (_, record { actor = refl; task = refl; free = inl (refl, refl); nobody_alone = nobody _ refl; may = ((omega arith, tt), refl) }) ▸
+    (_, _, record { actor = refl; task = refl; asked = refl; gives = refl; wins = tt }) ▸
+    (_, _, record { actor = refl; task = refl; asked = refl; gives = tt; wins = free _ refl }) ▸
+    (_, _, record { actor = refl; task = refl; asked = refl; gives = refl; wins = tt }) ▸
+    (_, _, record { actor = refl; task = refl; asked = refl; gives = tt; wins = tt }) ▸
+    (_, _, record { actor = refl; task = refl; asked = refl; gives = tt; wins = tt }) ▸
+    (_, _, record { actor = refl; task = refl; asked = refl; gives = tt; wins = tt }) ▸
+    (_, record { actor = refl; task = refl; free = inl (refl, refl); nobody_alone = nobody _ refl; may = ((omega arith, tt), covers, (ungiven _ refl, (λ k o e. absurd (cc))), (λ e. absurd (cc)), refl, refl, (λ b e. absurd (cc))) }) ▸
+    (_, _, record { actor = refl; task = refl; asked = refl; gives = refl; wins = tt }) ▸
+    (_, _, record { actor = refl; task = refl; asked = refl; gives = tt; wins = free _ refl }) ▸
+    (_, _, record { actor = refl; task = refl; asked = refl; gives = refl; wins = tt }) ▸
+    (_, _, record { actor = refl; task = refl; asked = refl; gives = refl; wins = tt }) ▸
+    (_, _, record { actor = refl; task = refl; asked = refl; gives = tt; wins = tt }) ▸
+    (_, _, record { actor = refl; task = refl; asked = refl; gives = tt; wins = tt }) ▸
+    (_, _, record { actor = refl; task = refl; asked = refl; gives = tt; wins = tt }) ▸
+    (_, _, record { actor = refl; task = refl; asked = refl; gives = tt; wins = tt }) ▸
+    (_, _, record { actor = refl; task = refl; asked = refl; gives = tt; wins = tt }) ▸
+    (_, _, record { actor = refl; task = refl; asked = refl; gives = tt; wins = tt }) ▸
+    (_, record { actor = refl; task = refl; free = inl (refl, refl); nobody_alone = nobody _ refl; may = ((omega arith, tt), refl) }) ▸
+    (_, _, record { actor = refl; task = refl; asked = refl; gives = refl; wins = tt }) ▸
+    (_, _, record { actor = refl; task = refl; asked = refl; gives = tt; wins = free _ refl }) ▸
+    (_, _, record { actor = refl; task = refl; asked = refl; gives = refl; wins = tt }) ▸
+    (_, _, record { actor = refl; task = refl; asked = refl; gives = tt; wins = tt }) ▸
+    (_, _, record { actor = refl; task = refl; asked = refl; gives = tt; wins = tt }) ▸
+    (_, _, record { actor = refl; task = refl; asked = refl; gives = tt; wins = tt }) ▸
+    (_, _, record { actor = refl; task = refl; asked = refl; gives = tt; wins = tt }) ▸
+    (_, record { actor = refl; task = refl; free = inl (refl, refl); nobody_alone = nobody _ refl; may = refl }) ▸
+    (_, _, record { actor = refl; task = refl; asked = refl; gives = refl; wins = tt }) ▸
+    (_, _, record { actor = refl; task = refl; asked = refl; gives = (refl, refl, tt); wins = tt }) ▸
+    (_, _, record { actor = refl; task = refl; asked = refl; gives = tt; wins = tt }) ▸
+    (_, _, record { actor = refl; task = refl; asked = refl; gives = tt; wins = tt }) ▸
+    (_, _, record { actor = refl; task = refl; asked = refl; gives = tt; wins = tt }) ▸
+    (_, _, record { actor = refl; task = refl; asked = refl; gives = tt; wins = tt }) ▸
+    (_, _, record { actor = refl; task = refl; asked = refl; gives = tt; wins = tt }) ▸
+    (_, _, record { actor = refl; task = refl; asked = refl; gives = tt; wins = tt }) ▸
+    (_, record { actor = refl; task = refl; free = inl (refl, refl); nobody_alone = nobody _ refl; may = ((omega arith, tt), covers, (ungiven _ refl, (λ k o e. absurd (cc))), (λ e. absurd (cc)), refl, refl, (λ b e. absurd (cc))) }) ▸
+    (_, _, record { actor = refl; task = refl; asked = refl; gives = refl; wins = tt }) ▸
+    (_, _, record { actor = refl; task = refl; asked = refl; gives = tt; wins = free _ refl }) ▸
+    (_, _, record { actor = refl; task = refl; asked = refl; gives = refl; wins = tt }) ▸
+    (_, _, record { actor = refl; task = refl; asked = refl; gives = refl; wins = tt }) ▸
+    (_, _, record { actor = refl; task = refl; asked = refl; gives = tt; wins = tt }) ▸
+    (_, _, record { actor = refl; task = refl; asked = refl; gives = tt; wins = tt }) ▸
+    (_, _, record { actor = refl; task = refl; asked = refl; gives = tt; wins = tt }) ▸
+    (_, _, record { actor = refl; task = refl; asked = refl; gives = tt; wins = tt }) ▸
+    (_, _, record { actor = refl; task = refl; asked = refl; gives = tt; wins = tt }) ▸
+    tt
 
 -- Three actors.
 
@@ -193,169 +109,62 @@ unmapped : (b : ℕ) → Some 1 ≡ Some b → changed {X = Option ℕ} (λ (c :
 unmapped b e = let is : 1 ≡ b = cc in subst (λ (v : ℕ). changed {X = Option ℕ} (λ (c : ℕ). None) 0 (Some 0) v ≡ None) is refl
 
 pub three_actors_run : IsRun 1 (begins 3 []) replaced
-three_actors_run = (
-  (_, record { actor = refl; task = refl; free = inl (refl, refl); nobody_alone = alone_of _ _ _ refl refl refl; may = ((omega arith, tt), covers, (ungiven_of order _ _ _ refl refl refl, (λ k o e. absurd (cc))), (λ e. absurd (cc)), refl, refl, (λ b e. absurd (cc))) }),
-  (
-    (_, _, record { actor = refl; task = refl; asked = refl; gives = refl; wins = tt }),
-    (
-      (_, _, record { actor = refl; task = refl; asked = refl; gives = tt; wins = free_of 0 _ _ _ refl refl refl }),
-      (
-        (_, _, record { actor = refl; task = refl; asked = refl; gives = refl; wins = tt }),
-        (
-          (_, _, record { actor = refl; task = refl; asked = refl; gives = refl; wins = tt }),
-          (
-            (_, _, record { actor = refl; task = refl; asked = refl; gives = tt; wins = tt }),
-            (
-              (_, _, record { actor = refl; task = refl; asked = refl; gives = tt; wins = tt }),
-              (
-                (_, _, record { actor = refl; task = refl; asked = refl; gives = tt; wins = tt }),
-                (
-                  (_, _, record { actor = refl; task = refl; asked = refl; gives = tt; wins = tt }),
-                  (
-                    (_, _, record { actor = refl; task = refl; asked = refl; gives = tt; wins = tt }),
-                    (
-                      (_, _, record { actor = refl; task = refl; asked = refl; gives = tt; wins = tt }),
-                      (
-                        (_, record { actor = refl; task = refl; free = inl (refl, refl); nobody_alone = alone_of _ _ _ refl refl refl; may = ((omega arith, tt), covers, (ungiven_of replacement _ _ _ refl refl refl, (λ k o e. absurd (cc))), (λ e. absurd (cc)), refl, refl, unmapped) }),
-                        (
-                          (_, _, record { actor = refl; task = refl; asked = refl; gives = refl; wins = tt }),
-                          (
-                            (_, _, record { actor = refl; task = refl; asked = refl; gives = tt; wins = free_of 0 _ _ _ refl refl refl }),
-                            (
-                              (_, _, record { actor = refl; task = refl; asked = refl; gives = refl; wins = tt }),
-                              (
-                                (_, _, record { actor = refl; task = refl; asked = refl; gives = tt; wins = tt }),
-                                (
-                                  (_, _, record { actor = refl; task = refl; asked = refl; gives = tt; wins = tt }),
-                                  (
-                                    (_, _, record { actor = refl; task = refl; asked = refl; gives = tt; wins = tt }),
-                                    (
-                                      (_, _, record { actor = refl; task = refl; asked = refl; gives = tt; wins = tt }),
-                                      (
-                                        (_, record { actor = refl; task = refl; free = inl (refl, refl); nobody_alone = alone_of _ _ _ refl refl refl; may = refl }),
-                                        (
-                                          (_, _, record { actor = refl; task = refl; asked = refl; gives = refl; wins = tt }),
-                                          (
-                                            (_, _, record { actor = refl; task = refl; asked = refl; gives = (refl, refl, tt); wins = tt }),
-                                            (
-                                              (_, record { actor = refl; task = refl; free = inl (refl, refl); order = (follower, refl, refl); nobody_alone = alone_of _ _ _ refl refl refl; may = (_, refl) }),
-                                              (
-                                                (_, _, record { actor = refl; task = refl; asked = refl; gives = refl; wins = tt }),
-                                                (
-                                                  (_, _, record { actor = refl; task = refl; asked = refl; gives = (refl, refl, refl, refl); wins = tt }),
-                                                  (
-                                                    (_, record { actor = refl; task = refl; free = inl (refl, refl); nobody_alone = alone_of _ _ _ refl refl refl; may = refl }),
-                                                    (
-                                                      (_, _, record { actor = refl; task = refl; asked = refl; gives = refl; wins = tt }),
-                                                      (
-                                                        (_, _, record { actor = refl; task = refl; asked = refl; gives = (refl, refl, refl, refl); wins = tt }),
-                                                        (
-                                                          (_, _, record { actor = refl; task = refl; asked = refl; gives = tt; wins = tt }),
-                                                          (
-                                                            (_, _, record { actor = refl; task = refl; asked = refl; gives = tt; wins = tt }),
-                                                            (
-                                                              (_, _, record { actor = refl; task = refl; asked = refl; gives = tt; wins = tt }),
-                                                              (
-                                                                (_, _, record { actor = refl; task = refl; asked = refl; gives = tt; wins = tt }),
-                                                                (
-                                                                  (_, _, record { actor = refl; task = refl; asked = refl; gives = tt; wins = tt }),
-                                                                  (
-                                                                    (_, _, record { actor = refl; task = refl; asked = refl; gives = tt; wins = tt }),
-                                                                    (
-                                                                      (_, _, record { actor = refl; task = refl; asked = refl; gives = (refl, refl, omega arith); wins = tt }),
-                                                                      (
-                                                                        (_, _, record { actor = refl; task = refl; asked = refl; gives = tt; wins = tt }),
-                                                                        (
-                                                                          (_, _, record { actor = refl; task = refl; asked = refl; gives = tt; wins = tt }),
-                                                                          (
-                                                                            (_, _, record { actor = refl; task = refl; asked = refl; gives = tt; wins = tt }),
-                                                                            (
-                                                                              (_, _, record { actor = refl; task = refl; asked = refl; gives = tt; wins = tt }),
-                                                                              (
-                                                                                (_, _, record { actor = refl; task = refl; asked = refl; gives = tt; wins = tt }),
-                                                                                (
-                                                                                  (_, _, record { actor = refl; task = refl; asked = refl; gives = tt; wins = tt }),
-                                                                                  (
-                                                                                    (_, _, record { actor = refl; task = refl; asked = refl; gives = omega arith; wins = tt }),
-                                                                                    (
-                                                                                      (_, _, record { actor = refl; task = refl; asked = refl; gives = tt; wins = tt }),
-                                                                                      (
-                                                                                        (_, record { actor = refl; task = refl; free = inl (refl, refl); order = (follower, refl, refl); nobody_alone = alone_of _ _ _ refl refl refl; may = ((omega arith, tt), covers, refl) }),
-                                                                                        (
-                                                                                          (_, _, record { actor = refl; task = refl; asked = refl; gives = refl; wins = tt }),
-                                                                                          (
-                                                                                            (_, _, record { actor = refl; task = refl; asked = refl; gives = tt; wins = free_of 1 _ _ _ refl refl refl }),
-                                                                                            (
-                                                                                              (_, _, record { actor = refl; task = refl; asked = refl; gives = refl; wins = tt }),
-                                                                                              (
-                                                                                                (_, _, record { actor = refl; task = refl; asked = refl; gives = refl; wins = tt }),
-                                                                                                (
-                                                                                                  (_, _, record { actor = refl; task = refl; asked = refl; gives = tt; wins = tt }),
-                                                                                                  (
-                                                                                                    (_, _, record { actor = refl; task = refl; asked = refl; gives = tt; wins = tt }),
-                                                                                                    (
-                                                                                                      (_, _, record { actor = refl; task = refl; asked = refl; gives = tt; wins = tt }),
-                                                                                                      (
-                                                                                                        (_, _, record { actor = refl; task = refl; asked = refl; gives = tt; wins = tt }),
-                                                                                                        (
-                                                                                                          (_, _, record { actor = refl; task = refl; asked = refl; gives = tt; wins = tt }),
-                                                                                                          (
-                                                                                                            (_, _, record { actor = refl; task = refl; asked = refl; gives = tt; wins = tt }),
-                                                                                                            tt,
-                                                                                                          ),
-                                                                                                        ),
-                                                                                                      ),
-                                                                                                    ),
-                                                                                                  ),
-                                                                                                ),
-                                                                                              ),
-                                                                                            ),
-                                                                                          ),
-                                                                                        ),
-                                                                                      ),
-                                                                                    ),
-                                                                                  ),
-                                                                                ),
-                                                                              ),
-                                                                            ),
-                                                                          ),
-                                                                        ),
-                                                                      ),
-                                                                    ),
-                                                                  ),
-                                                                ),
-                                                              ),
-                                                            ),
-                                                          ),
-                                                        ),
-                                                      ),
-                                                    ),
-                                                  ),
-                                                ),
-                                              ),
-                                            ),
-                                          ),
-                                        ),
-                                      ),
-                                    ),
-                                  ),
-                                ),
-                              ),
-                            ),
-                          ),
-                        ),
-                      ),
-                    ),
-                  ),
-                ),
-              ),
-            ),
-          ),
-        ),
-      ),
-    ),
-  ),
-)
+three_actors_run =
+    (_, record { actor = refl; task = refl; free = inl (refl, refl); nobody_alone = alone_of _ _ _ refl refl refl; may = ((omega arith, tt), covers, (ungiven_of order _ _ _ refl refl refl, (λ k o e. absurd (cc))), (λ e. absurd (cc)), refl, refl, (λ b e. absurd (cc))) }) ▸
+    (_, _, record { actor = refl; task = refl; asked = refl; gives = refl; wins = tt }) ▸
+    (_, _, record { actor = refl; task = refl; asked = refl; gives = tt; wins = free_of 0 _ _ _ refl refl refl }) ▸
+    (_, _, record { actor = refl; task = refl; asked = refl; gives = refl; wins = tt }) ▸
+    (_, _, record { actor = refl; task = refl; asked = refl; gives = refl; wins = tt }) ▸
+    (_, _, record { actor = refl; task = refl; asked = refl; gives = tt; wins = tt }) ▸
+    (_, _, record { actor = refl; task = refl; asked = refl; gives = tt; wins = tt }) ▸
+    (_, _, record { actor = refl; task = refl; asked = refl; gives = tt; wins = tt }) ▸
+    (_, _, record { actor = refl; task = refl; asked = refl; gives = tt; wins = tt }) ▸
+    (_, _, record { actor = refl; task = refl; asked = refl; gives = tt; wins = tt }) ▸
+    (_, _, record { actor = refl; task = refl; asked = refl; gives = tt; wins = tt }) ▸
+    (_, record { actor = refl; task = refl; free = inl (refl, refl); nobody_alone = alone_of _ _ _ refl refl refl; may = ((omega arith, tt), covers, (ungiven_of replacement _ _ _ refl refl refl, (λ k o e. absurd (cc))), (λ e. absurd (cc)), refl, refl, unmapped) }) ▸
+    (_, _, record { actor = refl; task = refl; asked = refl; gives = refl; wins = tt }) ▸
+    (_, _, record { actor = refl; task = refl; asked = refl; gives = tt; wins = free_of 0 _ _ _ refl refl refl }) ▸
+    (_, _, record { actor = refl; task = refl; asked = refl; gives = refl; wins = tt }) ▸
+    (_, _, record { actor = refl; task = refl; asked = refl; gives = tt; wins = tt }) ▸
+    (_, _, record { actor = refl; task = refl; asked = refl; gives = tt; wins = tt }) ▸
+    (_, _, record { actor = refl; task = refl; asked = refl; gives = tt; wins = tt }) ▸
+    (_, _, record { actor = refl; task = refl; asked = refl; gives = tt; wins = tt }) ▸
+    (_, record { actor = refl; task = refl; free = inl (refl, refl); nobody_alone = alone_of _ _ _ refl refl refl; may = refl }) ▸
+    (_, _, record { actor = refl; task = refl; asked = refl; gives = refl; wins = tt }) ▸
+    (_, _, record { actor = refl; task = refl; asked = refl; gives = (refl, refl, tt); wins = tt }) ▸
+    (_, record { actor = refl; task = refl; free = inl (refl, refl); order = (follower, refl, refl); nobody_alone = alone_of _ _ _ refl refl refl; may = (_, refl) }) ▸
+    (_, _, record { actor = refl; task = refl; asked = refl; gives = refl; wins = tt }) ▸
+    (_, _, record { actor = refl; task = refl; asked = refl; gives = (refl, refl, refl, refl); wins = tt }) ▸
+    (_, record { actor = refl; task = refl; free = inl (refl, refl); nobody_alone = alone_of _ _ _ refl refl refl; may = refl }) ▸
+    (_, _, record { actor = refl; task = refl; asked = refl; gives = refl; wins = tt }) ▸
+    (_, _, record { actor = refl; task = refl; asked = refl; gives = (refl, refl, refl, refl); wins = tt }) ▸
+    (_, _, record { actor = refl; task = refl; asked = refl; gives = tt; wins = tt }) ▸
+    (_, _, record { actor = refl; task = refl; asked = refl; gives = tt; wins = tt }) ▸
+    (_, _, record { actor = refl; task = refl; asked = refl; gives = tt; wins = tt }) ▸
+    (_, _, record { actor = refl; task = refl; asked = refl; gives = tt; wins = tt }) ▸
+    (_, _, record { actor = refl; task = refl; asked = refl; gives = tt; wins = tt }) ▸
+    (_, _, record { actor = refl; task = refl; asked = refl; gives = tt; wins = tt }) ▸
+    (_, _, record { actor = refl; task = refl; asked = refl; gives = (refl, refl, omega arith); wins = tt }) ▸
+    (_, _, record { actor = refl; task = refl; asked = refl; gives = tt; wins = tt }) ▸
+    (_, _, record { actor = refl; task = refl; asked = refl; gives = tt; wins = tt }) ▸
+    (_, _, record { actor = refl; task = refl; asked = refl; gives = tt; wins = tt }) ▸
+    (_, _, record { actor = refl; task = refl; asked = refl; gives = tt; wins = tt }) ▸
+    (_, _, record { actor = refl; task = refl; asked = refl; gives = tt; wins = tt }) ▸
+    (_, _, record { actor = refl; task = refl; asked = refl; gives = tt; wins = tt }) ▸
+    (_, _, record { actor = refl; task = refl; asked = refl; gives = omega arith; wins = tt }) ▸
+    (_, _, record { actor = refl; task = refl; asked = refl; gives = tt; wins = tt }) ▸
+    (_, record { actor = refl; task = refl; free = inl (refl, refl); order = (follower, refl, refl); nobody_alone = alone_of _ _ _ refl refl refl; may = ((omega arith, tt), covers, refl) }) ▸
+    (_, _, record { actor = refl; task = refl; asked = refl; gives = refl; wins = tt }) ▸
+    (_, _, record { actor = refl; task = refl; asked = refl; gives = tt; wins = free_of 1 _ _ _ refl refl refl }) ▸
+    (_, _, record { actor = refl; task = refl; asked = refl; gives = refl; wins = tt }) ▸
+    (_, _, record { actor = refl; task = refl; asked = refl; gives = refl; wins = tt }) ▸
+    (_, _, record { actor = refl; task = refl; asked = refl; gives = tt; wins = tt }) ▸
+    (_, _, record { actor = refl; task = refl; asked = refl; gives = tt; wins = tt }) ▸
+    (_, _, record { actor = refl; task = refl; asked = refl; gives = tt; wins = tt }) ▸
+    (_, _, record { actor = refl; task = refl; asked = refl; gives = tt; wins = tt }) ▸
+    (_, _, record { actor = refl; task = refl; asked = refl; gives = tt; wins = tt }) ▸
+    (_, _, record { actor = refl; task = refl; asked = refl; gives = tt; wins = tt }) ▸
+    tt
 
 -- Lives.
 
@@ -367,94 +176,40 @@ place_same f g m n h i None b o = h b o
 place_same f g m n h i (Some k) b o = i k o
 
 pub many_lives : (size : ℕ) (w : Site) → Happens size w (lives_of w.world.shared)
-many_lives size w = (
-  may_settle w.world.shared false (λ e. absurd (cc)),
-  (
-    inl (λ e. absurd (cc)),
-    (
-      (_, _, refl, (λ e. absurd (cc))),
-      (
-        (_, _, refl, tt),
-        (
-          (_, _, refl, tt),
-          (
-            inl (λ e. absurd (cc)),
-            (
-              (_, _, refl, (λ e. absurd (cc))),
-              (
-                (_, _, refl, tt),
-                (
-                  (_, _, refl, tt),
-                  (
-                    (_, _, refl, (refl, refl, tt)),
-                    (
-                      (_, _, refl, tt),
-                      (
-                        record { root = λ e. refl; origin = λ b o. newest_there (only (newest (w.world.shared.origin b o))); cache = λ k o. newest_there (only (newest (w.world.shared.cache k o))) },
-                        (
-                          inl (λ e. absurd (cc)),
-                          (
-                            (_, _, refl, (λ e. absurd (cc))),
-                            (
-                              (_, _, refl, tt),
-                              (
-                                (_, _, refl, tt),
-                                (
-                                  (_, _, refl, (refl, refl, tt)),
-                                  (
-                                    (_, _, refl, tt),
-                                    (
-                                      (_, _, refl, tt),
-                                      (
-                                        (_, _, refl, ((λ k. inl refl), (λ b o. place_same w.world.shared.origin w.world.shared.cache _ _ (λ c i. refl) (λ c i. refl) (w.world.shared.committed b) b o))),
-                                        tt,
-                                      ),
-                                    ),
-                                  ),
-                                ),
-                              ),
-                            ),
-                          ),
-                        ),
-                      ),
-                    ),
-                  ),
-                ),
-              ),
-            ),
-          ),
-        ),
-      ),
-    ),
-  ),
-)
+many_lives size w =
+    may_settle w.world.shared false (λ e. absurd (cc)) ▸
+    inl (λ e. absurd (cc)) ▸
+    (_, _, refl, (λ e. absurd (cc))) ▸
+    (_, _, refl, tt) ▸
+    (_, _, refl, tt) ▸
+    inl (λ e. absurd (cc)) ▸
+    (_, _, refl, (λ e. absurd (cc))) ▸
+    (_, _, refl, tt) ▸
+    (_, _, refl, tt) ▸
+    (_, _, refl, (refl, refl, tt)) ▸
+    (_, _, refl, tt) ▸
+    record { root = λ e. refl; origin = λ b o. newest_there (only (newest (w.world.shared.origin b o))); cache = λ k o. newest_there (only (newest (w.world.shared.cache k o))) } ▸
+    inl (λ e. absurd (cc)) ▸
+    (_, _, refl, (λ e. absurd (cc))) ▸
+    (_, _, refl, tt) ▸
+    (_, _, refl, tt) ▸
+    (_, _, refl, (refl, refl, tt)) ▸
+    (_, _, refl, tt) ▸
+    (_, _, refl, tt) ▸
+    (_, _, refl, ((λ k. inl refl), (λ b o. place_same w.world.shared.origin w.world.shared.cache _ _ (λ c i. refl) (λ c i. refl) (w.world.shared.committed b) b o))) ▸
+    tt
 
 pub without_crash : (size : ℕ) (w : Site) → w.world.shared.fail ≡ true → Happens size w (reopening w.world.shared)
-without_crash size w f = (
-  inr f,
-  (
-    (_, _, refl, (λ e. absurd (cc))),
-    (
-      (_, _, refl, tt),
-      (
-        (_, _, refl, tt),
-        (
-          (_, _, refl, (refl, refl, tt)),
-          (
-            (_, _, refl, tt),
-            (
-              (_, _, refl, tt),
-              (
-                (_, _, refl, ((λ k. inl refl), (λ b o. place_same w.world.shared.origin w.world.shared.cache _ _ (λ c i. refl) (λ c i. refl) (w.world.shared.committed b) b o))),
-                tt,
-              ),
-            ),
-          ),
-        ),
-      ),
-    ),
-  ),
-)
+without_crash size w f =
+    inr f ▸
+    (_, _, refl, (λ e. absurd (cc))) ▸
+    (_, _, refl, tt) ▸
+    (_, _, refl, tt) ▸
+    (_, _, refl, (refl, refl, tt)) ▸
+    (_, _, refl, tt) ▸
+    (_, _, refl, tt) ▸
+    (_, _, refl, ((λ k. inl refl), (λ b o. place_same w.world.shared.origin w.world.shared.cache _ _ (λ c i. refl) (λ c i. refl) (w.world.shared.committed b) b o))) ▸
+    tt
 
 -- A life past the cache.
 

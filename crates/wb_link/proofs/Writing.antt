@@ -8,14 +8,15 @@ use Rattle.wb_contents.specs.Acts.{sector_written, after as after_act, Write, Fi
 use Rattle.std.proofs.lemmas.Bool.{cases_eq}
 use Rattle.wb_contents.proofs.Positions.{changed_same}
 use Rattle.wb_contents.proofs.Sectors.{here_is, elsewhere_is}
-use Rattle.wb_link.specs.Tables.{Job, Writing, Answer, Finished, Busy, Failed, Io, Want, Look_fail, Own, Look_seal, Set_seal, Disown, Set_failed, Write_at, End, Choice, Got, Done, Lost, Flag, Seen, Fault, Seal, Unmap_plain, dropping, write_work, write_each, until_failed, steps_after_fault}
-use Rattle.wb_link.specs.World.{Shared, Held, Nothing, Owns, Actor, Within, actor_after, put_sector, if_landed}
+use Rattle.wb_link.specs.Tables.{Job, Writing, Answer, Finished, Io, Want, Look_fail, Own, Look_seal, Set_seal, Disown, Set_failed, Write_at, Choice, Got, Done, Fault, Seal, Unmap_plain, dropping, write_work, write_each, until_failed, steps_after_fault}
+use Rattle.wb_link.specs.World.{Shared, Held, Nothing, Owns, Actor, Within, put_sector, if_landed}
 use Rattle.wb_link.specs.Clerk.{histories_after}
-use Rattle.wb_link.proofs.Views.{BlockView, block_view, Holds}
+use Rattle.wb_link.proofs.Views.{BlockView, block_view}
 use Rattle.wb_link.proofs.Effects.{put_sector_desk}
-use Rattle.wb_link.proofs.Link.{Good, Rests, RestsAt, MayEnd, Receives, Others, Right, Goes, Safe, landed_write}
-use Rattle.wb_link.proofs.Agreeing.{write_agrees, finish_agrees, lose_agrees, failed_agrees, seal_agrees, unmap_agrees}
-use Rattle.wb_link.proofs.Givings.{at_work, script_of, Comes, Life, life_on, may_end_on, holds_nothing, resting_safe, quietly, gives_flag, gives_own, gives_seal, gives_set, gives_disown, gives_failed, gives_write, gives_drop, gives_end}
+use Rattle.wb_link.proofs.Link.{Good, Rests, RestsAt, Right, Goes, Safe, landed_write}
+use Rattle.wb_link.proofs.Agreeing.{write_agrees, finish_agrees, lose_agrees, seal_agrees, unmap_agrees}
+use Rattle.wb_link.proofs.Calm.{held_on, rests_on, failing, disowned, beginning}
+use Rattle.wb_link.proofs.Givings.{at_work, script_of, Comes, Life, life_on, gives_set, gives_write, gives_drop}
 use Rattle.wb_link.proofs.Unmapped.{Left, left_rests, unmapped_seal}
 
 -- the write of this content to sectors of a block
@@ -38,33 +39,8 @@ pub record Owning (to : Option ℕ) (seal : Seal) (v : BlockView) : Type 0 where
 abbrev pub mode_of : Bool → Mode
 mode_of past = cond past Passthrough Writeback
 
--- others leave it so
-owning_on : (a b : ℕ) (x : Actor) (to : Option ℕ) (s t : Shared) (d e : Volume) → x.held ≡ Owns b → Others a x s d t e → Owning to (s.seals b) (block_view d b) → Owning to (t.seals b) (block_view e b)
-owning_on a b x to s t d e h o k = subst (λ (v : BlockView). Owning to (t.seals b) v) (sym (o.block b has)) (subst (λ (v : Seal). Owning to v (block_view d b)) (sym (o.seal b has)) k) where
-  has : Holds x.held b
-  has = subst (λ (v : Held). Holds v b) (sym h) refl
-
 plain : (a : ℕ) (past : Bool) (b : ℕ) (os : List ℕ) (x : Content) (w : Want) (got : Got) (d e : Volume) → e.histories ≡ histories_after d.histories (Writing past b os x) w → Right a (Writing past b os x) w got d e
 plain a past b os x w got d e r = record { reads = tt; histories = r; flushes = tt }
-
-ending : (n size a : ℕ) (past : Bool) (b : ℕ) (os : List ℕ) (x : Content) (answer : Answer) (held : Held) (c : Content) (s : Shared) (d : Volume) → MayEnd answer held s → Safe n size a (writing_of past b os x [] answer held c) s d
-ending zero size a past b os x answer held c s d h = tt
-ending (suc n) size a past b os x answer held c s d h = λ t e got o g v r. gives_end t answer (λ k. Result n size a (Writing past b os x) [] answer held c t e k)
-    (quietly size a (λ y u f. Safe n size a y u f) _ _ (End answer) Done t e g (may_end_on a (writing_of past b os x [] answer held c) s t d e answer held o h) tt (plain a past b os x (End answer) Done e e refl) (resting_safe n size a held None false c t e)) got v
-
-disowning : (n size a : ℕ) (past : Bool) (b : ℕ) (os : List ℕ) (x : Content) (answer : Answer) (c : Content) (s : Shared) (d : Volume) → RestsAt s d b → Safe n size a (writing_of past b os x (Disown b ∷ []) answer (Owns b) c) s d
-disowning zero size a past b os x answer c s d k = tt
-disowning (suc n) size a past b os x answer c s d k = λ t e got o g v r.
-    let now : RestsAt t e b = subst (λ (w : BlockView). Rests (t.seals b) w) (sym (o.block b refl)) (subst (λ (w : Seal). Rests w (block_view d b)) (sym (o.seal b refl)) k) in
-    gives_disown t b (λ k. Result n size a (Writing past b os x) (Disown b ∷ []) answer (Owns b) c t e k)
-    (quietly size a (λ y u f. Safe n size a y u f) _ _ (Disown b) Done t e g refl now (plain a past b os x (Disown b) Done e e refl) (ending n size a past b os x answer Nothing c t e (holds_nothing answer t))) got v
-
--- after a fault the block is kept
-failing : (n size a : ℕ) (past : Bool) (b : ℕ) (os : List ℕ) (x c : Content) (s : Shared) (d : Volume) → Safe n size a (writing_of past b os x (Set_failed ∷ []) Io (Owns b) c) s d
-failing zero size a past b os x c s d = tt
-failing (suc n) size a past b os x c s d = λ t e got o g v r. gives_failed t (λ k. Result n size a (Writing past b os x) (Set_failed ∷ []) Io (Owns b) c t e k)
-    (record { run = tt; mine = tt; agrees = failed_agrees t e g.agrees; ready = tt; owes = tt; right = plain a past b os x Set_failed Done e e refl; left = ending n size a past b os x Io (Owns b) c (record t { fail = true }) e (inr refl) })
-    got v
 
 -- A sector is written.
 
@@ -76,10 +52,11 @@ pub written_books : (e : Volume) (p : Option ℕ) (b o : ℕ) (x : Content) → 
 written_books e None b o x = refl
 written_books e (Some j) b o x = refl
 
-whole_still : (f : ℕ → ℕ → Standing) (b o : ℕ) → ((i : ℕ) → f b i ≡ Whole) → (i : ℕ) → changed_at f b o Whole b i ≡ Whole
+-- a sector is whole, and the others were
+pub whole_still : (f : ℕ → ℕ → Standing) (b o : ℕ) → ((i : ℕ) → i ≢ o → f b i ≡ Whole) → (i : ℕ) → changed_at f b o Whole b i ≡ Whole
 whole_still f b o k i = elim (cases_eq i o) [
   | inl e ↦ ap (changed_at f b o Whole b) e ∙ here_is f b o Whole
-  | inr n ↦ elsewhere_is f b o b i Whole (inr n) ∙ k i
+  | inr n ↦ elsewhere_is f b o b i Whole (inr n) ∙ k i n
 ]
 
 -- the last write of a sector is finished, and those of the others were
@@ -92,9 +69,13 @@ finished_all f histories g b o same k i = elim (cases_eq i o) [
 pub book_elsewhere : (histories : ℕ → ℕ → History) (b o : ℕ) (h : History) (i : ℕ) → i ≢ o → changed_at histories b o h b i ≡ histories b i
 book_elsewhere histories b o h i n = elsewhere_is histories b o b i h (inr n)
 
+pub written_rests : (seal : Seal) (e : Volume) (p : Option ℕ) (b o : ℕ) (x : Content) → Rests seal (block_view e b) → Rests seal (block_view (after_act (sector_written e p b o x) (Finish b o)) b)
+written_rests seal e None b o x k = record { whole = whole_still e.standing b o (λ i n. k.whole i); location = k.location; dirty = k.dirty; done = finished_all e.finished e.histories (changed_at e.histories b o (added (e.histories b o) x)) b o (book_elsewhere e.histories b o (added (e.histories b o) x)) (λ i n. k.done i) }
+written_rests seal e (Some j) b o x k = record { whole = whole_still e.standing b o (λ i n. k.whole i); location = k.location; dirty = k.dirty; done = finished_all e.finished e.histories (changed_at e.histories b o (added (e.histories b o) x)) b o (book_elsewhere e.histories b o (added (e.histories b o) x)) (λ i n. k.done i) }
+
 written_owning : (to : Option ℕ) (seal : Seal) (e : Volume) (p : Option ℕ) (b o : ℕ) (x : Content) → Owning to seal (block_view e b) → Owning to seal (block_view (after_act (sector_written e p b o x) (Finish b o)) b)
-written_owning to seal e None b o x k = record { rests = record { whole = whole_still e.standing b o k.rests.whole; location = k.rests.location; dirty = k.rests.dirty; done = finished_all e.finished e.histories (changed_at e.histories b o (added (e.histories b o) x)) b o (book_elsewhere e.histories b o (added (e.histories b o) x)) (λ i n. k.rests.done i) }; writable = k.writable; route = k.route }
-written_owning to seal e (Some j) b o x k = record { rests = record { whole = whole_still e.standing b o k.rests.whole; location = k.rests.location; dirty = k.rests.dirty; done = finished_all e.finished e.histories (changed_at e.histories b o (added (e.histories b o) x)) b o (book_elsewhere e.histories b o (added (e.histories b o) x)) (λ i n. k.rests.done i) }; writable = k.writable; route = k.route }
+written_owning to seal e None b o x k = record { rests = written_rests seal e None b o x k.rests; writable = k.writable; route = k.route }
+written_owning to seal e (Some j) b o x k = record { rests = written_rests seal e (Some j) b o x k.rests; writable = k.writable; route = k.route }
 
 pub written_life : (m : Mode) (e : Volume) (p : Option ℕ) (b o : ℕ) (x : Content) → Life m e → Life m (sector_written e p b o x)
 written_life m e None b o x l = l
@@ -103,9 +84,6 @@ written_life m e (Some j) b o x l = l
 -- What a write still knows of its block after a fault: what is unmapped or dirty may be written.
 abbrev Reaches : Option ℕ → BlockView → Type 0
 Reaches to v = Writable v × (to ≡ v.location)
-
-reaches_on : (a b : ℕ) (x : Actor) (to : Option ℕ) (s t : Shared) (d e : Volume) → x.held ≡ Owns b → Others a x s d t e → Reaches to (block_view d b) → Reaches to (block_view e b)
-reaches_on a b x to s t d e h o k = subst (λ (v : BlockView). Reaches to v) (sym (o.block b (subst (λ (v : Held). Holds v b) (sym h) refl))) k
 
 reaches_written : (to : Option ℕ) (e : Volume) (p : Option ℕ) (b o : ℕ) (x : Content) → Reaches to (block_view e b) → Reaches to (block_view (sector_written e p b o x) b)
 reaches_written to e None b o x k = k
@@ -120,7 +98,7 @@ module _ (n size a : ℕ) (past : Bool) (b : ℕ) (all : List ℕ) (q : ℕ) (os
     (next : (t : Shared) (e : Volume) → Life (mode_of past) e → Reaches to (block_view e b) → Safe n size a (writing_of past b all x (write_each to b os (Set_failed ∷ [])) Io (Owns b) c) t e) where
   left_after : (more : Bool) (t : Shared) (e : Volume) → Life (mode_of past) e → Reaches to (block_view e b) → Safe n size a (writing_of past b all x (steps_after_fault (Writing past b all x) more (write_each to b os last)) Io (Owns b) c) t e
   left_after true t e life k = subst (λ (ws : List Want). Safe n size a (writing_of past b all x ws Io (Owns b) c) t e) (sym (until_each to b os last until)) (next t e life k)
-  left_after false t e life k = failing n size a past b all x c t e
+  left_after false t e life k = failing n size a (Writing past b all x) tt (Owns b) None c t e
 
   -- a sector's write fails
   failed : (choice : Choice) (t : Shared) (e : Volume) → Good size t e → Life (mode_of past) e → Reaches to (block_view e b) → (landed : Bool) →
@@ -151,7 +129,7 @@ failing_one : (n size a : ℕ) (past : Bool) (b : ℕ) (all : List ℕ) (q : ℕ
     Safe (suc n) size a (writing_of past b all x (write_each to b (q ∷ os) (Set_failed ∷ [])) Io (Owns b) c) s d
 failing_one n size a past b all q os x to c s d m l k next = λ t e got o g v r.
     let life : Life (mode_of past) e = life_on a (writing_of past b all x (write_each to b (q ∷ os) (Set_failed ∷ [])) Io (Owns b) c) s t d e (mode_of past) o l in
-    let now : Reaches to (block_view e b) = reaches_on a b _ to s t d e refl o k in
+    let now : Reaches to (block_view e b) = held_on (λ w v. Reaches to v) a b _ s t d e o refl k in
     gives_write t to b q (λ w. Result n size a (Writing past b all x) (write_each to b (q ∷ os) (Set_failed ∷ [])) Io (Owns b) c t e w)
     (record {
       run = ((life.0, now.0), (written_whole e (e.mapping b) b q x, tt));
@@ -167,15 +145,15 @@ failing_one n size a past b all q os x to c s d m l k next = λ t e got o g v r.
 
 failing_each : (n size a : ℕ) (past : Bool) (b : ℕ) (all os : List ℕ) (x : Content) (to : Option ℕ) (c : Content) (s : Shared) (d : Volume) → Within size os → Life (mode_of past) d → Reaches to (block_view d b) → Safe n size a (writing_of past b all x (write_each to b os (Set_failed ∷ [])) Io (Owns b) c) s d
 failing_each zero size a past b all os x to c s d m l k = tt
-failing_each (suc n) size a past b all [] x to c s d m l k = failing (suc n) size a past b all x c s d
+failing_each (suc n) size a past b all [] x to c s d m l k = failing (suc n) size a (Writing past b all x) tt (Owns b) None c s d
 failing_each (suc n) size a past b all (q ∷ os) x to c s d m l k = failing_one n size a past b all q os x to c s d m.0 l k (λ t e life r. failing_each n size a past b all os x to c t e m.1 life r)
 
 writing : (n size a : ℕ) (past : Bool) (b : ℕ) (all os : List ℕ) (x : Content) (to : Option ℕ) (c : Content) (s : Shared) (d : Volume) → Within size os → Life (mode_of past) d → Owning to (s.seals b) (block_view d b) → Safe n size a (writing_of past b all x (write_each to b os (Disown b ∷ [])) Finished (Owns b) c) s d
 writing zero size a past b all os x to c s d m l k = tt
-writing (suc n) size a past b all [] x to c s d m l k = disowning (suc n) size a past b all x Finished c s d k.rests
+writing (suc n) size a past b all [] x to c s d m l k = disowned (suc n) size a (Writing past b all x) tt b Finished None c s d k.rests
 writing (suc n) size a past b all (q ∷ os) x to c s d m l k = λ t e got o g v r.
     let life : Life (mode_of past) e = life_on a (writing_of past b all x (write_each to b (q ∷ os) (Disown b ∷ [])) Finished (Owns b) c) s t d e (mode_of past) o l in
-    let now : Owning to (t.seals b) (block_view e b) = owning_on a b _ to s t d e refl o k in
+    let now : Owning to (t.seals b) (block_view e b) = held_on (λ w v. Owning to w v) a b _ s t d e o refl k in
     gives_write t to b q (λ w. Result n size a (Writing past b all x) (write_each to b (q ∷ os) (Disown b ∷ [])) Finished (Owns b) c t e w)
     (record {
       run = ((life.0, now.writable), (written_whole e (e.mapping b) b q x, tt));
@@ -244,7 +222,7 @@ sealed_off (suc n) size a b os x c s d m l k = λ t e got o g v r.
 unmapped : (n size a b k : ℕ) (os : List ℕ) (x c : Content) (s : Shared) (d : Volume) → Within size os → Life Passthrough d → RestsAt s d b → d.mapping b ≡ Some k → Safe n size a (writing_of true b os x (dropping b (Some k) (write_each None b os (Disown b ∷ []))) Finished (Owns b) c) s d
 unmapped zero size a b k os x c s d m l h p = tt
 unmapped (suc n) size a b k os x c s d m l h p = λ t e got o g v r.
-    let now : RestsAt t e b = subst (λ (w : BlockView). Rests (t.seals b) w) (sym (o.block b refl)) (subst (λ (w : Seal). Rests w (block_view d b)) (sym (o.seal b refl)) h) in
+    let now : RestsAt t e b = rests_on a b _ s t d e o refl h in
     let there : e.mapping b ≡ Some k = ap (λ (w : BlockView). w.location) (o.block b refl) ∙ p in
     gives_drop t b k (λ w. Result n size a (Writing true b os x) (dropping b (Some k) (write_each None b os (Disown b ∷ []))) Finished (Owns b) c t e w)
     (record {
@@ -266,31 +244,6 @@ worked n size a false b os x None f c s d m l k ep ef = writing n size a false b
 worked n size a false b os x (Some j) true c s d m l k ep ef = writing n size a false b os os x (Some j) c s d m l (record { rests = k; writable = inr (sym (ef ∙ k.dirty j (sym (ep ∙ k.location)))); route = ep ∙ k.location })
 worked n size a false b os x (Some j) false c s d m l k ep ef = made_dirty n size a b os x j c s d m l k (sym (ep ∙ k.location))
 
-sealed : (n size a : ℕ) (past : Bool) (b : ℕ) (os : List ℕ) (x c : Content) (s : Shared) (d : Volume) → Within size os → Life (mode_of past) d → RestsAt s d b → Safe n size a (writing_of past b os x (Look_seal b ∷ []) Finished (Owns b) c) s d
-sealed zero size a past b os x c s d m l k = tt
-sealed (suc n) size a past b os x c s d m l k = λ t e got o g v r.
-    let now : RestsAt t e b = subst (λ (w : BlockView). Rests (t.seals b) w) (sym (o.block b refl)) (subst (λ (w : Seal). Rests w (block_view d b)) (sym (o.seal b refl)) k) in
-    gives_seal t b (λ w. Result n size a (Writing past b os x) (Look_seal b ∷ []) Finished (Owns b) c t e w)
-    (λ seal is. quietly size a (λ y u f. Safe n size a y u f) _ _ (Look_seal b) (Seen seal) t e g tt tt (plain a past b os x (Look_seal b) (Seen seal) e e refl)
-    (worked n size a past b os x seal.location seal.dirty c t e m (o.live ∙ l.0, o.mode ∙ l.1) now (ap (λ (w : Seal). w.location) is) (ap (λ (w : Seal). w.dirty) is)))
-    got v
-
-owning : (n size a : ℕ) (past : Bool) (b : ℕ) (os : List ℕ) (x c : Content) (s : Shared) (d : Volume) → Within size os → Life (mode_of past) d → Safe n size a (writing_of past b os x (Own b ∷ Look_seal b ∷ []) Finished Nothing c) s d
-owning zero size a past b os x c s d m l = tt
-owning (suc n) size a past b os x c s d m l = λ t e got o g v r.
-    gives_own t b (λ w. Receives (writing_of past b os x (Own b ∷ Look_seal b ∷ []) Finished Nothing c) (Writing past b os x) (Own b) w t e → Result n size a (Writing past b os x) (Own b ∷ Look_seal b ∷ []) Finished Nothing c t e w)
-    (λ k. quietly size a (λ y u f. Safe n size a y u f) _ _ (Own b) Done t e g refl tt (plain a past b os x (Own b) Done e e refl) (sealed n size a past b os x c t e m (o.live ∙ l.0, o.mode ∙ l.1) k))
-    (λ k. quietly size a (λ y u f. Safe n size a y u f) _ _ (Own b) Lost t e g refl tt (plain a past b os x (Own b) Lost e e refl) (ending n size a past b os x Busy Nothing c t e (inl refl)))
-    got v r
-
 pub writing_safe : (n size a : ℕ) (past : Bool) (b : ℕ) (os : List ℕ) (x c : Content) (s : Shared) (d : Volume) → Within size os → d.mode ≡ mode_of past → Safe n size a (writing_of past b os x (Look_fail ∷ Own b ∷ Look_seal b ∷ []) Finished Nothing c) s d
-writing_safe zero size a past b os x c s d m l = tt
-writing_safe (suc n) size a past b os x c s d m l = λ t e got o g v r.
-    let steps = Look_fail ∷ Own b ∷ Look_seal b ∷ [] in
-    gives_flag t (λ w. Receives (writing_of past b os x steps Finished Nothing c) (Writing past b os x) Look_fail w t e → Result n size a (Writing past b os x) steps Finished Nothing c t e w)
-    (λ f k. quietly size a (λ y u f. Safe n size a y u f) _ _ Look_fail (Flag f) t e g tt tt (plain a past b os x Look_fail (Flag f) e e refl) (on f t e (o.mode ∙ l) k)) got v r
-  where
-    on : (f : Bool) (t : Shared) (e : Volume) → e.mode ≡ mode_of past → Receives (writing_of past b os x (Look_fail ∷ Own b ∷ Look_seal b ∷ []) Finished Nothing c) (Writing past b os x) Look_fail (Flag f) t e →
-        Safe n size a (actor_after (writing_of past b os x (Look_fail ∷ Own b ∷ Look_seal b ∷ []) Finished Nothing c) (script_of (Writing past b os x) (Look_fail ∷ Own b ∷ Look_seal b ∷ []) Finished) Look_fail (Flag f)) t e
-    on true t e l k = ending n size a past b os x Failed Nothing c t e (inl refl)
-    on false t e l k = owning n size a past b os x c t e m (k refl, l)
+writing_safe n size a past b os x c s d m l = beginning size a (Writing past b os x) tt b None c (λ t e. e.mode ≡ mode_of past) (λ y s t d e h o k. o.mode ∙ k)
+    (λ n seal t e k live rests is. worked n size a past b os x seal.location seal.dirty c t e m (live, k) rests (ap (λ (w : Seal). w.location) is) (ap (λ (w : Seal). w.dirty) is)) n s d l

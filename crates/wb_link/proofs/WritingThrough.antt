@@ -1,20 +1,20 @@
 -- What is left of a write by write-through is safe, from its start on.
 use Rattle.std.proofs.Common.{◌≡◌, ◌≢◌, ◌<◌, inl, inr, ℕ, zero, suc, Bool, true, false, List, [], ◌∷◌, Option, Some, None, refl, sym, ap, subst, ◌∙◌, length}
 use Rattle.wb_disk.specs.Device.{Content, History, added, newest}
-use Rattle.wb_contents.specs.Volume.{Volume, Standing, Whole, Half, changed_at}
+use Rattle.wb_contents.specs.Volume.{Volume, Whole, Half}
 use Rattle.wb_types.specs.declared.mode.Mode.TheVariants.{Writethrough}
 use Rattle.wb_contents.specs.Acts.{sector_written, written_through, after as after_act, Write, Write_origin, Write_cache, Finish, Fail_write, after_all as after_acts}
-use Rattle.std.proofs.lemmas.Bool.{cases_eq}
 use Rattle.wb_contents.proofs.Positions.{last_of-append}
 use Rattle.wb_contents.proofs.Sectors.{here_is, elsewhere_is}
-use Rattle.wb_link.specs.Tables.{Job, Writing_through, Answer, Finished, Busy, Failed, Io, Want, Look_fail, Own, Look_seal, Disown, Set_failed, Write_at, End, Choice, Got, Done, Lost, Flag, Seen, Fault, Seal, write_each, write_through_each}
-use Rattle.wb_link.specs.World.{Shared, Held, Nothing, Owns, Actor, Within, effect, actor_after, put_sector, if_landed}
+use Rattle.wb_link.specs.Tables.{Job, Writing_through, Answer, Finished, Want, Look_fail, Own, Look_seal, Disown, Write_at, Choice, Got, Done, Fault, Seal, write_each, write_through_each}
+use Rattle.wb_link.specs.World.{Shared, Held, Nothing, Owns, Actor, Within, effect, put_sector, if_landed}
 use Rattle.wb_link.specs.Clerk.{histories_after}
-use Rattle.wb_link.proofs.Views.{BlockView, block_view, Holds}
-use Rattle.wb_link.proofs.Link.{Agrees, Good, Rests, RestsAt, MayEnd, Receives, Others, Right, Goes, Safe, landed_write, landed_through, write_through_acts, if_so}
-use Rattle.wb_link.proofs.Agreeing.{write_agrees, based_write_agrees, through_agrees, finish_agrees, lose_agrees, failed_agrees}
-use Rattle.wb_link.proofs.Writing.{finished_all, book_elsewhere, written_whole, written_books, written_life}
-use Rattle.wb_link.proofs.Givings.{at_work, script_of, Comes, Life, may_end_on, holds_nothing, resting_safe, quietly, gives_flag, gives_own, gives_seal, gives_disown, gives_failed, gives_write, gives_end}
+use Rattle.wb_link.proofs.Views.{BlockView, block_view}
+use Rattle.wb_link.proofs.Link.{Agrees, Good, Rests, RestsAt, Right, Goes, Safe, landed_write, landed_through, write_through_acts, if_so}
+use Rattle.wb_link.proofs.Agreeing.{write_agrees, based_write_agrees, through_agrees, finish_agrees, lose_agrees}
+use Rattle.wb_link.proofs.Writing.{whole_still, written_rests, finished_all, book_elsewhere, written_whole, written_books, written_life}
+use Rattle.wb_link.proofs.Calm.{held_on, failing, disowned, beginning}
+use Rattle.wb_link.proofs.Givings.{at_work, script_of, Comes, Life, quietly, gives_write}
 
 -- the write of this content to sectors of a block
 abbrev writing_through_of : ℕ → List ℕ → Content → List Want → Answer → Held → Content → Actor
@@ -28,33 +28,8 @@ pub record Owning (to : Option ℕ) (seal : Seal) (v : BlockView) : Type 0 where
   pub rests : Rests seal v
   pub route : to ≡ v.location
 
--- others leave it so
-owning_on : (a b : ℕ) (x : Actor) (to : Option ℕ) (s t : Shared) (d e : Volume) → x.held ≡ Owns b → Others a x s d t e → Owning to (s.seals b) (block_view d b) → Owning to (t.seals b) (block_view e b)
-owning_on a b x to s t d e h o k = subst (λ (v : BlockView). Owning to (t.seals b) v) (sym (o.block b has)) (subst (λ (v : Seal). Owning to v (block_view d b)) (sym (o.seal b has)) k) where
-  has : Holds x.held b
-  has = subst (λ (v : Held). Holds v b) (sym h) refl
-
 plain : (a b : ℕ) (os : List ℕ) (x : Content) (w : Want) (got : Got) (d e : Volume) → e.histories ≡ histories_after d.histories (Writing_through b os x) w → Right a (Writing_through b os x) w got d e
 plain a b os x w got d e r = record { reads = tt; histories = r; flushes = tt }
-
-ending : (n size a b : ℕ) (os : List ℕ) (x : Content) (answer : Answer) (held : Held) (c : Content) (s : Shared) (d : Volume) → MayEnd answer held s → Safe n size a (writing_through_of b os x [] answer held c) s d
-ending zero size a b os x answer held c s d h = tt
-ending (suc n) size a b os x answer held c s d h = λ t e got o g v r. gives_end t answer (λ k. Result n size a (Writing_through b os x) [] answer held c t e k)
-    (quietly size a (λ y u f. Safe n size a y u f) _ _ (End answer) Done t e g (may_end_on a (writing_through_of b os x [] answer held c) s t d e answer held o h) tt (plain a b os x (End answer) Done e e refl) (resting_safe n size a held None false c t e)) got v
-
-disowning : (n size a b : ℕ) (os : List ℕ) (x : Content) (answer : Answer) (c : Content) (s : Shared) (d : Volume) → RestsAt s d b → Safe n size a (writing_through_of b os x (Disown b ∷ []) answer (Owns b) c) s d
-disowning zero size a b os x answer c s d k = tt
-disowning (suc n) size a b os x answer c s d k = λ t e got o g v r.
-    let now : RestsAt t e b = subst (λ (w : BlockView). Rests (t.seals b) w) (sym (o.block b refl)) (subst (λ (w : Seal). Rests w (block_view d b)) (sym (o.seal b refl)) k) in
-    gives_disown t b (λ k. Result n size a (Writing_through b os x) (Disown b ∷ []) answer (Owns b) c t e k)
-    (quietly size a (λ y u f. Safe n size a y u f) _ _ (Disown b) Done t e g refl now (plain a b os x (Disown b) Done e e refl) (ending n size a b os x answer Nothing c t e (holds_nothing answer t))) got v
-
--- after a fault the block is kept
-failing : (n size a b : ℕ) (os : List ℕ) (x c : Content) (s : Shared) (d : Volume) → Safe n size a (writing_through_of b os x (Set_failed ∷ []) Io (Owns b) c) s d
-failing zero size a b os x c s d = tt
-failing (suc n) size a b os x c s d = λ t e got o g v r. gives_failed t (λ k. Result n size a (Writing_through b os x) (Set_failed ∷ []) Io (Owns b) c t e k)
-    (record { run = tt; mine = tt; agrees = failed_agrees t e g.agrees; ready = tt; owes = tt; right = plain a b os x Set_failed Done e e refl; left = ending n size a b os x Io (Owns b) c (record t { fail = true }) e (inr refl) })
-    got v
 
 -- Where the block is unmapped each sector is written on the origin alone.
 
@@ -66,15 +41,9 @@ GoesBy n size a b all x steps c w got t e p = Goes size a (λ y u f. Safe n size
 stands_at : (t : Shared) (e : Volume) (b : ℕ) (to : Option ℕ) → Agrees t e → to ≡ e.mapping b → t.mapping b ≡ to
 stands_at t e b to g r = ap (λ f. f b) g.mapping ∙ sym r
 
-whole_still : (f : ℕ → ℕ → Standing) (b o : ℕ) → ((i : ℕ) → i ≢ o → f b i ≡ Whole) → (i : ℕ) → changed_at f b o Whole b i ≡ Whole
-whole_still f b o k i = elim (cases_eq i o) [
-  | inl e ↦ ap (changed_at f b o Whole b) e ∙ here_is f b o Whole
-  | inr n ↦ elsewhere_is f b o b i Whole (inr n) ∙ k i n
-]
-
 written_owning : (seal : Seal) (e : Volume) (p : Option ℕ) (b o : ℕ) (x : Content) → Owning None seal (block_view e b) → Owning None seal (block_view (after_act (sector_written e p b o x) (Finish b o)) b)
-written_owning seal e None b o x k = record { rests = record { whole = whole_still e.standing b o (λ i n. k.rests.whole i); location = k.rests.location; dirty = k.rests.dirty; done = finished_all e.finished e.histories (changed_at e.histories b o (added (e.histories b o) x)) b o (book_elsewhere e.histories b o (added (e.histories b o) x)) (λ i n. k.rests.done i) }; route = k.route }
-written_owning seal e (Some j) b o x k = record { rests = record { whole = whole_still e.standing b o (λ i n. k.rests.whole i); location = k.rests.location; dirty = k.rests.dirty; done = finished_all e.finished e.histories (changed_at e.histories b o (added (e.histories b o) x)) b o (book_elsewhere e.histories b o (added (e.histories b o) x)) (λ i n. k.rests.done i) }; route = k.route }
+written_owning seal e None b o x k = record { rests = written_rests seal e None b o x k.rests; route = k.route }
+written_owning seal e (Some j) b o x k = record { rests = written_rests seal e (Some j) b o x k.rests; route = k.route }
 
 abbrev origin_left : ℕ → List ℕ → List Want
 origin_left b os = write_each None b os (Disown b ∷ [])
@@ -84,7 +53,7 @@ origin_write : (n size a b : ℕ) (all : List ℕ) (q : ℕ) (os : List ℕ) (x 
     Safe (suc n) size a (writing_through_of b all x (origin_left b (q ∷ os)) Finished (Owns b) c) s d
 origin_write n size a b all q os x c s d m l k next = λ t e got o g v r.
     let life : Life Writethrough e = (o.live ∙ l.0, o.mode ∙ l.1) in
-    let now : Owning None (t.seals b) (block_view e b) = owning_on a b _ None s t d e refl o k in
+    let now : Owning None (t.seals b) (block_view e b) = held_on (λ w v. Owning None w v) a b _ s t d e o refl k in
     gives_write t None b q (λ w. Result n size a (Writing_through b all x) (origin_left b (q ∷ os)) Finished (Owns b) c t e w)
     (done t e g life now (t.mapping b) (stands_at t e b None g.agrees now.route))
     (λ choice. failed choice t e g life now (t.mapping b) (stands_at t e b None g.agrees now.route))
@@ -107,12 +76,12 @@ origin_write n size a b all q os x c s d m l k next = λ t e got o g v r.
     failed choice t e g life now None is = settled choice.landed where
       settled : (landed : Bool) → Goes size a (λ y u f. Safe n size a y u f) (writing_through_of b all x (origin_left b (q ∷ os)) Finished (Owns b) c) (script_of (Writing_through b all x) (origin_left b (q ∷ os)) Finished) (Write_at None b q) (Fault choice)
           t (if_landed landed (put_sector t None b q x) t) e (after_acts e (landed_write landed b q x)) (landed_write landed b q x)
-      settled true = record { run = ((life.0, inl (sym now.route)), tt); mine = ((refl, m), tt); agrees = write_agrees t e None b q x now.route g.agrees; ready = refl; owes = tt; right = plain a b all x (Write_at None b q) (Fault choice) e (after_act e (Write b q x)) (written_books e (e.mapping b) b q x); left = failing n size a b all x c _ _ }
-      settled false = record { run = (life.0, tt); mine = ((refl, m), tt); agrees = lose_agrees t e b q x g.agrees; ready = refl; owes = tt; right = plain a b all x (Write_at None b q) (Fault choice) e (after_act e (Fail_write b q x)) refl; left = failing n size a b all x c _ _ }
+      settled true = record { run = ((life.0, inl (sym now.route)), tt); mine = ((refl, m), tt); agrees = write_agrees t e None b q x now.route g.agrees; ready = refl; owes = tt; right = plain a b all x (Write_at None b q) (Fault choice) e (after_act e (Write b q x)) (written_books e (e.mapping b) b q x); left = failing n size a (Writing_through b all x) tt (Owns b) None c _ _ }
+      settled false = record { run = (life.0, tt); mine = ((refl, m), tt); agrees = lose_agrees t e b q x g.agrees; ready = refl; owes = tt; right = plain a b all x (Write_at None b q) (Fault choice) e (after_act e (Fail_write b q x)) refl; left = failing n size a (Writing_through b all x) tt (Owns b) None c _ _ }
 
 alone_on_origin : (n size a b : ℕ) (all os : List ℕ) (x c : Content) (s : Shared) (d : Volume) → Within size os → Life Writethrough d → Owning None (s.seals b) (block_view d b) → Safe n size a (writing_through_of b all x (origin_left b os) Finished (Owns b) c) s d
 alone_on_origin zero size a b all os x c s d m l k = tt
-alone_on_origin (suc n) size a b all [] x c s d m l k = disowning (suc n) size a b all x Finished c s d k.rests
+alone_on_origin (suc n) size a b all [] x c s d m l k = disowned (suc n) size a (Writing_through b all x) tt b Finished None c s d k.rests
 alone_on_origin (suc n) size a b all (q ∷ os) x c s d m l k = origin_write n size a b all q os x c s d m.0 l k (λ t e life now. alone_on_origin n size a b all os x c t e m.1 life now)
 
 -- Where it is mapped, on the origin and then on the cache.
@@ -149,7 +118,7 @@ first_write : (n size a b : ℕ) (all : List ℕ) (q : ℕ) (os : List ℕ) (x :
     Safe (suc n) size a (writing_through_of b all x (first_left b all x k (q ∷ os)) Finished (Owns b) c) s d
 first_write n size a b all q os x k c s d m l h next = λ t e got o g v r.
     let life : Life Writethrough e = (o.live ∙ l.0, o.mode ∙ l.1) in
-    let now : Owning (Some k) (t.seals b) (block_view e b) = owning_on a b _ (Some k) s t d e refl o h in
+    let now : Owning (Some k) (t.seals b) (block_view e b) = held_on (λ w v. Owning (Some k) w v) a b _ s t d e o refl h in
     gives_write t None b q (λ w. Result n size a (Writing_through b all x) (first_left b all x k (q ∷ os)) Finished (Owns b) c t e w)
     (done t e g life now (t.mapping b) (stands_at t e b (Some k) g.agrees now.route))
     (λ choice. failed choice t e g life now (t.mapping b) (stands_at t e b (Some k) g.agrees now.route))
@@ -172,8 +141,8 @@ first_write n size a b all q os x k c s d m l h next = λ t e got o g v r.
     failed choice t e g life now (Some j) is = settled choice.landed where
       settled : (landed : Bool) → Goes size a (λ y u f. Safe n size a y u f) (writing_through_of b all x (first_left b all x k (q ∷ os)) Finished (Owns b) c) (script_of (Writing_through b all x) (first_left b all x k (q ∷ os)) Finished) (Write_at None b q) (Fault choice)
           t (if_landed landed (put_sector t None b q x) t) e (after_acts e (landed_through landed b q x)) (landed_through landed b q x)
-      settled true = record { run = (life.0, tt); mine = ((refl, m), tt); agrees = based_write_agrees t e b q x g.agrees; ready = refl; owes = tt; right = plain a b all x (Write_at None b q) (Fault choice) e (after_act e (Write_origin b q x)) refl; left = failing n size a b all x c _ _ }
-      settled false = record { run = (life.0, tt); mine = ((refl, m), tt); agrees = lose_agrees t e b q x g.agrees; ready = refl; owes = tt; right = plain a b all x (Write_at None b q) (Fault choice) e (after_act e (Fail_write b q x)) refl; left = failing n size a b all x c _ _ }
+      settled true = record { run = (life.0, tt); mine = ((refl, m), tt); agrees = based_write_agrees t e b q x g.agrees; ready = refl; owes = tt; right = plain a b all x (Write_at None b q) (Fault choice) e (after_act e (Write_origin b q x)) refl; left = failing n size a (Writing_through b all x) tt (Owns b) None c _ _ }
+      settled false = record { run = (life.0, tt); mine = ((refl, m), tt); agrees = lose_agrees t e b q x g.agrees; ready = refl; owes = tt; right = plain a b all x (Write_at None b q) (Fault choice) e (after_act e (Fail_write b q x)) refl; left = failing n size a (Writing_through b all x) tt (Owns b) None c _ _ }
 
 -- what the second write leaves, by where the block stands
 record Second (size k q b : ℕ) (x : Content) (t : Shared) (e f : Volume) : Type 0 where
@@ -199,7 +168,7 @@ second_write : (n size a b : ℕ) (all : List ℕ) (q : ℕ) (os : List ℕ) (x 
     Safe (suc n) size a (writing_through_of b all x (second_left b all x k q os) Finished (Owns b) c) s d
 second_write n size a b all q os x k c s d m l h next = λ t e got o g v r.
     let life : Life Writethrough e = (o.live ∙ l.0, o.mode ∙ l.1) in
-    let now : Halfway k q x (t.seals b) (block_view e b) = subst (λ (w : BlockView). Halfway k q x (t.seals b) w) (sym (o.block b refl)) (subst (λ (w : Seal). Halfway k q x w (block_view d b)) (sym (o.seal b refl)) h) in
+    let now : Halfway k q x (t.seals b) (block_view e b) = held_on (λ w v. Halfway k q x w v) a b _ s t d e o refl h in
     gives_write t (Some k) b q (λ w. Result n size a (Writing_through b all x) (second_left b all x k q os) Finished (Owns b) c t e w)
     (done t e life now (second_done size k q b x t e (e.mapping b) (sym now.route) g.agrees life now) (t.mapping b) (stands_at t e b (Some k) g.agrees now.route))
     (λ choice. failed choice t e g life now (second_done size k q b x t e (e.mapping b) (sym now.route) g.agrees life now) (t.mapping b) (stands_at t e b (Some k) g.agrees now.route))
@@ -222,12 +191,12 @@ second_write n size a b all q os x k c s d m l h next = λ t e got o g v r.
     failed choice t e g life now after (Some j) is = settled choice.landed where
       settled : (landed : Bool) → Goes size a (λ y u f. Safe n size a y u f) (writing_through_of b all x (second_left b all x k q os) Finished (Owns b) c) (script_of (Writing_through b all x) (second_left b all x k q os) Finished) (Write_at (Some k) b q) (Fault choice)
           t (if_landed landed (put_sector t (Some k) b q x) t) e (after_acts e (if_so landed (Write_cache b q ∷ []))) (if_so landed (Write_cache b q ∷ []))
-      settled true = record { run = ((life.0, now.half), tt); mine = ((refl, m), tt); agrees = after.agrees; ready = refl; owes = tt; right = plain a b all x (Write_at (Some k) b q) (Fault choice) e (after_act e (Write_cache b q)) after.histories; left = failing n size a b all x c _ _ }
-      settled false = quietly size a (λ y u f. Safe n size a y u f) _ _ (Write_at (Some k) b q) (Fault choice) t e g refl tt (plain a b all x (Write_at (Some k) b q) (Fault choice) e e refl) (failing n size a b all x c t e)
+      settled true = record { run = ((life.0, now.half), tt); mine = ((refl, m), tt); agrees = after.agrees; ready = refl; owes = tt; right = plain a b all x (Write_at (Some k) b q) (Fault choice) e (after_act e (Write_cache b q)) after.histories; left = failing n size a (Writing_through b all x) tt (Owns b) None c _ _ }
+      settled false = quietly size a (λ y u f. Safe n size a y u f) _ _ (Write_at (Some k) b q) (Fault choice) t e g refl tt (plain a b all x (Write_at (Some k) b q) (Fault choice) e e refl) (failing n size a (Writing_through b all x) tt (Owns b) None c t e)
 
 both : (n size a b : ℕ) (all os : List ℕ) (x : Content) (k : ℕ) (c : Content) (s : Shared) (d : Volume) → Within size os → Life Writethrough d → Owning (Some k) (s.seals b) (block_view d b) → Safe n size a (writing_through_of b all x (first_left b all x k os) Finished (Owns b) c) s d
 both zero size a b all os x k c s d m l h = tt
-both (suc n) size a b all [] x k c s d m l h = disowning (suc n) size a b all x Finished c s d h.rests
+both (suc n) size a b all [] x k c s d m l h = disowned (suc n) size a (Writing_through b all x) tt b Finished None c s d h.rests
 both (suc zero) size a b all (q ∷ os) x k c s d m l h = first_write zero size a b all q os x k c s d m.0 l h (λ t e life j. tt)
 both (suc (suc n)) size a b all (q ∷ os) x k c s d m l h = first_write (suc n) size a b all q os x k c s d m.0 l h
     (λ t e life j. second_write n size a b all q os x k c t e m.0 life j (λ u f now i. both n size a b all os x k c u f m.1 now i))
@@ -237,31 +206,6 @@ worked : (n size a b : ℕ) (os : List ℕ) (x : Content) (p : Option ℕ) (c : 
 worked n size a b os x None c s d m l k is = alone_on_origin n size a b os os x c s d m l (record { rests = k; route = is ∙ k.location })
 worked n size a b os x (Some j) c s d m l k is = both n size a b os os x j c s d m l (record { rests = k; route = is ∙ k.location })
 
-sealed : (n size a b : ℕ) (os : List ℕ) (x c : Content) (s : Shared) (d : Volume) → Within size os → Life Writethrough d → RestsAt s d b → Safe n size a (writing_through_of b os x (Look_seal b ∷ []) Finished (Owns b) c) s d
-sealed zero size a b os x c s d m l k = tt
-sealed (suc n) size a b os x c s d m l k = λ t e got o g v r.
-    let now : RestsAt t e b = subst (λ (w : BlockView). Rests (t.seals b) w) (sym (o.block b refl)) (subst (λ (w : Seal). Rests w (block_view d b)) (sym (o.seal b refl)) k) in
-    gives_seal t b (λ w. Result n size a (Writing_through b os x) (Look_seal b ∷ []) Finished (Owns b) c t e w)
-    (λ seal is. quietly size a (λ y u f. Safe n size a y u f) _ _ (Look_seal b) (Seen seal) t e g tt tt (plain a b os x (Look_seal b) (Seen seal) e e refl)
-    (worked n size a b os x seal.location c t e m (o.live ∙ l.0, o.mode ∙ l.1) now (ap (λ (w : Seal). w.location) is)))
-    got v
-
-owning : (n size a b : ℕ) (os : List ℕ) (x c : Content) (s : Shared) (d : Volume) → Within size os → Life Writethrough d → Safe n size a (writing_through_of b os x (Own b ∷ Look_seal b ∷ []) Finished Nothing c) s d
-owning zero size a b os x c s d m l = tt
-owning (suc n) size a b os x c s d m l = λ t e got o g v r.
-    gives_own t b (λ w. Receives (writing_through_of b os x (Own b ∷ Look_seal b ∷ []) Finished Nothing c) (Writing_through b os x) (Own b) w t e → Result n size a (Writing_through b os x) (Own b ∷ Look_seal b ∷ []) Finished Nothing c t e w)
-    (λ k. quietly size a (λ y u f. Safe n size a y u f) _ _ (Own b) Done t e g refl tt (plain a b os x (Own b) Done e e refl) (sealed n size a b os x c t e m (o.live ∙ l.0, o.mode ∙ l.1) k))
-    (λ k. quietly size a (λ y u f. Safe n size a y u f) _ _ (Own b) Lost t e g refl tt (plain a b os x (Own b) Lost e e refl) (ending n size a b os x Busy Nothing c t e (inl refl)))
-    got v r
-
 pub writing_through_safe : (n size a b : ℕ) (os : List ℕ) (x c : Content) (s : Shared) (d : Volume) → Within size os → d.mode ≡ Writethrough → Safe n size a (writing_through_of b os x (Look_fail ∷ Own b ∷ Look_seal b ∷ []) Finished Nothing c) s d
-writing_through_safe zero size a b os x c s d m l = tt
-writing_through_safe (suc n) size a b os x c s d m l = λ t e got o g v r.
-    let steps = Look_fail ∷ Own b ∷ Look_seal b ∷ [] in
-    gives_flag t (λ w. Receives (writing_through_of b os x steps Finished Nothing c) (Writing_through b os x) Look_fail w t e → Result n size a (Writing_through b os x) steps Finished Nothing c t e w)
-    (λ f k. quietly size a (λ y u f. Safe n size a y u f) _ _ Look_fail (Flag f) t e g tt tt (plain a b os x Look_fail (Flag f) e e refl) (on f t e (o.mode ∙ l) k)) got v r
-  where
-    on : (f : Bool) (t : Shared) (e : Volume) → e.mode ≡ Writethrough → Receives (writing_through_of b os x (Look_fail ∷ Own b ∷ Look_seal b ∷ []) Finished Nothing c) (Writing_through b os x) Look_fail (Flag f) t e →
-        Safe n size a (actor_after (writing_through_of b os x (Look_fail ∷ Own b ∷ Look_seal b ∷ []) Finished Nothing c) (script_of (Writing_through b os x) (Look_fail ∷ Own b ∷ Look_seal b ∷ []) Finished) Look_fail (Flag f)) t e
-    on true t e l k = ending n size a b os x Failed Nothing c t e (inl refl)
-    on false t e l k = owning n size a b os x c t e m (k refl, l)
+writing_through_safe n size a b os x c s d m l = beginning size a (Writing_through b os x) tt b None c (λ t e. e.mode ≡ Writethrough) (λ y s t d e h o k. o.mode ∙ k)
+    (λ n seal t e k live rests is. worked n size a b os x seal.location c t e m (live, k) rests (ap (λ (w : Seal). w.location) is)) n s d l
