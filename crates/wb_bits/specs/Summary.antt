@@ -1,3 +1,4 @@
+-- What the words of a set of numbers, and the sets above it, tell of its members.
 use Rattle.std.specs.Prelude.{◌≡◌, ◌≤◌, ◌<◌, ℕ, List, Bool, length, map}
 use Rattle.wb_bits.specs.BitWords.{is_used, IsBounded, members}
 use Rattle.wb_bits.specs.declared.bit_set.Above.{Above}

@@ -1,3 +1,4 @@
+-- Runs that show that each condition of the law is needed, and that all can hold.
 use Rattle.std.specs.Prelude.{ℕ, List, [], ◌∷◌, true, false}
 use Rattle.wb_disk.specs.Device.{Content, added}
 use Rattle.wb_contents.specs.Volume.{Volume, changed_at}

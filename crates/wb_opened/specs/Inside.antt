@@ -1,3 +1,4 @@
+-- Requests that lie on the origin.
 use Rattle.std.specs.Prelude.{◌<◌, ◌≤◌, ◌+◌, ℕ}
 
 -- A request over so many sectors from the first on has at least one, and all of them lie on an origin of this size.

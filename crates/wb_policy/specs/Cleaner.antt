@@ -1,3 +1,4 @@
+-- The cleaner: what it orders at a tick.
 use Rattle.std.specs.Prelude.{ℕ, ◌++◌, nat_le, nat_lt, Bool, ◌&&◌, not, if◌then◌else◌, List, Option, Some, None}
 use Rattle.std.specs.List.{find, filter}
 use Rattle.std.specs.Option.{option_map}

@@ -1,3 +1,4 @@
+-- The law of every policy: which orders it may give, and of which blocks.
 use Rattle.std.specs.Prelude.{◌≡◌, ◌≢◌, ℕ, Bool, false, List, Option, Some, slice_get, map, Contains}
 use Rattle.std.specs.Option.{option_map}
 use Rattle.wb_types.specs.declared.entry.Entry.{Entry}

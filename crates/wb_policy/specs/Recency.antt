@@ -1,3 +1,4 @@
+-- The mapped blocks by recency, and what becomes of it.
 use Rattle.std.specs.Prelude.{◌≡◌, ℕ, nat_eq, ◌==◌, Bool, ◌&&◌, not, List, [], ◌∷◌, reverse, Option, Some}
 use Rattle.std.specs.List.{find, list_any, IsDistinct}
 use Rattle.std.specs.Map.{keys_of, lookup, remove_entry}

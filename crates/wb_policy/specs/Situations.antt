@@ -1,3 +1,4 @@
+-- What rules an order out: a block with a live order, and passthrough.
 use Rattle.std.specs.Prelude.{ℕ, Bool, true, false, List, get_or}
 use Rattle.wb_types.specs.declared.mode.Mode.{Mode}
 use Rattle.wb_types.specs.declared.mode.Mode.TheVariants.{Writeback, Writethrough, Passthrough}

@@ -1,3 +1,4 @@
+-- TinyLFU: what it orders at an access and at a tick, by frequency and recency.
 use Rattle.std.specs.Prelude.{ℕ, ◌*◌, nat_eq, nat_le, nat_lt, Bool, ◌&&◌, not, if◌then◌else◌, List, [], ◌∷◌, Option, Some, None, is_some}
 use Rattle.std.specs.Map.{lookup}
 use Rattle.wb_sketch.specs.Frequencies.{Frequencies, accessed, estimate_of}

@@ -1,3 +1,4 @@
+-- Frequencies counted exactly, with the halvings of a sketch and without its hashing.
 use Rattle.std.specs.Prelude.{◌+◌, ◌/◌, ℕ, min, Bool, false, ◌||◌, ◌&&◌, ◌==◌, nat_lt, if◌then◌else◌, List, [], ◌∷◌}
 use Rattle.wb_sketch.specs.Sizes.{sample_limit}
 

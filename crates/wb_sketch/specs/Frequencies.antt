@@ -1,3 +1,4 @@
+-- The frequency sketch: counters, doorkeeper, sample, and what an access makes of them.
 use Rattle.std.specs.Prelude.{◌≡◌, ◌≤◌, ◌<◌, ◌+◌, ◌/◌, ◌^◌, ℕ, min, Bool, true, false, ◌&&◌, ◌==◌, nat_lt, if◌then◌else◌, List, [], ◌∷◌, length, map, replicate, get_or, slice_index, slice_set, set}
 use Rattle.wb_sketch.specs.Sizes.{row_bits, sample_limit}
 use Rattle.wb_sketch.specs.Places.{row_place, door_place, row_constant1, row_constant2, row_constant3, row_constant4, door_constant1, door_constant2}

@@ -1,3 +1,4 @@
+-- Where a block has its places in a sketch.
 use Rattle.std.specs.Prelude.{◌+◌, ◌-◌, ◌*◌, ◌/◌, ◌%◌, ◌^◌, ℕ}
 use Rattle.wb_sketch.specs.Sizes.{row_bits}
 

@@ -1,3 +1,4 @@
+-- How large a sketch is, by the number of cache blocks.
 use Rattle.std.specs.Prelude.{◌≤◌, ◌+◌, ◌*◌, ◌^◌, ℕ, zero, suc, nat_le, max, if◌then◌else◌}
 
 -- from these bits on, the first after so many steps at most whose power of two is not below a number

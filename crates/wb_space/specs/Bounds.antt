@@ -1,3 +1,4 @@
+-- How the lists of metadata places belong together.
 use Rattle.std.specs.Prelude.{◌≡◌, ◌<◌, ◌^◌, ℕ, false, if◌then◌else◌, length, get_or}
 use Rattle.wb_space.specs.Places.{PlacesNow, is_free_place, unused}
 use Rattle.wb_space.specs.declared.places.Places.TheInside.{Inside}

@@ -1,3 +1,4 @@
+-- How the sets of cache blocks belong to their states.
 use Rattle.std.specs.Prelude.{◌≡◌, ◌<◌, ◌^◌, length, map}
 use Rattle.wb_space.specs.Blocks.{is_free, is_late, is_early}
 use Rattle.wb_space.specs.declared.blocks.Blocks.TheInside.{Inside}

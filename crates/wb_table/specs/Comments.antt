@@ -1,3 +1,4 @@
+-- Lines that are comments.
 use Rattle.std.specs.Prelude.{◌≡◌, ◌==◌, ℕ, not, List, Option, Some, find}
 
 -- the first byte other than a space

@@ -1,3 +1,4 @@
+-- Words that spell sectors, with a byte to fill them or without.
 use Rattle.std.specs.Prelude.{ℕ, List, [], ◌∷◌}
 use Rattle.wb_table.specs.Numbers.{SpellsNumber, SpellsByte}
 

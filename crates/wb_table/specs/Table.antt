@@ -1,3 +1,4 @@
+-- The grammar of a constructor line.
 use Rattle.std.specs.Prelude.{◌≡◌, ◌≤◌, ◌%◌, ℕ, List, [], ◌∷◌, codes}
 use Rattle.wb_table.specs.Numbers.{SpellsNumber}
 

@@ -1,3 +1,4 @@
+-- The words of a text.
 use Rattle.std.specs.Prelude.{ℕ, Bool, List, nat_lt, filter, length, ◌==◌}
 use Rattle.std.specs.List.{slice_split}
 

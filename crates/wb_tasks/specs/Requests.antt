@@ -1,3 +1,4 @@
+-- What is left of a request.
 use Rattle.wb_tasks.specs.Plan.{Plan}
 use Rattle.wb_tasks.specs.declared.request.Request.{Request}
 use Rattle.wb_tasks.specs.declared.request.Request.TheVariants.{Reads, Writes}

@@ -1,3 +1,4 @@
+-- Runs of a task, and where its steps lead.
 use Rattle.std.specs.Prelude.{◌≡◌, List, [], ◌∷◌}
 use Rattle.wb_tasks.specs.Plan.{Plan, want, after, Fits}
 use Rattle.wb_tasks.specs.declared.step.Answer.{Answer}

@@ -1,3 +1,4 @@
+-- The step tables of the jobs on a block, and by which device each of its sectors goes.
 use Rattle.std.specs.Prelude.{◌+◌, ◌*◌, ◌%◌, ◌++◌, ℕ, Bool, true, false, List, [], ◌∷◌, Option, Some, None, map}
 use Rattle.wb_types.specs.declared.extent.Extent.{Extent}
 use Rattle.wb_types.specs.declared.mode.Dev.{Dev}

@@ -1,3 +1,4 @@
+-- The limits of a geometry, and how many levels and nodes a mapping has.
 use Rattle.std.specs.Prelude.{◌≡◌, ◌≤◌, ◌+◌, ◌*◌, ◌%◌, ◌^◌, ℕ, zero, suc, nat_le, if◌then◌else◌}
 use Rattle.std.specs.Int.{div_ceil}
 

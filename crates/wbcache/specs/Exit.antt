@@ -1,3 +1,4 @@
+-- The exit statuses of the program.
 use Rattle.std.specs.Prelude.{ℕ}
 use Rattle.wb_types.specs.declared.refusal.Refusal.{Refusal}
 use Rattle.wb_types.specs.declared.refusal.Refusal.TheVariants.{Io, Failed}

@@ -1,3 +1,4 @@
+-- What is printed of the content of a sector.
 use Rattle.std.specs.Prelude.{◌≡◌, ℕ, List, All}
 use Rattle.wbcache.specs.declared.fill.Fill.{Fill}
 use Rattle.wbcache.specs.declared.fill.Fill.TheVariants.{Uniform, Mixed}

@@ -1,3 +1,4 @@
+-- The grammar of a line of a script.
 use Rattle.std.specs.Prelude.{◌≡◌, ℕ, List, [], ◌∷◌, codes, ◌⊎◌}
 use Rattle.std.specs.Str.{IsUtf8}
 use Rattle.wb_table.specs.Words.{words_of}

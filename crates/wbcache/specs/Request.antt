@@ -1,3 +1,4 @@
+-- The sectors that a line of a script asks for.
 use Rattle.std.specs.Prelude.{ℕ}
 use Rattle.wb_opened.specs.Inside.{IsInside}
 use Rattle.wbcache.specs.declared.line.Line.{Line}
