@@ -30,7 +30,7 @@ use Rattle.wb_tasks.specs.declared.step.Migration.TheVariants.{Promote, Demote, 
 use Rattle.wb_tasks.specs.declared.step.DeskStep.TheVariants.{ReleaseOrder}
 use Rattle.wb_tasks.specs.declared.step.Want.{Want}
 use Rattle.wb_tasks.specs.declared.step.Want.TheVariants.{Cell, Desk}
-use Rattle.wb_link.specs.Tables.{Order, Job, Got, Flag, Lost, Done, Seen, Own, Look_seal, Set_failed, acquire, breaking, Want as AbstractWant, Seal as SealThere, Answer as AbstractAnswer, Failed as AnsweredFailed, Busy as AnsweredBusy, Finished as AnsweredDone, work as work_there}
+use Rattle.wb_link.specs.Tables.{Order, Flag, Lost, Done, Seen, Own, Look_seal, Set_failed, acquire, breaking, Want as AbstractWant, Seal as SealThere, Answer as AbstractAnswer, Failed as AnsweredFailed, Busy as AnsweredBusy, work as work_there}
 use Rattle.wb_link.specs.World.{Shared, Held, Nothing, Owns, Actor}
 use Rattle.wb_refines.specs.Translation.{number_of, offsets}
 use Rattle.wb_refines.specs.Going.{WinsBeside}
