@@ -4,6 +4,7 @@ use Rattle.std.proofs.lemmas.Bool.{cases_eq}
 use Rattle.std.proofs.lemmas.List.{length-set}
 use Rattle.wb_disk.specs.Device.{History}
 use Rattle.wb_contents.specs.Devices.{by_block}
+use Rattle.wb_words.specs.declared.word.Word.TheVariants.{Number}
 use Rattle.wb_words.specs.SharedWords.{Words, word_at, flag, fail_word, with_cell, taken}
 use Rattle.wb_words.specs.Effects.{words_after}
 use Rattle.wb_words.specs.declared.word.Kind.TheVariants.{ReadHit, ReadMiss, WriteHit, WriteMiss}
@@ -15,7 +16,7 @@ use Rattle.wb_link.specs.Tables.{Got}
 use Rattle.wb_link.specs.World.{World, Shared, Actor as AbstractActor, is_alone}
 use Rattle.wb_link.proofs.Lists.{get_set_same, get_set_other}
 use Rattle.wb_refines.specs.Going.{records, shared_after, gone, MayGo}
-use Rattle.wb_refines.specs.Models.{WordsAgree, BelowBeside}
+use Rattle.wb_refines.specs.Models.{TakesBeside, WordsAgree, BelowBeside}
 use Rattle.wb_refines.proofs.Cells.{failed_flag}
 use Rattle.wb_refines.proofs.Going.{goes, with_own}
 use Rattle.wb_runs.specs.States.{Actor}
@@ -80,8 +81,13 @@ module _ (size most : ℕ) (words : Words) (committing : Bool) (orders : List (O
   nobody_alone b z e = let x = whose b z e in (g.each b x.0 z x.1 e).among_others
 
   -- whoever holds a block beside this one has a card that counts it
-  pub below_beside : (a : ℕ) → BelowBeside s.actors (cards_of actors) a a
+  below_beside : (a : ℕ) → BelowBeside s.actors (cards_of actors) a a
   below_beside a b y n e held = let x = whose b y e in (b, x.0.card, n, card_there actors b x.0 x.1, (g.each b x.0 y x.1 e).below)
+
+  -- so where it takes its block, no other one counts on its card
+  pub takes : (a : ℕ) (step : CellStep) → TakesBeside step s.actors (cards_of actors) a a
+  takes a (Look (Number b)) = below_beside a
+  takes a step = tt
 
 -- ---- one goes on
 

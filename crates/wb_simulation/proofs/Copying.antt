@@ -46,8 +46,6 @@ use Rattle.wb_simulation.specs.Steps.{AreOfBlock, ArePaired, IsNoWrite, IsTail}
 use Rattle.wb_simulation.specs.Carried.{target, AreCopiedAt, HasRead, IsUnder, IsCarried}
 use Rattle.wb_simulation.proofs.Orders.{CarriesOthers, carries_same}
 use Rattle.wb_simulation.proofs.Carrying.{IsOn, carry_on, carried_job, carried_order}
-use Rattle.wb_tasks.specs.declared.step.DeviceStep.TheVariants.{Sync, ReadMetadata, WriteNode, WriteRoot}
-use Rattle.wb_tasks.specs.declared.step.Want.TheVariants.{End}
 use Rattle.wb_simulation.specs.Worlds.{zeros, Agrees, Stays}
 use Rattle.wb_simulation.specs.Migrating.{Carried}
 use Rattle.wb_simulation.proofs.Cells.{shared_stays, gone_nowhere}
@@ -70,16 +68,8 @@ given_from (h ∷ hs) (suc at) count l = let later = given_from hs at count (ome
 
 -- what is no write has nothing to have been read
 pub no_write_read : (size : ℕ) (list : List History) (at : ℕ) (steps : List Want) (buffer : List Content) → IsNoWrite steps → HasRead size list at steps buffer
-no_write_read size list at [] buffer n = tt
 no_write_read size list at (Device (Write device e) ∷ ws) buffer n = absurd n
-no_write_read size list at (Device (Read device e) ∷ ws) buffer n = tt
-no_write_read size list at (Device (Sync device) ∷ ws) buffer n = tt
-no_write_read size list at (Device (ReadMetadata left) ∷ ws) buffer n = tt
-no_write_read size list at (Device (WriteNode number) ∷ ws) buffer n = tt
-no_write_read size list at (Device WriteRoot ∷ ws) buffer n = tt
-no_write_read size list at (Cell step ∷ ws) buffer n = tt
-no_write_read size list at (Desk step ∷ ws) buffer n = tt
-no_write_read size list at (End answer ∷ ws) buffer n = tt
+no_write_read size list at steps buffer n = tt
 
 module _ (size most blocks : ℕ) (words : Words) (committing : Bool) (orders : List (Option Order)) (devices : Devices (List History)) (actors : List Actor) (a : ℕ) (x : Actor) (s : World) (y : AbstractActor) (g : Agrees size most words committing orders devices actors s) (ex : slice_get actors a ≡ Some x) (ey : slice_get s.actors a ≡ Some y)
     (migration : Migration) (block : OBlock) (part : BlockRange) (next : Want) (ws : List Want) (answer : Answer) (f : IsCarried size orders devices migration block part (next ∷ ws) answer x y) where

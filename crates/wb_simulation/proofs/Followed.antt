@@ -5,8 +5,6 @@ use Rattle.wb_words.specs.SharedWords.{Words}
 use Rattle.wb_words.specs.Rule.{LockRule}
 use Rattle.wb_words.specs.Effects.{result_of, words_after, card_after}
 use Rattle.wb_words.specs.declared.step.CellStep.{CellStep}
-use Rattle.wb_words.specs.declared.step.CellStep.TheVariants.{Look, Take, Release, Seal, Finish, Count, SetFailed, SetSuspended}
-use Rattle.wb_words.specs.declared.word.Word.TheVariants.{Cell as LockWord, Seal as SealWord, Number, Count as CountWord, Fail}
 use Rattle.wb_policy.specs.declared.order.Order.{Order}
 use Rattle.wb_tasks.specs.Tables.{BlockRange, BlockJob, Reading, Writing, OnBlock, range_of}
 use Rattle.wb_tasks.specs.Plan.{Plan, want, after, got_of, first_step, work_of}
@@ -32,7 +30,7 @@ use Rattle.wb_simulation.proofs.Telling.{quiet_are_unnoted}
 use Rattle.wb_simulation.proofs.Steps.{read_of_block, write_of_block}
 use Rattle.wb_simulation.proofs.Cells.{Acted, acts_on_words}
 use Rattle.wb_simulation.proofs.Orders.{MigratesNot, does_none, carries_same}
-use Rattle.wb_simulation.proofs.Among.{card_there, own_there, below_beside, failed_stays, goes_on}
+use Rattle.wb_simulation.proofs.Among.{card_there, own_there, takes, failed_stays, goes_on}
 
 -- who does a read or write is at it
 pub doing_of : (size most : ℕ) (words : Words) (x : Actor) (y : AbstractActor) (job : Job) (plan : Plan) → StandsFor size most words x y → x.task ≡ Some (job, plan) → IsDoing size most words job plan x.card y
@@ -53,21 +51,6 @@ no_request job r = tt
 
 module _ (size most blocks : ℕ) (words : Words) (committing : Bool) (orders : List (Option Order)) (devices : Devices (List History)) (actors : List Actor) (a : ℕ) (x : Actor) (plan : Plan) (step : CellStep) (s : World) (y : AbstractActor)
     (rule : LockRule blocks words (cards_of actors)) (ex : slice_get actors a ≡ Some x) (ey : slice_get s.actors a ≡ Some y) (job : Job) (request_job : IsRequestJob job) (task : x.task ≡ Some (job, plan)) (suits : Suits blocks plan x.card) (next : want plan ≡ Cell step) (g : Agrees size most words committing orders devices actors s) (st : StandsFor size most words x y) where
-  -- where it takes its block, no other one counts on its card
-  takes : (q : CellStep) (ws : List Want) → plan.steps ≡ Cell q ∷ ws → TakesBeside q s.actors (cards_of actors) a a
-  takes (Look (Number b)) ws e = below_beside size most words committing orders devices actors s g a
-  takes (Look Fail) ws e = tt
-  takes (Look (LockWord b)) ws e = tt
-  takes (Look (SealWord b)) ws e = tt
-  takes (Look (CountWord kind)) ws e = tt
-  takes (Take access b seen) ws e = tt
-  takes (Release access b) ws e = tt
-  takes (Seal b place dirty) ws e = tt
-  takes (Finish b) ws e = tt
-  takes (Count kind) ws e = tt
-  takes SetFailed ws e = tt
-  takes SetSuspended ws e = tt
-
   -- a request's, by its actor alone
   request_acts : (content : Content) (job_on : BlockRange → BlockJob) → ((part : BlockRange) → IsRequest (job_on part)) → ((part : BlockRange) → range_of (job_on part) ≡ part) →
       ((part : BlockRange) → IsPart size part → (seal : ℕ) → AreOfBlock size part.block.0 (work_of (OnBlock (job_on part)) seal)) → ((part : BlockRange) → job_alone (job_for size content (OnBlock (job_on part))) ≡ false) →
@@ -84,7 +67,7 @@ module _ (size most blocks : ℕ) (words : Words) (committing : Bool) (orders : 
           let is : plan ≡ plan_of (job_on r.part) (Cell step ∷ ws) plan.answer = (λ i. record { job = r.job i; steps = (e ∙ ap (λ (u : Want). u ∷ ws) first) i; answer = plan.answer }) in
           let r' = subst (λ (p : Plan). IsRequestAt size content words job_on p x.card y) is r in
           subst Of_plan (sym is) (acts_on_words size content job_on request range works among r.part r.is_part blocks words s.actors a x.card s.shared y plan.answer g.words_agree (cards_of actors) step ws rule (card_there actors a x ex)
-          (takes step ws (e ∙ ap (λ (u : Want). u ∷ ws) first)) st.below st.among_others (subst (λ (ws' : List Want). AreOfBlock size r.part.block.0 ws') (e ∙ ap (λ (u : Want). u ∷ ws) first) r.of_block)
+          (takes size most words committing orders devices actors s g a step) st.below st.among_others (subst (λ (ws' : List Want). AreOfBlock size r.part.block.0 ws') (e ∙ ap (λ (u : Want). u ∷ ws) first) r.of_block)
           (subst (λ (p : Plan). Suits blocks p x.card) is suits) (subst (λ (p : Plan). At p) is r.at))
         where
           At : Plan → Type 0

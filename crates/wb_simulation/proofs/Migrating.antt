@@ -9,8 +9,8 @@ use Rattle.wb_words.specs.Effects.{result_of, words_after, card_after}
 use Rattle.wb_words.proofs.Totals.{at_slice}
 use Rattle.wb_words.specs.declared.card.Card.{Card}
 use Rattle.wb_words.specs.declared.step.CellStep.{CellStep}
-use Rattle.wb_words.specs.declared.step.CellStep.TheVariants.{Look, Take, Release, Seal, Finish, Count, SetFailed, SetSuspended}
-use Rattle.wb_words.specs.declared.word.Word.TheVariants.{Cell as LockWord, Seal as SealWord, Number, Count as CountWord, Fail}
+use Rattle.wb_words.specs.declared.step.CellStep.TheVariants.{Look, Release, Seal}
+use Rattle.wb_words.specs.declared.word.Word.TheVariants.{Seal as SealWord, Number, Fail}
 use Rattle.wb_policy.specs.declared.order.Order.{Order}
 use Rattle.wb_tasks.specs.Tables.{BlockRange, Migrating, OnBlock}
 use Rattle.wb_tasks.specs.Plan.{Plan, want, after, got_of, onward, refused}
@@ -18,7 +18,7 @@ use Rattle.wb_tasks.specs.Ready.{Has, Suits}
 use Rattle.wb_types.specs.declared.refusal.Refusal.TheVariants.{Failed}
 use Rattle.wb_words.specs.declared.word.Access.TheVariants.{Owned}
 use Rattle.wb_tasks.proofs.Readiness.{job_stays}
-use Rattle.wb_simulation.proofs.Among.{card_there, own_there, below_beside, failed_stays, goes_on}
+use Rattle.wb_simulation.proofs.Among.{card_there, own_there, takes, failed_stays, goes_on}
 use Rattle.wb_tasks.specs.declared.step.Answer.{Answer}
 use Rattle.wb_tasks.specs.declared.step.Migration.{Migration}
 use Rattle.wb_tasks.specs.declared.step.Want.{Want}
@@ -26,7 +26,7 @@ use Rattle.wb_tasks.specs.declared.step.Want.TheVariants.{Cell}
 use Rattle.wb_devices.specs.declared.devices.Devices.{Devices}
 use Rattle.wb_link.specs.World.{World, Actor as AbstractActor}
 use Rattle.wb_refines.specs.Going.{shared_after, gone}
-use Rattle.wb_refines.specs.Models.{TakesBeside, plan_of}
+use Rattle.wb_refines.specs.Models.{plan_of}
 use Rattle.wb_refines.specs.Migrations.{order_on, source, IsWhere}
 use Rattle.wb_refines.specs.Carried.{IsMigrationAt, FindsWhere, FollowsMigration}
 use Rattle.wb_refines.proofs.Carried.{migration_cells_followed}
@@ -60,27 +60,7 @@ use Rattle.wb_refines.specs.Carried.{IsMigrationAt}
 tail_after : (words : Words) (part : BlockRange) (migration : Migration) (step : CellStep) (ws : List Want) (answer : Answer) → IsTail (Cell step ∷ ws) → IsTail (after (plan_of (Migrating migration part) (Cell step ∷ ws) answer) (got_of (result_of words step))).steps
 tail_after words part migration (Seal b place dirty) ws answer t = t
 tail_after words part migration (Release access b) ws answer t = t
-tail_after words part migration (Look word) ws answer t = absurd t
-tail_after words part migration (Take access b seen) ws answer t = absurd t
-tail_after words part migration (Finish b) ws answer t = absurd t
-tail_after words part migration (Count kind) ws answer t = absurd t
-tail_after words part migration SetFailed ws answer t = absurd t
-tail_after words part migration SetSuspended ws answer t = absurd t
-
--- where it takes its block, no other one counts on its card
-takes : (size most : ℕ) (words : Words) (committing : Bool) (orders : List (Option Order)) (devices : Devices (List History)) (actors : List Actor) (a : ℕ) (s : World) → Agrees size most words committing orders devices actors s → (q : CellStep) → TakesBeside q s.actors (cards_of actors) a a
-takes size most words committing orders devices actors a s g (Look (Number b)) = below_beside size most words committing orders devices actors s g a
-takes size most words committing orders devices actors a s g (Look Fail) = tt
-takes size most words committing orders devices actors a s g (Look (LockWord b)) = tt
-takes size most words committing orders devices actors a s g (Look (SealWord b)) = tt
-takes size most words committing orders devices actors a s g (Look (CountWord kind)) = tt
-takes size most words committing orders devices actors a s g (Take access b seen) = tt
-takes size most words committing orders devices actors a s g (Release access b) = tt
-takes size most words committing orders devices actors a s g (Seal b place dirty) = tt
-takes size most words committing orders devices actors a s g (Finish b) = tt
-takes size most words committing orders devices actors a s g (Count kind) = tt
-takes size most words committing orders devices actors a s g SetFailed = tt
-takes size most words committing orders devices actors a s g SetSuspended = tt
+tail_after words part migration step ws answer t = absurd t
 
 module _ (size most blocks : ℕ) (words : Words) (committing : Bool) (orders : List (Option Order)) (devices : Devices (List History)) (actors : List Actor) (a : ℕ) (x : Actor) (step : CellStep) (s : World) (y : AbstractActor) (g : Agrees size most words committing orders devices actors s)
     (rule : LockRule blocks words (cards_of actors)) (ex : slice_get actors a ≡ Some x) (ey : slice_get s.actors a ≡ Some y) (m : Migration) (block : OBlock) (part : BlockRange) (ws : List Want) (answer : Answer) (f : IsCarried size orders devices m block part (Cell step ∷ ws) answer x y) (suits : Suits blocks (plan_of (Migrating m part) (Cell step ∷ ws) answer) x.card) (sees : SeesWhere words orders s.shared.mapping m block step) where
@@ -136,22 +116,12 @@ module _ (size most blocks : ℕ) (words : Words) (committing : Bool) (orders : 
   finds_where (Look (Number b)) is seen has = λ seal known.
       let told : word_at words.seals part.block ≡ seal = (rule.knows a x.card (at_slice (cards_of actors) a x.card (card_there actors a x ex))).seal Owned part.block seal has.0 known in
       subst (λ (v : ℕ). IsWhere m cache (place_in v)) told (tells_where (subst (λ (v : CellStep). ¬ IsTail (Cell v ∷ ws)) (sym is) (λ t. t)) seen part.block f.block_is)
-  finds_where (Look Fail) is seen has = tt
-  finds_where (Look (LockWord b)) is seen has = tt
-  finds_where (Look (SealWord b)) is seen has = tt
-  finds_where (Look (CountWord kind)) is seen has = tt
-  finds_where (Take access b was) is seen has = tt
-  finds_where (Release access b) is seen has = tt
-  finds_where (Seal b place dirty) is seen has = tt
-  finds_where (Finish b) is seen has = tt
-  finds_where (Count kind) is seen has = tt
-  finds_where SetFailed is seen has = tt
-  finds_where SetSuspended is seen has = tt
+  finds_where q is seen has = tt
 
   goes_there : FollowsMigration s.actors a s.shared y words' part cache f.next m f.kept plan' card'
   goes_there = migration_cells_followed blocks words (cards_of actors) s.actors a a x.card s.shared y part cache f.next m f.kept step ws answer
       (let some = f.is_part.some in let sized = f.is_part.sized in omega (arith, some, sized)) rule (card_there actors a x ex)
-      (takes size most words committing orders devices actors a s g step) g.words_agree (tells size part.block.0 step ws f.of_block).0 f.fills (finds_where step refl sees suits.1) suits f.at
+      (takes size most words committing orders devices actors s g a step) g.words_agree (tells size part.block.0 step ws f.of_block).0 f.fills (finds_where step refl sees suits.1) suits f.at
 
   abbrev z : AbstractActor
   z = gone y y.task goes_there.results

@@ -29,7 +29,8 @@ use Rattle.wb_simulation.specs.Telling.{IsMigrating, IsResumed, Given, Kept, Fai
 use Rattle.wb_simulation.specs.Worlds.{zeros}
 use Rattle.wb_simulation.proofs.Counts.{everywhere, all_raised-length, no_entries_alike, greater_counts, greater-length}
 use Rattle.wb_simulation.proofs.Telling.{reads_unnoted}
-use Rattle.wb_simulation.proofs.Told.{until_written, IsJob, after_job, untold, reads_newest, Wrote, writes_told, length-written, changed_nothing}
+use Rattle.wb_link.proofs.Actors.{job_on}
+use Rattle.wb_simulation.proofs.Told.{until_written, IsJob, untold, reads_newest, Wrote, writes_told, length-written, changed_nothing}
 
 -- ---- where an actor's own steps lead
 
@@ -77,7 +78,7 @@ gone_job (got ∷ gots) y (Some script) e u =
     let y' = actor_after y script (want script) got in
     let then_task = (gone y' (task_after script (want script) got) gots).task in
     let later = subst (λ (t : Option Script). SameJob t then_task) (task_goes script (want script) got u.0) (gone_job gots y' (task_after script (want script) got) refl u.1) in
-    (later.0, later.1, later.2 ∙ after_job script got)
+    (later.0, later.1, later.2 ∙ job_on script got)
 
 noted_job : (size sectors : ℕ) (task then_task : Option Script) (o : Option (Option Doing)) (a : ℕ) (m : AbstractNotes) → SameJob task then_task → IsNotedSo size sectors task o a m → IsNotedSo size sectors then_task o a m
 noted_job size sectors None then_task o a m same is = subst (λ (t : Option Script). IsNotedSo size sectors t o a m) (sym same) tt
@@ -338,7 +339,7 @@ carried_untold [] (Some script) m a j c = refl
 carried_untold (got ∷ gots) None m a j c = refl
 carried_untold (got ∷ gots) (Some script) m a j c =
     let is = task_goes script (want script) got c.1 in
-    let later : IsJob m a (task_after script (want script) got) = subst (λ (t : Option Script). IsJob m a t) (sym is) (j ∙ ap (λ (k : AbstractJob). Some k) (sym (after_job script got))) in
+    let later : IsJob m a (task_after script (want script) got) = subst (λ (t : Option Script). IsJob m a t) (sym is) (j ∙ ap (λ (k : AbstractJob). Some k) (sym (job_on script got))) in
     ap (λ (k : AbstractNotes). told k (records a (task_after script (want script) got) gots)) (migrating_nothing m a script.job (want script) j c.0 c.1) ∙ carried_untold gots (task_after script (want script) got) m a later c.2
 
 module _ (size a : ℕ) (s : World) (y : AbstractActor) (n : Notes) (m : AbstractNotes) (ey : slice_get s.actors a ≡ Some y) (among : a < length n.doings) (g : NotesAgree size n s m) where

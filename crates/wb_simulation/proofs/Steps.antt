@@ -10,7 +10,7 @@ use Rattle.wb_words.specs.SharedWords.{place_in, cached_at, seal_word, dirty_in}
 use Rattle.wb_words.specs.SharedWords.{Words, word_at}
 use Rattle.wb_words.specs.Effects.{result_of}
 use Rattle.wb_words.specs.declared.step.CellResult.TheVariants.{Done as Won, Lost as NotWon}
-use Rattle.wb_words.specs.declared.word.Word.TheVariants.{Cell as LockWord, Seal as SealWord, Number, Count as CountWord, Fail}
+use Rattle.wb_words.specs.declared.word.Word.TheVariants.{Cell as LockWord, Seal as SealWord, Number, Fail}
 use Rattle.wb_types.specs.declared.number.OBlock.{OBlock}
 use Rattle.wb_types.specs.declared.refusal.Refusal.TheVariants.{Failed, Worn, Busy}
 use Rattle.wb_tasks.specs.Tables.{TaskJob, BlockRange, Reading, Writing, Migrating, OnBlock, read_step, write_step, read_count, write_count, cache_extent, dirtying, copies, ending, work}
@@ -22,7 +22,7 @@ use Rattle.wb_tasks.specs.declared.step.Want.{Want}
 use Rattle.wb_tasks.specs.declared.step.Want.TheVariants.{Cell}
 use Rattle.wb_words.specs.declared.word.Access.TheVariants.{Shared, Owned}
 use Rattle.wb_words.specs.declared.step.CellStep.{CellStep}
-use Rattle.wb_words.specs.declared.step.CellStep.TheVariants.{Look, Take, Release, Seal, Finish, Count, SetFailed, SetSuspended}
+use Rattle.wb_words.specs.declared.step.CellStep.TheVariants.{Look, Take, Release, Finish}
 use Rattle.wb_refines.specs.Data.{IsInBlock}
 use Rattle.wb_refines.specs.Translation.{location_at}
 use Rattle.wb_refines.proofs.Tables.{at_place}
@@ -124,18 +124,12 @@ after_cell P job words (Look (Number b)) ws answer none stays exchanges works ba
     by_test : (t : Bool) → P (if t then refused (record { job = job; steps = Cell (Look (Number b)) ∷ ws; answer = answer }) (gives_back job) Worn else onward (record { job = job; steps = Cell (Look (Number b)) ∷ ws; answer = answer })).steps
     by_test true = back
     by_test false = stays
-after_cell P job words (Look (CountWord kind)) ws answer none stays exchanges works back = stays
 after_cell P job words (Take access b seen) ws answer none stays exchanges works back = by_test (word_at words.cells b == seen)
   where
     by_test : (t : Bool) → P (after (record { job = job; steps = Cell (Take access b seen) ∷ ws; answer = answer }) (got_of (if t then Won else NotWon))).steps
     by_test true = stays
     by_test false = none
-after_cell P job words (Release access b) ws answer none stays exchanges works back = stays
-after_cell P job words (Seal b place dirty) ws answer none stays exchanges works back = stays
-after_cell P job words (Finish b) ws answer none stays exchanges works back = stays
-after_cell P job words (Count kind) ws answer none stays exchanges works back = stays
-after_cell P job words SetFailed ws answer none stays exchanges works back = stays
-after_cell P job words SetSuspended ws answer none stays exchanges works back = stays
+after_cell P job words step ws answer none stays exchanges works back = stays
 
 module _ (size : ℕ) (part : BlockRange) (is : IsPart size part) where
   abbrev Copies : (from to : Option ℕ) → List Want → Type 0
