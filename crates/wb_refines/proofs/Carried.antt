@@ -102,13 +102,11 @@ module _ (actors : List Actor) (there : ℕ) (s : Shared) (part : BlockRange) (c
   -- each migration begins, and fails, as the others do
   acquires : (migration : Migration) → acquire (job_under order os migration) ≡ Own part.block.0 ∷ Look_seal part.block.0 ∷ []
   acquires (Promote k) = refl
-  acquires Demote = refl
-  acquires Clean = refl
+  acquires migration = refl
 
   breaks : (migration : Migration) → breaking (job_under order os migration) ≡ Set_failed ∷ []
   breaks (Promote k) = refl
-  breaks Demote = refl
-  breaks Clean = refl
+  breaks migration = refl
 
   -- it is lost there, with no block and the order kept
   is_lost : (migration : Migration) (held : Held) (told : AbstractAnswer) (buffer : Content) (words : Words) (card : Card) → held ≡ held_of card.hold → WordsAgree words s →

@@ -46,13 +46,11 @@ takes actors a s part c next Clean place dirty later answer buffer some f w wins
 
 is_busy : (size : ℕ) (actors : List Actor) (a : ℕ) (s : Shared) (order : Order) (os : List ℕ) (migration : Migration) (block : OBlock) (later : List Want) (answer : AbstractAnswer) (buffer : Content) → GoesTo actors a s (without_block (migrating size order os migration (Cell (Look (LockWord block)) ∷ later) answer buffer)) (Lost ∷ []) s (without_block (migrating size order os migration [] AnsweredBusy buffer))
 is_busy size actors a s order os (Promote c) block later answer buffer = record { may = (tt, tt, tt); shared = refl; is = refl }
-is_busy size actors a s order os Demote block later answer buffer = record { may = (tt, tt, tt); shared = refl; is = refl }
-is_busy size actors a s order os Clean block later answer buffer = record { may = (tt, tt, tt); shared = refl; is = refl }
+is_busy size actors a s order os migration block later answer buffer = record { may = (tt, tt, tt); shared = refl; is = refl }
 
 fails : (size : ℕ) (actors : List Actor) (a : ℕ) (s : Shared) (order : Order) (os : List ℕ) (migration : Migration) (buffer : Content) → GoesTo actors a s (migrating size order os migration (Cell SetFailed ∷ []) AnsweredIo buffer) (Done ∷ []) (record s { fail = true }) (migrating size order os migration [] AnsweredIo buffer)
 fails size actors a s order os (Promote c) buffer = record { may = (tt, tt, tt); shared = refl; is = refl }
-fails size actors a s order os Demote buffer = record { may = (tt, tt, tt); shared = refl; is = refl }
-fails size actors a s order os Clean buffer = record { may = (tt, tt, tt); shared = refl; is = refl }
+fails size actors a s order os migration buffer = record { may = (tt, tt, tt); shared = refl; is = refl }
 
 starts : (size : ℕ) (w : World) (a : ℕ) (y : Actor) (part : BlockRange) (c : CBlock) (next : Option ℕ) (migration : Migration) → slice_get w.actors a ≡ Some y → IsResting y → NobodyIsAlone w → MayStart size w (job_under (order_on part c next) (offsets size part.extents) migration) → May size w (Start a (job_under (order_on part c next) (offsets size part.extents) migration)) × (after_record w (Start a (job_under (order_on part c next) (offsets size part.extents) migration)) ≡ record { shared = reserved w.shared (job_under (order_on part c next) (offsets size part.extents) migration); actors = slice_set w.actors a (without_block (migrating size (order_on part c next) (offsets size part.extents) migration (first_steps (OnBlock (Migrating migration part))) AnsweredDone y.buffer)); waiting = aside w.waiting y.order })
 starts size w a y part c next (Promote k) here idle alone may = (

@@ -10,7 +10,7 @@ use Rattle.wb_contents.proofs.Devices.{read_is_newest}
 use Rattle.wb_words.specs.declared.word.Access.TheVariants.{Owned}
 use Rattle.wb_words.specs.declared.step.CellStep.TheVariants.{Release, SetFailed}
 use Rattle.wb_tasks.specs.declared.step.Migration.{Migration}
-use Rattle.wb_tasks.specs.declared.step.Migration.TheVariants.{Promote, Demote, Clean}
+use Rattle.wb_tasks.specs.declared.step.Migration.TheVariants.{Promote}
 use Rattle.wb_tasks.specs.declared.step.DeskStep.TheVariants.{ReleaseOrder}
 use Rattle.wb_tasks.specs.declared.step.Want.{Want as RealWant}
 use Rattle.wb_tasks.specs.declared.step.Want.TheVariants.{Cell, Desk}
@@ -113,28 +113,23 @@ module _ (size : ℕ) (blank : Content) (actors : List Actor) (a : ℕ) (job : J
 -- what a migration writes is what it has read, and a write of it that fails goes on over its extent
 writes_read : (order : Order) (os : List ℕ) (migration : Migration) (x : Content) → content_for (job_under order os migration) x ≡ x
 writes_read order os (Promote c) x = refl
-writes_read order os Demote x = refl
-writes_read order os Clean x = refl
+writes_read order os migration x = refl
 
 failing_on : (order : Order) (os : List ℕ) (migration : Migration) (ws : List Want) → steps_after_fault (job_under order os migration) true ws ≡ until_failed ws
 failing_on order os (Promote c) ws = refl
-failing_on order os Demote ws = refl
-failing_on order os Clean ws = refl
+failing_on order os migration ws = refl
 
 failing_last : (order : Order) (os : List ℕ) (migration : Migration) (ws : List Want) → steps_after_fault (job_under order os migration) false ws ≡ Set_failed ∷ []
 failing_last order os (Promote c) ws = refl
-failing_last order os Demote ws = refl
-failing_last order os Clean ws = refl
+failing_last order os migration ws = refl
 
 set_failed_is : (size : ℕ) (order : Order) (os : List ℕ) (migration : Migration) → Set_failed ∷ [] ≡ migration_wants size order os migration (Cell SetFailed ∷ [])
 set_failed_is size order os (Promote c) = refl
-set_failed_is size order os Demote = refl
-set_failed_is size order os Clean = refl
+set_failed_is size order os migration = refl
 
 gives_back : (size : ℕ) (order : Order) (os : List ℕ) (migration : Migration) (block : OBlock) → order.block ≡ block.0 → release (job_under order os migration) ≡ migration_wants size order os migration (Cell (Release Owned block) ∷ Desk (ReleaseOrder block) ∷ [])
 gives_back size order os (Promote c) block e = ap (λ v. Disown v ∷ Give_up order ∷ []) e
-gives_back size order os Demote block e = ap (λ v. Disown v ∷ Give_up order ∷ []) e
-gives_back size order os Clean block e = ap (λ v. Disown v ∷ Give_up order ∷ []) e
+gives_back size order os migration block e = ap (λ v. Disown v ∷ Give_up order ∷ []) e
 
 module _ (size : ℕ) (blank : Content) (actors : List Actor) (a : ℕ) (s : Shared) (order : Order) (os : List ℕ) (migration : Migration) (device : Dev) (e : Extent) (later : List RealWant) (answer : Answer) (buffer : Content) (target : List History) (inside : IsInBlock size order.block device e) (t : IsSide size blank (location_at size device e) target s) where
   abbrev To : Option ℕ

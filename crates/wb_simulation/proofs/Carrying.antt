@@ -54,13 +54,11 @@ going (got ∷ gots) y (Some script) h m = let r = by (want script) h (λ u i. g
 
 pub under_migrates : (order : AbstractOrder) (os : List ℕ) (migration : Migration) → IsMigrating (job_under order os migration)
 under_migrates order os (Promote c) = tt
-under_migrates order os Demote = tt
-under_migrates order os Clean = tt
+under_migrates order os migration = tt
 
 under_among : (order : AbstractOrder) (os : List ℕ) (migration : Migration) → job_alone (job_under order os migration) ≡ false
 under_among order os (Promote c) = refl
-under_among order os Demote = refl
-under_among order os Clean = refl
+under_among order os migration = refl
 
 -- two tasks that are the same are the same migration
 abbrev At : (size : ℕ) → Words → List (Option Order) → Devices (List History) → Actor → AbstractActor → Job → Plan → Type 0

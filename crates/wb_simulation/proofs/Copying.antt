@@ -190,8 +190,7 @@ module _ (size most blocks : ℕ) (words : Words) (committing : Bool) (orders : 
 -- a migration writes where blocks stand
 pub writes_blocks : (migration : Migration) (device : Dev) → device ≡ target_of migration → HoldsBlocks device
 writes_blocks (Promote k) device e = subst (λ (d : Dev). HoldsBlocks d) (sym e) tt
-writes_blocks Demote device e = subst (λ (d : Dev). HoldsBlocks d) (sym e) tt
-writes_blocks Clean device e = subst (λ (d : Dev). HoldsBlocks d) (sym e) tt
+writes_blocks migration device e = subst (λ (d : Dev). HoldsBlocks d) (sym e) tt
 
 module _ (size most blocks : ℕ) (words : Words) (committing : Bool) (orders : List (Option Order)) (devices : Devices (List History)) (actors : List Actor) (a : ℕ) (x : Actor) (s : World) (y : AbstractActor) (g : Agrees size most words committing orders devices actors s) (ex : slice_get actors a ≡ Some x) (ey : slice_get s.actors a ≡ Some y)
     (migration : Migration) (block : OBlock) (part : BlockRange) (device : Dev) (e : Extent) (answer : Answer) (on_target : device ≡ target_of migration) where
@@ -205,8 +204,7 @@ module _ (size most blocks : ℕ) (words : Words) (committing : Bool) (orders : 
 
   side_from : (c : CBlock) (next : Option ℕ) (m : Migration) → IsSide size zeros (source (order_on part c next) m) (device_in (source_of m) devices) s.shared
   side_from c next (Promote k) = g.origin
-  side_from c next Demote = g.cache
-  side_from c next Clean = g.cache
+  side_from c next m = g.cache
 
   across : (c : CBlock) (next : Option ℕ) (m : Migration) (d : Dev) → d ≡ target_of m → Across (source (order_on part c next) m) (location_at size d e)
   across c next (Promote k) Cache same = tt

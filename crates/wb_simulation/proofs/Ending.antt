@@ -20,7 +20,7 @@ use Rattle.wb_refines.specs.Tasks.{IsResting, IsIdle, IsAnswered}
 use Rattle.wb_refines.proofs.Holding.{holds_nothing}
 use Rattle.wb_refines.proofs.Tasks.{tasks_end}
 use Rattle.wb_runs.specs.declared.job.Job.{Job}
-use Rattle.wb_runs.specs.declared.job.Job.TheVariants.{Read, Write, Flush, Open, Migrate, Replace}
+use Rattle.wb_runs.specs.declared.job.Job.TheVariants.{Read, Write}
 use Rattle.wb_runs.specs.States.{Actor}
 use Rattle.wb_simulation.specs.Actors.{IsLate, IsRequestAt, StandsFor}
 use Rattle.wb_simulation.specs.Telling.{Answers, AnswersSo}
@@ -85,10 +85,7 @@ module _ (size most blocks : ℕ) (words : Words) (committing : Bool) (orders : 
   followed : (job : Job) (plan : Plan) (answer : Answer) → IsRequestJob job → x.task ≡ Some (job, plan) → want plan ≡ End answer → Suits blocks plan x.card → Goal (job_for size (content_of job) plan.job) answer
   followed (Read extent) plan answer q e next suits = of_plan [] Reading plan answer next suits (doing_of size most words x y (Read extent) plan st e)
   followed (Write extent content) plan answer q e next suits = of_plan content Writing plan answer next suits (doing_of size most words x y (Write extent content) plan st e)
-  followed Flush plan answer q e next suits = absurd q
-  followed (Open mode) plan answer q e next suits = absurd q
-  followed (Migrate migration block) plan answer q e next suits = absurd q
-  followed (Replace old new) plan answer q e next suits = absurd q
+  followed job plan answer q e next suits = absurd q
 
 pub answers_followed : AnswersFollowed
 answers_followed size most blocks words committing orders devices actors a x job plan answer s q ex task suits next g =

@@ -18,7 +18,7 @@ use Rattle.wb_refines.specs.Going.{shared_after, gone}
 use Rattle.wb_refines.specs.Translation.{job_for}
 use Rattle.wb_refines.specs.Models.{IsRequest, TakesBeside, plan_of}
 use Rattle.wb_runs.specs.declared.job.Job.{Job}
-use Rattle.wb_runs.specs.declared.job.Job.TheVariants.{Read, Write, Flush, Open, Migrate, Replace}
+use Rattle.wb_runs.specs.declared.job.Job.TheVariants.{Read, Write, Migrate}
 use Rattle.wb_runs.specs.States.{Actor}
 use Rattle.wb_runs.specs.Holding.{cards_of}
 use Rattle.wb_simulation.specs.Steps.{IsPart, AreOfBlock}
@@ -93,10 +93,7 @@ followed size most blocks words committing orders devices actors a x plan step s
 followed size most blocks words committing orders devices actors a x plan step s y rule ex ey (Write extent content) q e suits next g st =
     let acted = request_acts size most blocks words committing orders devices actors a x plan step s y rule ex ey (Write extent content) q e suits next g st content Writing (λ part. tt) (λ part. refl) (write_of_block size) (λ part. refl) (doing_of size most words x y (Write extent content) plan st e) in
     among_all size most blocks words committing orders devices actors a x plan step s y rule ex ey (Write extent content) q e suits next g st content Writing acted acted.request
-followed size most blocks words committing orders devices actors a x plan step s y rule ex ey Flush q e suits next g st = absurd q
-followed size most blocks words committing orders devices actors a x plan step s y rule ex ey (Open mode) q e suits next g st = absurd q
-followed size most blocks words committing orders devices actors a x plan step s y rule ex ey (Migrate migration block) q e suits next g st = absurd q
-followed size most blocks words committing orders devices actors a x plan step s y rule ex ey (Replace old new) q e suits next g st = absurd q
+followed size most blocks words committing orders devices actors a x plan step s y rule ex ey job q e suits next g st = absurd q
 
 pub cell_steps_followed : CellStepsFollowed
 cell_steps_followed size most blocks words committing orders devices actors a x job plan step s q rule ex task suits next g =
