@@ -5,7 +5,7 @@ use Rattle.wb_words.specs.SharedWords.{Words, flag}
 use Rattle.wb_words.specs.declared.card.Hold.TheVariants.{Nothing as HoldsNothing}
 use Rattle.wb_policy.specs.declared.order.Order.{Order}
 use Rattle.wb_tasks.specs.Tables.{BlockRange, BlockJob, Reading, Writing, OnBlock}
-use Rattle.wb_tasks.specs.Plan.{Plan, want, first_step}
+use Rattle.wb_tasks.specs.Plan.{Plan, want}
 use Rattle.wb_tasks.specs.Ready.{Suits}
 use Rattle.wb_tasks.specs.declared.step.Answer.{Answer}
 use Rattle.wb_tasks.specs.declared.step.Want.{Want}
@@ -30,15 +30,7 @@ use Rattle.wb_simulation.proofs.Cells.{shared_stays, gone_nowhere}
 use Rattle.wb_simulation.proofs.Telling.{nothing_told, answers_at, stopped_answers, late_answers_so}
 use Rattle.wb_simulation.proofs.Orders.{does_none, carries_same}
 use Rattle.wb_simulation.proofs.Among.{own_there, goes_on}
-use Rattle.wb_simulation.proofs.Followed.{doing_of}
-
--- nothing is left of a plan whose next step is its answer
-nothing_left : (plan : Plan) (answer : Answer) → want plan ≡ End answer → ((next : Want) (later : List Want) → plan.steps ≡ next ∷ later → next ≡ End answer → ⊥) → plan.steps ≡ []
-nothing_left plan answer e never = by_steps plan.steps refl
-  where
-    by_steps : (steps : List Want) → plan.steps ≡ steps → plan.steps ≡ []
-    by_steps [] k = k
-    by_steps (v ∷ ws) k = absurd (never v ws k (sym (ap (λ (us : List Want). first_step us plan.answer) k) ∙ e))
+use Rattle.wb_simulation.proofs.Followed.{doing_of, answers_by}
 
 -- an answer leaves an actor with no order, if it had none
 answered_order : (y : AbstractActor) (script : Script) → y.task ≡ Some script → script.steps ≡ [] → y.order ≡ None → (gone y y.task (DoneThere ∷ [])).order ≡ None
@@ -72,9 +64,8 @@ module _ (size most blocks : ℕ) (words : Words) (committing : Bool) (orders : 
 
   of_plan : (content : Content) (job_on : BlockRange → BlockJob) (plan : Plan) (answer : Answer) → want plan ≡ End answer → Suits blocks plan x.card → IsRequestAt size content words job_on plan x.card y → Goal (job_for size content plan.job) answer
   of_plan content job_on plan answer e suits r =
-      let none = nothing_left plan answer e (λ next later k same. absurd (subst (λ (p : Plan). Suits blocks p x.card) (with_steps (End answer ∷ later) (k ∙ ap (λ (v : Want). v ∷ later) same)) suits).1.1.1) in
-      let is_given : plan.answer ≡ answer = (let same : End plan.answer ≡ End answer = sym (ap (λ (ws : List Want). first_step ws plan.answer) none) ∙ e in cc) in
-      subst (λ (abstract : AbstractJob). Goal abstract answer) (ap (job_for size content) (sym r.job)) (subst (Goal (job_for size content (OnBlock (job_on r.part)))) is_given (request_answers content job_on r.part plan.answer (subst (λ (p : Plan). Suits blocks p x.card) (with_steps [] none) suits).1 (subst At (with_steps [] none) r.at)))
+      let over = answers_by plan answer e (λ later k. (subst (λ (p : Plan). Suits blocks p x.card) (with_steps (End answer ∷ later) k) suits).1.1.1) in
+      subst (λ (abstract : AbstractJob). Goal abstract answer) (ap (job_for size content) (sym r.job)) (subst (Goal (job_for size content (OnBlock (job_on r.part)))) over.1 (request_answers content job_on r.part plan.answer (subst (λ (p : Plan). Suits blocks p x.card) (with_steps [] over.0) suits).1 (subst At (with_steps [] over.0) r.at)))
     where
       At : Plan → Type 0
       At p = IsAt size content p x.card y ⊎ HasStopped words p x.card y ⊎ IsLate words p y

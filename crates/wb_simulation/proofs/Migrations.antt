@@ -11,9 +11,8 @@ use Rattle.wb_words.specs.SharedWords.{Words}
 use Rattle.wb_policy.specs.declared.order.Order.{Order}
 use Rattle.wb_policy.specs.declared.order.Order.TheVariants.{Replace, Demote as DemoteOrder}
 use Rattle.wb_words.specs.Rule.{LockRule}
-use Rattle.wb_words.specs.declared.card.Card.{Card}
-use Rattle.wb_tasks.specs.Tables.{BlockJob, BlockRange, Migrating, OnBlock}
-use Rattle.wb_tasks.specs.Plan.{Plan, want, after, first_step}
+use Rattle.wb_tasks.specs.Tables.{BlockRange, Migrating}
+use Rattle.wb_tasks.specs.Plan.{Plan, want, after}
 use Rattle.wb_tasks.specs.Ready.{Suits, IsRest, target_of}
 use Rattle.wb_tasks.specs.declared.step.Answer.{Answer}
 use Rattle.wb_tasks.specs.declared.step.DeviceStep.TheVariants.{Read, Write}
@@ -36,7 +35,7 @@ use Rattle.wb_simulation.specs.Steps.{IsWrittenNext, IsOutside}
 use Rattle.wb_simulation.specs.Worlds.{Agrees, Stays, Maps, Unmaps, GivesUp}
 use Rattle.wb_simulation.specs.Laws.{after_step}
 use Rattle.wb_simulation.specs.Migrating.{MigrationsFollowed, Carried, EndsOrder, TurnsOrder, LeavesFrom}
-use Rattle.wb_simulation.proofs.Followed.{begins_by}
+use Rattle.wb_simulation.proofs.Followed.{begins_by, answers_by}
 use Rattle.wb_simulation.proofs.Moving.{same_device}
 use Rattle.wb_simulation.proofs.Migrating.{cells}
 use Rattle.wb_simulation.proofs.Copying.{reads, writes, write_falls, read_falls, writes_blocks}
@@ -70,17 +69,6 @@ written_after size block e ws n = absurd n
 -- a migration's write is of its target
 target_is : (migration : Migration) (part : BlockRange) (next : Bool) (device : Dev) (e : Extent) (ws : List Want) → IsRest (Migrating migration part) next (Device (Write device e) ∷ ws) → device ≡ target_of migration
 target_is migration part next device e ws rest = rest.0
-
--- nothing is left of a job on a block that answers
-nothing_left : (blocks : ℕ) (job : BlockJob) (plan : Plan) (card : Card) (answer : Answer) → plan.job ≡ OnBlock job → Suits blocks plan card → want plan ≡ End answer → plan.steps ≡ []
-nothing_left blocks job plan card answer j suits e = by plan.steps refl
-  where
-    by : (steps : List Want) → plan.steps ≡ steps → plan.steps ≡ []
-    by [] k = k
-    by (v ∷ vs) k =
-        let first : v ≡ End answer = sym (ap (λ (us : List Want). first_step us plan.answer) k) ∙ e in
-        let is : plan ≡ plan_of job (End answer ∷ vs) plan.answer = (λ i. record { job = j i; steps = (k ∙ ap (λ (u : Want). u ∷ vs) first) i; answer = plan.answer }) in
-        absurd (subst (λ (p : Plan). Suits blocks p card) is suits).1.1.1
 
 -- A migration whose next step is on a device or the desk is at the same there.
 record IsFound (size : ℕ) (orders : List (Option Order)) (devices : Devices (List History)) (migration : Migration) (block : OBlock) (plan : Plan) (next : Want) (x : Actor) (y : AbstractActor) : Type 0 where
@@ -292,7 +280,7 @@ module _ (size most blocks : ℕ) (words : Words) (committing : Bool) (orders : 
 
   answered : (answer : Answer) → want plan ≡ End answer → Over
   answered answer asked =
-      let nothing = nothing_left blocks (Migrating migration at.part) plan x.card answer at.job suits asked in
+      let nothing = (answers_by plan answer asked (λ later k. (subst (λ (p : Plan). Suits blocks p x.card) (λ i. record { job = at.job i; steps = k i; answer = plan.answer }) suits).1.1.1)).0 in
       elim at.at [
         | inl k ↦
             let k' = subst (λ (us : List Want). IsCarried size orders devices migration block at.part us plan.answer x its.0) nothing k in

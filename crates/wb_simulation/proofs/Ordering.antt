@@ -18,7 +18,7 @@ use Rattle.wb_tasks.specs.declared.step.Migration.{Migration}
 use Rattle.wb_tasks.specs.declared.step.Migration.TheVariants.{Promote}
 use Rattle.wb_devices.specs.declared.devices.Devices.{Devices}
 use Rattle.wb_link.specs.Tables.{Job as AbstractJob, Order as AbstractOrder, Finished as AnsweredDone}
-use Rattle.wb_link.specs.World.{order_of as order_of_job, IsRun, World, Shared, Start, Again, Apart, Ungiven, MayStart, MayAgain, Actor as AbstractActor, reserved}
+use Rattle.wb_link.specs.World.{IsRun, World, Shared, Start, Again, Apart, Ungiven, MayStart, MayAgain, Actor as AbstractActor, reserved}
 use Rattle.wb_link.proofs.Lists.{get_set_same, get_set_other}
 use Rattle.wb_refines.specs.Tasks.{AllInBlocks}
 use Rattle.wb_refines.specs.Models.{held_of, WordsAgree}
@@ -26,7 +26,7 @@ use Rattle.wb_refines.specs.Translation.{offsets}
 use Rattle.wb_refines.specs.Migrations.{order_on, job_under, Fills}
 use Rattle.wb_refines.specs.Copies.{migrating}
 use Rattle.wb_refines.specs.Carrying.{without_block}
-use Rattle.wb_refines.proofs.Carrying.{migrations_begin}
+use Rattle.wb_refines.proofs.Carrying.{under_order, migrations_begin}
 use Rattle.wb_refines.proofs.Tasks.{within_offsets}
 use Rattle.wb_runs.specs.declared.job.Job.TheVariants.{Migrate}
 use Rattle.wb_runs.specs.States.{Actor}
@@ -253,10 +253,6 @@ module _ (size most : ℕ) (words : Words) (committing : Bool) (orders : List (O
   falls ys (Promote k) u v f = ((sym f, tt, (tt, tt, tt)), refl, refl)
   falls ys m u v f = ((sym f, tt, (tt, tt, tt)), refl, refl)
 
-  under_is : (m : Migration) → order_of_job (job_under own (offsets size cut) m) ≡ Some own
-  under_is (Promote k) = refl
-  under_is m = refl
-
   module _ (no_order : slice_get orders c.0 ≡ Some None) (apart : IsUngiven s.shared.mapping orders own) (waits : (b : ℕ) → next ≡ Some b → s.shared.mapping b ≡ None) (may : MayBeGiven migration block.0 c.0 s.shared) where
     abbrev orders_then : List (Option Order)
     orders_then = slice_set orders c.0 (Some order)
@@ -301,7 +297,7 @@ module _ (size most : ℕ) (words : Words) (committing : Bool) (orders : List (O
         let f = falls (slice_set s.actors a y1) migration t y1 stopped in
         let went = goes size results w1 a y1 (Some (table_there job)) (get_set_same s.actors a y y1 ey) refl f.0 in
         let w2 : World = record { shared = t; actors = slice_set s.actors a (record y { task = None; order = Some own }); waiting = aside s.waiting y.order } in
-        let then_is : after_all w1 (records a (Some (table_there job)) results) ≡ w2 = went.is ∙ (λ i. record { shared = f.1 i; actors = slice_set (slice_set s.actors a y1) a (f.2 i); waiting = aside s.waiting y.order }) ∙ (λ i. record { shared = t; actors = set_twice s.actors a y1 (record y { task = None; order = under_is migration i }) i; waiting = aside s.waiting y.order }) in
+        let then_is : after_all w1 (records a (Some (table_there job)) results) ≡ w2 = went.is ∙ (λ i. record { shared = f.1 i; actors = slice_set (slice_set s.actors a y1) a (f.2 i); waiting = aside s.waiting y.order }) ∙ (λ i. record { shared = t; actors = set_twice s.actors a y1 (record y { task = None; order = under_order own (offsets size cut) migration i }) i; waiting = aside s.waiting y.order }) in
         let all : after_all (start_actor s a (slice_get s.actors a) job) (records a (Some (table_there job)) results) ≡ w2 = ap (λ (w : World). after_all w (records a (Some (table_there job)) results)) begun_is ∙ then_is in
         record {
           records = Start a job ∷ records a (Some (table_there job)) results;
