@@ -30,7 +30,7 @@ use Rattle.wb_link.specs.World.{World, Shared, Held as Having, Owns, Actor as Ab
 use Rattle.wb_refines.specs.Going.{shared_after, gone, MayGo}
 use Rattle.wb_contents.specs.Devices.{by_block}
 use Rattle.wb_refines.specs.Translation.{location_at, offsets}
-use Rattle.wb_refines.specs.Data.{row, IsSide, SameBeside, read_fault}
+use Rattle.wb_refines.specs.Data.{row, IsSide, read_fault}
 use Rattle.wb_refines.specs.Models.{SawSeal, SameImages, WordsAgree, plan_of, held_of, held_for}
 use Rattle.wb_refines.specs.Migrations.{order_on, source, migration_wants, job_under}
 use Rattle.wb_refines.specs.Copies.{Across, Copies, copied, copied_where, migrating}
@@ -50,7 +50,7 @@ use Rattle.wb_simulation.specs.Worlds.{zeros, Agrees, Stays}
 use Rattle.wb_simulation.specs.Migrating.{Carried}
 use Rattle.wb_simulation.proofs.Cells.{shared_stays, gone_nowhere}
 use Rattle.wb_simulation.proofs.Beside.{IsBesideCopies, carries_written}
-use Rattle.wb_simulation.proofs.Moving.{words_beside, same_device}
+use Rattle.wb_simulation.proofs.Moving.{words_beside, side_of, sides, same_device}
 
 -- ---- what a read of a device gives
 
@@ -197,11 +197,6 @@ module _ (size most blocks : ℕ) (words : Words) (committing : Bool) (orders : 
   abbrev to : Option ℕ
   to = location_at size device e
 
-  side_to : (d : Dev) → HoldsBlocks d → IsSide size zeros (location_at size d e) (device_in d devices) s.shared
-  side_to Cache h = g.cache
-  side_to Origin h = g.origin
-  side_to Metadata h = absurd h
-
   side_from : (c : CBlock) (next : Option ℕ) (m : Migration) → IsSide size zeros (source (order_on part c next) m) (device_in (source_of m) devices) s.shared
   side_from c next (Promote k) = g.origin
   side_from c next m = g.cache
@@ -216,12 +211,6 @@ module _ (size most blocks : ℕ) (words : Words) (committing : Bool) (orders : 
   across c next Clean Cache same = absurd (cc)
   across c next Clean Origin same = tt
   across c next Clean Metadata same = absurd (cc)
-
-  sides : (d : Dev) → HoldsBlocks d → (list : List History) (t : Shared) → IsSide size zeros (location_at size d e) list t → SameBeside (location_at size d e) s.shared t →
-      (t.origin ≡ by_block size zeros (with_device d devices list).origin) × (t.cache ≡ by_block size zeros (with_device d devices list).cache)
-  sides Cache h list t side beside = (beside.other ∙ g.origin, side)
-  sides Origin h list t side beside = (side, beside.other ∙ g.cache)
-  sides Metadata h list t side beside = absurd h
 
   module _ (next : Want) (ws : List Want) (f : IsCarried size orders devices migration block part (next ∷ ws) answer x y) where
     abbrev its_under : AbstractOrder
@@ -242,7 +231,7 @@ module _ (size most blocks : ℕ) (words : Words) (committing : Bool) (orders : 
         let cp = subst (λ (v : AbstractActor). Copies size zeros s.actors a s.shared v results to list (λ c. migrating size its_under its_offsets migration us told c)) (sym is) copies in
         let t = shared_after s.shared y y.task results in
         let z = gone y y.task results in
-        let now = sides device (writes_blocks migration device on_target) list t cp.side_is cp.beside in
+        let now = sides size most words committing orders devices actors a x s y ex ey g device e (writes_blocks migration device on_target) list t cp.side_is cp.beside in
         carry_so size most blocks words committing orders devices actors a x s y g ex ey migration block part next ws answer f no_tail us then_answer x.buffer (with_device device devices list) results t z cp.may refl refl
         (at_again size most blocks words committing orders devices actors a x s y g ex ey migration block part next ws answer f z us told cp.last f.kept then_answer
         (cp.is ∙ (λ i. record (migrating size its_under its_offsets migration us told cp.last) { held = sym held_then i; order = sym live i })) alike saw)
@@ -282,14 +271,14 @@ module _ (size most blocks : ℕ) (words : Words) (committing : Bool) (orders : 
       writes = copy_on (Device (Write device e)) ws f (λ n. n) ws f.at.answer answer (copied x.buffer) (written_each (device_in device devices) e.first x.buffer) (ap held_of suits_now.0)
           (held_plain ws x.card (rest_plain (Migrating migration part) suits_now.1.0 ws rest) ∙ ap held_of suits_now.0) f.at.alike (saw_plain (plan_of (Migrating migration part) ws answer) ws x.card (rest_plain (Migrating migration part) suits_now.1.0 ws rest)) (carries_on (λ at. true))
           (copies_followed.write_done size zeros s.actors a s.shared (order_on part f.c f.next) (offsets size part.extents) migration device e ws f.at.answer f.at.buffer (device_in (source_of migration) devices) (device_in device devices) x.buffer
-          (across f.c f.next migration device on_target) f.of_block.0 (side_from f.c f.next migration) (side_to device (writes_blocks migration device on_target)) f.buffer.0 f.buffer.1 room)
+          (across f.c f.next migration device on_target) f.of_block.0 (side_from f.c f.next migration) (side_of size most words committing orders devices actors a x s y ex ey g device e (writes_blocks migration device on_target)) f.buffer.0 f.buffer.1 room)
           (record { of_block = f.of_block.1; paired = f.paired.1; copies = f.copies.1; read = no_write_read size _ _ ws x.buffer f.paired.0 })
 
       pub write_falls : (lands : ℕ → Bool) → Carried Stays size most a s words committing orders (with_device device devices (written_where lands (device_in device devices) e.first x.buffer)) actors
           (record x { task = Some (Migrate migration block, plan_of (Migrating migration part) (Cell SetFailed ∷ []) (Refuses (Io device))) })
       write_falls lands = copy_on (Device (Write device e)) ws f (λ n. n) (Cell SetFailed ∷ []) AnsweredIo (Refuses (Io device)) (copied_where lands e.first x.buffer) (written_where lands (device_in device devices) e.first x.buffer) (ap held_of suits_now.0) (ap held_of suits_now.0) (λ n. absurd (cc)) (Io device, refl) (carries_on lands)
           (copies_followed.write_fails size zeros s.actors a s.shared (order_on part f.c f.next) (offsets size part.extents) migration device e ws f.at.answer f.at.buffer (device_in (source_of migration) devices) (device_in device devices) x.buffer lands
-          (across f.c f.next migration device on_target) f.of_block.0 (side_from f.c f.next migration) (side_to device (writes_blocks migration device on_target)) f.buffer.0 f.buffer.1 room)
+          (across f.c f.next migration device on_target) f.of_block.0 (side_from f.c f.next migration) (side_of size most words committing orders devices actors a x s y ex ey g device e (writes_blocks migration device on_target)) f.buffer.0 f.buffer.1 room)
           (record { of_block = tt; paired = (tt, tt); copies = tt; read = tt })
 
   -- a read that fails is that of what was to be written
@@ -299,7 +288,7 @@ module _ (size most blocks : ℕ) (words : Words) (committing : Bool) (orders : 
   read_falls from r later f suits =
       let hold = suits.1.0 in
       copy_on (Device (Read from r)) (Device (Write device e) ∷ later) f (λ n. n) (Cell (Release Owned part.block) ∷ Desk (ReleaseOrder part.block) ∷ []) AnsweredIo (Refuses (Io from)) read_fault (device_in device devices) (ap held_of hold) (ap held_of hold) (λ n. absurd (cc)) tt unmoved
-      (copies_followed.read_fails size zeros s.actors a s.shared (order_on part f.c f.next) (offsets size part.extents) migration part.block from device r e later f.at.answer f.at.buffer (device_in device devices) refl f.of_block.1.0 (side_to device blocks_there))
+      (copies_followed.read_fails size zeros s.actors a s.shared (order_on part f.c f.next) (offsets size part.extents) migration part.block from device r e later f.at.answer f.at.buffer (device_in device devices) refl f.of_block.1.0 (side_of size most words committing orders devices actors a x s y ex ey g device e blocks_there))
       (record { of_block = tt; paired = (tt, (tt, tt)); copies = tt; read = tt })
     where
       blocks_there : HoldsBlocks device
