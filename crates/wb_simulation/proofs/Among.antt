@@ -25,8 +25,9 @@ use Rattle.wb_simulation.specs.Actors.{StandsFor}
 use Rattle.wb_simulation.specs.Telling.{Telling, IsTold}
 use Rattle.wb_simulation.specs.Carried.{held}
 use Rattle.wb_simulation.specs.Worlds.{zeros, Agrees, OrdersAgree, Turn, Stays, TurnedTo, DeskTurnedTo, FollowsBy, Follows, IsUnfinished}
+use Rattle.wb_simulation.proofs.Cells.{shared_stays, gone_nowhere}
 use Rattle.wb_simulation.proofs.Kept.{stands_on}
-use Rattle.wb_simulation.proofs.Orders.{by_pair, CarriesOthers, IsDone, orders_on}
+use Rattle.wb_simulation.proofs.Orders.{by_pair, CarriesOthers, IsDone, orders_on, carries_same}
 
 -- the failed bit is never cleared
 pub failed_stays : (words : Words) (step : CellStep) (failures suspensions : ℕ) → words.fail ≡ fail_word failures suspensions → flag words.fail ≡ true → flag (words_after words step).fail ≡ true
@@ -164,3 +165,13 @@ module _ (size most : ℕ) (words words' : Words) (up : flag words.fail ≡ true
       (gone y y.task results).order ≡ y.order → ((o : Order) → Contains (held x) o → Contains (held x') o) → CarriesOthers size orders orders devices devices' actors s a → IsDone size words' orders devices' x' (gone y y.task results) → Follows telling size most a s words' committing orders devices' (slice_set actors a x')
   goes_on telling devices' results t told may is st keeps w o c m k b turned desk same own carries its = goes_leading Stays telling committing devices' results t told may is st w o c m (k ∙ g.commits) (λ e. k ∙ g.broken (sym b ∙ e))
       (led_on (gone y y.task results) keeps t k) (whole_on (gone y y.task results) keeps t b) (one_on (gone y y.task results) keeps) turned desk same own desk.0 carries its
+
+-- one does nothing there
+module _ (size most : ℕ) (words : Words) (committing : Bool) (orders : List (Option Order)) (devices : Devices (List History)) (actors : List Actor) (a : ℕ) (x x' : Actor) (s : World) (y : AbstractActor) (g : Agrees size most words committing orders devices actors s) (ex : slice_get actors a ≡ Some x) (ey : slice_get s.actors a ≡ Some y) where
+  pub stays_there : (telling : Telling) → IsTold telling a y.task (records a y.task []) → StandsFor size most words x' y → ((o : Order) → Contains (held x) o → Contains (held x') o) → IsDone size words orders devices x' y → Follows telling size most a s words committing orders devices (slice_set actors a x')
+  stays_there telling told st own its = goes_on size most words words (λ f. f) committing orders devices actors a x x' s y g ex ey telling devices [] s.shared told tt (shared_stays s.shared y y.task)
+      (subst (λ (z : AbstractActor). StandsFor size most words x' z) (sym nowhere) st) (λ l. nowhere) g.words_agree g.origin g.cache refl refl refl (refl, refl, refl) (refl, refl) (ap (λ (v : AbstractActor). v.order) nowhere) own (carries_same size orders devices actors s a)
+      (subst (λ (z : AbstractActor). IsDone size words orders devices x' z) (sym nowhere) its)
+    where
+      nowhere : gone y y.task [] ≡ y
+      nowhere = gone_nowhere y y.task

@@ -26,10 +26,10 @@ use Rattle.wb_simulation.specs.Actors.{IsLate, IsRequestAt, StandsFor}
 use Rattle.wb_simulation.specs.Telling.{Answers, AnswersSo}
 use Rattle.wb_simulation.specs.Worlds.{Agrees, Follows}
 use Rattle.wb_simulation.specs.Laws.{AnswersFollowed, IsRequestJob, content_of}
-use Rattle.wb_simulation.proofs.Cells.{shared_stays, gone_nowhere}
+use Rattle.wb_simulation.proofs.Cells.{gone_nowhere}
 use Rattle.wb_simulation.proofs.Telling.{nothing_told, answers_at, stopped_answers, late_answers_so}
 use Rattle.wb_simulation.proofs.Orders.{does_none, carries_same}
-use Rattle.wb_simulation.proofs.Among.{own_there, goes_on}
+use Rattle.wb_simulation.proofs.Among.{own_there, goes_on, stays_there}
 use Rattle.wb_simulation.proofs.Followed.{doing_of, answers_by}
 
 -- an answer leaves an actor with no order, if it had none
@@ -52,9 +52,7 @@ module _ (size most blocks : ℕ) (words : Words) (committing : Bool) (orders : 
 
   -- it has no task there
   answers_late : (abstract : AbstractJob) (answer : Answer) → AnswersSo abstract answer y.task → y.task ≡ None → flag words.fail ≡ true → Goal abstract answer
-  answers_late abstract answer so none failed = goes_on size most words words (λ f. f) committing orders devices actors a x (record x { task = None }) s y g ex ey (Answers abstract answer) devices [] s.shared (so, nothing_told a y.task (DoneThere ∷ []) none) tt (shared_stays s.shared y y.task)
-      (subst (λ (z : AbstractActor). StandsFor size most words (record x { task = None }) z) (sym (gone_nowhere y y.task)) (record { at = (none, inr failed); below = st.below; among_others = st.among_others }))
-      (λ l. gone_nowhere y y.task) g.words_agree g.origin g.cache refl refl refl (refl, refl, refl) (refl, refl) (ap (λ (v : AbstractActor). v.order) (gone_nowhere y y.task)) (λ o h. h) (carries_same size orders devices actors s a) (does_none _ _ _ _ _ _ tt)
+  answers_late abstract answer so none failed = stays_there size most words committing orders devices actors a x (record x { task = None }) s y g ex ey (Answers abstract answer) (so, nothing_told a y.task (DoneThere ∷ []) none) (record { at = (none, inr failed); below = st.below; among_others = st.among_others }) (λ o h. h) (does_none _ _ _ _ _ _ tt)
 
   request_answers : (content : Content) (job_on : BlockRange → BlockJob) (part : BlockRange) (answer : Answer) → x.card.hold ≡ HoldsNothing →
       IsAt size content (plan_of (job_on part) [] answer) x.card y ⊎ HasStopped words (plan_of (job_on part) [] answer) x.card y ⊎ IsLate words (plan_of (job_on part) [] answer) y → Goal (job_for size content (OnBlock (job_on part))) answer

@@ -44,7 +44,6 @@ use Rattle.wb_simulation.specs.Carried.{held}
 use Rattle.wb_simulation.specs.Telling.{Quietly, Answers, Releases}
 use Rattle.wb_simulation.specs.Worlds.{zeros, Agrees, Turn, Stays, Begins, Puts, Ends, GivesUp, TurnedTo, DeskTurnedTo, FollowsBy, Follows, IsUnfinished}
 use Rattle.wb_simulation.specs.Laws.{turn_of, went, IsOnlyOf}
-use Rattle.wb_simulation.proofs.Cells.{shared_stays, gone_nowhere}
 use Rattle.wb_simulation.proofs.Telling.{answers_at, late_answers_so, unnoted_none, nothing_told, quiet_are_unnoted}
 use Rattle.wb_types.specs.declared.number.OBlock.{OBlock}
 use Rattle.wb_tasks.specs.Plan.{release_orders, lets_go_unless_busy}
@@ -55,7 +54,7 @@ use Rattle.wb_simulation.proofs.Orders.{does_none, carries_same}
 use Rattle.wb_disk.proofs.FailedSyncs.{partly_synced as partly_synced_list}
 use Rattle.wb_disk.proofs.Leaving.{newest-synced, read-partly}
 use Rattle.wb_simulation.proofs.Beside.{carries_newest}
-use Rattle.wb_simulation.proofs.Among.{goes_on, goes_leading}
+use Rattle.wb_simulation.proofs.Among.{goes_on, goes_leading, stays_there}
 use Rattle.wb_simulation.proofs.Releasing.{released_there}
 use Rattle.wb_simulation.proofs.Leading.{nodes_on_metadata, commits_on, has_wants, stands, one_here, is_here, leads_on}
 
@@ -307,12 +306,9 @@ module _ (size most : ℕ) (serves : List OBlock) (words : Words) (committing : 
       by_test false f k =
           let plan_is : after (flushing serves most (Cell (Look Fail) ∷ Desk (BeginCommit false most) ∷ []) Finished) (Word words.fail) ≡ flushing serves most [] (Refuses Failed) = ap (λ (t : Bool). if t then onward (flushing serves most (Cell (Look Fail) ∷ Desk (BeginCommit false most) ∷ []) Finished) else refused (flushing serves most (Cell (Look Fail) ∷ Desk (BeginCommit false most) ∷ []) Finished) [] Failed) k in
           subst (λ (p : Plan). Follows Quietly size most a s words committing orders devices (slice_set actors a (record x { task = Some (Flush, p); card = card_after words (Look Fail) x.card }))) (sym plan_is)
-          (goes_on size most words words (λ q. q) committing orders devices actors a x (record x { task = Some (Flush, flushing serves most [] (Refuses Failed)); card = card_after words (Look Fail) x.card }) s y g ex ey Quietly devices [] s.shared ([], unnoted_none y.task, refl) tt (shared_stays s.shared y y.task)
-          (subst (λ (z : AbstractActor). StandsFor size most words (record x { task = Some (Flush, flushing serves most [] (Refuses Failed)); card = card_after words (Look Fail) x.card }) z) (sym (gone_nowhere y y.task))
-          (record { at = record { serves = serves; job = refl; steps = tt; at = inr (record { failed = l.failed; nothing = l.nothing; at = inr (refl, λ e. absurd (cc)) }) }; below = record { owned = st.below.owned; shared = st.below.shared }; among_others = st.among_others }))
-          (λ q. gone_nowhere y y.task) g.words_agree g.origin g.cache refl refl refl (refl, refl, refl) (refl, refl) (ap (λ (v : AbstractActor). v.order) (gone_nowhere y y.task)) (λ o h. h) (carries_same size orders devices actors s a) (does_none _ _ _ _ _ _ tt))
+          (stays_there size most words committing orders devices actors a x (record x { task = Some (Flush, flushing serves most [] (Refuses Failed)); card = card_after words (Look Fail) x.card }) s y g ex ey Quietly ([], unnoted_none y.task, refl)
+          (record { at = record { serves = serves; job = refl; steps = tt; at = inr (record { failed = l.failed; nothing = l.nothing; at = inr (refl, λ e. absurd (cc)) }) }; below = record { owned = st.below.owned; shared = st.below.shared }; among_others = st.among_others }) (λ o h. h) (does_none _ _ _ _ _ _ tt))
 
   pub late_answers : (orders' awaiting' : List Order) → ((o : Order) → Contains (held x) o → Contains (orders' ++ awaiting') o) → IsLate words plan y → plan.job ≡ Flushing serves most → plan.steps ≡ [] → StandsFor size most words x y → Follows (Answers (FlushingFor None) plan.answer) size most a s words committing orders devices (slice_set actors a (record x { task = None; orders = orders'; awaiting = awaiting' }))
-  late_answers orders' awaiting' keeps l j none st = goes_on size most words words (λ q. q) committing orders devices actors a x (record x { task = None; orders = orders'; awaiting = awaiting' }) s y g ex ey (Answers (FlushingFor None) plan.answer) devices [] s.shared (late_answers_so (FlushingFor None) words plan plan.answer y refl (λ t. let bad : [] ≡ Cell (Look Fail) ∷ Desk (BeginCommit false most) ∷ [] = sym none ∙ ap (λ (p : Plan). p.steps) t ∙ ap (λ k. (table k).steps) j in absurd (cc)) l, nothing_told a y.task (DoneThere ∷ []) l.nothing) tt (shared_stays s.shared y y.task)
-      (subst (λ (z : AbstractActor). StandsFor size most words (record x { task = None; orders = orders'; awaiting = awaiting' }) z) (sym (gone_nowhere y y.task)) (record { at = (l.nothing, inr l.failed); below = st.below; among_others = st.among_others }))
-      (λ q. gone_nowhere y y.task) g.words_agree g.origin g.cache refl refl refl (refl, refl, refl) (refl, refl) (ap (λ (v : AbstractActor). v.order) (gone_nowhere y y.task)) keeps (carries_same size orders devices actors s a) (does_none _ _ _ _ _ _ tt)
+  late_answers orders' awaiting' keeps l j none st = stays_there size most words committing orders devices actors a x (record x { task = None; orders = orders'; awaiting = awaiting' }) s y g ex ey (Answers (FlushingFor None) plan.answer) (late_answers_so (FlushingFor None) words plan plan.answer y refl (λ t. let bad : [] ≡ Cell (Look Fail) ∷ Desk (BeginCommit false most) ∷ [] = sym none ∙ ap (λ (p : Plan). p.steps) t ∙ ap (λ k. (table k).steps) j in absurd (cc)) l, nothing_told a y.task (DoneThere ∷ []) l.nothing)
+      (record { at = (l.nothing, inr l.failed); below = st.below; among_others = st.among_others }) keeps (does_none _ _ _ _ _ _ tt)

@@ -18,7 +18,7 @@ use Rattle.wb_tasks.specs.Ready.{Has, Suits}
 use Rattle.wb_types.specs.declared.refusal.Refusal.TheVariants.{Failed}
 use Rattle.wb_words.specs.declared.word.Access.TheVariants.{Owned}
 use Rattle.wb_tasks.proofs.Readiness.{job_stays}
-use Rattle.wb_simulation.proofs.Among.{card_there, own_there, takes, failed_stays, goes_on}
+use Rattle.wb_simulation.proofs.Among.{card_there, own_there, takes, failed_stays, stays_there}
 use Rattle.wb_tasks.specs.declared.step.Answer.{Answer}
 use Rattle.wb_tasks.specs.declared.step.Migration.{Migration}
 use Rattle.wb_tasks.specs.declared.step.Want.{Want}
@@ -41,10 +41,9 @@ use Rattle.wb_simulation.specs.Migrating.{SealTells, SeesWhere, Carried}
 use Rattle.wb_simulation.proofs.Steps.{AreCopies, after_cell, migration_works}
 use Rattle.wb_simulation.proofs.Cells.{tells}
 use Rattle.wb_simulation.proofs.Followed.{begins_by}
-use Rattle.wb_simulation.proofs.Orders.{IsDone, carries_same}
+use Rattle.wb_simulation.proofs.Orders.{carries_same}
 use Rattle.wb_simulation.proofs.Carrying.{IsOn, stands_there, carry_on, carried_job, carried_order, late_done}
 use Rattle.wb_simulation.proofs.Copying.{no_write_read}
-use Rattle.wb_simulation.proofs.Cells.{shared_stays, gone_nowhere}
 use Rattle.wb_simulation.specs.Telling.{Carries, AreCarried}
 use Rattle.wb_simulation.specs.Actors.{IsLate, StandsFor}
 use Rattle.wb_link.specs.Tables.{Script}
@@ -171,10 +170,8 @@ module _ (size most : ℕ) (words : Words) (committing : Bool) (orders : List (O
           let x' : Actor = record x { task = Some (Migrate migration block, over); card = card_after words (Look Fail) x.card } in
           let plan_is : after (table (OnBlock (Migrating migration part))) (Word words.fail) ≡ over = ap (λ (t : Bool). if t then onward (table (OnBlock (Migrating migration part))) else refused (table (OnBlock (Migrating migration part))) [] Failed) k in
           subst (λ (p : Plan). Carried Stays size most a s words committing orders devices actors (record x { task = Some (Migrate migration block, p); card = card_after words (Look Fail) x.card })) (sym plan_is)
-          (goes_on size most words words (λ q. q) committing orders devices actors a x x' s y g ex ey Carries devices [] s.shared ([], subst (λ (t : Option Script). AreCarried t []) (sym l.nothing) tt, refl) tt (shared_stays s.shared y y.task)
-          (subst (λ (z : AbstractActor). StandsFor size most words x' z) (sym (gone_nowhere y y.task)) (record { at = tt; below = record { owned = st.below.owned; shared = st.below.shared }; among_others = st.among_others }))
-          (λ q. gone_nowhere y y.task) g.words_agree g.origin g.cache refl refl refl (refl, refl, refl) (refl, refl) (ap (λ (v : AbstractActor). v.order) (gone_nowhere y y.task)) (λ o h. h) (carries_same size orders devices actors s a)
-          (subst (λ (z : AbstractActor). IsDone size words orders devices x' z) (sym (gone_nowhere y y.task)) (late_done size words orders devices migration block part over x' y refl refl (record { failed = l.failed; nothing = l.nothing; at = inr (refl, λ e. absurd (cc)) }))))
+          (stays_there size most words committing orders devices actors a x x' s y g ex ey Carries ([], subst (λ (t : Option Script). AreCarried t []) (sym l.nothing) tt, refl) (record { at = tt; below = record { owned = st.below.owned; shared = st.below.shared }; among_others = st.among_others }) (λ o h. h)
+          (late_done size words orders devices migration block part over x' y refl refl (record { failed = l.failed; nothing = l.nothing; at = inr (refl, λ e. absurd (cc)) })))
 
 pub cells : (size most blocks : ℕ) (words : Words) (committing : Bool) (orders : List (Option Order)) (devices : Devices (List History)) (actors : List Actor) (a : ℕ) (x : Actor) (migration : Migration) (block : OBlock) (plan : Plan) (step : CellStep) (s : World) →
     LockRule blocks words (cards_of actors) → slice_get actors a ≡ Some x → x.task ≡ Some (Migrate migration block, plan) → Suits blocks plan x.card → want plan ≡ Cell step → SeesWhere words orders s.shared.mapping migration block step → Agrees size most words committing orders devices actors s →

@@ -54,10 +54,9 @@ use Rattle.wb_simulation.specs.Actors.{StandsFor}
 use Rattle.wb_simulation.specs.Carried.{IsOrderFor, IsCarried, IsAtMigration}
 use Rattle.wb_simulation.specs.Telling.{Rests, Rested, IsMigrating}
 use Rattle.wb_simulation.specs.Migrating.{Goes}
-use Rattle.wb_simulation.proofs.Cells.{shared_stays, gone_nowhere}
 use Rattle.wb_simulation.proofs.Telling.{nothing_told}
 use Rattle.wb_simulation.proofs.Orders.{carries_same, does_none}
-use Rattle.wb_simulation.proofs.Among.{own_there, goes_on}
+use Rattle.wb_simulation.proofs.Among.{own_there, goes_on, stays_there}
 use Rattle.wb_simulation.proofs.Carrying.{carried_leads, under_migrates}
 use Rattle.wb_simulation.proofs.Deciding.{map_refused, mapped, unmapped, turned_over, given_up}
 
@@ -274,9 +273,7 @@ module _ (size most blocks : ℕ) (words : Words) (committing : Bool) (orders : 
   answers_late : its.0.task ≡ None → flag words.fail ≡ true → Over
   answers_late none failed =
       let st = g.each a x its.0 ex its.1 in
-      goes_on size most words words (λ q. q) committing orders devices actors a x over s its.0 g ex its.1 Rests devices [] s.shared (subst (λ (t : Option Script). Rested t) (sym none) tt, nothing_told a its.0.task (DoneThere ∷ []) none) tt (shared_stays s.shared its.0 its.0.task)
-      (subst (λ (v : AbstractActor). StandsFor size most words over v) (sym (gone_nowhere its.0 its.0.task)) (record { at = (none, inr failed); below = st.below; among_others = st.among_others }))
-      (λ q. gone_nowhere its.0 its.0.task) g.words_agree g.origin g.cache refl refl refl (refl, refl, refl) (refl, refl) (ap (λ (v : AbstractActor). v.order) (gone_nowhere its.0 its.0.task)) (λ o h. h) (carries_same size orders devices actors s a) (does_none _ _ _ _ _ _ tt)
+      stays_there size most words committing orders devices actors a x over s its.0 g ex its.1 Rests (subst (λ (t : Option Script). Rested t) (sym none) tt, nothing_told a its.0.task (DoneThere ∷ []) none) (record { at = (none, inr failed); below = st.below; among_others = st.among_others }) (λ o h. h) (does_none _ _ _ _ _ _ tt)
 
   answered : (answer : Answer) → want plan ≡ End answer → Over
   answered answer asked =

@@ -44,11 +44,10 @@ use Rattle.wb_simulation.specs.Carried.{held, order_there, live_there, IsOf, IsO
 use Rattle.wb_simulation.specs.Telling.{Resumes, IsResumed, Given, Kept, Failing, Nowhere}
 use Rattle.wb_simulation.specs.Worlds.{Agrees, OrdersAgree, IsThere, IsUnfinished, Stays, TurnedTo, DeskTurnedTo}
 use Rattle.wb_simulation.specs.Migrating.{order_of, Goes, IsUngiven, MayBeGiven, MayBeKept, given_by, migrates, begun}
-use Rattle.wb_simulation.proofs.Cells.{shared_stays, gone_nowhere}
 use Rattle.std.proofs.lemmas.List.Elements.{Contains-append_left}
 use Rattle.wb_simulation.specs.Laws.{IsOnlyOf}
-use Rattle.wb_simulation.proofs.Orders.{CarriesOthers, IsDone, carried_beside, carries_same, begins_so, is_aside, who}
-use Rattle.wb_simulation.proofs.Among.{whose, nobody_alone, goes_on, each_on, led_on, whole_on, one_on}
+use Rattle.wb_simulation.proofs.Orders.{CarriesOthers, IsDone, carried_beside, begins_so, is_aside, who}
+use Rattle.wb_simulation.proofs.Among.{whose, nobody_alone, stays_there, each_on, led_on, whole_on, one_on}
 use Rattle.wb_simulation.proofs.Carrying.{under_migrates, is_done, late_done, on_stands}
 
 -- ---- what lives there
@@ -325,10 +324,8 @@ module _ (size most : ℕ) (words : Words) (committing : Bool) (orders : List (O
 
     -- it has kept something at a failure, and nothing is begun there
     late : flag words.fail ≡ true → Again_goal
-    late failed = goes_on size most words words (λ q. q) committing orders devices actors a x resuming s y g ex ey Resumes devices [] s.shared (subst (λ (t : Option Script). IsResumed a t (records a t [])) (sym rests.0) (Nowhere refl refl)) tt (shared_stays s.shared y y.task)
-        (subst (λ (z : AbstractActor). StandsFor size most words resuming z) (sym (gone_nowhere y y.task)) (record { at = tt; below = st.below; among_others = st.among_others }))
-        (λ q. gone_nowhere y y.task) g.words_agree g.origin g.cache refl refl refl (refl, refl, refl) (refl, refl) (ap (λ (v : AbstractActor). v.order) (gone_nowhere y y.task)) (λ o h. h) (carries_same size orders devices actors s a)
-        (subst (λ (z : AbstractActor). IsDone size words orders devices resuming z) (sym (gone_nowhere y y.task)) (late_done size words orders devices migration block part plan resuming y refl refl (record { failed = failed; nothing = rests.0; at = inl refl })))
+    late failed = stays_there size most words committing orders devices actors a x resuming s y g ex ey Resumes (subst (λ (t : Option Script). IsResumed a t (records a t [])) (sym rests.0) (Nowhere refl refl)) (record { at = tt; below = st.below; among_others = st.among_others }) (λ o h. h)
+        (late_done size words orders devices migration block part plan resuming y refl refl (record { failed = failed; nothing = rests.0; at = inl refl }))
 
     -- no other actor has it
     nobody_else : (b : ℕ) (v : AbstractActor) (p : AbstractOrder) → b ≢ a → slice_get s.actors b ≡ Some v → v.order ≡ Some p → p.cache ≡ c.0 → ⊥
