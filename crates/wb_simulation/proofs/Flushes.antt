@@ -1,7 +1,7 @@
 -- Each step of a flush is followed, wherever it stands.
 use Rattle.std.proofs.Common.{Contains, ◌++◌, ◌≡◌, ◌∙◌, inl, inr, ℕ, Bool, true, false, List, [], ◌∷◌, Some, None, refl, sym, ap, subst, slice_get, slice_set, Option}
 use Rattle.wb_types.specs.declared.mode.Dev.{Dev}
-use Rattle.wb_types.specs.declared.mode.Dev.TheVariants.{Metadata, Cache, Origin}
+use Rattle.wb_types.specs.declared.mode.Dev.TheVariants.{Metadata}
 use Rattle.wb_disk.specs.Device.{History, synced}
 use Rattle.wb_disk.specs.Failing.{synced_where}
 use Rattle.wb_words.specs.SharedWords.{Words}
@@ -35,7 +35,7 @@ use Rattle.wb_simulation.specs.Carried.{held}
 use Rattle.wb_simulation.proofs.Among.{own_there}
 use Rattle.wb_simulation.proofs.Followed.{doing_of, begins_by, answers_by}
 use Rattle.wb_simulation.proofs.Leading.{AtFlush, at_flush}
-use Rattle.wb_simulation.proofs.Flushing.{leading, syncs_cache, syncs_origin, fails_cache, fails_origin, metadata_done, metadata_failed, is_on_metadata, is_refused, begins, ends, releases, gives_up, fails, looks, answers, late_looks, late_answers}
+use Rattle.wb_simulation.proofs.Flushing.{leading, syncs, sync_falls, metadata_done, metadata_failed, is_on_metadata, is_refused, begins, ends, releases, gives_up, fails, looks, answers, late_looks, late_answers}
 
 -- a flush that asks for a commit, of which nothing is known but that
 asks : (size most allowed : ℕ) (serves : List OBlock) (clean : Bool) (words : Words) (plan : Plan) (y : AbstractActor) → (k : AtFlush size most serves words plan (Desk (BeginCommit clean allowed)) y) →
@@ -50,22 +50,14 @@ module _ (size most : ℕ) (words : Words) (committing : Bool) (orders : List (O
   Then ds p got = Follows Quietly size most a s words committing orders ds (slice_set actors a (after_step Flush p got x))
 
   sync : (device : Dev) → HoldsBlocks device → want plan ≡ Device (Sync device) → Then (with_device device devices (synced (device_in device devices))) plan Done
-  sync Cache h e = let k = at_flush size most words plan (Device (Sync Cache)) y e (λ answer q. absurd (cc)) (λ q. absurd (cc)) f in
-      subst (λ (p : Plan). Then (with_device Cache devices (synced devices.cache)) p Done) (sym k.is) (syncs_cache size most f.serves words committing orders devices actors a x plan s y ex ey g k.later plan.answer k.rest
-      (leading size most f.serves words committing orders devices actors a x plan s y ex ey g (Device (Sync Cache)) k.later plan.answer k.leads k.at k.same))
-  sync Origin h e = let k = at_flush size most words plan (Device (Sync Origin)) y e (λ answer q. absurd (cc)) (λ q. absurd (cc)) f in
-      subst (λ (p : Plan). Then (with_device Origin devices (synced devices.origin)) p Done) (sym k.is) (syncs_origin size most f.serves words committing orders devices actors a x plan s y ex ey g k.later plan.answer k.rest
-      (leading size most f.serves words committing orders devices actors a x plan s y ex ey g (Device (Sync Origin)) k.later plan.answer k.leads k.at k.same))
-  sync Metadata h e = absurd h
+  sync device h e = let k = at_flush size most words plan (Device (Sync device)) y e (λ answer q. absurd (cc)) (λ q. absurd (cc)) f in
+      subst (λ (p : Plan). Then (with_device device devices (synced (device_in device devices))) p Done) (sym k.is) (syncs size most f.serves words committing orders devices actors a x plan s y ex ey g device h k.later plan.answer k.rest
+      (leading size most f.serves words committing orders devices actors a x plan s y ex ey g (Device (Sync device)) k.later plan.answer k.leads k.at k.same))
 
   sync_fails : (lands : ℕ → Bool) (device : Dev) → HoldsBlocks device → want plan ≡ Device (Sync device) → Then (with_device device devices (synced_where lands (device_in device devices))) plan Fault
-  sync_fails lands Cache h e = let k = at_flush size most words plan (Device (Sync Cache)) y e (λ answer q. absurd (cc)) (λ q. absurd (cc)) f in
-      subst (λ (p : Plan). Then (with_device Cache devices (synced_where lands devices.cache)) p Fault) (sym k.is) (fails_cache size most f.serves words committing orders devices actors a x plan s y ex ey g lands k.later plan.answer k.rest
-      (leading size most f.serves words committing orders devices actors a x plan s y ex ey g (Device (Sync Cache)) k.later plan.answer k.leads k.at k.same))
-  sync_fails lands Origin h e = let k = at_flush size most words plan (Device (Sync Origin)) y e (λ answer q. absurd (cc)) (λ q. absurd (cc)) f in
-      subst (λ (p : Plan). Then (with_device Origin devices (synced_where lands devices.origin)) p Fault) (sym k.is) (fails_origin size most f.serves words committing orders devices actors a x plan s y ex ey g lands k.later plan.answer k.rest
-      (leading size most f.serves words committing orders devices actors a x plan s y ex ey g (Device (Sync Origin)) k.later plan.answer k.leads k.at k.same))
-  sync_fails lands Metadata h e = absurd h
+  sync_fails lands device h e = let k = at_flush size most words plan (Device (Sync device)) y e (λ answer q. absurd (cc)) (λ q. absurd (cc)) f in
+      subst (λ (p : Plan). Then (with_device device devices (synced_where lands (device_in device devices))) p Fault) (sym k.is) (sync_falls size most f.serves words committing orders devices actors a x plan s y ex ey g lands device h k.later plan.answer
+      (leading size most f.serves words committing orders devices actors a x plan s y ex ey g (Device (Sync device)) k.later plan.answer k.leads k.at k.same))
 
   look : want plan ≡ Cell (Look Fail) → Follows Quietly size most a s words committing orders devices (slice_set actors a (went words Flush plan (Look Fail) x))
   look e = elim f.at [

@@ -1,5 +1,6 @@
 -- Each step of a flush is followed.
 use Rattle.std.proofs.Common.{Contains, ◌++◌, map, ◌≡◌, ◌≢◌, ◌+◌, ◌*◌, ◌==◌, ◌∙◌, inl, inr, cond, if◌then◌else◌, ℕ, Bool, true, false, List, [], ◌∷◌, Some, None, refl, sym, ap, subst, slice_get, slice_set, Option}
+use Rattle.wb_types.specs.declared.mode.Dev.{Dev}
 use Rattle.wb_types.specs.declared.mode.Dev.TheVariants.{Metadata, Cache, Origin}
 use Rattle.wb_types.specs.declared.refusal.Refusal.{Refusal}
 use Rattle.wb_types.specs.declared.refusal.Refusal.TheVariants.{Failed, Busy, Memory, GenerationEnd}
@@ -19,13 +20,15 @@ use Rattle.wb_tasks.specs.Plan.{Plan, want, after, device_of, first_step, onward
 use Rattle.wb_tasks.specs.declared.step.Answer.{Answer}
 use Rattle.wb_tasks.specs.declared.step.Answer.TheVariants.{Done as Finished, Refused as Refuses}
 use Rattle.wb_tasks.specs.declared.step.DeviceStep.{DeviceStep}
-use Rattle.wb_tasks.specs.declared.step.DeviceStep.TheVariants.{Read, Write, Sync, ReadMetadata, WriteNode, WriteRoot}
+use Rattle.wb_tasks.specs.declared.step.DeviceStep.TheVariants.{Sync, WriteNode, WriteRoot}
 use Rattle.wb_tasks.specs.declared.step.DeskStep.TheVariants.{BeginCommit, EndCommit}
 use Rattle.wb_tasks.specs.declared.step.Want.{Want}
 use Rattle.wb_tasks.specs.declared.step.Want.TheVariants.{Cell, Device, Desk, End}
 use Rattle.wb_tasks.specs.declared.step.Got.TheVariants.{Done, Fault, Word, Began, Refused}
 use Rattle.wb_devices.specs.declared.devices.Devices.{Devices}
 use Rattle.std.proofs.lemmas.Bool.{cases_eq}
+use Rattle.wb_devices.specs.Moving.{device_in}
+use Rattle.wb_tasks.specs.Ready.{HoldsBlocks}
 use Rattle.wb_link.proofs.Lists.{get_set_other}
 use Rattle.wb_link.specs.Tables.{Begin, End_running, Done as DoneThere, Flushing as FlushingFor}
 use Rattle.wb_link.specs.World.{World, Shared, Nothing, Actor as AbstractActor, effect, is_alone}
@@ -58,6 +61,10 @@ use Rattle.wb_simulation.proofs.Among.{goes_on, goes_leading, stays_there}
 use Rattle.wb_simulation.proofs.Releasing.{released_there}
 use Rattle.wb_simulation.proofs.Leading.{nodes_on_metadata, commits_on, has_wants, stands, one_here, is_here, leads_on}
 
+some_on : (steps : List Want) → IsOnMetadata steps → steps ≢ []
+some_on [] m = absurd m
+some_on (v ∷ ws) m = λ e. absurd (cc)
+
 module _ (size most : ℕ) (serves : List OBlock) (words : Words) (committing : Bool) (orders : List (Option Order)) (devices : Devices (List History)) (actors : List Actor) (a : ℕ) (x : Actor) (plan : Plan) (s : World) (y : AbstractActor) (ex : slice_get actors a ≡ Some x) (ey : slice_get s.actors a ≡ Some y) (g : Agrees size most words committing orders devices actors s) where
   -- a step on a device, done, with this left
   abbrev OnBy : Turn → Devices (List History) → Plan → Type 0
@@ -78,48 +85,35 @@ module _ (size most : ℕ) (serves : List OBlock) (words : Words) (committing : 
   pub leading : (next : Want) (later : List Want) (answer : Answer) (leads : Bool) → leads ≡ true → IsFlushing size [] (flushing serves most (next ∷ later) answer) leads y → IsFlushing size [] (flushing serves most (next ∷ later) answer) true y
   leading next later answer leads e is = subst (λ (b : Bool). IsFlushing size [] (flushing serves most (next ∷ later) answer) b y) e is
 
-  -- cache and origin are synced
-  pub syncs_cache : (later : List Want) (answer : Answer) → IsOfFlush most (Device (Sync Cache) ∷ later) → IsFlushing size [] (flushing serves most (Device (Sync Cache) ∷ later) answer) true y →
-      On (with_device Cache devices (synced devices.cache)) (after (flushing serves most (Device (Sync Cache) ∷ later) answer) Done)
-  syncs_cache (Device (Sync Origin) ∷ ws) answer o is =
+  -- cache and origin are synced, or one of them fails
+  pub syncs : (device : Dev) → HoldsBlocks device → (later : List Want) (answer : Answer) → IsOfFlush most (Device (Sync device) ∷ later) → IsFlushing size [] (flushing serves most (Device (Sync device) ∷ later) answer) true y →
+      On (with_device device devices (synced (device_in device devices))) (after (flushing serves most (Device (Sync device) ∷ later) answer) Done)
+  syncs Cache h (Device (Sync Origin) ∷ ws) answer o is =
       goes Stays (with_device Cache devices (synced devices.cache)) (Device (Sync Cache)) (Device (Sync Origin) ∷ ws) answer _ _ is (λ e. absurd (cc)) (followed_alone.syncs_cache size serves most [] s.actors a s.shared y (Device (Sync Origin) ∷ ws) answer is) refl o refl (λ n. absurd (cc))
       (record { fail = g.words_agree.fail; seals = g.words_agree.seals }) g.origin (ap all_synced g.cache ∙ sym (sync_is_act size zeros devices.cache)) refl refl refl (refl, refl, refl) (refl, refl) refl refl (newest-synced devices.cache)
-  syncs_cache later answer o is = absurd o
-
-  pub syncs_origin : (later : List Want) (answer : Answer) → IsOfFlush most (Device (Sync Origin) ∷ later) → IsFlushing size [] (flushing serves most (Device (Sync Origin) ∷ later) answer) true y →
-      On (with_device Origin devices (synced devices.origin)) (after (flushing serves most (Device (Sync Origin) ∷ later) answer) Done)
-  syncs_origin later answer o is =
-      goes Stays (with_device Origin devices (synced devices.origin)) (Device (Sync Origin)) later answer (flushing serves most later answer) (record s.shared { origin = all_synced s.shared.origin }) is (λ e. absurd (cc)) (followed_alone.syncs_origin size serves most [] s.actors a s.shared y later answer is) refl (commits_on most later o).0 (commits_on most later o).1 (on_metadata_some later o)
+  syncs Cache h later answer o is = absurd o
+  syncs Origin h later answer o is =
+      goes Stays (with_device Origin devices (synced devices.origin)) (Device (Sync Origin)) later answer (flushing serves most later answer) (record s.shared { origin = all_synced s.shared.origin }) is (λ e. absurd (cc)) (followed_alone.syncs_origin size serves most [] s.actors a s.shared y later answer is) refl (commits_on most later o).0 (commits_on most later o).1 (some_on later o)
       (record { fail = g.words_agree.fail; seals = g.words_agree.seals }) (ap all_synced g.origin ∙ sym (sync_is_act size zeros devices.origin)) g.cache refl refl refl (refl, refl, refl) (refl, refl) refl (newest-synced devices.origin) refl
-    where
-      on_metadata_some : (steps : List Want) → IsOnMetadata steps → steps ≢ []
-      on_metadata_some [] m = absurd m
-      on_metadata_some (v ∷ ws) m = λ e. absurd (cc)
+  syncs Metadata h later answer o is = absurd h
 
-  -- or one of them fails
-  pub fails_cache : (lands : ℕ → Bool) (later : List Want) (answer : Answer) → IsOfFlush most (Device (Sync Cache) ∷ later) → IsFlushing size [] (flushing serves most (Device (Sync Cache) ∷ later) answer) true y →
-      On (with_device Cache devices (synced_where lands devices.cache)) (after (flushing serves most (Device (Sync Cache) ∷ later) answer) Fault)
-  fails_cache lands later answer o is =
+  pub sync_falls : (lands : ℕ → Bool) (device : Dev) → HoldsBlocks device → (later : List Want) (answer : Answer) → IsFlushing size [] (flushing serves most (Device (Sync device) ∷ later) answer) true y →
+      On (with_device device devices (synced_where lands (device_in device devices))) (after (flushing serves most (Device (Sync device) ∷ later) answer) Fault)
+  sync_falls lands Cache h later answer is =
       goes Stays (with_device Cache devices (synced_where lands devices.cache)) (Device (Sync Cache)) later answer (after (flushing serves most (Device (Sync Cache) ∷ later) answer) Fault) (record s.shared { cache = partly_synced (λ b o. lands (b * size + o)) s.shared.cache }) is (λ e. absurd (cc))
       (followed_alone.fails_cache size serves most [] s.actors a s.shared y later answer (λ b o. lands (b * size + o)) is) refl refl refl (λ n. absurd (cc))
       (record { fail = g.words_agree.fail; seals = g.words_agree.seals }) g.origin (ap (partly_synced (λ b o. lands (b * size + o))) g.cache ∙ sym (failed_sync_is_act size zeros lands devices.cache)) refl refl refl (refl, refl, refl) (refl, refl) refl refl (read-partly devices.cache (synced_where lands devices.cache) (partly_synced_list lands devices.cache))
-
-  pub fails_origin : (lands : ℕ → Bool) (later : List Want) (answer : Answer) → IsOfFlush most (Device (Sync Origin) ∷ later) → IsFlushing size [] (flushing serves most (Device (Sync Origin) ∷ later) answer) true y →
-      On (with_device Origin devices (synced_where lands devices.origin)) (after (flushing serves most (Device (Sync Origin) ∷ later) answer) Fault)
-  fails_origin lands later answer o is =
+  sync_falls lands Origin h later answer is =
       goes Stays (with_device Origin devices (synced_where lands devices.origin)) (Device (Sync Origin)) later answer (after (flushing serves most (Device (Sync Origin) ∷ later) answer) Fault) (record s.shared { origin = partly_synced (λ b o. lands (b * size + o)) s.shared.origin }) is (λ e. absurd (cc))
       (followed_alone.fails_origin size serves most [] s.actors a s.shared y later answer (λ b o. lands (b * size + o)) is) refl refl refl (λ n. absurd (cc))
       (record { fail = g.words_agree.fail; seals = g.words_agree.seals }) (ap (partly_synced (λ b o. lands (b * size + o))) g.origin ∙ sym (failed_sync_is_act size zeros lands devices.origin)) g.cache refl refl refl (refl, refl, refl) (refl, refl) refl (read-partly devices.origin (synced_where lands devices.origin) (partly_synced_list lands devices.origin)) refl
+  sync_falls lands Metadata h later answer is = absurd h
 
   -- a step on the metadata is done, or fails; the data devices are as they were
   metadata_goes : (turn : Turn) (metadata : List History) (step : DeviceStep) (later : List Want) (answer : Answer) (t : Shared) → IsOnMetadata (Device step ∷ later) → IsOnMetadata later → IsFlushing size [] (flushing serves most (Device step ∷ later) answer) true y → Leads size [] s.actors a s.shared y t (flushing serves most later answer) true →
       WordsAgree words t → t.origin ≡ s.shared.origin → t.cache ≡ s.shared.cache → t.mode ≡ s.shared.mode → t.committing ≡ s.shared.committing → t.broken ≡ s.shared.broken → TurnedTo turn s.shared t → DeskTurnedTo turn s.shared t → t.mapping ≡ s.shared.mapping → OnBy turn (with_device Metadata devices metadata) (flushing serves most later answer)
   metadata_goes turn metadata step later answer t on m is l w og ca mo co br turned desk same_map =
-      goes turn (with_device Metadata devices metadata) (Device step) later answer (flushing serves most later answer) t is (has_wants size (Device step ∷ later) on) l refl (commits_on most later m).0 (commits_on most later m).1 (some later m) w (og ∙ g.origin) (ca ∙ g.cache) mo co br turned desk same_map refl refl
-    where
-      some : (steps : List Want) → IsOnMetadata steps → steps ≢ []
-      some [] m = absurd m
-      some (v ∷ ws) m = λ e. absurd (cc)
+      goes turn (with_device Metadata devices metadata) (Device step) later answer (flushing serves most later answer) t is (has_wants size (Device step ∷ later) on) l refl (commits_on most later m).0 (commits_on most later m).1 (some_on later m) w (og ∙ g.origin) (ca ∙ g.cache) mo co br turned desk same_map refl refl
 
   pub metadata_done : (metadata : List History) (step : DeviceStep) (later : List Want) (answer : Answer) → device_of step ≡ Metadata → IsOfFlush most (Device step ∷ later) → IsFlushing size [] (flushing serves most (Device step ∷ later) answer) true y → OnBy (turn_of step) (with_device Metadata devices metadata) (after (flushing serves most (Device step ∷ later) answer) Done)
   metadata_done metadata (WriteNode number) later answer d o is = metadata_goes Stays metadata (WriteNode number) later answer s.shared o o is (followed_alone.nodes size serves most number [] s.actors a s.shared y later answer is) g.words_agree refl refl refl refl refl (refl, refl, refl) (refl, refl) refl
@@ -127,9 +121,7 @@ module _ (size most : ℕ) (serves : List OBlock) (words : Words) (committing : 
   metadata_done metadata (Sync Cache) later answer d o is = absurd (cc)
   metadata_done metadata (Sync Origin) later answer d o is = absurd (cc)
   metadata_done metadata WriteRoot later answer d o is = metadata_goes (Puts true) metadata WriteRoot later answer (record s.shared { root_written = true }) o o is (followed_alone.writes_root size serves most [] s.actors a s.shared y later answer is) (record { fail = g.words_agree.fail; seals = g.words_agree.seals }) refl refl refl refl refl (refl, refl, refl) (refl, refl) refl
-  metadata_done metadata (ReadMetadata left) later answer d o is = absurd o
-  metadata_done metadata (Read device e) later answer d o is = absurd o
-  metadata_done metadata (Write device e) later answer d o is = absurd o
+  metadata_done metadata step later answer d o is = absurd o
 
   pub metadata_failed : (metadata : List History) (step : DeviceStep) (later : List Want) (answer : Answer) → IsOnMetadata (Device step ∷ later) → IsFlushing size [] (flushing serves most (Device step ∷ later) answer) true y → (written : Bool) × IsWrittenAfter step s.shared.root_written written × OnBy (Puts written) (with_device Metadata devices metadata) (after (flushing serves most (Device step ∷ later) answer) Fault)
   metadata_failed metadata step later answer m is =
@@ -146,9 +138,7 @@ module _ (size most : ℕ) (serves : List OBlock) (words : Words) (committing : 
   is_on_metadata (Sync Cache) later d o = absurd (cc)
   is_on_metadata (Sync Origin) later d o = absurd (cc)
   is_on_metadata WriteRoot later d o = o
-  is_on_metadata (ReadMetadata left) later d o = absurd o
-  is_on_metadata (Read device e) later d o = absurd o
-  is_on_metadata (Write device e) later d o = absurd o
+  is_on_metadata step later d o = absurd o
 
   -- ---- the desk and the words
 
