@@ -38,7 +38,7 @@ use Rattle.wb_tasks.specs.Tables.{BlockRange}
 use Rattle.wb_tasks.specs.declared.step.Answer.{Answer}
 use Rattle.wb_link.specs.World.{World, Actor as AbstractActor}
 use Rattle.wb_simulation.specs.Carried.{HasRead, IsCarried}
-use Rattle.wb_simulation.proofs.Orders.{CarriesOthers}
+use Rattle.wb_simulation.proofs.Orders.{CarriesOthers, carried_again}
 use Rattle.wb_simulation.proofs.Among.{card_there}
 
 -- ---- what reads give
@@ -63,7 +63,7 @@ has_newest size old new at steps buffer same r = tt
 -- what is carried is so where its source has what it has read
 with_read : (size : ℕ) (orders : List (Option Order)) (devices devices' : Devices (List History)) (migration : Migration) (block : OBlock) (part : BlockRange) (steps : List Want) (answer : Answer) (z : Actor) (u : AbstractActor) (k : IsCarried size orders devices migration block part steps answer z u) →
     HasRead size (device_in (source_of migration) devices') (row (source (order_on part k.c k.next) migration) part.block.0) steps z.buffer → IsCarried size orders devices' migration block part steps answer z u
-with_read size orders devices devices' migration block part steps answer z u k read = record { block_is = k.block_is; is_part = k.is_part; c = k.c; small = k.small; fills = k.fills; of_block = k.of_block; paired = k.paired; next = k.next; order = k.order; of = k.of; kept = k.kept; has = k.has; at = k.at; copies = k.copies; buffer = read }
+with_read size orders devices devices' migration block part steps answer z u k read = carried_again size orders orders devices devices' migration block part steps steps answer answer z z u u k k.kept k.has k.at (record { of_block = k.of_block; paired = k.paired; copies = k.copies; read = read })
 
 -- where each sector's newest content is the same, all that are carried are so still
 pub carries_newest : (size : ℕ) (devices devices' : Devices (List History)) (orders : List (Option Order)) (actors : List Actor) (s : World) (a : ℕ) → map newest devices'.origin ≡ map newest devices.origin → map newest devices'.cache ≡ map newest devices.cache → CarriesOthers size orders orders devices devices' actors s a

@@ -42,9 +42,9 @@ use Rattle.wb_runs.specs.declared.job.Job.TheVariants.{Migrate}
 use Rattle.wb_runs.specs.Effects.{contents_at}
 use Rattle.wb_runs.specs.Holding.{cards_of, AllSuited}
 use Rattle.wb_runs.specs.States.{Actor, with_device}
-use Rattle.wb_simulation.specs.Steps.{AreOfBlock, ArePaired, IsNoWrite, IsTail}
-use Rattle.wb_simulation.specs.Carried.{target, AreCopiedAt, HasRead, IsUnder, IsCarried}
-use Rattle.wb_simulation.proofs.Orders.{CarriesOthers, carries_same}
+use Rattle.wb_simulation.specs.Steps.{IsNoWrite, IsTail}
+use Rattle.wb_simulation.specs.Carried.{target, HasRead, IsCarried}
+use Rattle.wb_simulation.proofs.Orders.{GoesOn, carried_again, CarriesOthers, carries_same}
 use Rattle.wb_simulation.proofs.Carrying.{IsOn, carry_on, carried_job, carried_order}
 use Rattle.wb_simulation.specs.Worlds.{zeros, Agrees, Stays}
 use Rattle.wb_simulation.specs.Migrating.{Carried}
@@ -124,29 +124,17 @@ module _ (size most blocks : ℕ) (words : Words) (committing : Bool) (orders : 
     saw = saw;
   }
 
-  -- what it has still to do is a migration's, and nothing was written that it has not read
-  pub record GoesOn (us : List Want) (list : List History) (buffer : List Content) : Type 0 where
-    pub of_block : AreOfBlock size part.block.0 us
-    pub paired : ArePaired size us
-    pub copies : AreCopiedAt size (source own migration) (target own migration) us
-    pub read : HasRead size list (row (source own migration) part.block.0) us buffer
-
-  -- it is at this then
-  pub carried_with : (orders' : List (Option Order)) (devices' : Devices (List History)) (us : List Want) (then_answer : Answer) (x' : Actor) (z : AbstractActor) (kept : Option AbstractOrder) → IsUnder (slice_get orders' f.c.0) f.order own kept x'.orders us → IsMigrationAt part f.c f.next migration kept (plan_of (Migrating migration part) us then_answer) x'.card z →
-      GoesOn us (device_in (source_of migration) devices') x'.buffer → IsCarried size orders' devices' migration block part us then_answer x' z
-  carried_with orders' devices' us then_answer x' z kept has at on = record { block_is = f.block_is; is_part = f.is_part; c = f.c; small = f.small; fills = f.fills; of_block = on.of_block; paired = on.paired; next = f.next; order = f.order; of = f.of; kept = kept; has = has; at = at; copies = on.copies; buffer = on.read }
-
   abbrev left_with : List Want → Answer → List Content → Actor
   left_with us then_answer buffer = record x { task = Some (Migrate migration block, plan_of (Migrating migration part) us then_answer); buffer = buffer }
 
   -- It has done something there, under its order, and both are at the same then.
   pub carry_so : ¬ IsTail (next ∷ ws) → (us : List Want) (then_answer : Answer) (buffer : List Content) (devices' : Devices (List History)) (results : List AbstractGot) (t : Shared) (z : AbstractActor) → MayGo s.actors a s.shared y y.task results → shared_after s.shared y y.task results ≡ t → gone y y.task results ≡ z →
-      IsMigrationAt part f.c f.next migration f.kept (plan_of (Migrating migration part) us then_answer) x.card z → GoesOn us (device_in (source_of migration) devices') buffer →
+      IsMigrationAt part f.c f.next migration f.kept (plan_of (Migrating migration part) us then_answer) x.card z → GoesOn size own migration part us (device_in (source_of migration) devices') buffer →
       WordsAgree words t → t.origin ≡ by_block size zeros devices'.origin → t.cache ≡ by_block size zeros devices'.cache → SameImages s.shared t → CarriesOthers size orders orders devices devices' actors s a →
       Carried Stays size most a s words committing orders devices' actors (left_with us then_answer buffer)
   carry_so no_tail us then_answer buffer devices' results t z may shared_is gone_is at on w origin cache_is k carries =
       let x' = left_with us then_answer buffer in
-      let is = carried_with orders devices' us then_answer x' z f.kept (inl (lives no_tail, live_is no_tail, its_own no_tail)) at on in
+      let is = carried_again size orders orders devices devices' migration block part (next ∷ ws) us answer then_answer x x' y z f f.kept (inl (lives no_tail, live_is no_tail, its_own no_tail)) at on in
       carry_on size most words words (λ e. e) committing orders devices devices' actors a x x' s y g ex ey migration block part (plan_of (Migrating migration part) us then_answer) refl refl (carried_job size orders devices migration block part (next ∷ ws) answer x y f) results t may shared_is w origin cache_is
       (subst (λ (v : AbstractActor). IsOn size words orders devices' migration block part (plan_of (Migrating migration part) us then_answer) x' v) (sym gone_is) (inl is))
       (ap (λ (v : AbstractActor). v.order) gone_is ∙ ap (λ (v : AbstractActor). v.order) at.is ∙ sym (carried_order size orders devices migration block part (next ∷ ws) answer x y f)) (λ o h. h) k carries
@@ -223,7 +211,7 @@ module _ (size most blocks : ℕ) (words : Words) (committing : Bool) (orders : 
     copy_on : ¬ IsTail (next ∷ ws) → (us : List Want) (told : AbstractAnswer) (then_answer : Answer) (results : List AbstractGot) (list : List History) →
         held_for (next ∷ ws) x.card ≡ Owns part.block.0 → held_for us x.card ≡ Owns part.block.0 → AnswersAlike then_answer told → SawSeal (plan_of (Migrating migration part) us then_answer) us x.card →
         CarriesOthers size orders orders devices (with_device device devices list) actors s a → Copies size zeros s.actors a s.shared (migrating size its_under its_offsets migration (next ∷ ws) f.at.answer f.at.buffer) results to list (λ c. migrating size its_under its_offsets migration us told c) →
-        GoesOn size most blocks words committing orders devices actors a x s y g ex ey migration block part next ws answer f us (device_in (source_of migration) (with_device device devices list)) x.buffer →
+        GoesOn size its_under migration part us (device_in (source_of migration) (with_device device devices list)) x.buffer →
         Carried Stays size most a s words committing orders (with_device device devices list) actors (record x { task = Some (Migrate migration block, plan_of (Migrating migration part) us then_answer) })
     copy_on no_tail us told then_answer results list held held_then alike saw carries copies on =
         let is = y_is size most blocks words committing orders devices actors a x s y g ex ey migration block part next ws answer f no_tail held in

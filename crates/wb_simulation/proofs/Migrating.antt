@@ -41,7 +41,7 @@ use Rattle.wb_simulation.specs.Migrating.{SealTells, SeesWhere, Carried}
 use Rattle.wb_simulation.proofs.Steps.{AreCopies, after_cell, migration_works}
 use Rattle.wb_simulation.proofs.Cells.{tells}
 use Rattle.wb_simulation.proofs.Followed.{begins_by}
-use Rattle.wb_simulation.proofs.Orders.{carries_same}
+use Rattle.wb_simulation.proofs.Orders.{carried_again, carries_same}
 use Rattle.wb_simulation.proofs.Carrying.{IsOn, stands_there, carry_on, carried_job, carried_order, late_done}
 use Rattle.wb_simulation.proofs.Copying.{no_write_read}
 use Rattle.wb_simulation.specs.Telling.{Carries, AreCarried}
@@ -127,23 +127,9 @@ module _ (size most blocks : ℕ) (words : Words) (committing : Bool) (orders : 
 
   on : IsOn size words' orders devices m block part plan' x' z
   on = elim goes_there.at [
-    | inl i ↦ inl (record {
-      block_is = f.block_is;
-      is_part = f.is_part;
-      c = f.c;
-      small = f.small;
-      fills = f.fills;
-      of_block = copies.0;
-      paired = copies.1;
-      next = f.next;
-      order = f.order;
-      of = f.of;
-      kept = f.kept;
-      has = elim f.has [ inl l ↦ inl l | inr t ↦ inr (tail_after words part m step ws answer t) ];
-      at = subst (λ (p : Plan). IsMigrationAt part cache f.next m f.kept p card' z) (λ k. record { job = job_stays plan (got_of (result_of words step)) k; steps = plan'.steps; answer = plan'.answer }) i;
-      copies = copies.3;
-      buffer = no_write_read size _ _ plan'.steps x.buffer copies.2;
-    })
+    | inl i ↦ inl (carried_again size orders orders devices devices m block part (Cell step ∷ ws) plan'.steps answer plan'.answer x x' y z f f.kept (elim f.has [ inl l ↦ inl l | inr t ↦ inr (tail_after words part m step ws answer t) ])
+        (subst (λ (p : Plan). IsMigrationAt part cache f.next m f.kept p card' z) (λ k. record { job = job_stays plan (got_of (result_of words step)) k; steps = plan'.steps; answer = plan'.answer }) i)
+        (record { of_block = copies.0; paired = copies.1; copies = copies.3; read = no_write_read size _ _ plan'.steps x.buffer copies.2 }))
     | inr k ↦ inr (record { failed = k.0; c = f.c; kept = f.kept; next = f.next; is = k.1 })
   ]
 
