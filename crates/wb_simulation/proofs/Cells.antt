@@ -1,5 +1,5 @@
 -- A step of a read or a write on the shared words, for its own actor.
-use Rattle.std.proofs.Common.{◌≡◌, ◌==◌, ◌∙◌, ◌⊎◌, inl, inr, cond, if◌then◌else◌, ℕ, Bool, true, false, List, [], ◌∷◌, Option, Some, None, refl, sym, ap, subst, slice_get}
+use Rattle.std.proofs.Common.{◌≡◌, ◌∙◌, ◌⊎◌, inl, inr, ℕ, true, false, List, [], ◌∷◌, Option, Some, None, refl, sym, ap, subst, slice_get}
 use Rattle.wb_disk.specs.Device.{Content}
 use Rattle.wb_words.specs.SharedWords.{Words, word_at, flag}
 use Rattle.wb_words.specs.Rule.{LockRule}
@@ -9,7 +9,7 @@ use Rattle.wb_words.specs.declared.step.CellStep.{CellStep}
 use Rattle.wb_words.specs.declared.step.CellStep.TheVariants.{Look, Release, Seal}
 use Rattle.wb_words.specs.declared.word.Word.TheVariants.{Cell as LockWord, Fail}
 use Rattle.wb_tasks.specs.Tables.{BlockRange, BlockJob, OnBlock, range_of}
-use Rattle.wb_tasks.specs.Plan.{Plan, after, got_of, work_of, onward, refused}
+use Rattle.wb_tasks.specs.Plan.{Plan, after, got_of, work_of}
 use Rattle.wb_tasks.specs.Ready.{Suits}
 use Rattle.wb_tasks.specs.declared.step.Answer.{Answer}
 use Rattle.wb_tasks.specs.declared.step.Want.{Want}
@@ -20,13 +20,14 @@ use Rattle.wb_link.specs.World.{Shared, Actor, job_alone, is_alone}
 use Rattle.wb_refines.specs.Going.{shared_after, gone, MayGo, AreQuiet}
 use Rattle.wb_refines.specs.Translation.{job_for}
 use Rattle.wb_refines.specs.Models.{IsRequest, plan_of, WordsAgree, SameElse, IsAt, HasStopped, IsBelow, TakesBeside, TellsPlace}
-use Rattle.wb_refines.proofs.Cells.{same_images, flag_of}
+use Rattle.wb_refines.proofs.Cells.{same_images}
 use Rattle.wb_refines.proofs.Followed.{cell_steps_followed}
 use Rattle.wb_refines.proofs.Locks.{has_no_more}
 use Rattle.wb_refines.proofs.Tasks.{tasks_end}
+use Rattle.wb_tasks.specs.declared.step.Answer.TheVariants.{Refused as Refuses}
 use Rattle.wb_simulation.specs.Steps.{IsPart, AreOfBlock}
 use Rattle.wb_tasks.proofs.Readiness.{job_stays}
-use Rattle.wb_simulation.proofs.Steps.{after_cell}
+use Rattle.wb_simulation.proofs.Steps.{after_cell, finds_failed}
 use Rattle.wb_simulation.specs.Actors.{IsLate, IsRequestAt}
 
 -- These results of an abstract actor lead to these words, and leave it at this.
@@ -124,14 +125,8 @@ module _ (size : ℕ) (content : Content) (job_on : BlockRange → BlockJob) (re
 
     -- it has no task there, and finds that the target has failed
     looks_late : (ws : List Want) → is_alone y.task ≡ false → IsBelow y card → flag words.fail ≡ true → y.task ≡ None → Goal (Look Fail) ws
-    looks_late ws alone below failed none = by_test (words.fail == 0) (flag_of words.fail (words.fail == 0) refl)
-      where
-        by_test : (t : Bool) → flag words.fail ≡ cond t false true →
-            Acted size content actors a s y words job_on (if t then onward (plan_of (job_on part) (Cell (Look Fail) ∷ ws) answer) else refused (plan_of (job_on part) (Cell (Look Fail) ∷ ws) answer) [] Failed) (card_after words (Look Fail) card)
-        by_test true f = let bad : true ≡ false = sym failed ∙ f in absurd (cc)
-        by_test false f = nothing words (refused (plan_of (job_on part) (Cell (Look Fail) ∷ ws) answer) [] Failed) (card_after words (Look Fail) card) w
-            (record { part = part; job = refl; is_part = is_part; of_block = tt; at = inr (inr (record { failed = failed; nothing = none; at = inr (refl, λ e. absurd (cc)) })) })
-            (record { owned = below.owned; shared = below.shared }) alone
+    looks_late ws alone below failed none = subst (λ (p : Plan). Acted size content actors a s y words job_on p (card_after words (Look Fail) card)) (sym (finds_failed words (OnBlock (job_on part)) ws answer failed)) (nothing words (plan_of (job_on part) [] (Refuses Failed)) (card_after words (Look Fail) card) w
+        (record { part = part; job = refl; is_part = is_part; of_block = tt; at = inr (inr (record { failed = failed; nothing = none; at = inr (refl, λ e. absurd (cc)) })) }) (record { owned = below.owned; shared = below.shared }) alone)
 
     late : (step : CellStep) (ws : List Want) → is_alone y.task ≡ false → IsBelow y card → IsLate words (plan_of (job_on part) (Cell step ∷ ws) answer) y → Goal step ws
     late step ws alone below l = elim l.at [

@@ -1,5 +1,5 @@
 -- Each step of a flush is followed.
-use Rattle.std.proofs.Common.{Contains, ◌++◌, map, ◌≡◌, ◌≢◌, ◌+◌, ◌*◌, ◌==◌, ◌∙◌, inl, inr, cond, if◌then◌else◌, ℕ, Bool, true, false, List, [], ◌∷◌, Some, None, refl, sym, ap, subst, slice_get, slice_set, Option}
+use Rattle.std.proofs.Common.{Contains, ◌++◌, map, ◌≡◌, ◌≢◌, ◌+◌, ◌*◌, ◌==◌, ◌∙◌, inl, inr, if◌then◌else◌, ℕ, Bool, true, false, List, [], ◌∷◌, Some, None, refl, sym, ap, subst, slice_get, slice_set, Option}
 use Rattle.wb_types.specs.declared.mode.Dev.{Dev}
 use Rattle.wb_types.specs.declared.mode.Dev.TheVariants.{Metadata, Cache, Origin}
 use Rattle.wb_types.specs.declared.refusal.Refusal.{Refusal}
@@ -18,7 +18,7 @@ use Rattle.wb_policy.specs.declared.order.Order.{Order}
 use Rattle.wb_tasks.specs.Tables.{Flushing}
 use Rattle.wb_tasks.specs.Plan.{Plan, want, after, device_of, first_step, onward, refused, table}
 use Rattle.wb_tasks.specs.declared.step.Answer.{Answer}
-use Rattle.wb_tasks.specs.declared.step.Answer.TheVariants.{Done as Finished, Refused as Refuses}
+use Rattle.wb_tasks.specs.declared.step.Answer.TheVariants.{Refused as Refuses}
 use Rattle.wb_tasks.specs.declared.step.DeviceStep.{DeviceStep}
 use Rattle.wb_tasks.specs.declared.step.DeviceStep.TheVariants.{Sync, WriteNode, WriteRoot}
 use Rattle.wb_tasks.specs.declared.step.DeskStep.TheVariants.{BeginCommit, EndCommit}
@@ -36,7 +36,7 @@ use Rattle.wb_refines.specs.Going.{gone}
 use Rattle.wb_refines.specs.Translation.{wants_of}
 use Rattle.wb_refines.specs.Models.{WordsAgree}
 use Rattle.wb_refines.specs.Flushes.{IsFlushing, IsOnMetadata, IsNoBegin, IsWrittenAfter, flushing, Leads}
-use Rattle.wb_refines.proofs.Cells.{flag_of, failed_flag}
+use Rattle.wb_refines.proofs.Cells.{failed_flag}
 use Rattle.wb_refines.proofs.Flushing.{flush_steps_followed as followed_alone}
 use Rattle.wb_refines.proofs.Holding.{holds_nothing}
 use Rattle.wb_refines.proofs.Tasks.{tasks_end}
@@ -59,6 +59,7 @@ use Rattle.wb_disk.proofs.Leaving.{newest-synced, read-partly}
 use Rattle.wb_simulation.proofs.Beside.{carries_newest}
 use Rattle.wb_simulation.proofs.Among.{goes_on, goes_leading, stays_there}
 use Rattle.wb_simulation.proofs.Releasing.{released_there}
+use Rattle.wb_simulation.proofs.Steps.{finds_failed}
 use Rattle.wb_simulation.proofs.Leading.{nodes_on_metadata, commits_on, has_wants, stands, one_here, is_here, leads_on}
 
 some_on : (steps : List Want) → IsOnMetadata steps → steps ≢ []
@@ -246,23 +247,24 @@ module _ (size most : ℕ) (serves : List OBlock) (words : Words) (committing : 
 
   pub looks : (later : List Want) (answer : Answer) → later ≡ Desk (BeginCommit false most) ∷ [] → IsFlushing size [] (flushing serves most (Cell (Look Fail) ∷ later) answer) false y →
       Follows Quietly size most a s words committing orders devices (slice_set actors a (went words Flush (flushing serves most (Cell (Look Fail) ∷ later) answer) (Look Fail) x))
-  looks later answer n is = subst (λ (ws : List Want). Goal ws) (sym n) (by_test (words.fail == 0) refl)
+  looks later answer n is = subst (λ (ws : List Want). Goal ws) (sym n)
+      (let k = by_test (words.fail == 0) in follows_alone devices (after begun (Word words.fail)) _ k.2 k.0 k.1 (followed_alone.looks size serves most words.fail [] s.actors a s.shared y answer g.words_agree.fail is') refl (ap (λ (v : AbstractActor). v.order) is.is))
     where
       Goal : List Want → Type 0
       Goal ws = Follows Quietly size most a s words committing orders devices (slice_set actors a (went words Flush (flushing serves most (Cell (Look Fail) ∷ ws) answer) (Look Fail) x))
 
-      is' : IsFlushing size [] (flushing serves most (Cell (Look Fail) ∷ Desk (BeginCommit false most) ∷ []) answer) false y
+      begun : Plan
+      begun = flushing serves most (Cell (Look Fail) ∷ Desk (BeginCommit false most) ∷ []) answer
+
+      is' : IsFlushing size [] begun false y
       is' = subst (λ (ws : List Want). IsFlushing size [] (flushing serves most (Cell (Look Fail) ∷ ws) answer) false y) n is
 
-      by_test : (t : Bool) → (words.fail == 0) ≡ t → Goal (Desk (BeginCommit false most) ∷ [])
-      by_test true e =
-          let plan_is : after (flushing serves most (Cell (Look Fail) ∷ Desk (BeginCommit false most) ∷ []) answer) (Word words.fail) ≡ flushing serves most (Desk (BeginCommit false most) ∷ []) answer = ap (λ (t : Bool). if t then onward (flushing serves most (Cell (Look Fail) ∷ Desk (BeginCommit false most) ∷ []) answer) else refused (flushing serves most (Cell (Look Fail) ∷ Desk (BeginCommit false most) ∷ []) answer) [] Failed) e in
-          follows_alone devices (after (flushing serves most (Cell (Look Fail) ∷ Desk (BeginCommit false most) ∷ []) answer) (Word words.fail)) _ (ap (λ (p : Plan). p.job) plan_is)
-          (subst (λ (p : Plan). IsOfFlush most p.steps) (sym plan_is) (refl, refl, refl)) (subst (λ (p : Plan). LeadsAt false p.steps) (sym plan_is) refl) (followed_alone.looks size serves most words.fail [] s.actors a s.shared y answer g.words_agree.fail is') refl (ap (λ (v : AbstractActor). v.order) is.is)
-      by_test false e =
-          let plan_is : after (flushing serves most (Cell (Look Fail) ∷ Desk (BeginCommit false most) ∷ []) answer) (Word words.fail) ≡ refused (flushing serves most (Cell (Look Fail) ∷ Desk (BeginCommit false most) ∷ []) answer) [] Failed = ap (λ (t : Bool). if t then onward (flushing serves most (Cell (Look Fail) ∷ Desk (BeginCommit false most) ∷ []) answer) else refused (flushing serves most (Cell (Look Fail) ∷ Desk (BeginCommit false most) ∷ []) answer) [] Failed) e in
-          follows_alone devices (after (flushing serves most (Cell (Look Fail) ∷ Desk (BeginCommit false most) ∷ []) answer) (Word words.fail)) _ (ap (λ (p : Plan). p.job) plan_is)
-          (subst (λ (p : Plan). IsOfFlush most p.steps) (sym plan_is) tt) (subst (λ (p : Plan). LeadsAt false p.steps) (sym plan_is) tt) (followed_alone.looks size serves most words.fail [] s.actors a s.shared y answer g.words_agree.fail is') refl (ap (λ (v : AbstractActor). v.order) is.is)
+      left : Bool → Plan
+      left t = if t then onward begun else refused begun [] Failed
+
+      by_test : (t : Bool) → IsOfFlush most (left t).steps × LeadsAt false (left t).steps × ((left t).job ≡ Flushing serves most)
+      by_test true = ((refl, refl, refl), refl, refl)
+      by_test false = (tt, tt, refl)
 
   -- it answers; one that leads a commit still has failed
   pub answers : (orders' awaiting' : List Order) → ((o : Order) → Contains (held x) o → Contains (orders' ++ awaiting') o) → (answer : Answer) (leads : Bool) → (leads ≡ true → flag words.fail ≡ true) → IsFlushing size [] (flushing serves most [] answer) leads y → Follows (Answers (FlushingFor None) answer) size most a s words committing orders devices (slice_set actors a (record x { task = None; orders = orders'; awaiting = awaiting' }))
@@ -286,18 +288,13 @@ module _ (size most : ℕ) (serves : List OBlock) (words : Words) (committing : 
   pub late_looks : IsLate words plan y → StandsFor size most words x y → plan.job ≡ Flushing serves most → want plan ≡ Cell (Look Fail) → Follows Quietly size most a s words committing orders devices (slice_set actors a (went words Flush plan (Look Fail) x))
   late_looks l st j e = elim l.at [
     | inl t ↦
-        let is : plan ≡ flushing serves most (Cell (Look Fail) ∷ Desk (BeginCommit false most) ∷ []) Finished = t ∙ ap (λ k. table k) j in
-        subst (λ (p : Plan). Follows Quietly size most a s words committing orders devices (slice_set actors a (went words Flush p (Look Fail) x))) (sym is) (by_test (words.fail == 0) (flag_of words.fail (words.fail == 0) refl) refl)
+        let over : Plan = flushing serves most [] (Refuses Failed) in
+        let is : after plan (Word words.fail) ≡ over = ap (λ (p : Plan). after p (Word words.fail)) (t ∙ ap (λ k. table k) j) ∙ finds_failed words (Flushing serves most) _ _ l.failed in
+        subst (λ (p : Plan). Follows Quietly size most a s words committing orders devices (slice_set actors a (record x { task = Some (Flush, p); card = card_after words (Look Fail) x.card }))) (sym is)
+        (stays_there size most words committing orders devices actors a x (record x { task = Some (Flush, over); card = card_after words (Look Fail) x.card }) s y g ex ey Quietly ([], unnoted_none y.task, refl)
+        (record { at = record { serves = serves; job = refl; steps = tt; at = inr (record { failed = l.failed; nothing = l.nothing; at = inr (refl, λ e. absurd (cc)) }) }; below = record { owned = st.below.owned; shared = st.below.shared }; among_others = st.among_others }) (λ o h. h) (does_none _ _ _ _ _ _ tt))
     | inr n ↦ absurd (let end : want plan ≡ End plan.answer = ap (λ (ws : List Want). first_step ws plan.answer) n.0 in let bad : Cell (Look Fail) ≡ End plan.answer = sym e ∙ end in cc)
   ]
-    where
-      by_test : (t : Bool) → flag words.fail ≡ cond t false true → (words.fail == 0) ≡ t → Follows Quietly size most a s words committing orders devices (slice_set actors a (went words Flush (flushing serves most (Cell (Look Fail) ∷ Desk (BeginCommit false most) ∷ []) Finished) (Look Fail) x))
-      by_test true f k = absurd (let bad : true ≡ false = sym l.failed ∙ f in cc)
-      by_test false f k =
-          let plan_is : after (flushing serves most (Cell (Look Fail) ∷ Desk (BeginCommit false most) ∷ []) Finished) (Word words.fail) ≡ flushing serves most [] (Refuses Failed) = ap (λ (t : Bool). if t then onward (flushing serves most (Cell (Look Fail) ∷ Desk (BeginCommit false most) ∷ []) Finished) else refused (flushing serves most (Cell (Look Fail) ∷ Desk (BeginCommit false most) ∷ []) Finished) [] Failed) k in
-          subst (λ (p : Plan). Follows Quietly size most a s words committing orders devices (slice_set actors a (record x { task = Some (Flush, p); card = card_after words (Look Fail) x.card }))) (sym plan_is)
-          (stays_there size most words committing orders devices actors a x (record x { task = Some (Flush, flushing serves most [] (Refuses Failed)); card = card_after words (Look Fail) x.card }) s y g ex ey Quietly ([], unnoted_none y.task, refl)
-          (record { at = record { serves = serves; job = refl; steps = tt; at = inr (record { failed = l.failed; nothing = l.nothing; at = inr (refl, λ e. absurd (cc)) }) }; below = record { owned = st.below.owned; shared = st.below.shared }; among_others = st.among_others }) (λ o h. h) (does_none _ _ _ _ _ _ tt))
 
   pub late_answers : (orders' awaiting' : List Order) → ((o : Order) → Contains (held x) o → Contains (orders' ++ awaiting') o) → IsLate words plan y → plan.job ≡ Flushing serves most → plan.steps ≡ [] → StandsFor size most words x y → Follows (Answers (FlushingFor None) plan.answer) size most a s words committing orders devices (slice_set actors a (record x { task = None; orders = orders'; awaiting = awaiting' }))
   late_answers orders' awaiting' keeps l j none st = stays_there size most words committing orders devices actors a x (record x { task = None; orders = orders'; awaiting = awaiting' }) s y g ex ey (Answers (FlushingFor None) plan.answer) (late_answers_so (FlushingFor None) words plan plan.answer y refl (λ t. let bad : [] ≡ Cell (Look Fail) ∷ Desk (BeginCommit false most) ∷ [] = sym none ∙ ap (λ (p : Plan). p.steps) t ∙ ap (λ k. (table k).steps) j in absurd (cc)) l, nothing_told a y.task (DoneThere ∷ []) l.nothing)

@@ -1,9 +1,9 @@
 -- A migration's steps on the shared words are followed.
-use Rattle.std.proofs.Common.{cond, ◌≡◌, ◌==◌, ◌∙◌, inl, inr, if◌then◌else◌, ℕ, Bool, true, false, List, [], ◌∷◌, Option, Some, refl, sym, ap, subst, arith, slice_get, Contains}
+use Rattle.std.proofs.Common.{◌≡◌, ◌∙◌, inl, inr, ℕ, Bool, List, [], ◌∷◌, Option, Some, refl, sym, ap, subst, arith, slice_get, Contains}
 use Rattle.wb_types.specs.declared.number.OBlock.{OBlock}
 use Rattle.wb_types.specs.declared.number.CBlock.{CBlock}
 use Rattle.wb_disk.specs.Device.{History}
-use Rattle.wb_words.specs.SharedWords.{Words, flag, word_at, place_in}
+use Rattle.wb_words.specs.SharedWords.{Words, word_at, place_in}
 use Rattle.wb_words.specs.Rule.{LockRule}
 use Rattle.wb_words.specs.Effects.{result_of, words_after, card_after}
 use Rattle.wb_words.proofs.Totals.{at_slice}
@@ -13,7 +13,7 @@ use Rattle.wb_words.specs.declared.step.CellStep.TheVariants.{Look, Release, Sea
 use Rattle.wb_words.specs.declared.word.Word.TheVariants.{Seal as SealWord, Number, Fail}
 use Rattle.wb_policy.specs.declared.order.Order.{Order}
 use Rattle.wb_tasks.specs.Tables.{BlockRange, Migrating, OnBlock}
-use Rattle.wb_tasks.specs.Plan.{Plan, want, after, got_of, onward, refused}
+use Rattle.wb_tasks.specs.Plan.{Plan, want, after, got_of}
 use Rattle.wb_tasks.specs.Ready.{Has, Suits}
 use Rattle.wb_types.specs.declared.refusal.Refusal.TheVariants.{Failed}
 use Rattle.wb_words.specs.declared.word.Access.TheVariants.{Owned}
@@ -38,7 +38,7 @@ use Rattle.wb_simulation.specs.Carried.{order_there, target, IsCarried}
 use Rattle.wb_simulation.specs.Worlds.{Agrees, Stays}
 use Rattle.wb_simulation.specs.Laws.{went}
 use Rattle.wb_simulation.specs.Migrating.{SealTells, SeesWhere, Carried}
-use Rattle.wb_simulation.proofs.Steps.{AreCopies, after_cell, migration_works}
+use Rattle.wb_simulation.proofs.Steps.{AreCopies, after_cell, finds_failed, migration_works}
 use Rattle.wb_simulation.proofs.Cells.{tells}
 use Rattle.wb_simulation.proofs.Followed.{begins_by}
 use Rattle.wb_simulation.proofs.Orders.{carried_again, carries_same}
@@ -49,7 +49,6 @@ use Rattle.wb_simulation.specs.Actors.{IsLate, StandsFor}
 use Rattle.wb_link.specs.Tables.{Script}
 use Rattle.wb_tasks.specs.declared.step.Got.TheVariants.{Word}
 use Rattle.wb_tasks.specs.Plan.{table}
-use Rattle.wb_refines.proofs.Cells.{flag_of}
 use Rattle.wb_tasks.specs.declared.step.Answer.TheVariants.{Refused as Refuses}
 use Rattle.wb_refines.specs.Carried.{IsMigrationAt}
 
@@ -146,18 +145,12 @@ module _ (size most : ℕ) (words : Words) (committing : Bool) (orders : List (O
   -- who is late finds that the target has failed
   late_looks : (plan : Plan) → plan.job ≡ OnBlock (Migrating migration part) → IsLate words plan y → StandsFor size most words x y → plan ≡ table plan.job → Carried Stays size most a s words committing orders devices actors (went words (Migrate migration block) plan (Look Fail) x)
   late_looks plan job l st t =
-      let is : plan ≡ (table (OnBlock (Migrating migration part))) = t ∙ ap (λ j. table j) job in
-      subst (λ (p : Plan). Carried Stays size most a s words committing orders devices actors (went words (Migrate migration block) p (Look Fail) x)) (sym is) (by_test (words.fail == 0) (flag_of words.fail (words.fail == 0) refl) refl)
-    where
-      by_test : (t : Bool) → flag words.fail ≡ cond t false true → (words.fail == 0) ≡ t → Carried Stays size most a s words committing orders devices actors (went words (Migrate migration block) (table (OnBlock (Migrating migration part))) (Look Fail) x)
-      by_test true f k = absurd (let bad : true ≡ false = sym l.failed ∙ f in cc)
-      by_test false f k =
-          let over : Plan = plan_of (Migrating migration part) [] (Refuses Failed) in
-          let x' : Actor = record x { task = Some (Migrate migration block, over); card = card_after words (Look Fail) x.card } in
-          let plan_is : after (table (OnBlock (Migrating migration part))) (Word words.fail) ≡ over = ap (λ (t : Bool). if t then onward (table (OnBlock (Migrating migration part))) else refused (table (OnBlock (Migrating migration part))) [] Failed) k in
-          subst (λ (p : Plan). Carried Stays size most a s words committing orders devices actors (record x { task = Some (Migrate migration block, p); card = card_after words (Look Fail) x.card })) (sym plan_is)
-          (stays_there size most words committing orders devices actors a x x' s y g ex ey Carries ([], subst (λ (t : Option Script). AreCarried t []) (sym l.nothing) tt, refl) (record { at = tt; below = record { owned = st.below.owned; shared = st.below.shared }; among_others = st.among_others }) (λ o h. h)
-          (late_done size words orders devices migration block part over x' y refl refl (record { failed = l.failed; nothing = l.nothing; at = inr (refl, λ e. absurd (cc)) })))
+      let over : Plan = plan_of (Migrating migration part) [] (Refuses Failed) in
+      let x' : Actor = record x { task = Some (Migrate migration block, over); card = card_after words (Look Fail) x.card } in
+      let is : after plan (Word words.fail) ≡ over = ap (λ (p : Plan). after p (Word words.fail)) (t ∙ ap (λ j. table j) job) ∙ finds_failed words (OnBlock (Migrating migration part)) _ _ l.failed in
+      subst (λ (p : Plan). Carried Stays size most a s words committing orders devices actors (record x { task = Some (Migrate migration block, p); card = card_after words (Look Fail) x.card })) (sym is)
+      (stays_there size most words committing orders devices actors a x x' s y g ex ey Carries ([], subst (λ (t : Option Script). AreCarried t []) (sym l.nothing) tt, refl) (record { at = tt; below = record { owned = st.below.owned; shared = st.below.shared }; among_others = st.among_others }) (λ o h. h)
+      (late_done size words orders devices migration block part over x' y refl refl (record { failed = l.failed; nothing = l.nothing; at = inr (refl, λ e. absurd (cc)) })))
 
 pub cells : (size most blocks : ℕ) (words : Words) (committing : Bool) (orders : List (Option Order)) (devices : Devices (List History)) (actors : List Actor) (a : ℕ) (x : Actor) (migration : Migration) (block : OBlock) (plan : Plan) (step : CellStep) (s : World) →
     LockRule blocks words (cards_of actors) → slice_get actors a ≡ Some x → x.task ≡ Some (Migrate migration block, plan) → Suits blocks plan x.card → want plan ≡ Cell step → SeesWhere words orders s.shared.mapping migration block step → Agrees size most words committing orders devices actors s →

@@ -6,7 +6,7 @@ use Rattle.wb_types.proofs.Lists.{Contains-first, Contains-behind}
 use Rattle.wb_types.specs.declared.extent.Extent.{Extent}
 use Rattle.wb_types.specs.declared.mode.Dev.TheVariants.{Cache, Origin}
 use Rattle.wb_types.specs.declared.number.CBlock.{CBlock}
-use Rattle.wb_words.specs.SharedWords.{place_in, cached_at, seal_word, dirty_in}
+use Rattle.wb_words.specs.SharedWords.{flag, place_in, cached_at, seal_word, dirty_in}
 use Rattle.wb_words.specs.SharedWords.{Words, word_at}
 use Rattle.wb_words.specs.Effects.{result_of}
 use Rattle.wb_words.specs.declared.step.CellResult.TheVariants.{Done as Won, Lost as NotWon}
@@ -27,6 +27,9 @@ use Rattle.wb_refines.specs.Data.{IsInBlock}
 use Rattle.wb_refines.specs.Translation.{location_at}
 use Rattle.wb_refines.proofs.Tables.{at_place}
 use Rattle.wb_refines.specs.Migrations.{order_on, source, Fills, IsWhere}
+use Rattle.wb_tasks.specs.declared.step.Got.TheVariants.{Word}
+use Rattle.wb_tasks.specs.declared.step.Answer.TheVariants.{Refused as Refuses}
+use Rattle.wb_refines.proofs.Cells.{flag_of}
 use Rattle.wb_simulation.specs.Carried.{target, AreCopiedAt}
 use Rattle.wb_simulation.specs.Steps.{IsOfBlock, IsPart, AreOfBlock, ArePaired, IsNoWrite}
 
@@ -130,6 +133,14 @@ after_cell P job words (Take access b seen) ws answer none stays exchanges works
     by_test true = stays
     by_test false = none
 after_cell P job words step ws answer none stays exchanges works back = stays
+
+-- where the target has failed, whoever looks at the fail word is refused
+pub finds_failed : (words : Words) (job : TaskJob) (ws : List Want) (answer : Answer) → flag words.fail ≡ true → after (record { job = job; steps = Cell (Look Fail) ∷ ws; answer = answer }) (Word words.fail) ≡ record { job = job; steps = []; answer = Refuses Failed }
+finds_failed words job ws answer f = by_test (words.fail == 0) (flag_of words.fail (words.fail == 0) refl)
+  where
+    by_test : (t : Bool) → flag words.fail ≡ cond t false true → (if t then onward (record { job = job; steps = Cell (Look Fail) ∷ ws; answer = answer }) else refused (record { job = job; steps = Cell (Look Fail) ∷ ws; answer = answer }) [] Failed) ≡ record { job = job; steps = []; answer = Refuses Failed }
+    by_test true e = let bad : true ≡ false = sym f ∙ e in absurd (cc)
+    by_test false e = refl
 
 module _ (size : ℕ) (part : BlockRange) (is : IsPart size part) where
   abbrev Copies : (from to : Option ℕ) → List Want → Type 0
