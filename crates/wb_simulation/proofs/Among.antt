@@ -9,7 +9,7 @@ use Rattle.wb_words.specs.SharedWords.{Words, word_at, flag, fail_word, with_cel
 use Rattle.wb_words.specs.Effects.{words_after}
 use Rattle.wb_words.specs.declared.word.Kind.TheVariants.{ReadHit, ReadMiss, WriteHit, WriteMiss}
 use Rattle.wb_words.specs.declared.step.CellStep.{CellStep}
-use Rattle.wb_words.specs.declared.step.CellStep.TheVariants.{Look, Take, Release, Seal, Finish, Count, SetFailed, SetSuspended}
+use Rattle.wb_words.specs.declared.step.CellStep.TheVariants.{Look, Take, Count, SetFailed, SetSuspended}
 use Rattle.wb_policy.specs.declared.order.Order.{Order}
 use Rattle.wb_devices.specs.declared.devices.Devices.{Devices}
 use Rattle.wb_link.specs.Tables.{Got}
@@ -31,15 +31,11 @@ use Rattle.wb_simulation.proofs.Orders.{by_pair, CarriesOthers, IsDone, orders_o
 
 -- the failed bit is never cleared
 pub failed_stays : (words : Words) (step : CellStep) (failures suspensions : ℕ) → words.fail ≡ fail_word failures suspensions → flag words.fail ≡ true → flag (words_after words step).fail ≡ true
-failed_stays words (Look word) f z e t = t
 failed_stays words (Take access b seen) f z e t = by_test (word_at words.cells b == seen)
   where
     by_test : (won : Bool) → flag (if won then with_cell words b (taken access seen) else words).fail ≡ true
     by_test true = t
     by_test false = t
-failed_stays words (Release access b) f z e t = t
-failed_stays words (Seal b place dirty) f z e t = t
-failed_stays words (Finish b) f z e t = t
 failed_stays words (Count ReadHit) f z e t = t
 failed_stays words (Count ReadMiss) f z e t = t
 failed_stays words (Count WriteHit) f z e t = t
@@ -52,6 +48,7 @@ failed_stays words SetSuspended f z e t = ap (λ v. flag (bit_or v 2)) e ∙ by_
     by_bits true false = refl
     by_bits false true = refl
     by_bits false false = refl
+failed_stays words step f z e t = t
 
 -- ---- who is there
 

@@ -44,7 +44,7 @@ use Rattle.wb_runs.specs.Effects.{replacing}
 use Rattle.wb_desk.specs.Entries.{is_replacement}
 use Rattle.wb_contents.specs.Volume.{Locations, changed}
 use Rattle.wb_contents.proofs.Positions.{changed_same, changed_other}
-use Rattle.wb_policy.specs.declared.order.Order.TheVariants.{Promote as Promote', Replace, Demote as DemoteOrder, Clean as Clean'}
+use Rattle.wb_policy.specs.declared.order.Order.TheVariants.{Replace, Demote as DemoteOrder}
 use Rattle.wb_link.specs.World.{following}
 use Rattle.wb_simulation.specs.Carried.{held, is_at, replacement_there, order_there, live_there, IsOrderFor}
 use Rattle.wb_simulation.specs.Migrating.{LeavesFrom, TurnsOrder}
@@ -67,24 +67,18 @@ use Rattle.wb_simulation.proofs.Copying.{carry_so, at_again, y_is, y_has, its_ow
 -- ---- what lives on other cache blocks
 
 map_elsewhere : (m : Locations) (b c d : ℕ) (o : Option Order) → d ≢ c → m b ≡ None → live_there (changed m b (Some c)) d o ≡ live_there m d o
-map_elsewhere m b c d None n free = refl
-map_elsewhere m b c d (Some (Promote' x k)) n free = refl
-map_elsewhere m b c d (Some (DemoteOrder x)) n free = refl
-map_elsewhere m b c d (Some (Clean' x)) n free = refl
 map_elsewhere m b c d (Some (Replace old new k)) n free = ap (λ (t : Bool). Some (replacement_there t old.0 new.0 d)) (elim (cases_eq old.0 b) [
   | inl e ↦ ap (λ (l : Option ℕ). is_at l d) (ap (changed m b (Some c)) e ∙ changed_same m b (Some c)) ∙ ne_eqb c d (λ q. n (sym q)) ∙ sym (ap (λ (l : Option ℕ). is_at l d) (ap m e ∙ free))
   | inr o ↦ ap (λ (l : Option ℕ). is_at l d) (changed_other m b old.0 (Some c) o)
 ])
+map_elsewhere m b c d o n free = refl
 
 unmap_elsewhere : (m : Locations) (b c d : ℕ) (o : Option Order) → d ≢ c → m b ≡ Some c → live_there (changed m b None) d o ≡ live_there m d o
-unmap_elsewhere m b c d None n at = refl
-unmap_elsewhere m b c d (Some (Promote' x k)) n at = refl
-unmap_elsewhere m b c d (Some (DemoteOrder x)) n at = refl
-unmap_elsewhere m b c d (Some (Clean' x)) n at = refl
 unmap_elsewhere m b c d (Some (Replace old new k)) n at = ap (λ (t : Bool). Some (replacement_there t old.0 new.0 d)) (elim (cases_eq old.0 b) [
   | inl e ↦ ap (λ (l : Option ℕ). is_at l d) (ap (changed m b None) e ∙ changed_same m b None) ∙ sym (ap (λ (l : Option ℕ). is_at l d) (ap m e ∙ at) ∙ ne_eqb c d (λ q. n (sym q)))
   | inr o ↦ ap (λ (l : Option ℕ). is_at l d) (changed_other m b old.0 None o)
 ])
+unmap_elsewhere m b c d o n at = refl
 
 -- a replacement of the block is kept, and a flush is awaited for it from now on
 is_replacing : (b : OBlock) (orders : List Order) (o : Order) → is_of b o ≡ true → is_replacement o ≡ true → Contains orders o → Contains (replacing b orders) o

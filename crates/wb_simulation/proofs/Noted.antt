@@ -325,9 +325,8 @@ migrating_nothing m a job next own i no_end = ap (λ (o : Option AbstractJob). n
     stays w n = refl
 
 carried_untold : (gots : List Got) (task : Option Script) (m : AbstractNotes) (a : ℕ) → IsJob m a task → AreCarried task gots → told m (records a task gots) ≡ m
-carried_untold [] None m a j c = refl
+carried_untold gots None m a j c = refl
 carried_untold [] (Some script) m a j c = refl
-carried_untold (got ∷ gots) None m a j c = refl
 carried_untold (got ∷ gots) (Some script) m a j c =
     let is = task_goes script (want script) got c.1 in
     let later : IsJob m a (task_after script (want script) got) = subst (λ (t : Option Script). IsJob m a t) (sym is) (j ∙ ap (λ (k : AbstractJob). Some k) (sym (job_on script got))) in

@@ -77,9 +77,8 @@ task_stays script (End answer) got u = absurd u
 task_stays script w got u = refl
 
 pub untold : (gots : List Got) (task : Option Script) (m : Notes) (a : ℕ) → IsJob m a task → AreUnnoted task gots → told m (records a task gots) ≡ m
-untold [] None m a j u = refl
+untold gots None m a j u = refl
 untold [] (Some script) m a j u = refl
-untold (got ∷ gots) None m a j u = refl
 untold (got ∷ gots) (Some script) m a j u =
     let is = task_stays script (want script) got u.0 in
     let later : IsJob m a (task_after script (want script) got) = subst (λ (t : Option Script). IsJob m a t) (sym is) (j ∙ ap (λ (k : Job). Some k) (sym (job_on script got))) in
