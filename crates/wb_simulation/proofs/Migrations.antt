@@ -65,10 +65,6 @@ written_after : (size block : ℕ) (e : Extent) (ws : List Want) → IsWrittenNe
 written_after size block e (Device (Write device w) ∷ rest) n = (device, w, rest, refl)
 written_after size block e ws n = absurd n
 
--- a migration's write is of its target
-target_is : (migration : Migration) (part : BlockRange) (next : Bool) (device : Dev) (e : Extent) (ws : List Want) → IsRest (Migrating migration part) next (Device (Write device e) ∷ ws) → device ≡ target_of migration
-target_is migration part next device e ws rest = rest.0
-
 -- A migration whose next step is on a device or the desk is at the same there.
 record IsFound (size : ℕ) (orders : List (Option Order)) (devices : Devices (List History)) (migration : Migration) (block : OBlock) (plan : Plan) (next : Want) (x : Actor) (y : AbstractActor) : Type 0 where
   pub part : BlockRange
@@ -121,14 +117,14 @@ module _ (size most blocks : ℕ) (words : Words) (committing : Bool) (orders : 
         let f = found (Device (Write device e)) asked (λ answer q. absurd (cc)) (λ o. o) in
         let has = has_now (Device (Write device e)) f in
         told_by (Device (Write device e)) f (λ p. Carried Stays size most a s words committing orders (with_device device devices (written_each (device_in device devices) e.first x.buffer)) actors (after_step (Migrate migration block) p Done x))
-        (writes size most blocks words committing orders devices actors a x s its.0 g ex its.1 migration block f.part device e plan.answer (target_is migration f.part has.1.1.0 device e f.later has.1.1.1) f.later f.carried has room rule suited)
+        (writes size most blocks words committing orders devices actors a x s its.0 g ex its.1 migration block f.part device e plan.answer has.1.1.1.0 f.later f.carried has room rule suited)
 
     write_has_failed : LockRule blocks words (cards_of actors) → AllSuited blocks actors → (lands : ℕ → Bool) → want plan ≡ Device (Write device e) → e.first + e.count ≤ length (device_in device devices) → Carried Stays size most a s words committing orders (with_device device devices (written_where lands (device_in device devices) e.first x.buffer)) actors (after_step (Migrate migration block) plan Fault x)
     write_has_failed rule suited lands asked room =
         let f = found (Device (Write device e)) asked (λ answer q. absurd (cc)) (λ o. o) in
         let has = has_now (Device (Write device e)) f in
         told_by (Device (Write device e)) f (λ p. Carried Stays size most a s words committing orders (with_device device devices (written_where lands (device_in device devices) e.first x.buffer)) actors (after_step (Migrate migration block) p Fault x))
-        (write_falls size most blocks words committing orders devices actors a x s its.0 g ex its.1 migration block f.part device e plan.answer (target_is migration f.part has.1.1.0 device e f.later has.1.1.1) f.later f.carried has room rule suited lands)
+        (write_falls size most blocks words committing orders devices actors a x s its.0 g ex its.1 migration block f.part device e plan.answer has.1.1.1.0 f.later f.carried has room rule suited lands)
 
     read_has_failed : want plan ≡ Device (Read device e) → Carried Stays size most a s words committing orders devices actors (after_step (Migrate migration block) plan Fault x)
     read_has_failed asked =
@@ -136,7 +132,7 @@ module _ (size most blocks : ℕ) (words : Words) (committing : Bool) (orders : 
         let w = written_after size block.0 e f.later f.carried.paired.0 in
         let has = has_now (Device (Read device e)) f in
         let jobs = subst (λ (us : List Want). IsRest (Migrating migration f.part) has.1.1.0 us) w.3 has.1.1.1.1 in
-        let on_target = target_is migration f.part has.1.1.0 w.0 w.1 w.2 jobs in
+        let on_target : w.0 ≡ target_of migration = jobs.0 in
         subst (λ (ds : Devices (List History)). Carried Stays size most a s words committing orders ds actors (after_step (Migrate migration block) plan Fault x)) (same_device w.0 devices (writes_blocks migration w.0 on_target))
         (told_by (Device (Read device e)) f (λ p. Carried Stays size most a s words committing orders (with_device w.0 devices (device_in w.0 devices)) actors (after_step (Migrate migration block) p Fault x))
         (read_falls size most blocks words committing orders devices actors a x s its.0 g ex its.1 migration block f.part w.0 w.1 plan.answer on_target device e w.2
