@@ -2,7 +2,7 @@
 use Rattle.std.proofs.Common.{◌≡◌, ◌≤◌, ◌+◌, ◌*◌, ◌/◌, ◌%◌, ◌∙◌, inl, inr, ℕ, zero, suc, Bool, true, false, List, [], ◌∷◌, Option, Some, refl, sym, ap, subst, arith, length, map, take, drop, slice_get, Contains}
 use Rattle.wb_types.specs.declared.extent.Extent.{Extent}
 use Rattle.wb_types.specs.declared.mode.Dev.{Dev}
-use Rattle.wb_types.specs.declared.mode.Dev.TheVariants.{Metadata, Cache, Origin}
+use Rattle.wb_types.specs.declared.mode.Dev.TheVariants.{Cache, Origin}
 use Rattle.wb_types.specs.declared.number.CBlock.{CBlock}
 use Rattle.wb_types.specs.declared.refusal.Refusal.TheVariants.{Io}
 use Rattle.wb_disk.specs.Device.{Content, History, newest}
@@ -191,14 +191,9 @@ module _ (size most blocks : ℕ) (words : Words) (committing : Bool) (orders : 
 
   across : (c : CBlock) (next : Option ℕ) (m : Migration) (d : Dev) → d ≡ target_of m → Across (source (order_on part c next) m) (location_at size d e)
   across c next (Promote k) Cache same = tt
-  across c next (Promote k) Origin same = absurd (cc)
-  across c next (Promote k) Metadata same = absurd (cc)
-  across c next Demote Cache same = absurd (cc)
   across c next Demote Origin same = tt
-  across c next Demote Metadata same = absurd (cc)
-  across c next Clean Cache same = absurd (cc)
   across c next Clean Origin same = tt
-  across c next Clean Metadata same = absurd (cc)
+  across c next m d same = absurd (cc)
 
   module _ (next : Want) (ws : List Want) (f : IsCarried size orders devices migration block part (next ∷ ws) answer x y) where
     abbrev its_under : AbstractOrder

@@ -130,8 +130,7 @@ module _ (size most blocks : ℕ) (words : Words) (committing : Bool) (orders : 
     | inl l ↦ away (ap (λ (v : OBlock). v.0) (k.block_is ∙ of_from m other k.next k.order from k.of (b k.c.0 k.order l.0 (sym same))))
     | inr t ↦ absurd (no_tail t)
   ]
-  beside_copies Origin b d z u m other pt steps told n eu k no_tail on from away same = absurd (cc)
-  beside_copies Metadata b d z u m other pt steps told n eu k no_tail on from away same = absurd (cc)
+  beside_copies device' b d z u m other pt steps told n eu k no_tail on from away same = absurd (cc)
 
   -- its block is its own, whichever sectors land
   moves_own : LockRule blocks words (cards_of actors) → AllSuited blocks actors → Suits blocks writing x.card → AreOfBlock size part.block.0 (Device (WriteExtent device e) ∷ ws) → IsBesideOrders size orders part.block device e → (lands : ℕ → Bool) (content : Content) →
