@@ -30,7 +30,7 @@ use Rattle.wb_tasks.specs.declared.step.Migration.TheVariants.{Promote, Demote, 
 use Rattle.wb_tasks.specs.declared.step.DeskStep.TheVariants.{ReleaseOrder}
 use Rattle.wb_tasks.specs.declared.step.Want.{Want}
 use Rattle.wb_tasks.specs.declared.step.Want.TheVariants.{Cell, Desk}
-use Rattle.wb_link.specs.Tables.{Order, Job, Got, Flag, Lost, Done, Seen, Own, Seal as SealThere, Answer as AbstractAnswer, Failed as AnsweredFailed, Busy as AnsweredBusy, Finished as AnsweredDone, work as work_there}
+use Rattle.wb_link.specs.Tables.{Order, Flag, Lost, Done, Seen, Own, Look_seal, Set_failed, acquire, breaking, Want as AbstractWant, Seal as SealThere, Answer as AbstractAnswer, Failed as AnsweredFailed, Busy as AnsweredBusy, work as work_there}
 use Rattle.wb_link.specs.World.{Shared, Held, Nothing, Owns, Actor}
 use Rattle.wb_refines.specs.Translation.{number_of, offsets}
 use Rattle.wb_refines.specs.Going.{WinsBeside}
@@ -77,9 +77,12 @@ module _ (actors : List Actor) (there : ℕ) (s : Shared) (part : BlockRange) (c
   abbrev os : List ℕ
   os = offsets part.block_sectors part.extents
 
-  -- the abstract actor with these real steps to come
+  -- the abstract actor with these steps to come, or these real ones
+  abbrev at_steps : Migration → List AbstractWant → Held → AbstractAnswer → Content → Actor
+  at_steps migration steps held answer buffer = record { task = Some (record { job = job_under order os migration; steps = steps; answer = answer }); held = held; order = kept; leads = false; buffer = buffer }
+
   abbrev at : Migration → List Want → Held → AbstractAnswer → Content → Actor
-  at migration steps held answer buffer = record { task = Some (record { job = job_under order os migration; steps = migration_wants part.block_sectors order os migration steps; answer = answer }); held = held; order = kept; leads = false; buffer = buffer }
+  at migration steps held answer buffer = at_steps migration (migration_wants part.block_sectors order os migration steps) held answer buffer
 
   abbrev Then : Migration → Plan → Card → AbstractAnswer → Content → Words → Plan → Card → Type 0
   Then migration plan card answer buffer words plan' card' = FollowsMigration actors there s (at migration plan.steps (held_for plan.steps card) answer buffer) words part c next migration kept plan' card'
@@ -96,15 +99,20 @@ module _ (actors : List Actor) (there : ℕ) (s : Shared) (part : BlockRange) (c
       by_test true f = record { results = Flag false ∷ []; may = (sym (w.fail ∙ f), tt, tt); quiet = (tt, tt); words_agree = w; same = same s; at = inl (record { answer = told; buffer = buffer; is = refl; alike = alike; saw = tt }) }
       by_test false f = record { results = Flag true ∷ []; may = (sym (w.fail ∙ f), tt, tt); quiet = (tt, tt); words_agree = w; same = same s; at = inl (record { answer = AnsweredFailed; buffer = buffer; is = refl; alike = λ e. absurd (cc); saw = tt }) }
 
+  -- each migration begins, and fails, as the others do
+  acquires : (migration : Migration) → acquire (job_under order os migration) ≡ Own part.block.0 ∷ Look_seal part.block.0 ∷ []
+  acquires (Promote k) = refl
+  acquires migration = refl
+
+  breaks : (migration : Migration) → breaking (job_under order os migration) ≡ Set_failed ∷ []
+  breaks (Promote k) = refl
+  breaks migration = refl
+
   -- it is lost there, with no block and the order kept
-  is_lost : (migration : Migration) (steps : List Want) (held : Held) (told : AbstractAnswer) (buffer : Content) (words : Words) (card : Card) → migration_wants part.block_sectors order os migration steps ≡ migration_wants part.block_sectors order os migration (Cell (Look (LockWord part.block)) ∷ []) →
-      held ≡ held_of card.hold → WordsAgree words s → FollowsMigration actors there s (at migration steps held told buffer) words part c next migration kept (of migration [] (Refuses Busy)) card
-  is_lost (Promote k) steps held told buffer words card e h w = subst (λ ws. FollowsMigration actors there s (record (at (Promote k) [] held told buffer) { task = Some (record { job = job_under order os (Promote k); steps = ws; answer = told }) }) words part c next (Promote k) kept (of (Promote k) [] (Refuses Busy)) card) (sym e)
-      (record { results = Lost ∷ []; may = (tt, tt, tt); quiet = (tt, tt); words_agree = w; same = same s; at = inl (record { answer = AnsweredBusy; buffer = buffer; is = λ i. record (at (Promote k) [] held AnsweredBusy buffer) { held = h i }; alike = λ e. absurd (cc); saw = tt }) })
-  is_lost Demote steps held told buffer words card e h w = subst (λ ws. FollowsMigration actors there s (record (at Demote [] held told buffer) { task = Some (record { job = job_under order os Demote; steps = ws; answer = told }) }) words part c next Demote kept (of Demote [] (Refuses Busy)) card) (sym e)
-      (record { results = Lost ∷ []; may = (tt, tt, tt); quiet = (tt, tt); words_agree = w; same = same s; at = inl (record { answer = AnsweredBusy; buffer = buffer; is = λ i. record (at Demote [] held AnsweredBusy buffer) { held = h i }; alike = λ e. absurd (cc); saw = tt }) })
-  is_lost Clean steps held told buffer words card e h w = subst (λ ws. FollowsMigration actors there s (record (at Clean [] held told buffer) { task = Some (record { job = job_under order os Clean; steps = ws; answer = told }) }) words part c next Clean kept (of Clean [] (Refuses Busy)) card) (sym e)
-      (record { results = Lost ∷ []; may = (tt, tt, tt); quiet = (tt, tt); words_agree = w; same = same s; at = inl (record { answer = AnsweredBusy; buffer = buffer; is = λ i. record (at Clean [] held AnsweredBusy buffer) { held = h i }; alike = λ e. absurd (cc); saw = tt }) })
+  is_lost : (migration : Migration) (held : Held) (told : AbstractAnswer) (buffer : Content) (words : Words) (card : Card) → held ≡ held_of card.hold → WordsAgree words s →
+      FollowsMigration actors there s (at migration (Cell (Look (LockWord part.block)) ∷ []) held told buffer) words part c next migration kept (of migration [] (Refuses Busy)) card
+  is_lost migration held told buffer words card h w = subst (λ (ws : List AbstractWant). FollowsMigration actors there s (at_steps migration ws held told buffer) words part c next migration kept (of migration [] (Refuses Busy)) card) (sym (acquires migration))
+      (record { results = Lost ∷ []; may = (tt, tt, tt); quiet = (tt, tt); words_agree = w; same = same s; at = inl (record { answer = AnsweredBusy; buffer = buffer; is = λ i. at_steps migration [] (h i) AnsweredBusy buffer; alike = λ e. absurd (cc); saw = tt }) })
 
   looks_lock : (migration : Migration) (answer : Answer) (told : AbstractAnswer) (buffer : Content) (words : Words) (card : Card) → WordsAgree words s → AnswersAlike answer told →
       Then migration (of migration (Cell (Look (LockWord part.block)) ∷ []) answer) card told buffer words (after (of migration (Cell (Look (LockWord part.block)) ∷ []) answer) (Word (word_at words.cells part.block))) (looked (LockWord part.block) (word_at words.cells part.block) card)
@@ -113,7 +121,7 @@ module _ (actors : List Actor) (there : ℕ) (s : Shared) (part : BlockRange) (c
       by_test : (t : Bool) → Then migration (of migration (Cell (Look (LockWord part.block)) ∷ []) answer) card told buffer words
           (if t then of migration (exchange (OnBlock (Migrating migration part)) (word_at words.cells part.block)) answer else of migration [] (Refuses Busy)) (looked (LockWord part.block) (word_at words.cells part.block) card)
       by_test true = record { results = []; may = tt; quiet = tt; words_agree = w; same = same s; at = inl (record { answer = told; buffer = buffer; is = refl; alike = alike; saw = tt }) }
-      by_test false = is_lost migration (Cell (Look (LockWord part.block)) ∷ []) (held_of card.hold) told buffer words (looked (LockWord part.block) (word_at words.cells part.block) card) refl refl w
+      by_test false = is_lost migration (held_of card.hold) told buffer words (looked (LockWord part.block) (word_at words.cells part.block) card) refl w
 
   takes : (migration : Migration) (seen : ℕ) (answer : Answer) (told : AbstractAnswer) (buffer : Content) (words : Words) (card : Card) → card.hold ≡ HoldsNothing → WordsAgree words s → AnswersAlike answer told →
       Then migration (of migration (Cell (Take Owned part.block seen) ∷ Cell (Look (SealWord part.block)) ∷ []) answer) card told buffer (words_after words (Take Owned part.block seen))
@@ -139,7 +147,7 @@ module _ (actors : List Actor) (there : ℕ) (s : Shared) (part : BlockRange) (c
           saw = tt;
         });
       }
-      by_test false = is_lost migration (Cell (Take Owned part.block seen) ∷ Cell (Look (SealWord part.block)) ∷ []) (held_of card.hold) told buffer words (losing part.block (word_at words.cells part.block) card) refl refl w
+      by_test false = is_lost migration (held_of card.hold) told buffer words (losing part.block (word_at words.cells part.block) card) refl w
 
   looks_seal : (migration : Migration) (ws : List Want) (answer : Answer) (told : AbstractAnswer) (buffer : Content) (words : Words) (card : Card) → card.hold ≡ HoldsBlock Owned part.block → WordsAgree words s → AnswersAlike answer told →
       Then migration (of migration (Cell (Look (SealWord part.block)) ∷ ws) answer) card told buffer words (after (of migration (Cell (Look (SealWord part.block)) ∷ ws) answer) (Word (word_at words.seals part.block))) (looked (SealWord part.block) (word_at words.seals part.block) card)
@@ -167,46 +175,32 @@ module _ (actors : List Actor) (there : ℕ) (s : Shared) (part : BlockRange) (c
   looks_number : (migration : Migration) (seen : ℕ) (answer : Answer) (told : AbstractAnswer) (buffer : Content) (words : Words) (card : Card) → 0 < part.block_sectors → Fills migration c → IsWhere migration c (place_in seen) → card.hold ≡ HoldsBlock Owned part.block → word_at words.seals part.block ≡ seen → WordsAgree words s →
       WinsBeside actors there Nothing (Own part.block.0) Done → AnswersAlike answer told →
       Then migration (of migration (Cell (Look (Number part.block)) ∷ work_of (OnBlock (Migrating migration part)) seen) answer) card told buffer words (of migration (work_of (OnBlock (Migrating migration part)) seen) answer) (looked (Number part.block) (word_at words.numbers part.block) card)
-  looks_number migration seen answer told buffer words card some fills where_is h k w wins alike = by_migration migration fills where_is
+  looks_number migration seen answer told buffer words card some fills where_is h k w wins alike = subst (λ (ws : List AbstractWant). FollowsMigration actors there s (at_steps migration ws Nothing told buffer) words part c next migration kept (of migration steps answer) card') (sym (acquires migration)) (record {
+    results = Done ∷ Seen (s.seals part.block.0) ∷ [];
+    may = (tt, wins, (refl, tt, tt));
+    quiet = (tt, (tt, tt));
+    words_agree = w;
+    same = same s;
+    at = inl (record { answer = told; buffer = buffer; is = λ i. at_steps migration (steps_are i) (held_is i) told buffer; alike = alike; saw = saw_plain (of migration steps answer) steps _ plain });
+  })
     where
+      steps : List Want
+      steps = work (Migrating migration part) (place_in seen) (dirty_in seen)
+
+      card' : Card
+      card' = looked (Number part.block) (word_at words.numbers part.block) card
+
+      plain : IsPlain steps
+      plain = work_plain migration part (place_in seen) (dirty_in seen)
+
       agrees : SealAgrees seen (s.seals part.block.0)
       agrees = subst (λ (v : ℕ). SealAgrees v (s.seals part.block.0)) k (w.seals part.block)
 
-      steps_are : (m : Migration) → Fills m c → IsWhere m c (place_in seen) → work_there (job_under order os m) (s.seals part.block.0) ≡ migration_wants part.block_sectors order os m (work (Migrating m part) (place_in seen) (dirty_in seen))
-      steps_are m f p = same_work m seen (s.seals part.block.0) p agrees ∙ sym (works part c next m (place_in seen) (dirty_in seen) some f p)
+      steps_are : work_there (job_under order os migration) (s.seals part.block.0) ≡ migration_wants part.block_sectors order os migration steps
+      steps_are = same_work migration seen (s.seals part.block.0) where_is agrees ∙ sym (works part c next migration (place_in seen) (dirty_in seen) some fills where_is)
 
-      held_is : (m : Migration) → Owns part.block.0 ≡ held_for (work (Migrating m part) (place_in seen) (dirty_in seen)) (looked (Number part.block) (word_at words.numbers part.block) card)
-      held_is m = sym (held_plain (work (Migrating m part) (place_in seen) (dirty_in seen)) (looked (Number part.block) (word_at words.numbers part.block) card) (work_plain m part (place_in seen) (dirty_in seen)) ∙ ap held_of h)
-
-      owning : (m : Migration) → AbstractAnswer → Held → List Rattle.wb_link.specs.Tables.Want → Actor
-      owning m told held ws = record { task = Some (record { job = job_under order os m; steps = ws; answer = told }); held = held; order = kept; leads = false; buffer = buffer }
-
-      by_migration : (m : Migration) → Fills m c → IsWhere m c (place_in seen) →
-          Then m (of m (Cell (Look (Number part.block)) ∷ work_of (OnBlock (Migrating m part)) seen) answer) card told buffer words (of m (work_of (OnBlock (Migrating m part)) seen) answer) (looked (Number part.block) (word_at words.numbers part.block) card)
-      by_migration (Promote n) f p = record {
-        results = Done ∷ Seen (s.seals part.block.0) ∷ [];
-        may = (tt, wins, (refl, tt, tt));
-        quiet = (tt, (tt, tt));
-        words_agree = w;
-        same = same s;
-        at = inl (record { answer = told; buffer = buffer; is = λ i. owning (Promote n) told (held_is (Promote n) i) (steps_are (Promote n) f p i); alike = alike; saw = saw_plain (of (Promote n) (work (Migrating (Promote n) part) (place_in seen) (dirty_in seen)) answer) (work (Migrating (Promote n) part) (place_in seen) (dirty_in seen)) _ (work_plain (Promote n) part (place_in seen) (dirty_in seen)) });
-      }
-      by_migration Demote f p = record {
-        results = Done ∷ Seen (s.seals part.block.0) ∷ [];
-        may = (tt, wins, (refl, tt, tt));
-        quiet = (tt, (tt, tt));
-        words_agree = w;
-        same = same s;
-        at = inl (record { answer = told; buffer = buffer; is = λ i. owning Demote told (held_is Demote i) (steps_are Demote f p i); alike = alike; saw = saw_plain (of Demote (work (Migrating Demote part) (place_in seen) (dirty_in seen)) answer) (work (Migrating Demote part) (place_in seen) (dirty_in seen)) _ (work_plain Demote part (place_in seen) (dirty_in seen)) });
-      }
-      by_migration Clean f p = record {
-        results = Done ∷ Seen (s.seals part.block.0) ∷ [];
-        may = (tt, wins, (refl, tt, tt));
-        quiet = (tt, (tt, tt));
-        words_agree = w;
-        same = same s;
-        at = inl (record { answer = told; buffer = buffer; is = λ i. owning Clean told (held_is Clean i) (steps_are Clean f p i); alike = alike; saw = saw_plain (of Clean (work (Migrating Clean part) (place_in seen) (dirty_in seen)) answer) (work (Migrating Clean part) (place_in seen) (dirty_in seen)) _ (work_plain Clean part (place_in seen) (dirty_in seen)) });
-      }
+      held_is : Owns part.block.0 ≡ held_for steps card'
+      held_is = sym (held_plain steps card' plain ∙ ap held_of h)
 
   seals : (migration : Migration) (place : Option CBlock) (dirty : Bool) (ws : List Want) (answer : Answer) (told : AbstractAnswer) (buffer : Content) (words : Words) (card : Card) → IsPlain ws → part.block.0 < length words.seals → place_in (Rattle.wb_words.specs.SharedWords.seal_word place dirty) ≡ place → WordsAgree words s → AnswersAlike answer told →
       Then migration (of migration (Cell (Seal part.block place dirty) ∷ ws) answer) card told buffer (words_after words (Seal part.block place dirty)) (of migration ws answer) (card_after words (Seal part.block place dirty) card)
@@ -246,30 +240,14 @@ module _ (actors : List Actor) (there : ℕ) (s : Shared) (part : BlockRange) (c
 
   fails : (migration : Migration) (answer : Answer) (told : AbstractAnswer) (buffer : Content) (words : Words) (card : Card) (failures suspensions : ℕ) → words.fail ≡ fail_word failures suspensions → (refusal : Refusal) → answer ≡ Refuses refusal → WordsAgree words s → AnswersAlike answer told →
       Then migration (of migration (Cell SetFailed ∷ []) answer) card told buffer (words_after words SetFailed) (of migration [] answer) (card_after words SetFailed card)
-  fails (Promote k) answer told buffer words card f z e refusal is w alike = record {
+  fails migration answer told buffer words card f z e refusal is w alike = subst (λ (ws : List AbstractWant). FollowsMigration actors there s (at_steps migration ws (held_of card.hold) told buffer) (words_after words SetFailed) part c next migration kept (of migration [] answer) (card_after words SetFailed card)) (sym (breaks migration)) (record {
     results = Done ∷ [];
     may = (tt, tt, tt);
     quiet = (tt, tt);
     words_agree = record { fail = sym (failed_flag words.fail f z e); seals = w.seals };
     same = failed_same;
     at = inr (failed_flag words.fail f z e, record { over = refl; refused = λ k. let bad : Refuses refusal ≡ Finished = sym is ∙ k in absurd (cc); script = _; task = refl; nothing = refl; undone = subst (λ (r : Answer). AnswersAlike r told) is alike; job = refl; order = refl; leads = refl; below = keeps_owned _ card refl });
-  }
-  fails Demote answer told buffer words card f z e refusal is w alike = record {
-    results = Done ∷ [];
-    may = (tt, tt, tt);
-    quiet = (tt, tt);
-    words_agree = record { fail = sym (failed_flag words.fail f z e); seals = w.seals };
-    same = failed_same;
-    at = inr (failed_flag words.fail f z e, record { over = refl; refused = λ k. let bad : Refuses refusal ≡ Finished = sym is ∙ k in absurd (cc); script = _; task = refl; nothing = refl; undone = subst (λ (r : Answer). AnswersAlike r told) is alike; job = refl; order = refl; leads = refl; below = keeps_owned _ card refl });
-  }
-  fails Clean answer told buffer words card f z e refusal is w alike = record {
-    results = Done ∷ [];
-    may = (tt, tt, tt);
-    quiet = (tt, tt);
-    words_agree = record { fail = sym (failed_flag words.fail f z e); seals = w.seals };
-    same = failed_same;
-    at = inr (failed_flag words.fail f z e, record { over = refl; refused = λ k. let bad : Refuses refusal ≡ Finished = sym is ∙ k in absurd (cc); script = _; task = refl; nothing = refl; undone = subst (λ (r : Answer). AnswersAlike r told) is alike; job = refl; order = refl; leads = refl; below = keeps_owned _ card refl });
-  }
+  })
 
   module _ (blocks : ℕ) (words : Words) (cards : List Card) (a : ℕ) (card : Card) (migration : Migration) (answer : Answer) (told : AbstractAnswer) (buffer : Content) (some : 0 < part.block_sectors) (rule : LockRule blocks words cards) (here : slice_get cards a ≡ Some card) (w : WordsAgree words s)
       (fills : Fills migration c) (inside : part.block.0 < blocks) (alike : AnswersAlike answer told) where

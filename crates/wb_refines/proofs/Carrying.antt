@@ -3,14 +3,14 @@ use Rattle.std.proofs.Common.{inl, ◌≡◌, ◌<◌, ◌∙◌, ℕ, Bool, tru
 use Rattle.wb_types.specs.declared.number.CBlock.{CBlock}
 use Rattle.wb_disk.specs.Device.{Content}
 use Rattle.wb_tasks.specs.declared.step.Migration.{Migration}
-use Rattle.wb_tasks.specs.declared.step.Migration.TheVariants.{Promote, Demote, Clean}
+use Rattle.wb_tasks.specs.declared.step.Migration.TheVariants.{Promote}
 use Rattle.wb_tasks.specs.declared.step.Want.{Want}
 use Rattle.wb_tasks.specs.declared.step.Want.TheVariants.{Cell}
 use Rattle.wb_words.specs.declared.word.Word.TheVariants.{Number, Cell as LockWord}
 use Rattle.wb_words.specs.declared.step.CellStep.TheVariants.{Look, SetFailed}
 use Rattle.wb_tasks.specs.Tables.{BlockRange, Migrating, work, OnBlock}
 use Rattle.wb_link.specs.Tables.{Order, Job, Done, Lost, Own, Seen, Disown, Give_up, Want as AbstractWant, Answer as AbstractAnswer, work as work_there, Finished as AnsweredDone, Busy as AnsweredBusy, Failed as AnsweredFailed, Io as AnsweredIo, table as table_there}
-use Rattle.wb_link.specs.World.{aside, taken, Shared, Nothing, Owns, Actor, start_actor, World, Start, May, MayStart, after_record, reserved, Again, MayAgain, again_actor}
+use Rattle.wb_link.specs.World.{order_of as order_of_job, aside, taken, Shared, Nothing, Owns, Actor, start_actor, World, Start, May, MayStart, after_record, reserved, Again, MayAgain, again_actor}
 use Rattle.wb_refines.specs.Translation.{number_of, offsets}
 use Rattle.wb_refines.specs.Going.{WinsBeside}
 use Rattle.wb_refines.specs.Migrations.{job_under, order_on, Fills, IsWhere}
@@ -33,59 +33,37 @@ takes actors a s part c next (Promote k) place dirty later answer buffer some f 
   shared = refl;
   is = ap (owning (job_under (order_on part c next) (offsets part.block_sectors part.extents) (Promote k)) (order_on part c next) buffer answer) (ap (work_there (job_under (order_on part c next) (offsets part.block_sectors part.extents) (Promote k))) e ∙ sym (works part c next (Promote k) place dirty some f w));
 }
-takes actors a s part c next Demote place dirty later answer buffer some f w wins e = record {
+takes actors a s part c next migration place dirty later answer buffer some f w wins e = record {
   may = (tt, wins, (refl, tt, tt));
   shared = refl;
-  is = ap (owning (job_under (order_on part c next) (offsets part.block_sectors part.extents) Demote) (order_on part c next) buffer answer) (ap (work_there (job_under (order_on part c next) (offsets part.block_sectors part.extents) Demote)) e ∙ sym (works part c next Demote place dirty some f w));
-}
-takes actors a s part c next Clean place dirty later answer buffer some f w wins e = record {
-  may = (tt, wins, (refl, tt, tt));
-  shared = refl;
-  is = ap (owning (job_under (order_on part c next) (offsets part.block_sectors part.extents) Clean) (order_on part c next) buffer answer) (ap (work_there (job_under (order_on part c next) (offsets part.block_sectors part.extents) Clean)) e ∙ sym (works part c next Clean place dirty some f w));
+  is = ap (owning (job_under (order_on part c next) (offsets part.block_sectors part.extents) migration) (order_on part c next) buffer answer) (ap (work_there (job_under (order_on part c next) (offsets part.block_sectors part.extents) migration)) e ∙ sym (works part c next migration place dirty some f w));
 }
 
 is_busy : (size : ℕ) (actors : List Actor) (a : ℕ) (s : Shared) (order : Order) (os : List ℕ) (migration : Migration) (block : OBlock) (later : List Want) (answer : AbstractAnswer) (buffer : Content) → GoesTo actors a s (without_block (migrating size order os migration (Cell (Look (LockWord block)) ∷ later) answer buffer)) (Lost ∷ []) s (without_block (migrating size order os migration [] AnsweredBusy buffer))
 is_busy size actors a s order os (Promote c) block later answer buffer = record { may = (tt, tt, tt); shared = refl; is = refl }
-is_busy size actors a s order os Demote block later answer buffer = record { may = (tt, tt, tt); shared = refl; is = refl }
-is_busy size actors a s order os Clean block later answer buffer = record { may = (tt, tt, tt); shared = refl; is = refl }
+is_busy size actors a s order os migration block later answer buffer = record { may = (tt, tt, tt); shared = refl; is = refl }
 
 fails : (size : ℕ) (actors : List Actor) (a : ℕ) (s : Shared) (order : Order) (os : List ℕ) (migration : Migration) (buffer : Content) → GoesTo actors a s (migrating size order os migration (Cell SetFailed ∷ []) AnsweredIo buffer) (Done ∷ []) (record s { fail = true }) (migrating size order os migration [] AnsweredIo buffer)
 fails size actors a s order os (Promote c) buffer = record { may = (tt, tt, tt); shared = refl; is = refl }
-fails size actors a s order os Demote buffer = record { may = (tt, tt, tt); shared = refl; is = refl }
-fails size actors a s order os Clean buffer = record { may = (tt, tt, tt); shared = refl; is = refl }
+fails size actors a s order os migration buffer = record { may = (tt, tt, tt); shared = refl; is = refl }
+
+-- a migration's job is under its order
+pub under_order : (order : Order) (os : List ℕ) (migration : Migration) → order_of_job (job_under order os migration) ≡ Some order
+under_order order os (Promote c) = refl
+under_order order os migration = refl
 
 starts : (size : ℕ) (w : World) (a : ℕ) (y : Actor) (part : BlockRange) (c : CBlock) (next : Option ℕ) (migration : Migration) → slice_get w.actors a ≡ Some y → IsResting y → NobodyIsAlone w → MayStart size w (job_under (order_on part c next) (offsets size part.extents) migration) → May size w (Start a (job_under (order_on part c next) (offsets size part.extents) migration)) × (after_record w (Start a (job_under (order_on part c next) (offsets size part.extents) migration)) ≡ record { shared = reserved w.shared (job_under (order_on part c next) (offsets size part.extents) migration); actors = slice_set w.actors a (without_block (migrating size (order_on part c next) (offsets size part.extents) migration (first_steps (OnBlock (Migrating migration part))) AnsweredDone y.buffer)); waiting = aside w.waiting y.order })
-starts size w a y part c next (Promote k) here idle alone may = (
+starts size w a y part c next migration here idle alone may = (
   (y, record { actor = here; task = idle.task; free = inl (idle.held, idle.leads); nobody_alone = alone; may = may }),
-  ap (λ (o : Option Actor). start_actor w a o (job_under (order_on part c next) (offsets size part.extents) (Promote k))) here
-      ∙ (λ i. record { shared = reserved w.shared (job_under (order_on part c next) (offsets size part.extents) (Promote k)); actors = slice_set w.actors a (record { task = Some (table_there (job_under (order_on part c next) (offsets size part.extents) (Promote k))); held = idle.held i; order = Some (order_on part c next); leads = idle.leads i; buffer = y.buffer }); waiting = aside w.waiting y.order }),
-)
-starts size w a y part c next Demote here idle alone may = (
-  (y, record { actor = here; task = idle.task; free = inl (idle.held, idle.leads); nobody_alone = alone; may = may }),
-  ap (λ (o : Option Actor). start_actor w a o (job_under (order_on part c next) (offsets size part.extents) Demote)) here
-      ∙ (λ i. record { shared = reserved w.shared (job_under (order_on part c next) (offsets size part.extents) Demote); actors = slice_set w.actors a (record { task = Some (table_there (job_under (order_on part c next) (offsets size part.extents) Demote)); held = idle.held i; order = Some (order_on part c next); leads = idle.leads i; buffer = y.buffer }); waiting = aside w.waiting y.order }),
-)
-starts size w a y part c next Clean here idle alone may = (
-  (y, record { actor = here; task = idle.task; free = inl (idle.held, idle.leads); nobody_alone = alone; may = may }),
-  ap (λ (o : Option Actor). start_actor w a o (job_under (order_on part c next) (offsets size part.extents) Clean)) here
-      ∙ (λ i. record { shared = reserved w.shared (job_under (order_on part c next) (offsets size part.extents) Clean); actors = slice_set w.actors a (record { task = Some (table_there (job_under (order_on part c next) (offsets size part.extents) Clean)); held = idle.held i; order = Some (order_on part c next); leads = idle.leads i; buffer = y.buffer }); waiting = aside w.waiting y.order }),
+  ap (λ (o : Option Actor). start_actor w a o (job_under (order_on part c next) (offsets size part.extents) migration)) here
+      ∙ (λ i. record { shared = reserved w.shared (job_under (order_on part c next) (offsets size part.extents) migration); actors = slice_set w.actors a (record { task = Some (table_there (job_under (order_on part c next) (offsets size part.extents) migration)); held = idle.held i; order = under_order (order_on part c next) (offsets size part.extents) migration i; leads = idle.leads i; buffer = y.buffer }); waiting = aside w.waiting y.order }),
 )
 
 again : (size : ℕ) (w : World) (a : ℕ) (y : Actor) (part : BlockRange) (c : CBlock) (next : Option ℕ) (migration : Migration) → slice_get w.actors a ≡ Some y → y.task ≡ None → y.held ≡ Nothing → aside w.waiting y.order c.0 ≡ Some (order_on part c next) → y.leads ≡ false → NobodyIsAlone w → MayAgain size w.shared (job_under (order_on part c next) (offsets size part.extents) migration) → May size w (Again a (job_under (order_on part c next) (offsets size part.extents) migration)) × (after_record w (Again a (job_under (order_on part c next) (offsets size part.extents) migration)) ≡ record { shared = w.shared; actors = slice_set w.actors a (without_block (migrating size (order_on part c next) (offsets size part.extents) migration (first_steps (OnBlock (Migrating migration part))) AnsweredDone y.buffer)); waiting = taken (aside w.waiting y.order) (Some (order_on part c next)) })
-again size w a y part c next (Promote k) here task held order leads alone may = (
-  (y, record { actor = here; task = task; free = inl (held, leads); order = (order_on part c next, refl, order); nobody_alone = alone; may = may }),
-  ap (λ (o : Option Actor). again_actor w a o (job_under (order_on part c next) (offsets size part.extents) (Promote k))) here
-      ∙ (λ i. record { shared = w.shared; actors = slice_set w.actors a (record { task = Some (table_there (job_under (order_on part c next) (offsets size part.extents) (Promote k))); held = held i; order = Some (order_on part c next); leads = leads i; buffer = y.buffer }); waiting = taken (aside w.waiting y.order) (Some (order_on part c next)) }),
-)
-again size w a y part c next Demote here task held order leads alone may = (
-  (y, record { actor = here; task = task; free = inl (held, leads); order = (order_on part c next, refl, order); nobody_alone = alone; may = may }),
-  ap (λ (o : Option Actor). again_actor w a o (job_under (order_on part c next) (offsets size part.extents) Demote)) here
-      ∙ (λ i. record { shared = w.shared; actors = slice_set w.actors a (record { task = Some (table_there (job_under (order_on part c next) (offsets size part.extents) Demote)); held = held i; order = Some (order_on part c next); leads = leads i; buffer = y.buffer }); waiting = taken (aside w.waiting y.order) (Some (order_on part c next)) }),
-)
-again size w a y part c next Clean here task held order leads alone may = (
-  (y, record { actor = here; task = task; free = inl (held, leads); order = (order_on part c next, refl, order); nobody_alone = alone; may = may }),
-  ap (λ (o : Option Actor). again_actor w a o (job_under (order_on part c next) (offsets size part.extents) Clean)) here
-      ∙ (λ i. record { shared = w.shared; actors = slice_set w.actors a (record { task = Some (table_there (job_under (order_on part c next) (offsets size part.extents) Clean)); held = held i; order = Some (order_on part c next); leads = leads i; buffer = y.buffer }); waiting = taken (aside w.waiting y.order) (Some (order_on part c next)) }),
+again size w a y part c next migration here task held order leads alone may = (
+  (y, record { actor = here; task = task; free = inl (held, leads); order = (order_on part c next, under_order (order_on part c next) (offsets size part.extents) migration, order); nobody_alone = alone; may = may }),
+  ap (λ (o : Option Actor). again_actor w a o (job_under (order_on part c next) (offsets size part.extents) migration)) here
+      ∙ (λ i. record { shared = w.shared; actors = slice_set w.actors a (record { task = Some (table_there (job_under (order_on part c next) (offsets size part.extents) migration)); held = held i; order = under_order (order_on part c next) (offsets size part.extents) migration i; leads = leads i; buffer = y.buffer }); waiting = taken (aside w.waiting y.order) (under_order (order_on part c next) (offsets size part.extents) migration i) }),
 )
 
 pub migrations_begin : MigrationsBegin

@@ -162,42 +162,34 @@ module _ (size : ℕ) (content : Content) (actors : List Actor) (a : ℕ) (s : S
       by_test true f = record { results = Flag false ∷ []; may = (sym (w.fail ∙ f), tt, tt); quiet = (tt, tt); words_agree = w; same = same s; at = inl (record { buffer = buffer; is = refl; saw = tt }) }
       by_test false f = record { results = Flag true ∷ []; may = (sym (w.fail ∙ f), tt, tt); quiet = (tt, tt); words_agree = w; same = same s; at = inl (record { buffer = buffer; is = refl; saw = tt }) }
 
+  -- It does not get its block, and is lost there, too.
+  is_lost : (job : BlockJob) → IsRequest job → (block : OBlock) (answer : Answer) (words : Words) (card card' : Card) → card'.hold ≡ card.hold → WordsAgree words s → Then (plan_of job (Cell (Look (LockWord block)) ∷ []) answer) card words (plan_of job [] (Refuses Busy)) card'
+  is_lost (Migrating migration part) r block answer words card card' h w = absurd r
+  is_lost job r block answer words card card' h w = record { results = Lost ∷ []; may = (tt, tt, tt); quiet = (tt, tt); words_agree = w; same = same s; at = inl (record { buffer = buffer; is = λ i. record (at size content (plan_of job [] (Refuses Busy)) card buffer) { held = held_of (sym h i) }; saw = tt }) }
+
   -- The lock word rules the exchange out, or it is tried next.
   pub looks_lock : (job : BlockJob) → IsRequest job → (block : OBlock) (answer : Answer) (words : Words) (card : Card) → WordsAgree words s →
       Then (plan_of job (Cell (Look (LockWord block)) ∷ []) answer) card words (after (plan_of job (Cell (Look (LockWord block)) ∷ []) answer) (Word (word_at words.cells block))) (looked (LockWord block) (word_at words.cells block) card)
-  looks_lock (Reading part) r block answer words card w = by_test (may_take (OnBlock (Reading part)) (word_at words.cells block))
+  looks_lock job r block answer words card w = by_test (may_take (OnBlock job) (word_at words.cells block))
     where
-      by_test : (t : Bool) → Then (plan_of (Reading part) (Cell (Look (LockWord block)) ∷ []) answer) card words (if t then plan_of (Reading part) (exchange (OnBlock (Reading part)) (word_at words.cells block)) answer else plan_of (Reading part) [] (Refuses Busy)) (looked (LockWord block) (word_at words.cells block) card)
+      by_test : (t : Bool) → Then (plan_of job (Cell (Look (LockWord block)) ∷ []) answer) card words (if t then plan_of job (exchange (OnBlock job) (word_at words.cells block)) answer else plan_of job [] (Refuses Busy)) (looked (LockWord block) (word_at words.cells block) card)
       by_test true = record { results = []; may = tt; quiet = tt; words_agree = w; same = same s; at = inl (record { buffer = buffer; is = refl; saw = tt }) }
-      by_test false = record { results = Lost ∷ []; may = (tt, tt, tt); quiet = (tt, tt); words_agree = w; same = same s; at = inl (record { buffer = buffer; is = refl; saw = tt }) }
-  looks_lock (Writing part) r block answer words card w = by_test (may_take (OnBlock (Writing part)) (word_at words.cells block))
-    where
-      by_test : (t : Bool) → Then (plan_of (Writing part) (Cell (Look (LockWord block)) ∷ []) answer) card words (if t then plan_of (Writing part) (exchange (OnBlock (Writing part)) (word_at words.cells block)) answer else plan_of (Writing part) [] (Refuses Busy)) (looked (LockWord block) (word_at words.cells block) card)
-      by_test true = record { results = []; may = tt; quiet = tt; words_agree = w; same = same s; at = inl (record { buffer = buffer; is = refl; saw = tt }) }
-      by_test false = record { results = Lost ∷ []; may = (tt, tt, tt); quiet = (tt, tt); words_agree = w; same = same s; at = inl (record { buffer = buffer; is = refl; saw = tt }) }
-  looks_lock (Migrating migration part) r block answer words card w = absurd r
+      by_test false = is_lost job r block answer words card (looked (LockWord block) (word_at words.cells block) card) refl w
 
   -- The exchange is won, and the abstract actor has still to take the block; or it is lost.
   pub takes : (job : BlockJob) → IsRequest job → (access : Access) (block : OBlock) (seen : ℕ) (answer : Answer) (words : Words) (card : Card) → card.hold ≡ HoldsNothing → WordsAgree words s →
       Then (plan_of job (taking access block seen) answer) card (words_after words (Take access block seen)) (after (plan_of job (taking access block seen) answer) (got_of (result_of words (Take access block seen)))) (card_after words (Take access block seen) card)
-  takes (Reading part) r access block seen answer words card h w = by_test (word_at words.cells block == seen)
+  takes job r access block seen answer words card h w = by_test (word_at words.cells block == seen)
     where
-      by_test : (t : Bool) → Then (plan_of (Reading part) (taking access block seen) answer) card (if t then with_cell words block (taken access seen) else words) (after (plan_of (Reading part) (taking access block seen) answer) (got_of (if t then Won else NotWon))) (if t then holding (HoldsBlock access block) card else losing block (word_at words.cells block) card)
-      by_test true = record { results = []; may = tt; quiet = tt; words_agree = record { fail = w.fail; seals = w.seals }; same = same s; at = inl (record { buffer = buffer; is = λ i. record (at size content (plan_of (Reading part) (taking access block seen) answer) card buffer) { held = held_of (h i) }; saw = tt }) }
-      by_test false = record { results = Lost ∷ []; may = (tt, tt, tt); quiet = (tt, tt); words_agree = w; same = same s; at = inl (record { buffer = buffer; is = refl; saw = tt }) }
-  takes (Writing part) r access block seen answer words card h w = by_test (word_at words.cells block == seen)
-    where
-      by_test : (t : Bool) → Then (plan_of (Writing part) (taking access block seen) answer) card (if t then with_cell words block (taken access seen) else words) (after (plan_of (Writing part) (taking access block seen) answer) (got_of (if t then Won else NotWon))) (if t then holding (HoldsBlock access block) card else losing block (word_at words.cells block) card)
-      by_test true = record { results = []; may = tt; quiet = tt; words_agree = record { fail = w.fail; seals = w.seals }; same = same s; at = inl (record { buffer = buffer; is = λ i. record (at size content (plan_of (Writing part) (taking access block seen) answer) card buffer) { held = held_of (h i) }; saw = tt }) }
-      by_test false = record { results = Lost ∷ []; may = (tt, tt, tt); quiet = (tt, tt); words_agree = w; same = same s; at = inl (record { buffer = buffer; is = refl; saw = tt }) }
-  takes (Migrating migration part) r access block seen answer words card h w = absurd r
+      by_test : (t : Bool) → Then (plan_of job (taking access block seen) answer) card (if t then with_cell words block (taken access seen) else words) (after (plan_of job (taking access block seen) answer) (got_of (if t then Won else NotWon))) (if t then holding (HoldsBlock access block) card else losing block (word_at words.cells block) card)
+      by_test true = record { results = []; may = tt; quiet = tt; words_agree = record { fail = w.fail; seals = w.seals }; same = same s; at = inl (record { buffer = buffer; is = λ i. record (at size content (plan_of job (taking access block seen) answer) card buffer) { held = held_of (h i) }; saw = tt }) }
+      by_test false = is_lost job r block answer words card (losing block (word_at words.cells block) card) refl w
 
   -- the seal is looked at; the abstract actor sees it with the number
   pub looks_seal : (job : BlockJob) (ws : List Want) (access : Access) (block : OBlock) (answer : Answer) (words : Words) (card : Card) → IsRequest job → card.hold ≡ HoldsBlock access block → WordsAgree words s →
       Then (plan_of job (Cell (Look (SealWord block)) ∷ ws) answer) card words (after (plan_of job (Cell (Look (SealWord block)) ∷ ws) answer) (Word (word_at words.seals block))) (looked (SealWord block) (word_at words.seals block) card)
-  looks_seal (Reading part) ws access block answer words card r h w = record { results = []; may = tt; quiet = tt; words_agree = w; same = same s; at = inl (record { buffer = buffer; is = refl; saw = (word_at words.seals block, own_seal access block (word_at words.seals block) card h, refl) }) }
-  looks_seal (Writing part) ws access block answer words card r h w = record { results = []; may = tt; quiet = tt; words_agree = w; same = same s; at = inl (record { buffer = buffer; is = refl; saw = (word_at words.seals block, own_seal access block (word_at words.seals block) card h, refl) }) }
   looks_seal (Migrating migration part) ws access block answer words card r h w = absurd r
+  looks_seal job ws access block answer words card r h w = record { results = []; may = tt; quiet = tt; words_agree = w; same = same s; at = inl (record { buffer = buffer; is = refl; saw = (word_at words.seals block, own_seal access block (word_at words.seals block) card h, refl) }) }
 
   -- The number is looked at: a worn write gives its block back, which the abstract actor has not taken; else that takes it, and
   -- sees the seal.
@@ -269,23 +261,15 @@ module _ (size : ℕ) (content : Content) (actors : List Actor) (a : ℕ) (s : S
   -- the failed bit is set, and what is owned is kept
   pub fails : (job : BlockJob) → IsRequest job → (answer : Answer) (refusal : Refusal) (words : Words) (card : Card) (failures suspensions : ℕ) → answer ≡ Refuses refusal → words.fail ≡ fail_word failures suspensions → WordsAgree words s →
       Then (plan_of job (Cell SetFailed ∷ []) answer) card (words_after words SetFailed) (after (plan_of job (Cell SetFailed ∷ []) answer) (got_of (result_of words SetFailed))) (card_after words SetFailed card)
-  fails (Reading part) r answer refusal words card f z is e w = record {
-    results = Done ∷ [];
-    may = (tt, tt, tt);
-    quiet = (tt, tt);
-    words_agree = record { fail = sym (failed_flag words.fail f z e); seals = w.seals };
-    same = record { origin = refl; cache = refl; images = record { mapping = refl; blocks = refl; live = refl; mode = refl; committing = refl; began = refl; ended = refl; broken = refl; committed = refl; running = refl; root_written = refl; committed_clean = refl; running_clean = refl } };
-    at = inr (record { over = tt; refused = λ k. let bad : Refuses refusal ≡ AnswersDone = sym is ∙ k in absurd (cc); script = _; task = refl; nothing = refl; undone = undone_answer (job_for size content (OnBlock (Reading part))) refusal answer is; among_others = refl; order = refl; leads = refl; below = keeps_owned _ card refl; free = inr (failed_flag words.fail f z e) });
-  }
-  fails (Writing part) r answer refusal words card f z is e w = record {
-    results = Done ∷ [];
-    may = (tt, tt, tt);
-    quiet = (tt, tt);
-    words_agree = record { fail = sym (failed_flag words.fail f z e); seals = w.seals };
-    same = record { origin = refl; cache = refl; images = record { mapping = refl; blocks = refl; live = refl; mode = refl; committing = refl; began = refl; ended = refl; broken = refl; committed = refl; running = refl; root_written = refl; committed_clean = refl; running_clean = refl } };
-    at = inr (record { over = tt; refused = λ k. let bad : Refuses refusal ≡ AnswersDone = sym is ∙ k in absurd (cc); script = _; task = refl; nothing = refl; undone = undone_answer (job_for size content (OnBlock (Writing part))) refusal answer is; among_others = refl; order = refl; leads = refl; below = keeps_owned _ card refl; free = inr (failed_flag words.fail f z e) });
-  }
   fails (Migrating migration part) r answer refusal words card f z is e w = absurd r
+  fails job r answer refusal words card f z is e w = record {
+    results = Done ∷ [];
+    may = (tt, tt, tt);
+    quiet = (tt, tt);
+    words_agree = record { fail = sym (failed_flag words.fail f z e); seals = w.seals };
+    same = record { origin = refl; cache = refl; images = record { mapping = refl; blocks = refl; live = refl; mode = refl; committing = refl; began = refl; ended = refl; broken = refl; committed = refl; running = refl; root_written = refl; committed_clean = refl; running_clean = refl } };
+    at = inr (record { over = tt; refused = λ k. let bad : Refuses refusal ≡ AnswersDone = sym is ∙ k in absurd (cc); script = _; task = refl; nothing = refl; undone = undone_answer (job_for size content (OnBlock job)) refusal answer is; among_others = refl; order = refl; leads = refl; below = keeps_owned _ card refl; free = inr (failed_flag words.fail f z e) });
+  }
 
   -- a block is given back
   pub releases : (job : BlockJob) (access : Access) (block : OBlock) (answer : Answer) (words : Words) (card : Card) → WordsAgree words s →

@@ -10,17 +10,17 @@ use Rattle.wb_contents.proofs.Devices.{read_is_newest}
 use Rattle.wb_words.specs.declared.word.Access.TheVariants.{Owned}
 use Rattle.wb_words.specs.declared.step.CellStep.TheVariants.{Release, SetFailed}
 use Rattle.wb_tasks.specs.declared.step.Migration.{Migration}
-use Rattle.wb_tasks.specs.declared.step.Migration.TheVariants.{Promote, Demote, Clean}
+use Rattle.wb_tasks.specs.declared.step.Migration.TheVariants.{Promote}
 use Rattle.wb_tasks.specs.declared.step.DeskStep.TheVariants.{ReleaseOrder}
 use Rattle.wb_tasks.specs.declared.step.Want.{Want as RealWant}
 use Rattle.wb_tasks.specs.declared.step.Want.TheVariants.{Cell, Desk}
 use Rattle.wb_link.specs.Tables.{Order, Job, Answer, Io, Want, Set_failed, Disown, Give_up, Read_at, Write_at, copy_each, until_failed, steps_after_fault, release}
 use Rattle.wb_link.specs.World.{Shared, Owns, Actor, content_for, newest_at, put_sector, if_landed}
 use Rattle.wb_refines.specs.Translation.{location_at}
-use Rattle.wb_refines.specs.Data.{side, row, IsSide, SameBeside, IsInBlock, read_fault}
+use Rattle.wb_refines.specs.Data.{side, row, IsSide, IsInBlock, read_fault}
 use Rattle.wb_refines.specs.Migrations.{job_under, source, migration_wants}
 use Rattle.wb_refines.specs.Copies.{Across, copied, copied_where, migrating, Copies, CopiesFollowed}
-use Rattle.wb_refines.proofs.Extents.{newest_side, put_is, length-grown, put_beside, same_beside, both_beside}
+use Rattle.wb_refines.proofs.Extents.{put_if, beside_if, length-if, newest_side, length-grown, put_beside, same_beside, both_beside}
 
 abbrev copying : Job → Order → List Want → Answer → Content → Actor
 copying job order steps answer buffer = record { task = Some (record { job = job; steps = steps; answer = answer }); held = Owns order.block; order = Some order; leads = false; buffer = buffer }
@@ -36,25 +36,13 @@ until_each : (from to : Option ℕ) (b : ℕ) (os : List ℕ) (tail : List Want)
 until_each from to b [] tail = refl
 until_each from to b (o ∷ os) tail = ap (λ ws. Read_at from b o ∷ Write_at to b o ∷ ws) (until_each from to b os tail)
 
-length-if : (t : Bool) (device : List History) (at : ℕ) (c : Content) → length (if t then written device at c else device) ≡ length device
-length-if true device at c = length-grown (slice_get device at) device at c
-length-if false device at c = refl
-
-beside_if : (t : Bool) (to : Option ℕ) (s : Shared) (b o : ℕ) (c : Content) → SameBeside to s (if_landed t (put_sector s to b o c) s)
-beside_if true to s b o c = put_beside to s b o c
-beside_if false to s b o c = same_beside to s
-
 module _ (size : ℕ) (blank : Content) (actors : List Actor) (a : ℕ) (job : Job) (order : Order) (from to : Option ℕ) (b : ℕ) (across : Across from to) (list : List History) (keep : (x : Content) → content_for job x ≡ x) where
   given_is : (s : Shared) (o : ℕ) (c : Content) (contents : List Content) → IsSide size blank from list s → o < size → GivesEach list (row from b * size + o) (c ∷ contents) → c ≡ newest_at s from b o
   given_is s o c contents i l g = sym (newest_side from s b o ∙ ap (λ (f : ℕ → ℕ → History). newest (f (row from b) o)) i ∙ read_is_newest size blank list (row from b) o c l g.0)
 
-  put_one : (s : Shared) (target : List History) (o : ℕ) (c : Content) → IsSide size blank to target s → o < size → row to b * size + o < length target → IsSide size blank to (written target (row to b * size + o) c) (put_sector s to b o (content_for job c))
-  put_one s target o c i l m = subst (λ (v : Content). IsSide size blank to (written target (row to b * size + o) c) (put_sector s to b o v)) (sym (keep c)) (put_is size blank to target s b o c l m i)
-
-  put_if : (t : Bool) (s : Shared) (target : List History) (o : ℕ) (c : Content) → IsSide size blank to target s → o < size → row to b * size + o < length target →
+  put_at : (t : Bool) (s : Shared) (target : List History) (o : ℕ) (c : Content) → IsSide size blank to target s → o < size → row to b * size + o < length target →
       IsSide size blank to (if t then written target (row to b * size + o) c else target) (if_landed t (put_sector s to b o (content_for job c)) s)
-  put_if true s target o c i l m = put_one s target o c i l m
-  put_if false s target o c i l m = i
+  put_at t s target o c i l m = subst (λ (v : Content). IsSide size blank to (if t then written target (row to b * size + o) c else target) (if_landed t (put_sector s to b o v) s)) (sym (keep c)) (put_if size blank to t target s b o c l m i)
 
   source_if : (t : Bool) (s : Shared) (o : ℕ) (c : Content) → IsSide size blank from list s → IsSide size blank from list (if_landed t (put_sector s to b o c) s)
   source_if true s o c i = keeps_source from to s b o c across ∙ i
@@ -71,7 +59,7 @@ module _ (size : ℕ) (blank : Content) (actors : List Actor) (a : ℕ) (job : J
       let target' = written target (row to b * size + o) c in
       let wider : length (written target (row to b * size + o) c) ≡ length target = length-grown (slice_get target (row to b * size + o)) target (row to b * size + o) c in
       let later = subst (λ (v : ℕ). Copies size blank actors a s' (copying job order (copy_each from to b (rising (o + 1) (length contents)) rest) answer c) (copied contents) to (written_where (λ at. true) target' v contents) (λ x. copying job order rest answer x)) (sym same)
-      (copies_each rest answer contents s' target' (o + 1) c (keeps_source from to s b o (content_for job c) across ∙ i) (put_one s target o c t (omega (arith, l)) (omega (arith, m))) (omega (arith, l)) (omega (arith, m, wider)) (subst (λ v. GivesEach list v contents) same_from g.1)) in
+      (copies_each rest answer contents s' target' (o + 1) c (keeps_source from to s b o (content_for job c) across ∙ i) (put_at true s target o c t (omega (arith, l)) (omega (arith, m))) (omega (arith, l)) (omega (arith, m, wider)) (subst (λ v. GivesEach list v contents) same_from g.1)) in
       record {
         last = later.last;
         may = (given_is s o c contents i (omega (arith, l)) g, tt, (tt, tt, later.may));
@@ -87,7 +75,7 @@ module _ (size : ℕ) (blank : Content) (actors : List Actor) (a : ℕ) (job : J
     fails_each c [] tail answer s target o buffer i t l m g = record {
       last = c;
       may = (given_is s o c [] i (omega (arith, l)) g, tt, (tt, tt, tt));
-      side_is = put_if (lands (row to b * size + o)) s target o c t (omega (arith, l)) (omega (arith, m));
+      side_is = put_at (lands (row to b * size + o)) s target o c t (omega (arith, l)) (omega (arith, m));
       beside = beside_if (lands (row to b * size + o)) to s b o (content_for job c);
       is = ap (λ (ws : List Want). copying job order ws Io c) (stops tail);
     }
@@ -100,7 +88,7 @@ module _ (size : ℕ) (blank : Content) (actors : List Actor) (a : ℕ) (job : J
         let os = rising (o + 1) (suc (length contents)) in
         let later = subst (λ (ws : List Want). Copies size blank actors a s' (copying job order ws Io c) (copied_where lands (row to b * size + (o + 1)) (d ∷ contents)) to (written_where lands target' (row to b * size + (o + 1)) (d ∷ contents)) (λ x. copying job order (Set_failed ∷ []) Io x))
         (sym (goes_on (copy_each from to b os tail) ∙ until_each from to b os tail))
-        (fails_each d contents (until_failed tail) Io s' target' (o + 1) c (source_if (lands (row to b * size + o)) s o (content_for job c) i) (put_if (lands (row to b * size + o)) s target o c t (omega (arith, l)) (omega (arith, m))) (omega (arith, l)) (omega (arith, m, wider)) (subst (λ v. GivesEach list v (d ∷ contents)) same_from g.1)) in
+        (fails_each d contents (until_failed tail) Io s' target' (o + 1) c (source_if (lands (row to b * size + o)) s o (content_for job c) i) (put_at (lands (row to b * size + o)) s target o c t (omega (arith, l)) (omega (arith, m))) (omega (arith, l)) (omega (arith, m, wider)) (subst (λ v. GivesEach list v (d ∷ contents)) same_from g.1)) in
         let there = subst (λ (v : ℕ). Copies size blank actors a s' (copying job order (steps_after_fault job true (copy_each from to b os tail)) Io c) (copied_where lands v (d ∷ contents)) to (written_where lands target' v (d ∷ contents)) (λ x. copying job order (Set_failed ∷ []) Io x)) (sym same) later in
         record {
           last = there.last;
@@ -113,28 +101,23 @@ module _ (size : ℕ) (blank : Content) (actors : List Actor) (a : ℕ) (job : J
 -- what a migration writes is what it has read, and a write of it that fails goes on over its extent
 writes_read : (order : Order) (os : List ℕ) (migration : Migration) (x : Content) → content_for (job_under order os migration) x ≡ x
 writes_read order os (Promote c) x = refl
-writes_read order os Demote x = refl
-writes_read order os Clean x = refl
+writes_read order os migration x = refl
 
 failing_on : (order : Order) (os : List ℕ) (migration : Migration) (ws : List Want) → steps_after_fault (job_under order os migration) true ws ≡ until_failed ws
 failing_on order os (Promote c) ws = refl
-failing_on order os Demote ws = refl
-failing_on order os Clean ws = refl
+failing_on order os migration ws = refl
 
 failing_last : (order : Order) (os : List ℕ) (migration : Migration) (ws : List Want) → steps_after_fault (job_under order os migration) false ws ≡ Set_failed ∷ []
 failing_last order os (Promote c) ws = refl
-failing_last order os Demote ws = refl
-failing_last order os Clean ws = refl
+failing_last order os migration ws = refl
 
 set_failed_is : (size : ℕ) (order : Order) (os : List ℕ) (migration : Migration) → Set_failed ∷ [] ≡ migration_wants size order os migration (Cell SetFailed ∷ [])
 set_failed_is size order os (Promote c) = refl
-set_failed_is size order os Demote = refl
-set_failed_is size order os Clean = refl
+set_failed_is size order os migration = refl
 
 gives_back : (size : ℕ) (order : Order) (os : List ℕ) (migration : Migration) (block : OBlock) → order.block ≡ block.0 → release (job_under order os migration) ≡ migration_wants size order os migration (Cell (Release Owned block) ∷ Desk (ReleaseOrder block) ∷ [])
 gives_back size order os (Promote c) block e = ap (λ v. Disown v ∷ Give_up order ∷ []) e
-gives_back size order os Demote block e = ap (λ v. Disown v ∷ Give_up order ∷ []) e
-gives_back size order os Clean block e = ap (λ v. Disown v ∷ Give_up order ∷ []) e
+gives_back size order os migration block e = ap (λ v. Disown v ∷ Give_up order ∷ []) e
 
 module _ (size : ℕ) (blank : Content) (actors : List Actor) (a : ℕ) (s : Shared) (order : Order) (os : List ℕ) (migration : Migration) (device : Dev) (e : Extent) (later : List RealWant) (answer : Answer) (buffer : Content) (target : List History) (inside : IsInBlock size order.block device e) (t : IsSide size blank (location_at size device e) target s) where
   abbrev To : Option ℕ

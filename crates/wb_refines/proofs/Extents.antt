@@ -85,6 +85,21 @@ both_images s t u p q = record {
 pub both_beside : (to : Option ℕ) (s t u : Shared) → SameBeside to s t → SameBeside to t u → SameBeside to s u
 both_beside to s t u p q = record { other = q.other ∙ p.other; seals = q.seals ∙ p.seals; fail = q.fail ∙ p.fail; images = both_images s t u p.images q.images }
 
+-- ---- a sector that landed or not
+
+pub put_if : (size : ℕ) (blank : Content) (to : Option ℕ) (t : Bool) (device : List History) (s : Shared) (b o : ℕ) (c : Content) → o < size → row to b * size + o < length device → IsSide size blank to device s →
+    IsSide size blank to (if t then written device (row to b * size + o) c else device) (if_landed t (put_sector s to b o c) s)
+put_if size blank to true device s b o c l m i = put_is size blank to device s b o c l m i
+put_if size blank to false device s b o c l m i = i
+
+pub beside_if : (t : Bool) (to : Option ℕ) (s : Shared) (b o : ℕ) (c : Content) → SameBeside to s (if_landed t (put_sector s to b o c) s)
+beside_if true to s b o c = put_beside to s b o c
+beside_if false to s b o c = same_beside to s
+
+pub length-if : (t : Bool) (device : List History) (at : ℕ) (c : Content) → length (if t then written device at c else device) ≡ length device
+length-if true device at c = length-grown (slice_get device at) device at c
+length-if false device at c = refl
+
 -- These results of an actor write its sectors, and leave it at this.
 pub record Wrote (size : ℕ) (blank : Content) (actors : List Actor) (a : ℕ) (s : Shared) (job : Job) (steps : List Want) (answer : Answer) (held : Held) (buffer : Content) (results : List Got) (to : Option ℕ) (device : List History) (left : Actor) : Type 0 where
   pub may : MayGo actors a s (doing job steps answer held buffer) (doing job steps answer held buffer).task results
@@ -109,19 +124,6 @@ module _ (size : ℕ) (blank : Content) (actors : List Actor) (a : ℕ) (to : Op
         is = later.is;
       }
 
-  put_if : (t : Bool) (s : Shared) (device : List History) (o : ℕ) → IsSide size blank to device s → o < size → row to b * size + o < length device →
-      IsSide size blank to (if t then written device (row to b * size + o) c else device) (if_landed t (put_sector s to b o c) s)
-  put_if true s device o i l m = put_is size blank to device s b o c l m i
-  put_if false s device o i l m = i
-
-  beside_if : (t : Bool) (s : Shared) (o : ℕ) → SameBeside to s (if_landed t (put_sector s to b o c) s)
-  beside_if true s o = put_beside to s b o c
-  beside_if false s o = same_beside to s
-
-  length-if : (t : Bool) (device : List History) (at : ℕ) → length (if t then written device at c else device) ≡ length device
-  length-if true device at = length-grown (slice_get device at) device at c
-  length-if false device at = refl
-
   until_each : (os : List ℕ) (tail : List Want) → until_failed (write_each to b os tail) ≡ write_each to b os (until_failed tail)
   until_each [] tail = refl
   until_each (o ∷ os) tail = ap (λ ws. Write_at to b o ∷ ws) (until_each os tail)
@@ -131,23 +133,23 @@ module _ (size : ℕ) (blank : Content) (actors : List Actor) (a : ℕ) (to : Op
       Wrote size blank actors a s (Writing false b all c) (write_each to b (rising o (suc count)) tail) answer held buffer (faults lands (row to b * size + o) (suc count)) to (written_where lands device (row to b * size + o) (replicate (suc count) c)) (doing (Writing false b all c) (Set_failed ∷ []) Io held buffer)
   fails_each lands zero tail answer s device o i l m = record {
     may = (tt, tt, tt);
-    side_is = put_if (lands (row to b * size + o)) s device o i (omega (arith, l)) (omega (arith, m));
-    beside = beside_if (lands (row to b * size + o)) s o;
+    side_is = put_if size blank to (lands (row to b * size + o)) device s b o c (omega (arith, l)) (omega (arith, m)) i;
+    beside = beside_if (lands (row to b * size + o)) to s b o c;
     is = refl;
   }
   fails_each lands (suc count) tail answer s device o i l m =
       let at : ℕ = row to b * size + o in
       let same : suc (row to b * size + o) ≡ row to b * size + (o + 1) = omega arith in
-      let wider = length-if (lands (row to b * size + o)) device (row to b * size + o) in
+      let wider = length-if (lands (row to b * size + o)) device (row to b * size + o) c in
       let s' = if_landed (lands (row to b * size + o)) (put_sector s to b o c) s in
       let device' = if lands (row to b * size + o) then written device (row to b * size + o) c else device in
       let later = subst (λ (ws : List Want). Wrote size blank actors a s' (Writing false b all c) ws Io held buffer (faults lands (row to b * size + (o + 1)) (suc count)) to (written_where lands device' (row to b * size + (o + 1)) (replicate (suc count) c)) (doing (Writing false b all c) (Set_failed ∷ []) Io held buffer))
       (sym (until_each (rising (o + 1) (suc count)) tail))
-      (fails_each lands count (until_failed tail) Io s' device' (o + 1) (put_if (lands (row to b * size + o)) s device o i (omega (arith, l)) (omega (arith, m))) (omega (arith, l)) (omega (arith, m, wider))) in
+      (fails_each lands count (until_failed tail) Io s' device' (o + 1) (put_if size blank to (lands (row to b * size + o)) device s b o c (omega (arith, l)) (omega (arith, m)) i) (omega (arith, l)) (omega (arith, m, wider))) in
       let there = subst (λ (v : ℕ). Wrote size blank actors a s' (Writing false b all c) (until_failed (write_each to b (rising (o + 1) (suc count)) tail)) Io held buffer (faults lands v (suc count)) to (written_where lands device' v (replicate (suc count) c)) (doing (Writing false b all c) (Set_failed ∷ []) Io held buffer)) (sym same) later in
       record {
         may = (tt, tt, there.may);
         side_is = there.side_is;
-        beside = both_beside to s s' _ (beside_if (lands (row to b * size + o)) s o) there.beside;
+        beside = both_beside to s s' _ (beside_if (lands (row to b * size + o)) to s b o c) there.beside;
         is = there.is;
       }

@@ -48,25 +48,33 @@ pub step_own : (w : World) (a : ℕ) (y : Actor) (script : Script) (got : Got) �
     after_record w (Step a (want script) got) ≡ with_own w a (effect w.shared script.job y.buffer (want script) got) (actor_after y script (want script) got)
 step_own w a y script got e t = ap (λ o. step_actor w a o got) e ∙ ap (λ o. step_task w a y o got) t
 
+-- and all of them
+pub own_steps : (gots : List Got) (w : World) (a : ℕ) (y : Actor) (task : Option Script) → slice_get w.actors a ≡ Some y → y.task ≡ task → after_all w (records a task gots) ≡ with_own w a (shared_after w.shared y task gots) (gone y task gots)
+own_steps gots w a y None e t = ap (λ (ys : List Actor). record { shared = w.shared; actors = ys; waiting = w.waiting }) (sym (set_same w.actors a y e))
+own_steps [] w a y (Some script) e t = ap (λ (ys : List Actor). record { shared = w.shared; actors = ys; waiting = w.waiting }) (sym (set_same w.actors a y e))
+own_steps (got ∷ gots) w a y (Some script) e t =
+    let y' = actor_after y script (want script) got in
+    let s' = effect w.shared script.job y.buffer (want script) got in
+    ap (λ (v : World). after_all v (records a (task_after script (want script) got) gots)) (step_own w a y script got e t)
+    ∙ own_steps gots (with_own w a s' y') a y' (task_after script (want script) got) (get_set_same w.actors a y y' e) refl
+    ∙ (λ i. record { shared = shared_after s' y' (task_after script (want script) got) gots; actors = set_twice w.actors a y' (gone y' (task_after script (want script) got) gots) i; waiting = w.waiting })
+
 pub record Went (size : ℕ) (w : World) (a : ℕ) (rs : List Record) (s : Shared) (y : Actor) : Type 0 where
   pub run : IsRun size w rs
   pub is : after_all w rs ≡ with_own w a s y
 
 pub goes : (size : ℕ) (gots : List Got) (w : World) (a : ℕ) (y : Actor) (task : Option Script) → slice_get w.actors a ≡ Some y → y.task ≡ task → MayGo w.actors a w.shared y task gots →
     Went size w a (records a task gots) (shared_after w.shared y task gots) (gone y task gots)
-goes size [] w a y None e t m = record { run = tt; is = ap (λ (ys : List Actor). record { shared = w.shared; actors = ys; waiting = w.waiting }) (sym (set_same w.actors a y e)) }
-goes size [] w a y (Some script) e t m = record { run = tt; is = ap (λ (ys : List Actor). record { shared = w.shared; actors = ys; waiting = w.waiting }) (sym (set_same w.actors a y e)) }
-goes size (got ∷ gots) w a y None e t m = absurd m
-goes size (got ∷ gots) w a y (Some script) e t m =
-    let y' = actor_after y script (want script) got in
-    let s' = effect w.shared script.job y.buffer (want script) got in
-    let is = step_own w a y script got e t in
-    let later = goes size gots (with_own w a s' y') a y' (task_after script (want script) got) (get_set_same w.actors a y y' e) refl (may_on w.actors a y' gots s' y' (task_after script (want script) got) m.2) in
-    record {
-      run = (
-        (y, script, record { actor = e; task = t; asked = refl; gives = m.0; wins = wins_of w.actors a y (want script) got e m.1 }),
-        subst (λ (v : World). IsRun size v (records a (task_after script (want script) got) gots)) (sym is) later.run,
-      );
-      is = ap (λ (v : World). after_all v (records a (task_after script (want script) got) gots)) is ∙ later.is
-          ∙ (λ i. record { shared = shared_after s' y' (task_after script (want script) got) gots; actors = set_twice w.actors a y' (gone y' (task_after script (want script) got) gots) i; waiting = w.waiting });
-    }
+goes size gots w a y task e t m = record { run = runs size gots w a y task e t m; is = own_steps gots w a y task e t }
+  where
+    runs : (size : ℕ) (gots : List Got) (w : World) (a : ℕ) (y : Actor) (task : Option Script) → slice_get w.actors a ≡ Some y → y.task ≡ task → MayGo w.actors a w.shared y task gots → IsRun size w (records a task gots)
+    runs size [] w a y None e t m = tt
+    runs size [] w a y (Some script) e t m = tt
+    runs size (got ∷ gots) w a y None e t m = absurd m
+    runs size (got ∷ gots) w a y (Some script) e t m =
+        let y' = actor_after y script (want script) got in
+        let s' = effect w.shared script.job y.buffer (want script) got in (
+          (y, script, record { actor = e; task = t; asked = refl; gives = m.0; wins = wins_of w.actors a y (want script) got e m.1 }),
+          subst (λ (v : World). IsRun size v (records a (task_after script (want script) got) gots)) (sym (step_own w a y script got e t))
+              (runs size gots (with_own w a s' y') a y' (task_after script (want script) got) (get_set_same w.actors a y y' e) refl (may_on w.actors a y' gots s' y' (task_after script (want script) got) m.2)),
+        )

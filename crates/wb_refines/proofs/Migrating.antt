@@ -62,15 +62,12 @@ migration_tables_agree = record {
   where
     begins : (size : ℕ) (part : BlockRange) (c : CBlock) (next : Option ℕ) (migration : Migration) → migration_wants size (order_on part c next) (offsets size part.extents) migration (first_steps (OnBlock (Migrating migration part))) ≡ (table_there (job_under (order_on part c next) (offsets size part.extents) migration)).steps
     begins size part c next (Promote k) = refl
-    begins size part c next Demote = refl
-    begins size part c next Clean = refl
+    begins size part c next migration = refl
 
     goes : (size : ℕ) (part : BlockRange) (c : CBlock) (next : Option ℕ) (migration : Migration) (os : List ℕ) → migration_wants size (order_on part c next) os migration (lets_go (OnBlock (Migrating migration part))) ≡ release_there (job_under (order_on part c next) os migration)
     goes size part c next (Promote k) os = refl
-    goes size part c next Demote os = refl
-    goes size part c next Clean os = refl
+    goes size part c next migration os = refl
 
     fails : (size : ℕ) (part : BlockRange) (c : CBlock) (next : Option ℕ) (migration : Migration) (os : List ℕ) → migration_wants size (order_on part c next) os migration (Cell SetFailed ∷ []) ≡ breaking (job_under (order_on part c next) os migration)
     fails size part c next (Promote k) os = refl
-    fails size part c next Demote os = refl
-    fails size part c next Clean os = refl
+    fails size part c next migration os = refl

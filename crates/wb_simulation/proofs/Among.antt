@@ -4,18 +4,19 @@ use Rattle.std.proofs.lemmas.Bool.{cases_eq}
 use Rattle.std.proofs.lemmas.List.{length-set}
 use Rattle.wb_disk.specs.Device.{History}
 use Rattle.wb_contents.specs.Devices.{by_block}
+use Rattle.wb_words.specs.declared.word.Word.TheVariants.{Number}
 use Rattle.wb_words.specs.SharedWords.{Words, word_at, flag, fail_word, with_cell, taken}
 use Rattle.wb_words.specs.Effects.{words_after}
 use Rattle.wb_words.specs.declared.word.Kind.TheVariants.{ReadHit, ReadMiss, WriteHit, WriteMiss}
 use Rattle.wb_words.specs.declared.step.CellStep.{CellStep}
-use Rattle.wb_words.specs.declared.step.CellStep.TheVariants.{Look, Take, Release, Seal, Finish, Count, SetFailed, SetSuspended}
+use Rattle.wb_words.specs.declared.step.CellStep.TheVariants.{Look, Take, Count, SetFailed, SetSuspended}
 use Rattle.wb_policy.specs.declared.order.Order.{Order}
 use Rattle.wb_devices.specs.declared.devices.Devices.{Devices}
 use Rattle.wb_link.specs.Tables.{Got}
 use Rattle.wb_link.specs.World.{World, Shared, Actor as AbstractActor, is_alone}
 use Rattle.wb_link.proofs.Lists.{get_set_same, get_set_other}
 use Rattle.wb_refines.specs.Going.{records, shared_after, gone, MayGo}
-use Rattle.wb_refines.specs.Models.{WordsAgree, BelowBeside}
+use Rattle.wb_refines.specs.Models.{TakesBeside, WordsAgree, BelowBeside}
 use Rattle.wb_refines.proofs.Cells.{failed_flag}
 use Rattle.wb_refines.proofs.Going.{goes, with_own}
 use Rattle.wb_runs.specs.States.{Actor}
@@ -24,20 +25,17 @@ use Rattle.wb_simulation.specs.Actors.{StandsFor}
 use Rattle.wb_simulation.specs.Telling.{Telling, IsTold}
 use Rattle.wb_simulation.specs.Carried.{held}
 use Rattle.wb_simulation.specs.Worlds.{zeros, Agrees, OrdersAgree, Turn, Stays, TurnedTo, DeskTurnedTo, FollowsBy, Follows, IsUnfinished}
+use Rattle.wb_simulation.proofs.Cells.{shared_stays, gone_nowhere}
 use Rattle.wb_simulation.proofs.Kept.{stands_on}
-use Rattle.wb_simulation.proofs.Orders.{by_pair, CarriesOthers, IsDone, orders_on}
+use Rattle.wb_simulation.proofs.Orders.{by_pair, CarriesOthers, IsDone, orders_on, carries_same}
 
 -- the failed bit is never cleared
 pub failed_stays : (words : Words) (step : CellStep) (failures suspensions : ℕ) → words.fail ≡ fail_word failures suspensions → flag words.fail ≡ true → flag (words_after words step).fail ≡ true
-failed_stays words (Look word) f z e t = t
 failed_stays words (Take access b seen) f z e t = by_test (word_at words.cells b == seen)
   where
     by_test : (won : Bool) → flag (if won then with_cell words b (taken access seen) else words).fail ≡ true
     by_test true = t
     by_test false = t
-failed_stays words (Release access b) f z e t = t
-failed_stays words (Seal b place dirty) f z e t = t
-failed_stays words (Finish b) f z e t = t
 failed_stays words (Count ReadHit) f z e t = t
 failed_stays words (Count ReadMiss) f z e t = t
 failed_stays words (Count WriteHit) f z e t = t
@@ -50,6 +48,7 @@ failed_stays words SetSuspended f z e t = ap (λ v. flag (bit_or v 2)) e ∙ by_
     by_bits true false = refl
     by_bits false true = refl
     by_bits false false = refl
+failed_stays words step f z e t = t
 
 -- ---- who is there
 
@@ -80,8 +79,13 @@ module _ (size most : ℕ) (words : Words) (committing : Bool) (orders : List (O
   nobody_alone b z e = let x = whose b z e in (g.each b x.0 z x.1 e).among_others
 
   -- whoever holds a block beside this one has a card that counts it
-  pub below_beside : (a : ℕ) → BelowBeside s.actors (cards_of actors) a a
+  below_beside : (a : ℕ) → BelowBeside s.actors (cards_of actors) a a
   below_beside a b y n e held = let x = whose b y e in (b, x.0.card, n, card_there actors b x.0 x.1, (g.each b x.0 y x.1 e).below)
+
+  -- so where it takes its block, no other one counts on its card
+  pub takes : (a : ℕ) (step : CellStep) → TakesBeside step s.actors (cards_of actors) a a
+  takes a (Look (Number b)) = below_beside a
+  takes a step = tt
 
 -- ---- one goes on
 
@@ -158,3 +162,13 @@ module _ (size most : ℕ) (words words' : Words) (up : flag words.fail ≡ true
       (gone y y.task results).order ≡ y.order → ((o : Order) → Contains (held x) o → Contains (held x') o) → CarriesOthers size orders orders devices devices' actors s a → IsDone size words' orders devices' x' (gone y y.task results) → Follows telling size most a s words' committing orders devices' (slice_set actors a x')
   goes_on telling devices' results t told may is st keeps w o c m k b turned desk same own carries its = goes_leading Stays telling committing devices' results t told may is st w o c m (k ∙ g.commits) (λ e. k ∙ g.broken (sym b ∙ e))
       (led_on (gone y y.task results) keeps t k) (whole_on (gone y y.task results) keeps t b) (one_on (gone y y.task results) keeps) turned desk same own desk.0 carries its
+
+-- one does nothing there
+module _ (size most : ℕ) (words : Words) (committing : Bool) (orders : List (Option Order)) (devices : Devices (List History)) (actors : List Actor) (a : ℕ) (x x' : Actor) (s : World) (y : AbstractActor) (g : Agrees size most words committing orders devices actors s) (ex : slice_get actors a ≡ Some x) (ey : slice_get s.actors a ≡ Some y) where
+  pub stays_there : (telling : Telling) → IsTold telling a y.task (records a y.task []) → StandsFor size most words x' y → ((o : Order) → Contains (held x) o → Contains (held x') o) → IsDone size words orders devices x' y → Follows telling size most a s words committing orders devices (slice_set actors a x')
+  stays_there telling told st own its = goes_on size most words words (λ f. f) committing orders devices actors a x x' s y g ex ey telling devices [] s.shared told tt (shared_stays s.shared y y.task)
+      (subst (λ (z : AbstractActor). StandsFor size most words x' z) (sym nowhere) st) (λ l. nowhere) g.words_agree g.origin g.cache refl refl refl (refl, refl, refl) (refl, refl) (ap (λ (v : AbstractActor). v.order) nowhere) own (carries_same size orders devices actors s a)
+      (subst (λ (z : AbstractActor). IsDone size words orders devices x' z) (sym nowhere) its)
+    where
+      nowhere : gone y y.task [] ≡ y
+      nowhere = gone_nowhere y y.task

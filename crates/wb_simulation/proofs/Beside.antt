@@ -17,11 +17,11 @@ use Rattle.wb_words.specs.Rule.{LockRule}
 use Rattle.wb_tasks.specs.Tables.{TaskJob, Migrating}
 use Rattle.wb_tasks.specs.Plan.{Plan}
 use Rattle.wb_tasks.specs.Ready.{Has, SuitsJob, HoldsBlocks, source_of}
-use Rattle.wb_tasks.specs.declared.step.DeviceStep.TheVariants.{Read, Write, Sync, ReadMetadata, WriteNode, WriteRoot}
+use Rattle.wb_tasks.specs.declared.step.DeviceStep.TheVariants.{Write}
 use Rattle.wb_tasks.specs.declared.step.Migration.{Migration}
 use Rattle.wb_tasks.specs.declared.step.Migration.TheVariants.{Promote, Demote, Clean}
 use Rattle.wb_tasks.specs.declared.step.Want.{Want}
-use Rattle.wb_tasks.specs.declared.step.Want.TheVariants.{Cell, Device, Desk, End}
+use Rattle.wb_tasks.specs.declared.step.Want.TheVariants.{Device}
 use Rattle.wb_devices.specs.declared.devices.Devices.{Devices}
 use Rattle.wb_devices.specs.Moving.{device_in}
 use Rattle.wb_link.proofs.Lists.{get_set_other}
@@ -38,7 +38,7 @@ use Rattle.wb_tasks.specs.Tables.{BlockRange}
 use Rattle.wb_tasks.specs.declared.step.Answer.{Answer}
 use Rattle.wb_link.specs.World.{World, Actor as AbstractActor}
 use Rattle.wb_simulation.specs.Carried.{HasRead, IsCarried}
-use Rattle.wb_simulation.proofs.Orders.{CarriesOthers}
+use Rattle.wb_simulation.proofs.Orders.{CarriesOthers, carried_again}
 use Rattle.wb_simulation.proofs.Among.{card_there}
 
 -- ---- what reads give
@@ -58,20 +58,12 @@ each_newest old new at (c ∷ cs) e g = (gives_newest old new at c e g.0, each_n
 
 has_newest : (size : ℕ) (old new : List History) (at : ℕ) (steps : List Want) (buffer : List Content) → map newest new ≡ map newest old → HasRead size old at steps buffer → HasRead size new at steps buffer
 has_newest size old new at (Device (Write device e) ∷ later) buffer same r = (r.0, each_newest old new _ buffer same r.1)
-has_newest size old new at [] buffer same r = tt
-has_newest size old new at (Cell step ∷ later) buffer same r = tt
-has_newest size old new at (Desk step ∷ later) buffer same r = tt
-has_newest size old new at (End answer ∷ later) buffer same r = tt
-has_newest size old new at (Device (Read device e) ∷ later) buffer same r = tt
-has_newest size old new at (Device (Sync device) ∷ later) buffer same r = tt
-has_newest size old new at (Device (ReadMetadata left) ∷ later) buffer same r = tt
-has_newest size old new at (Device (WriteNode number) ∷ later) buffer same r = tt
-has_newest size old new at (Device WriteRoot ∷ later) buffer same r = tt
+has_newest size old new at steps buffer same r = tt
 
 -- what is carried is so where its source has what it has read
 with_read : (size : ℕ) (orders : List (Option Order)) (devices devices' : Devices (List History)) (migration : Migration) (block : OBlock) (part : BlockRange) (steps : List Want) (answer : Answer) (z : Actor) (u : AbstractActor) (k : IsCarried size orders devices migration block part steps answer z u) →
     HasRead size (device_in (source_of migration) devices') (row (source (order_on part k.c k.next) migration) part.block.0) steps z.buffer → IsCarried size orders devices' migration block part steps answer z u
-with_read size orders devices devices' migration block part steps answer z u k read = record { block_is = k.block_is; is_part = k.is_part; c = k.c; small = k.small; fills = k.fills; of_block = k.of_block; paired = k.paired; next = k.next; order = k.order; of = k.of; kept = k.kept; has = k.has; at = k.at; copies = k.copies; buffer = read }
+with_read size orders devices devices' migration block part steps answer z u k read = carried_again size orders orders devices devices' migration block part steps steps answer answer z z u u k k.kept k.has k.at (record { of_block = k.of_block; paired = k.paired; copies = k.copies; read = read })
 
 -- where each sector's newest content is the same, all that are carried are so still
 pub carries_newest : (size : ℕ) (devices devices' : Devices (List History)) (orders : List (Option Order)) (actors : List Actor) (s : World) (a : ℕ) → map newest devices'.origin ≡ map newest devices.origin → map newest devices'.cache ≡ map newest devices.cache → CarriesOthers size orders orders devices devices' actors s a
@@ -80,8 +72,7 @@ carries_newest size devices devices' orders actors s a origin cache b z u migrat
   where
     side : (m : Migration) → map newest (device_in (source_of m) devices') ≡ map newest (device_in (source_of m) devices)
     side (Promote p) = origin
-    side Demote = cache
-    side Clean = cache
+    side m = cache
 
 -- ---- beside what is written
 
@@ -184,15 +175,7 @@ module _ (size blocks : ℕ) (words : Words) (devices : Devices (List History)) 
                 | inl l ↦ inl (omega (arith, l, at, long))
                 | inr l ↦ inr (omega (arith, l, at, count))
               ]
-      reads list from into at other [] s g = tt
-      reads list from into at other (Cell step ∷ later) s g = tt
-      reads list from into at other (Desk step ∷ later) s g = tt
-      reads list from into at other (End answer ∷ later) s g = tt
-      reads list from into at other (Device (Read to r) ∷ later) s g = tt
-      reads list from into at other (Device (Sync to) ∷ later) s g = tt
-      reads list from into at other (Device (ReadMetadata left) ∷ later) s g = tt
-      reads list from into at other (Device (WriteNode number) ∷ later) s g = tt
-      reads list from into at other (Device WriteRoot ∷ later) s g = tt
+      reads list from into at other steps s g = tt
 
       -- of this migration, where this device is written
       told : (m : Migration) → migration ≡ m → (d : Dev) → device ≡ d → Reads m (new d) → Reads migration (new device)

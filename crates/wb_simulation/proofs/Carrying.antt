@@ -29,7 +29,7 @@ use Rattle.wb_simulation.specs.Carried.{held, is_at, replacement_there, order_th
 use Rattle.wb_simulation.specs.Telling.{Carries, IsMigrating, IsNoEnd, AreCarried}
 use Rattle.wb_simulation.specs.Worlds.{zeros, Agrees, OrdersAgree, Turn, Stays, TurnedTo, DeskTurnedTo, FollowsBy}
 use Rattle.wb_simulation.proofs.Orders.{CarriesOthers, IsDone}
-use Rattle.wb_simulation.proofs.Told.{after_job}
+use Rattle.wb_link.proofs.Actors.{job_on}
 use Rattle.wb_simulation.proofs.Among.{goes_on, goes_with, led_on, whole_on, one_on}
 
 -- ---- what is told
@@ -46,7 +46,7 @@ HasTask (Some script) = Unit {0}
 going : (results : List Got) (y : AbstractActor) (task : Option Script) → HasTask (gone y task results).task → IsMigratingOf task → AreCarried task results
 going results y None h m = tt
 going [] y (Some script) h m = tt
-going (got ∷ gots) y (Some script) h m = let r = by (want script) h (λ u i. going gots u (Some (after script got)) i (subst IsMigrating (sym (after_job script got)) m)) in (m, r.0, r.1)
+going (got ∷ gots) y (Some script) h m = let r = by (want script) h (λ u i. going gots u (Some (after script got)) i (subst IsMigrating (sym (job_on script got)) m)) in (m, r.0, r.1)
   where
     by : (next : AbstractWant) → HasTask (gone (actor_after y script next got) (task_after script next got) gots).task → ((u : AbstractActor) → HasTask (gone u (Some (after script got)) gots).task → AreCarried (Some (after script got)) gots) → IsNoEnd next × AreCarried (task_after script next got) gots
     by (End answer) h rest = absurd h
@@ -54,13 +54,11 @@ going (got ∷ gots) y (Some script) h m = let r = by (want script) h (λ u i. g
 
 pub under_migrates : (order : AbstractOrder) (os : List ℕ) (migration : Migration) → IsMigrating (job_under order os migration)
 under_migrates order os (Promote c) = tt
-under_migrates order os Demote = tt
-under_migrates order os Clean = tt
+under_migrates order os migration = tt
 
 under_among : (order : AbstractOrder) (os : List ℕ) (migration : Migration) → job_alone (job_under order os migration) ≡ false
 under_among order os (Promote c) = refl
-under_among order os Demote = refl
-under_among order os Clean = refl
+under_among order os migration = refl
 
 -- two tasks that are the same are the same migration
 abbrev At : (size : ℕ) → Words → List (Option Order) → Devices (List History) → Actor → AbstractActor → Job → Plan → Type 0

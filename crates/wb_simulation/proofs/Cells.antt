@@ -1,31 +1,33 @@
 -- A step of a read or a write on the shared words, for its own actor.
-use Rattle.std.proofs.Common.{◌≡◌, ◌==◌, ◌∙◌, ◌⊎◌, inl, inr, cond, if◌then◌else◌, ℕ, Bool, true, false, List, [], ◌∷◌, Option, Some, None, refl, sym, ap, subst, slice_get}
+use Rattle.std.proofs.Common.{◌≡◌, ◌∙◌, ◌⊎◌, inl, inr, ℕ, true, false, List, [], ◌∷◌, Option, Some, None, refl, sym, ap, subst, slice_get}
 use Rattle.wb_disk.specs.Device.{Content}
 use Rattle.wb_words.specs.SharedWords.{Words, word_at, flag}
 use Rattle.wb_words.specs.Rule.{LockRule}
 use Rattle.wb_words.specs.Effects.{result_of, words_after, card_after}
 use Rattle.wb_words.specs.declared.card.Card.{Card}
 use Rattle.wb_words.specs.declared.step.CellStep.{CellStep}
-use Rattle.wb_words.specs.declared.step.CellStep.TheVariants.{Look, Take, Release, Seal, Finish, Count, SetFailed, SetSuspended}
-use Rattle.wb_words.specs.declared.step.CellResult.TheVariants.{Done as Won, Lost as NotWon}
-use Rattle.wb_words.specs.declared.word.Word.TheVariants.{Cell as LockWord, Seal as SealWord, Number, Count as CountWord, Fail}
+use Rattle.wb_words.specs.declared.step.CellStep.TheVariants.{Look, Release, Seal}
+use Rattle.wb_words.specs.declared.word.Word.TheVariants.{Cell as LockWord, Fail}
 use Rattle.wb_tasks.specs.Tables.{BlockRange, BlockJob, OnBlock, range_of}
-use Rattle.wb_tasks.specs.Plan.{Plan, after, got_of, may_take, exchange, is_worn, gives_back, work_of, onward, refused}
+use Rattle.wb_tasks.specs.Plan.{Plan, after, got_of, work_of}
 use Rattle.wb_tasks.specs.Ready.{Suits}
 use Rattle.wb_tasks.specs.declared.step.Answer.{Answer}
 use Rattle.wb_tasks.specs.declared.step.Want.{Want}
 use Rattle.wb_tasks.specs.declared.step.Want.TheVariants.{Cell}
-use Rattle.wb_types.specs.declared.refusal.Refusal.TheVariants.{Failed, Worn, Busy}
+use Rattle.wb_types.specs.declared.refusal.Refusal.TheVariants.{Failed}
 use Rattle.wb_link.specs.Tables.{Script, Got}
 use Rattle.wb_link.specs.World.{Shared, Actor, job_alone, is_alone}
 use Rattle.wb_refines.specs.Going.{shared_after, gone, MayGo, AreQuiet}
 use Rattle.wb_refines.specs.Translation.{job_for}
 use Rattle.wb_refines.specs.Models.{IsRequest, plan_of, WordsAgree, SameElse, IsAt, HasStopped, IsBelow, TakesBeside, TellsPlace}
-use Rattle.wb_refines.proofs.Cells.{same_images, flag_of}
+use Rattle.wb_refines.proofs.Cells.{same_images}
 use Rattle.wb_refines.proofs.Followed.{cell_steps_followed}
 use Rattle.wb_refines.proofs.Locks.{has_no_more}
 use Rattle.wb_refines.proofs.Tasks.{tasks_end}
+use Rattle.wb_tasks.specs.declared.step.Answer.TheVariants.{Refused as Refuses}
 use Rattle.wb_simulation.specs.Steps.{IsPart, AreOfBlock}
+use Rattle.wb_tasks.proofs.Readiness.{job_stays}
+use Rattle.wb_simulation.proofs.Steps.{after_cell, finds_failed}
 use Rattle.wb_simulation.specs.Actors.{IsLate, IsRequestAt}
 
 -- These results of an abstract actor lead to these words, and leave it at this.
@@ -59,50 +61,13 @@ same_else s = record { origin = refl; cache = refl; images = same_images s }
 
 -- what a step tells of a seal
 pub tells : (size block : ℕ) (step : CellStep) (ws : List Want) → AreOfBlock size block (Cell step ∷ ws) → TellsPlace step × AreOfBlock size block ws
-tells size block (Look word) ws o = (tt, o)
-tells size block (Take access b seen) ws o = (tt, o)
-tells size block (Release access b) ws o = (tt, o)
 tells size block (Seal b place dirty) ws o = o
-tells size block (Finish b) ws o = (tt, o)
-tells size block (Count kind) ws o = (tt, o)
-tells size block SetFailed ws o = (tt, o)
-tells size block SetSuspended ws o = (tt, o)
+tells size block step ws o = (tt, o)
 
 module _ (size : ℕ) (content : Content) (job_on : BlockRange → BlockJob) (request : (part : BlockRange) → IsRequest (job_on part)) (range : (part : BlockRange) → range_of (job_on part) ≡ part)
     (works : (part : BlockRange) → IsPart size part → (seal : ℕ) → AreOfBlock size part.block.0 (work_of (OnBlock (job_on part)) seal)) (among : (part : BlockRange) → job_alone (job_for size content (OnBlock (job_on part))) ≡ false) (part : BlockRange) (is_part : IsPart size part) where
   abbrev Of : List Want → Type 0
   Of ws = AreOfBlock size part.block.0 ws
-
-  -- what is left after the step is of the block, too
-  of_block_after : (words : Words) (step : CellStep) (ws : List Want) (answer : Answer) → Of ws → Of (after (plan_of (job_on part) (Cell step ∷ ws) answer) (got_of (result_of words step))).steps
-  of_block_after words (Look Fail) ws answer o = by_test (words.fail == 0)
-    where
-      by_test : (t : Bool) → Of (if t then onward (plan_of (job_on part) (Cell (Look Fail) ∷ ws) answer) else refused (plan_of (job_on part) (Cell (Look Fail) ∷ ws) answer) [] Failed).steps
-      by_test true = o
-      by_test false = tt
-  of_block_after words (Look (LockWord b)) ws answer o = by_test (may_take (OnBlock (job_on part)) (word_at words.cells b))
-    where
-      by_test : (t : Bool) → Of (if t then record (plan_of (job_on part) (Cell (Look (LockWord b)) ∷ ws) answer) { steps = exchange (OnBlock (job_on part)) (word_at words.cells b) } else refused (plan_of (job_on part) (Cell (Look (LockWord b)) ∷ ws) answer) [] Busy).steps
-      by_test true = tt
-      by_test false = tt
-  of_block_after words (Look (SealWord b)) ws answer o = works part is_part (word_at words.seals b)
-  of_block_after words (Look (Number b)) ws answer o = by_test (is_worn (OnBlock (job_on part)) (word_at words.numbers b))
-    where
-      by_test : (t : Bool) → Of (if t then refused (plan_of (job_on part) (Cell (Look (Number b)) ∷ ws) answer) (gives_back (OnBlock (job_on part))) Worn else onward (plan_of (job_on part) (Cell (Look (Number b)) ∷ ws) answer)).steps
-      by_test true = tt
-      by_test false = o
-  of_block_after words (Look (CountWord kind)) ws answer o = o
-  of_block_after words (Take access b seen) ws answer o = by_test (word_at words.cells b == seen)
-    where
-      by_test : (t : Bool) → Of (after (plan_of (job_on part) (Cell (Take access b seen) ∷ ws) answer) (got_of (if t then Won else NotWon))).steps
-      by_test true = o
-      by_test false = tt
-  of_block_after words (Release access b) ws answer o = o
-  of_block_after words (Seal b place dirty) ws answer o = o
-  of_block_after words (Finish b) ws answer o = o
-  of_block_after words (Count kind) ws answer o = o
-  of_block_after words SetFailed ws answer o = o
-  of_block_after words SetSuspended ws answer o = o
 
   module _ (blocks : ℕ) (words : Words) (actors : List Actor) (a : ℕ) (card : Card) (s : Shared) (y : Actor) (answer : Answer) (w : WordsAgree words s) where
     abbrev Goal : CellStep → List Want → Type 0
@@ -115,14 +80,14 @@ module _ (size : ℕ) (content : Content) (job_on : BlockRange → BlockJob) (re
         let t = tells size part.block.0 step ws o in
         let f = cell_steps_followed size blocks content words cards actors a a card s y (job_on part) step ws answer (request part) is_part.some (is_part.sized ∙ ap (λ (p : BlockRange). p.block_sectors) (sym (range part))) rule here below w t.0 suits is in
         let plan' = after (plan_of (job_on part) (Cell step ∷ ws) answer) (got_of (result_of words step)) in
-        let same_job : plan'.job ≡ OnBlock (job_on part) = job_stays words step ws in
+        let same_job : plan'.job ≡ OnBlock (job_on part) = job_stays (plan_of (job_on part) (Cell step ∷ ws) answer) (got_of (result_of words step)) in
         record {
           results = f.results;
           may = f.may;
           quiet = f.quiet;
           words_agree = f.words_agree;
           same = f.same;
-          request = record { part = part; job = same_job; is_part = is_part; of_block = of_block_after words step ws answer t.1; at = elim f.at [ inl i ↦ inl i | inr k ↦ inr (inl k) ] };
+          request = record { part = part; job = same_job; is_part = is_part; of_block = after_cell Of (OnBlock (job_on part)) words step ws answer tt t.1 (λ seen. tt) (λ b e. works part is_part (word_at words.seals b)) tt; at = elim f.at [ inl i ↦ inl i | inr k ↦ inr (inl k) ] };
           below = elim f.at [ inl i ↦ has_no_more size content plan' (card_after words step card) (gone y y.task f.results) i | inr k ↦ k.below ];
           order = elim f.at [ inl i ↦ ap (λ (v : Actor). v.order) i.is | inr k ↦ k.order ] ∙ sym (ap (λ (v : Actor). v.order) is.is);
           leads = elim f.at [
@@ -134,36 +99,6 @@ module _ (size : ℕ) (content : Content) (job_on : BlockRange → BlockJob) (re
             | inr k ↦ ap is_alone k.task ∙ k.among_others
           ];
         }
-      where
-        job_stays : (words : Words) (step : CellStep) (ws : List Want) → (after (plan_of (job_on part) (Cell step ∷ ws) answer) (got_of (result_of words step))).job ≡ OnBlock (job_on part)
-        job_stays words (Look Fail) ws = by_test (words.fail == 0)
-          where
-            by_test : (t : Bool) → (if t then onward (plan_of (job_on part) (Cell (Look Fail) ∷ ws) answer) else refused (plan_of (job_on part) (Cell (Look Fail) ∷ ws) answer) [] Failed).job ≡ OnBlock (job_on part)
-            by_test true = refl
-            by_test false = refl
-        job_stays words (Look (LockWord b)) ws = by_test (may_take (OnBlock (job_on part)) (word_at words.cells b))
-          where
-            by_test : (t : Bool) → (if t then record (plan_of (job_on part) (Cell (Look (LockWord b)) ∷ ws) answer) { steps = exchange (OnBlock (job_on part)) (word_at words.cells b) } else refused (plan_of (job_on part) (Cell (Look (LockWord b)) ∷ ws) answer) [] Busy).job ≡ OnBlock (job_on part)
-            by_test true = refl
-            by_test false = refl
-        job_stays words (Look (SealWord b)) ws = refl
-        job_stays words (Look (Number b)) ws = by_test (is_worn (OnBlock (job_on part)) (word_at words.numbers b))
-          where
-            by_test : (t : Bool) → (if t then refused (plan_of (job_on part) (Cell (Look (Number b)) ∷ ws) answer) (gives_back (OnBlock (job_on part))) Worn else onward (plan_of (job_on part) (Cell (Look (Number b)) ∷ ws) answer)).job ≡ OnBlock (job_on part)
-            by_test true = refl
-            by_test false = refl
-        job_stays words (Look (CountWord kind)) ws = refl
-        job_stays words (Take access b seen) ws = by_test (word_at words.cells b == seen)
-          where
-            by_test : (t : Bool) → (after (plan_of (job_on part) (Cell (Take access b seen) ∷ ws) answer) (got_of (if t then Won else NotWon))).job ≡ OnBlock (job_on part)
-            by_test true = refl
-            by_test false = refl
-        job_stays words (Release access b) ws = refl
-        job_stays words (Seal b place dirty) ws = refl
-        job_stays words (Finish b) ws = refl
-        job_stays words (Count kind) ws = refl
-        job_stays words SetFailed ws = refl
-        job_stays words SetSuspended ws = refl
 
     -- nothing is done there
     nothing : (words' : Words) (plan' : Plan) (card' : Card) → WordsAgree words' s → IsRequestAt size content words' job_on plan' card' y → IsBelow y card' → is_alone y.task ≡ false → Acted size content actors a s y words' job_on plan' card'
@@ -190,14 +125,8 @@ module _ (size : ℕ) (content : Content) (job_on : BlockRange → BlockJob) (re
 
     -- it has no task there, and finds that the target has failed
     looks_late : (ws : List Want) → is_alone y.task ≡ false → IsBelow y card → flag words.fail ≡ true → y.task ≡ None → Goal (Look Fail) ws
-    looks_late ws alone below failed none = by_test (words.fail == 0) (flag_of words.fail (words.fail == 0) refl)
-      where
-        by_test : (t : Bool) → flag words.fail ≡ cond t false true →
-            Acted size content actors a s y words job_on (if t then onward (plan_of (job_on part) (Cell (Look Fail) ∷ ws) answer) else refused (plan_of (job_on part) (Cell (Look Fail) ∷ ws) answer) [] Failed) (card_after words (Look Fail) card)
-        by_test true f = let bad : true ≡ false = sym failed ∙ f in absurd (cc)
-        by_test false f = nothing words (refused (plan_of (job_on part) (Cell (Look Fail) ∷ ws) answer) [] Failed) (card_after words (Look Fail) card) w
-            (record { part = part; job = refl; is_part = is_part; of_block = tt; at = inr (inr (record { failed = failed; nothing = none; at = inr (refl, λ e. absurd (cc)) })) })
-            (record { owned = below.owned; shared = below.shared }) alone
+    looks_late ws alone below failed none = subst (λ (p : Plan). Acted size content actors a s y words job_on p (card_after words (Look Fail) card)) (sym (finds_failed words (OnBlock (job_on part)) ws answer failed)) (nothing words (plan_of (job_on part) [] (Refuses Failed)) (card_after words (Look Fail) card) w
+        (record { part = part; job = refl; is_part = is_part; of_block = tt; at = inr (inr (record { failed = failed; nothing = none; at = inr (refl, λ e. absurd (cc)) })) }) (record { owned = below.owned; shared = below.shared }) alone)
 
     late : (step : CellStep) (ws : List Want) → is_alone y.task ≡ false → IsBelow y card → IsLate words (plan_of (job_on part) (Cell step ∷ ws) answer) y → Goal step ws
     late step ws alone below l = elim l.at [

@@ -2,7 +2,7 @@
 use Rattle.std.proofs.Common.{◌≡◌, ◌≤◌, ◌+◌, ◌*◌, ◌/◌, ◌%◌, ◌∙◌, inl, inr, ℕ, zero, suc, Bool, true, false, List, [], ◌∷◌, Option, Some, refl, sym, ap, subst, arith, length, map, take, drop, slice_get, Contains}
 use Rattle.wb_types.specs.declared.extent.Extent.{Extent}
 use Rattle.wb_types.specs.declared.mode.Dev.{Dev}
-use Rattle.wb_types.specs.declared.mode.Dev.TheVariants.{Metadata, Cache, Origin}
+use Rattle.wb_types.specs.declared.mode.Dev.TheVariants.{Cache, Origin}
 use Rattle.wb_types.specs.declared.number.CBlock.{CBlock}
 use Rattle.wb_types.specs.declared.refusal.Refusal.TheVariants.{Io}
 use Rattle.wb_disk.specs.Device.{Content, History, newest}
@@ -30,7 +30,7 @@ use Rattle.wb_link.specs.World.{World, Shared, Held as Having, Owns, Actor as Ab
 use Rattle.wb_refines.specs.Going.{shared_after, gone, MayGo}
 use Rattle.wb_contents.specs.Devices.{by_block}
 use Rattle.wb_refines.specs.Translation.{location_at, offsets}
-use Rattle.wb_refines.specs.Data.{row, IsSide, SameBeside, read_fault}
+use Rattle.wb_refines.specs.Data.{row, IsSide, read_fault}
 use Rattle.wb_refines.specs.Models.{SawSeal, SameImages, WordsAgree, plan_of, held_of, held_for}
 use Rattle.wb_refines.specs.Migrations.{order_on, source, migration_wants, job_under}
 use Rattle.wb_refines.specs.Copies.{Across, Copies, copied, copied_where, migrating}
@@ -42,17 +42,15 @@ use Rattle.wb_runs.specs.declared.job.Job.TheVariants.{Migrate}
 use Rattle.wb_runs.specs.Effects.{contents_at}
 use Rattle.wb_runs.specs.Holding.{cards_of, AllSuited}
 use Rattle.wb_runs.specs.States.{Actor, with_device}
-use Rattle.wb_simulation.specs.Steps.{AreOfBlock, ArePaired, IsNoWrite, IsTail}
-use Rattle.wb_simulation.specs.Carried.{target, AreCopiedAt, HasRead, IsUnder, IsCarried}
-use Rattle.wb_simulation.proofs.Orders.{CarriesOthers, carries_same}
+use Rattle.wb_simulation.specs.Steps.{IsNoWrite, IsTail}
+use Rattle.wb_simulation.specs.Carried.{target, HasRead, IsCarried}
+use Rattle.wb_simulation.proofs.Orders.{GoesOn, carried_again, CarriesOthers, carries_same}
 use Rattle.wb_simulation.proofs.Carrying.{IsOn, carry_on, carried_job, carried_order}
-use Rattle.wb_tasks.specs.declared.step.DeviceStep.TheVariants.{Sync, ReadMetadata, WriteNode, WriteRoot}
-use Rattle.wb_tasks.specs.declared.step.Want.TheVariants.{End}
 use Rattle.wb_simulation.specs.Worlds.{zeros, Agrees, Stays}
 use Rattle.wb_simulation.specs.Migrating.{Carried}
 use Rattle.wb_simulation.proofs.Cells.{shared_stays, gone_nowhere}
 use Rattle.wb_simulation.proofs.Beside.{IsBesideCopies, carries_written}
-use Rattle.wb_simulation.proofs.Moving.{words_beside, same_device}
+use Rattle.wb_simulation.proofs.Moving.{words_beside, side_of, sides, same_device}
 
 -- ---- what a read of a device gives
 
@@ -70,16 +68,8 @@ given_from (h ∷ hs) (suc at) count l = let later = given_from hs at count (ome
 
 -- what is no write has nothing to have been read
 pub no_write_read : (size : ℕ) (list : List History) (at : ℕ) (steps : List Want) (buffer : List Content) → IsNoWrite steps → HasRead size list at steps buffer
-no_write_read size list at [] buffer n = tt
 no_write_read size list at (Device (Write device e) ∷ ws) buffer n = absurd n
-no_write_read size list at (Device (Read device e) ∷ ws) buffer n = tt
-no_write_read size list at (Device (Sync device) ∷ ws) buffer n = tt
-no_write_read size list at (Device (ReadMetadata left) ∷ ws) buffer n = tt
-no_write_read size list at (Device (WriteNode number) ∷ ws) buffer n = tt
-no_write_read size list at (Device WriteRoot ∷ ws) buffer n = tt
-no_write_read size list at (Cell step ∷ ws) buffer n = tt
-no_write_read size list at (Desk step ∷ ws) buffer n = tt
-no_write_read size list at (End answer ∷ ws) buffer n = tt
+no_write_read size list at steps buffer n = tt
 
 module _ (size most blocks : ℕ) (words : Words) (committing : Bool) (orders : List (Option Order)) (devices : Devices (List History)) (actors : List Actor) (a : ℕ) (x : Actor) (s : World) (y : AbstractActor) (g : Agrees size most words committing orders devices actors s) (ex : slice_get actors a ≡ Some x) (ey : slice_get s.actors a ≡ Some y)
     (migration : Migration) (block : OBlock) (part : BlockRange) (next : Want) (ws : List Want) (answer : Answer) (f : IsCarried size orders devices migration block part (next ∷ ws) answer x y) where
@@ -134,29 +124,17 @@ module _ (size most blocks : ℕ) (words : Words) (committing : Bool) (orders : 
     saw = saw;
   }
 
-  -- what it has still to do is a migration's, and nothing was written that it has not read
-  pub record GoesOn (us : List Want) (list : List History) (buffer : List Content) : Type 0 where
-    pub of_block : AreOfBlock size part.block.0 us
-    pub paired : ArePaired size us
-    pub copies : AreCopiedAt size (source own migration) (target own migration) us
-    pub read : HasRead size list (row (source own migration) part.block.0) us buffer
-
-  -- it is at this then
-  pub carried_with : (orders' : List (Option Order)) (devices' : Devices (List History)) (us : List Want) (then_answer : Answer) (x' : Actor) (z : AbstractActor) (kept : Option AbstractOrder) → IsUnder (slice_get orders' f.c.0) f.order own kept x'.orders us → IsMigrationAt part f.c f.next migration kept (plan_of (Migrating migration part) us then_answer) x'.card z →
-      GoesOn us (device_in (source_of migration) devices') x'.buffer → IsCarried size orders' devices' migration block part us then_answer x' z
-  carried_with orders' devices' us then_answer x' z kept has at on = record { block_is = f.block_is; is_part = f.is_part; c = f.c; small = f.small; fills = f.fills; of_block = on.of_block; paired = on.paired; next = f.next; order = f.order; of = f.of; kept = kept; has = has; at = at; copies = on.copies; buffer = on.read }
-
   abbrev left_with : List Want → Answer → List Content → Actor
   left_with us then_answer buffer = record x { task = Some (Migrate migration block, plan_of (Migrating migration part) us then_answer); buffer = buffer }
 
   -- It has done something there, under its order, and both are at the same then.
   pub carry_so : ¬ IsTail (next ∷ ws) → (us : List Want) (then_answer : Answer) (buffer : List Content) (devices' : Devices (List History)) (results : List AbstractGot) (t : Shared) (z : AbstractActor) → MayGo s.actors a s.shared y y.task results → shared_after s.shared y y.task results ≡ t → gone y y.task results ≡ z →
-      IsMigrationAt part f.c f.next migration f.kept (plan_of (Migrating migration part) us then_answer) x.card z → GoesOn us (device_in (source_of migration) devices') buffer →
+      IsMigrationAt part f.c f.next migration f.kept (plan_of (Migrating migration part) us then_answer) x.card z → GoesOn size own migration part us (device_in (source_of migration) devices') buffer →
       WordsAgree words t → t.origin ≡ by_block size zeros devices'.origin → t.cache ≡ by_block size zeros devices'.cache → SameImages s.shared t → CarriesOthers size orders orders devices devices' actors s a →
       Carried Stays size most a s words committing orders devices' actors (left_with us then_answer buffer)
   carry_so no_tail us then_answer buffer devices' results t z may shared_is gone_is at on w origin cache_is k carries =
       let x' = left_with us then_answer buffer in
-      let is = carried_with orders devices' us then_answer x' z f.kept (inl (lives no_tail, live_is no_tail, its_own no_tail)) at on in
+      let is = carried_again size orders orders devices devices' migration block part (next ∷ ws) us answer then_answer x x' y z f f.kept (inl (lives no_tail, live_is no_tail, its_own no_tail)) at on in
       carry_on size most words words (λ e. e) committing orders devices devices' actors a x x' s y g ex ey migration block part (plan_of (Migrating migration part) us then_answer) refl refl (carried_job size orders devices migration block part (next ∷ ws) answer x y f) results t may shared_is w origin cache_is
       (subst (λ (v : AbstractActor). IsOn size words orders devices' migration block part (plan_of (Migrating migration part) us then_answer) x' v) (sym gone_is) (inl is))
       (ap (λ (v : AbstractActor). v.order) gone_is ∙ ap (λ (v : AbstractActor). v.order) at.is ∙ sym (carried_order size orders devices migration block part (next ∷ ws) answer x y f)) (λ o h. h) k carries
@@ -200,40 +178,22 @@ module _ (size most blocks : ℕ) (words : Words) (committing : Bool) (orders : 
 -- a migration writes where blocks stand
 pub writes_blocks : (migration : Migration) (device : Dev) → device ≡ target_of migration → HoldsBlocks device
 writes_blocks (Promote k) device e = subst (λ (d : Dev). HoldsBlocks d) (sym e) tt
-writes_blocks Demote device e = subst (λ (d : Dev). HoldsBlocks d) (sym e) tt
-writes_blocks Clean device e = subst (λ (d : Dev). HoldsBlocks d) (sym e) tt
+writes_blocks migration device e = subst (λ (d : Dev). HoldsBlocks d) (sym e) tt
 
 module _ (size most blocks : ℕ) (words : Words) (committing : Bool) (orders : List (Option Order)) (devices : Devices (List History)) (actors : List Actor) (a : ℕ) (x : Actor) (s : World) (y : AbstractActor) (g : Agrees size most words committing orders devices actors s) (ex : slice_get actors a ≡ Some x) (ey : slice_get s.actors a ≡ Some y)
     (migration : Migration) (block : OBlock) (part : BlockRange) (device : Dev) (e : Extent) (answer : Answer) (on_target : device ≡ target_of migration) where
   abbrev to : Option ℕ
   to = location_at size device e
 
-  side_to : (d : Dev) → HoldsBlocks d → IsSide size zeros (location_at size d e) (device_in d devices) s.shared
-  side_to Cache h = g.cache
-  side_to Origin h = g.origin
-  side_to Metadata h = absurd h
-
   side_from : (c : CBlock) (next : Option ℕ) (m : Migration) → IsSide size zeros (source (order_on part c next) m) (device_in (source_of m) devices) s.shared
   side_from c next (Promote k) = g.origin
-  side_from c next Demote = g.cache
-  side_from c next Clean = g.cache
+  side_from c next m = g.cache
 
   across : (c : CBlock) (next : Option ℕ) (m : Migration) (d : Dev) → d ≡ target_of m → Across (source (order_on part c next) m) (location_at size d e)
   across c next (Promote k) Cache same = tt
-  across c next (Promote k) Origin same = absurd (cc)
-  across c next (Promote k) Metadata same = absurd (cc)
-  across c next Demote Cache same = absurd (cc)
   across c next Demote Origin same = tt
-  across c next Demote Metadata same = absurd (cc)
-  across c next Clean Cache same = absurd (cc)
   across c next Clean Origin same = tt
-  across c next Clean Metadata same = absurd (cc)
-
-  sides : (d : Dev) → HoldsBlocks d → (list : List History) (t : Shared) → IsSide size zeros (location_at size d e) list t → SameBeside (location_at size d e) s.shared t →
-      (t.origin ≡ by_block size zeros (with_device d devices list).origin) × (t.cache ≡ by_block size zeros (with_device d devices list).cache)
-  sides Cache h list t side beside = (beside.other ∙ g.origin, side)
-  sides Origin h list t side beside = (side, beside.other ∙ g.cache)
-  sides Metadata h list t side beside = absurd h
+  across c next m d same = absurd (cc)
 
   module _ (next : Want) (ws : List Want) (f : IsCarried size orders devices migration block part (next ∷ ws) answer x y) where
     abbrev its_under : AbstractOrder
@@ -246,7 +206,7 @@ module _ (size most blocks : ℕ) (words : Words) (committing : Bool) (orders : 
     copy_on : ¬ IsTail (next ∷ ws) → (us : List Want) (told : AbstractAnswer) (then_answer : Answer) (results : List AbstractGot) (list : List History) →
         held_for (next ∷ ws) x.card ≡ Owns part.block.0 → held_for us x.card ≡ Owns part.block.0 → AnswersAlike then_answer told → SawSeal (plan_of (Migrating migration part) us then_answer) us x.card →
         CarriesOthers size orders orders devices (with_device device devices list) actors s a → Copies size zeros s.actors a s.shared (migrating size its_under its_offsets migration (next ∷ ws) f.at.answer f.at.buffer) results to list (λ c. migrating size its_under its_offsets migration us told c) →
-        GoesOn size most blocks words committing orders devices actors a x s y g ex ey migration block part next ws answer f us (device_in (source_of migration) (with_device device devices list)) x.buffer →
+        GoesOn size its_under migration part us (device_in (source_of migration) (with_device device devices list)) x.buffer →
         Carried Stays size most a s words committing orders (with_device device devices list) actors (record x { task = Some (Migrate migration block, plan_of (Migrating migration part) us then_answer) })
     copy_on no_tail us told then_answer results list held held_then alike saw carries copies on =
         let is = y_is size most blocks words committing orders devices actors a x s y g ex ey migration block part next ws answer f no_tail held in
@@ -254,7 +214,7 @@ module _ (size most blocks : ℕ) (words : Words) (committing : Bool) (orders : 
         let cp = subst (λ (v : AbstractActor). Copies size zeros s.actors a s.shared v results to list (λ c. migrating size its_under its_offsets migration us told c)) (sym is) copies in
         let t = shared_after s.shared y y.task results in
         let z = gone y y.task results in
-        let now = sides device (writes_blocks migration device on_target) list t cp.side_is cp.beside in
+        let now = sides size most words committing orders devices actors a x s y ex ey g device e (writes_blocks migration device on_target) list t cp.side_is cp.beside in
         carry_so size most blocks words committing orders devices actors a x s y g ex ey migration block part next ws answer f no_tail us then_answer x.buffer (with_device device devices list) results t z cp.may refl refl
         (at_again size most blocks words committing orders devices actors a x s y g ex ey migration block part next ws answer f z us told cp.last f.kept then_answer
         (cp.is ∙ (λ i. record (migrating size its_under its_offsets migration us told cp.last) { held = sym held_then i; order = sym live i })) alike saw)
@@ -294,14 +254,14 @@ module _ (size most blocks : ℕ) (words : Words) (committing : Bool) (orders : 
       writes = copy_on (Device (Write device e)) ws f (λ n. n) ws f.at.answer answer (copied x.buffer) (written_each (device_in device devices) e.first x.buffer) (ap held_of suits_now.0)
           (held_plain ws x.card (rest_plain (Migrating migration part) suits_now.1.0 ws rest) ∙ ap held_of suits_now.0) f.at.alike (saw_plain (plan_of (Migrating migration part) ws answer) ws x.card (rest_plain (Migrating migration part) suits_now.1.0 ws rest)) (carries_on (λ at. true))
           (copies_followed.write_done size zeros s.actors a s.shared (order_on part f.c f.next) (offsets size part.extents) migration device e ws f.at.answer f.at.buffer (device_in (source_of migration) devices) (device_in device devices) x.buffer
-          (across f.c f.next migration device on_target) f.of_block.0 (side_from f.c f.next migration) (side_to device (writes_blocks migration device on_target)) f.buffer.0 f.buffer.1 room)
+          (across f.c f.next migration device on_target) f.of_block.0 (side_from f.c f.next migration) (side_of size most words committing orders devices actors a x s y ex ey g device e (writes_blocks migration device on_target)) f.buffer.0 f.buffer.1 room)
           (record { of_block = f.of_block.1; paired = f.paired.1; copies = f.copies.1; read = no_write_read size _ _ ws x.buffer f.paired.0 })
 
       pub write_falls : (lands : ℕ → Bool) → Carried Stays size most a s words committing orders (with_device device devices (written_where lands (device_in device devices) e.first x.buffer)) actors
           (record x { task = Some (Migrate migration block, plan_of (Migrating migration part) (Cell SetFailed ∷ []) (Refuses (Io device))) })
       write_falls lands = copy_on (Device (Write device e)) ws f (λ n. n) (Cell SetFailed ∷ []) AnsweredIo (Refuses (Io device)) (copied_where lands e.first x.buffer) (written_where lands (device_in device devices) e.first x.buffer) (ap held_of suits_now.0) (ap held_of suits_now.0) (λ n. absurd (cc)) (Io device, refl) (carries_on lands)
           (copies_followed.write_fails size zeros s.actors a s.shared (order_on part f.c f.next) (offsets size part.extents) migration device e ws f.at.answer f.at.buffer (device_in (source_of migration) devices) (device_in device devices) x.buffer lands
-          (across f.c f.next migration device on_target) f.of_block.0 (side_from f.c f.next migration) (side_to device (writes_blocks migration device on_target)) f.buffer.0 f.buffer.1 room)
+          (across f.c f.next migration device on_target) f.of_block.0 (side_from f.c f.next migration) (side_of size most words committing orders devices actors a x s y ex ey g device e (writes_blocks migration device on_target)) f.buffer.0 f.buffer.1 room)
           (record { of_block = tt; paired = (tt, tt); copies = tt; read = tt })
 
   -- a read that fails is that of what was to be written
@@ -311,7 +271,7 @@ module _ (size most blocks : ℕ) (words : Words) (committing : Bool) (orders : 
   read_falls from r later f suits =
       let hold = suits.1.0 in
       copy_on (Device (Read from r)) (Device (Write device e) ∷ later) f (λ n. n) (Cell (Release Owned part.block) ∷ Desk (ReleaseOrder part.block) ∷ []) AnsweredIo (Refuses (Io from)) read_fault (device_in device devices) (ap held_of hold) (ap held_of hold) (λ n. absurd (cc)) tt unmoved
-      (copies_followed.read_fails size zeros s.actors a s.shared (order_on part f.c f.next) (offsets size part.extents) migration part.block from device r e later f.at.answer f.at.buffer (device_in device devices) refl f.of_block.1.0 (side_to device blocks_there))
+      (copies_followed.read_fails size zeros s.actors a s.shared (order_on part f.c f.next) (offsets size part.extents) migration part.block from device r e later f.at.answer f.at.buffer (device_in device devices) refl f.of_block.1.0 (side_of size most words committing orders devices actors a x s y ex ey g device e blocks_there))
       (record { of_block = tt; paired = (tt, (tt, tt)); copies = tt; read = tt })
     where
       blocks_there : HoldsBlocks device

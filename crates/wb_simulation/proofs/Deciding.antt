@@ -44,7 +44,7 @@ use Rattle.wb_runs.specs.Effects.{replacing}
 use Rattle.wb_desk.specs.Entries.{is_replacement}
 use Rattle.wb_contents.specs.Volume.{Locations, changed}
 use Rattle.wb_contents.proofs.Positions.{changed_same, changed_other}
-use Rattle.wb_policy.specs.declared.order.Order.TheVariants.{Promote as Promote', Replace, Demote as DemoteOrder, Clean as Clean'}
+use Rattle.wb_policy.specs.declared.order.Order.TheVariants.{Replace, Demote as DemoteOrder}
 use Rattle.wb_link.specs.World.{following}
 use Rattle.wb_simulation.specs.Carried.{held, is_at, replacement_there, order_there, live_there, IsOrderFor}
 use Rattle.wb_simulation.specs.Migrating.{LeavesFrom, TurnsOrder}
@@ -60,31 +60,25 @@ use Rattle.wb_refines.specs.Models.{SawSeal, held_for}
 use Rattle.wb_simulation.specs.Carried.{IsCarried}
 use Rattle.wb_simulation.specs.Steps.{IsTail}
 use Rattle.wb_simulation.specs.Migrating.{Carried, EndsOrder}
-use Rattle.wb_simulation.proofs.Orders.{CarriesOthers, carried_beside, carries_same, goes_so, turns_so}
+use Rattle.wb_simulation.proofs.Orders.{GoesOn, carried_again, CarriesOthers, carried_beside, carries_same, goes_so, turns_so}
 use Rattle.wb_simulation.proofs.Carrying.{IsOn, is_done, carry_over, carried_job, carried_order}
-use Rattle.wb_simulation.proofs.Copying.{GoesOn, carried_with, carry_so, at_again, y_is, y_has, its_own, lives, live_is, no_write_read}
+use Rattle.wb_simulation.proofs.Copying.{carry_so, at_again, y_is, y_has, its_own, lives, live_is, no_write_read}
 
 -- ---- what lives on other cache blocks
 
 map_elsewhere : (m : Locations) (b c d : ℕ) (o : Option Order) → d ≢ c → m b ≡ None → live_there (changed m b (Some c)) d o ≡ live_there m d o
-map_elsewhere m b c d None n free = refl
-map_elsewhere m b c d (Some (Promote' x k)) n free = refl
-map_elsewhere m b c d (Some (DemoteOrder x)) n free = refl
-map_elsewhere m b c d (Some (Clean' x)) n free = refl
 map_elsewhere m b c d (Some (Replace old new k)) n free = ap (λ (t : Bool). Some (replacement_there t old.0 new.0 d)) (elim (cases_eq old.0 b) [
   | inl e ↦ ap (λ (l : Option ℕ). is_at l d) (ap (changed m b (Some c)) e ∙ changed_same m b (Some c)) ∙ ne_eqb c d (λ q. n (sym q)) ∙ sym (ap (λ (l : Option ℕ). is_at l d) (ap m e ∙ free))
   | inr o ↦ ap (λ (l : Option ℕ). is_at l d) (changed_other m b old.0 (Some c) o)
 ])
+map_elsewhere m b c d o n free = refl
 
 unmap_elsewhere : (m : Locations) (b c d : ℕ) (o : Option Order) → d ≢ c → m b ≡ Some c → live_there (changed m b None) d o ≡ live_there m d o
-unmap_elsewhere m b c d None n at = refl
-unmap_elsewhere m b c d (Some (Promote' x k)) n at = refl
-unmap_elsewhere m b c d (Some (DemoteOrder x)) n at = refl
-unmap_elsewhere m b c d (Some (Clean' x)) n at = refl
 unmap_elsewhere m b c d (Some (Replace old new k)) n at = ap (λ (t : Bool). Some (replacement_there t old.0 new.0 d)) (elim (cases_eq old.0 b) [
   | inl e ↦ ap (λ (l : Option ℕ). is_at l d) (ap (changed m b None) e ∙ changed_same m b None) ∙ sym (ap (λ (l : Option ℕ). is_at l d) (ap m e ∙ at) ∙ ne_eqb c d (λ q. n (sym q)))
   | inr o ↦ ap (λ (l : Option ℕ). is_at l d) (changed_other m b old.0 None o)
 ])
+unmap_elsewhere m b c d o n at = refl
 
 -- a replacement of the block is kept, and a flush is awaited for it from now on
 is_replacing : (b : OBlock) (orders : List Order) (o : Order) → is_of b o ≡ true → is_replacement o ≡ true → Contains orders o → Contains (replacing b orders) o
@@ -150,11 +144,11 @@ module _ (size most blocks : ℕ) (words : Words) (committing : Bool) (orders : 
     over_here : slice_get (slice_set orders f.c.0 None) f.c.0 ≡ Some None
     over_here = get_set_same orders f.c.0 (Some f.order) None its
 
-    pub ends_order : ((d : ℕ) (o : Option Order) → d ≢ f.c.0 → slice_get orders d ≡ Some o → live_there t.mapping d o ≡ live_there s.shared.mapping d o) → IsMigrationAt part f.c f.next migration None left x.card z → IsTail ws → GoesOn size most blocks words committing orders devices actors a x s y g ex ey migration block part next ws answer f ws (device_in (source_of migration) devices) x.buffer →
+    pub ends_order : ((d : ℕ) (o : Option Order) → d ≢ f.c.0 → slice_get orders d ≡ Some o → live_there t.mapping d o ≡ live_there s.shared.mapping d o) → IsMigrationAt part f.c f.next migration None left x.card z → IsTail ws → GoesOn size own migration part ws (device_in (source_of migration) devices) x.buffer →
         EndsOrder turn f.c.0 size most a s words committing orders devices actors x left_over f.order
     ends_order turns at tail on =
         let none : z.order ≡ None = ap (λ (v : AbstractActor). v.order) at.is in
-        let is : IsOn size words over devices migration block part left left_over z = inl (carried_with size most blocks words committing orders devices actors a x s y g ex ey migration block part next ws answer f over devices ws answer left_over z None (inr tail) at on) in
+        let is : IsOn size words over devices migration block part left left_over z = inl (carried_again size orders over devices devices migration block part (next ∷ ws) ws answer answer x left_over y z f None (inr tail) at on) in
         let gone_on : IsOn size words over devices migration block part left left_over (gone y y.task results) = subst (λ (v : AbstractActor). IsOn size words over devices migration block part left left_over v) (sym goes.is) is in
         let gone_none : (gone y y.task results).order ≡ None = ap (λ (v : AbstractActor). v.order) goes.is ∙ none in
         record {
@@ -248,7 +242,7 @@ module _ (size most blocks : ℕ) (words : Words) (committing : Bool) (orders : 
         at_again size most blocks words committing orders devices actors a x s y g ex ey migration block part (Desk (Unmap part.block)) ws answer f z_away ws f.at.answer f.at.buffer kept answer
         (λ i. record z_away { held = sym (held_plain ws x.card plain ∙ ap held_of suits_away.0) i; order = e i }) f.at.alike (saw_plain left ws x.card plain)
 
-    on_away : GoesOn size most blocks words committing orders devices actors a x s y g ex ey migration block part (Desk (Unmap part.block)) ws answer f ws (device_in (source_of migration) devices) x.buffer
+    on_away : GoesOn size own_away migration part ws (device_in (source_of migration) devices) x.buffer
     on_away = record { of_block = f.of_block; paired = f.paired.2; copies = f.copies; read = no_write_read size _ _ ws x.buffer f.paired.1 }
 
     its_away : slice_get orders f.c.0 ≡ Some (Some f.order)
@@ -279,7 +273,7 @@ module _ (size most blocks : ℕ) (words : Words) (committing : Bool) (orders : 
     turned_over new k is some leaving =
         let own' : AbstractOrder = record { block = new.0; cache = f.c.0; next = None } in
         let follows_is : following f.c.0 f.next ≡ Some own' = ap (following f.c.0) some in
-        let carried = carried_with size most blocks words committing orders devices actors a x s y g ex ey migration block part (Desk (Unmap part.block)) ws answer f orders devices ws answer left_waiting z_away (Some own') (inr f.paired.0) (at_away (Some own') follows_is) on_away in
+        let carried = carried_again size orders orders devices devices migration block part (Desk (Unmap part.block) ∷ ws) ws answer answer x left_waiting y z_away f (Some own') (inr f.paired.0) (at_away (Some own') follows_is) on_away in
         let on_it : IsOn size words orders devices migration block part left left_waiting (gone y y.task (DoneThere ∷ [])) = subst (λ (v : AbstractActor). IsOn size words orders devices migration block part left left_waiting v) (sym goes_away.is) (inl carried) in
         let slot = its_away in
         let had = mine (Desk (Unmap part.block)) f (λ n. n) (Unmaps part.block.0 f.c.0 f.next) (DoneThere ∷ []) t_away z_away goes_away (record { fail = g.words_agree.fail; seals = g.words_agree.seals }) refl refl refl refl refl (refl, refl, refl) (refl, refl) in

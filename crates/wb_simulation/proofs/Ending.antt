@@ -5,7 +5,7 @@ use Rattle.wb_words.specs.SharedWords.{Words, flag}
 use Rattle.wb_words.specs.declared.card.Hold.TheVariants.{Nothing as HoldsNothing}
 use Rattle.wb_policy.specs.declared.order.Order.{Order}
 use Rattle.wb_tasks.specs.Tables.{BlockRange, BlockJob, Reading, Writing, OnBlock}
-use Rattle.wb_tasks.specs.Plan.{Plan, want, first_step}
+use Rattle.wb_tasks.specs.Plan.{Plan, want}
 use Rattle.wb_tasks.specs.Ready.{Suits}
 use Rattle.wb_tasks.specs.declared.step.Answer.{Answer}
 use Rattle.wb_tasks.specs.declared.step.Want.{Want}
@@ -20,25 +20,17 @@ use Rattle.wb_refines.specs.Tasks.{IsResting, IsIdle, IsAnswered}
 use Rattle.wb_refines.proofs.Holding.{holds_nothing}
 use Rattle.wb_refines.proofs.Tasks.{tasks_end}
 use Rattle.wb_runs.specs.declared.job.Job.{Job}
-use Rattle.wb_runs.specs.declared.job.Job.TheVariants.{Read, Write, Flush, Open, Migrate, Replace}
+use Rattle.wb_runs.specs.declared.job.Job.TheVariants.{Read, Write}
 use Rattle.wb_runs.specs.States.{Actor}
 use Rattle.wb_simulation.specs.Actors.{IsLate, IsRequestAt, StandsFor}
 use Rattle.wb_simulation.specs.Telling.{Answers, AnswersSo}
 use Rattle.wb_simulation.specs.Worlds.{Agrees, Follows}
 use Rattle.wb_simulation.specs.Laws.{AnswersFollowed, IsRequestJob, content_of}
-use Rattle.wb_simulation.proofs.Cells.{shared_stays, gone_nowhere}
+use Rattle.wb_simulation.proofs.Cells.{gone_nowhere}
 use Rattle.wb_simulation.proofs.Telling.{nothing_told, answers_at, stopped_answers, late_answers_so}
 use Rattle.wb_simulation.proofs.Orders.{does_none, carries_same}
-use Rattle.wb_simulation.proofs.Among.{own_there, goes_on}
-use Rattle.wb_simulation.proofs.Followed.{doing_of}
-
--- nothing is left of a plan whose next step is its answer
-nothing_left : (plan : Plan) (answer : Answer) → want plan ≡ End answer → ((next : Want) (later : List Want) → plan.steps ≡ next ∷ later → next ≡ End answer → ⊥) → plan.steps ≡ []
-nothing_left plan answer e never = by_steps plan.steps refl
-  where
-    by_steps : (steps : List Want) → plan.steps ≡ steps → plan.steps ≡ []
-    by_steps [] k = k
-    by_steps (v ∷ ws) k = absurd (never v ws k (sym (ap (λ (us : List Want). first_step us plan.answer) k) ∙ e))
+use Rattle.wb_simulation.proofs.Among.{own_there, goes_on, stays_there}
+use Rattle.wb_simulation.proofs.Followed.{doing_of, answers_by}
 
 -- an answer leaves an actor with no order, if it had none
 answered_order : (y : AbstractActor) (script : Script) → y.task ≡ Some script → script.steps ≡ [] → y.order ≡ None → (gone y y.task (DoneThere ∷ [])).order ≡ None
@@ -60,9 +52,7 @@ module _ (size most blocks : ℕ) (words : Words) (committing : Bool) (orders : 
 
   -- it has no task there
   answers_late : (abstract : AbstractJob) (answer : Answer) → AnswersSo abstract answer y.task → y.task ≡ None → flag words.fail ≡ true → Goal abstract answer
-  answers_late abstract answer so none failed = goes_on size most words words (λ f. f) committing orders devices actors a x (record x { task = None }) s y g ex ey (Answers abstract answer) devices [] s.shared (so, nothing_told a y.task (DoneThere ∷ []) none) tt (shared_stays s.shared y y.task)
-      (subst (λ (z : AbstractActor). StandsFor size most words (record x { task = None }) z) (sym (gone_nowhere y y.task)) (record { at = (none, inr failed); below = st.below; among_others = st.among_others }))
-      (λ l. gone_nowhere y y.task) g.words_agree g.origin g.cache refl refl refl (refl, refl, refl) (refl, refl) (ap (λ (v : AbstractActor). v.order) (gone_nowhere y y.task)) (λ o h. h) (carries_same size orders devices actors s a) (does_none _ _ _ _ _ _ tt)
+  answers_late abstract answer so none failed = stays_there size most words committing orders devices actors a x (record x { task = None }) s y g ex ey (Answers abstract answer) (so, nothing_told a y.task (DoneThere ∷ []) none) (record { at = (none, inr failed); below = st.below; among_others = st.among_others }) (λ o h. h) (does_none _ _ _ _ _ _ tt)
 
   request_answers : (content : Content) (job_on : BlockRange → BlockJob) (part : BlockRange) (answer : Answer) → x.card.hold ≡ HoldsNothing →
       IsAt size content (plan_of (job_on part) [] answer) x.card y ⊎ HasStopped words (plan_of (job_on part) [] answer) x.card y ⊎ IsLate words (plan_of (job_on part) [] answer) y → Goal (job_for size content (OnBlock (job_on part))) answer
@@ -72,9 +62,8 @@ module _ (size most blocks : ℕ) (words : Words) (committing : Bool) (orders : 
 
   of_plan : (content : Content) (job_on : BlockRange → BlockJob) (plan : Plan) (answer : Answer) → want plan ≡ End answer → Suits blocks plan x.card → IsRequestAt size content words job_on plan x.card y → Goal (job_for size content plan.job) answer
   of_plan content job_on plan answer e suits r =
-      let none = nothing_left plan answer e (λ next later k same. absurd (subst (λ (p : Plan). Suits blocks p x.card) (with_steps (End answer ∷ later) (k ∙ ap (λ (v : Want). v ∷ later) same)) suits).1.1.1) in
-      let is_given : plan.answer ≡ answer = (let same : End plan.answer ≡ End answer = sym (ap (λ (ws : List Want). first_step ws plan.answer) none) ∙ e in cc) in
-      subst (λ (abstract : AbstractJob). Goal abstract answer) (ap (job_for size content) (sym r.job)) (subst (Goal (job_for size content (OnBlock (job_on r.part)))) is_given (request_answers content job_on r.part plan.answer (subst (λ (p : Plan). Suits blocks p x.card) (with_steps [] none) suits).1 (subst At (with_steps [] none) r.at)))
+      let over = answers_by plan answer e (λ later k. (subst (λ (p : Plan). Suits blocks p x.card) (with_steps (End answer ∷ later) k) suits).1.1.1) in
+      subst (λ (abstract : AbstractJob). Goal abstract answer) (ap (job_for size content) (sym r.job)) (subst (Goal (job_for size content (OnBlock (job_on r.part)))) over.1 (request_answers content job_on r.part plan.answer (subst (λ (p : Plan). Suits blocks p x.card) (with_steps [] over.0) suits).1 (subst At (with_steps [] over.0) r.at)))
     where
       At : Plan → Type 0
       At p = IsAt size content p x.card y ⊎ HasStopped words p x.card y ⊎ IsLate words p y
@@ -85,10 +74,7 @@ module _ (size most blocks : ℕ) (words : Words) (committing : Bool) (orders : 
   followed : (job : Job) (plan : Plan) (answer : Answer) → IsRequestJob job → x.task ≡ Some (job, plan) → want plan ≡ End answer → Suits blocks plan x.card → Goal (job_for size (content_of job) plan.job) answer
   followed (Read extent) plan answer q e next suits = of_plan [] Reading plan answer next suits (doing_of size most words x y (Read extent) plan st e)
   followed (Write extent content) plan answer q e next suits = of_plan content Writing plan answer next suits (doing_of size most words x y (Write extent content) plan st e)
-  followed Flush plan answer q e next suits = absurd q
-  followed (Open mode) plan answer q e next suits = absurd q
-  followed (Migrate migration block) plan answer q e next suits = absurd q
-  followed (Replace old new) plan answer q e next suits = absurd q
+  followed job plan answer q e next suits = absurd q
 
 pub answers_followed : AnswersFollowed
 answers_followed size most blocks words committing orders devices actors a x job plan answer s q ex task suits next g =

@@ -1,7 +1,7 @@
 -- Each step of a flush is followed, wherever it stands.
 use Rattle.std.proofs.Common.{Contains, ◌++◌, ◌≡◌, ◌∙◌, inl, inr, ℕ, Bool, true, false, List, [], ◌∷◌, Some, None, refl, sym, ap, subst, slice_get, slice_set, Option}
 use Rattle.wb_types.specs.declared.mode.Dev.{Dev}
-use Rattle.wb_types.specs.declared.mode.Dev.TheVariants.{Metadata, Cache, Origin}
+use Rattle.wb_types.specs.declared.mode.Dev.TheVariants.{Metadata}
 use Rattle.wb_disk.specs.Device.{History, synced}
 use Rattle.wb_disk.specs.Failing.{synced_where}
 use Rattle.wb_words.specs.SharedWords.{Words}
@@ -9,7 +9,7 @@ use Rattle.wb_words.specs.Effects.{words_after}
 use Rattle.wb_words.specs.declared.step.CellStep.TheVariants.{Look, SetFailed}
 use Rattle.wb_words.specs.declared.word.Word.TheVariants.{Fail}
 use Rattle.wb_policy.specs.declared.order.Order.{Order}
-use Rattle.wb_tasks.specs.Plan.{Plan, want, first_step}
+use Rattle.wb_tasks.specs.Plan.{Plan, want}
 use Rattle.wb_tasks.specs.Ready.{HoldsBlocks}
 use Rattle.wb_tasks.specs.declared.step.Answer.{Answer}
 use Rattle.wb_tasks.specs.declared.step.DeviceStep.TheVariants.{Sync}
@@ -33,9 +33,9 @@ use Rattle.wb_types.specs.declared.number.OBlock.{OBlock}
 use Rattle.wb_tasks.specs.declared.step.DeskStep.TheVariants.{ReleaseOrder}
 use Rattle.wb_simulation.specs.Carried.{held}
 use Rattle.wb_simulation.proofs.Among.{own_there}
-use Rattle.wb_simulation.proofs.Followed.{doing_of, begins_by}
+use Rattle.wb_simulation.proofs.Followed.{doing_of, begins_by, answers_by}
 use Rattle.wb_simulation.proofs.Leading.{AtFlush, at_flush}
-use Rattle.wb_simulation.proofs.Flushing.{leading, syncs_cache, syncs_origin, fails_cache, fails_origin, metadata_done, metadata_failed, is_on_metadata, is_refused, begins, ends, releases, gives_up, fails, looks, answers, late_looks, late_answers}
+use Rattle.wb_simulation.proofs.Flushing.{leading, syncs, sync_falls, metadata_done, metadata_failed, is_on_metadata, is_refused, begins, ends, releases, gives_up, fails, looks, answers, late_looks, late_answers}
 
 -- a flush that asks for a commit, of which nothing is known but that
 asks : (size most allowed : ℕ) (serves : List OBlock) (clean : Bool) (words : Words) (plan : Plan) (y : AbstractActor) → (k : AtFlush size most serves words plan (Desk (BeginCommit clean allowed)) y) →
@@ -44,38 +44,20 @@ asks size most allowed serves clean words plan y k =
     let same : flushing serves most (Desk (BeginCommit clean allowed) ∷ k.later) plan.answer ≡ flushing serves most (Desk (BeginCommit false most) ∷ []) plan.answer = (λ i. flushing serves most (Desk (BeginCommit (k.rest.0 i) (k.rest.1 i)) ∷ k.rest.2 i) plan.answer) in
     (k.is ∙ same, subst (λ (b : Bool). IsFlushing size [] (flushing serves most (Desk (BeginCommit false most) ∷ []) plan.answer) b y) k.at (subst (λ (p : Plan). IsFlushing size [] p k.leads y) same k.same))
 
--- nothing is left of a flush that answers
-nothing_left : (most : ℕ) (plan : Plan) (answer : Answer) → want plan ≡ End answer → IsOfFlush most plan.steps → plan.steps ≡ []
-nothing_left most plan answer e o = by_steps plan.steps refl
-  where
-    by_steps : (steps : List Want) → plan.steps ≡ steps → plan.steps ≡ []
-    by_steps [] k = k
-    by_steps (v ∷ ws) k =
-        let first : v ≡ End answer = sym (ap (λ (us : List Want). first_step us plan.answer) k) ∙ e in
-        absurd (subst (λ (us : List Want). IsOfFlush most us) (k ∙ ap (λ (u : Want). u ∷ ws) first) o)
-
 module _ (size most : ℕ) (words : Words) (committing : Bool) (orders : List (Option Order)) (devices : Devices (List History)) (actors : List Actor) (a : ℕ) (x : Actor) (plan : Plan) (s : World) (y : AbstractActor) (ex : slice_get actors a ≡ Some x) (ey : slice_get s.actors a ≡ Some y) (g : Agrees size most words committing orders devices actors s)
     (st : StandsFor size most words x y) (f : IsFlushAt size most words plan y) (task : x.task ≡ Some (Flush, plan)) where
   abbrev Then : Devices (List History) → Plan → Got → Type 0
   Then ds p got = Follows Quietly size most a s words committing orders ds (slice_set actors a (after_step Flush p got x))
 
   sync : (device : Dev) → HoldsBlocks device → want plan ≡ Device (Sync device) → Then (with_device device devices (synced (device_in device devices))) plan Done
-  sync Cache h e = let k = at_flush size most words plan (Device (Sync Cache)) y e (λ answer q. absurd (cc)) (λ q. absurd (cc)) f in
-      subst (λ (p : Plan). Then (with_device Cache devices (synced devices.cache)) p Done) (sym k.is) (syncs_cache size most f.serves words committing orders devices actors a x plan s y ex ey g k.later plan.answer k.rest
-      (leading size most f.serves words committing orders devices actors a x plan s y ex ey g (Device (Sync Cache)) k.later plan.answer k.leads k.at k.same))
-  sync Origin h e = let k = at_flush size most words plan (Device (Sync Origin)) y e (λ answer q. absurd (cc)) (λ q. absurd (cc)) f in
-      subst (λ (p : Plan). Then (with_device Origin devices (synced devices.origin)) p Done) (sym k.is) (syncs_origin size most f.serves words committing orders devices actors a x plan s y ex ey g k.later plan.answer k.rest
-      (leading size most f.serves words committing orders devices actors a x plan s y ex ey g (Device (Sync Origin)) k.later plan.answer k.leads k.at k.same))
-  sync Metadata h e = absurd h
+  sync device h e = let k = at_flush size most words plan (Device (Sync device)) y e (λ answer q. absurd (cc)) (λ q. absurd (cc)) f in
+      subst (λ (p : Plan). Then (with_device device devices (synced (device_in device devices))) p Done) (sym k.is) (syncs size most f.serves words committing orders devices actors a x plan s y ex ey g device h k.later plan.answer k.rest
+      (leading size most f.serves words committing orders devices actors a x plan s y ex ey g (Device (Sync device)) k.later plan.answer k.leads k.at k.same))
 
   sync_fails : (lands : ℕ → Bool) (device : Dev) → HoldsBlocks device → want plan ≡ Device (Sync device) → Then (with_device device devices (synced_where lands (device_in device devices))) plan Fault
-  sync_fails lands Cache h e = let k = at_flush size most words plan (Device (Sync Cache)) y e (λ answer q. absurd (cc)) (λ q. absurd (cc)) f in
-      subst (λ (p : Plan). Then (with_device Cache devices (synced_where lands devices.cache)) p Fault) (sym k.is) (fails_cache size most f.serves words committing orders devices actors a x plan s y ex ey g lands k.later plan.answer k.rest
-      (leading size most f.serves words committing orders devices actors a x plan s y ex ey g (Device (Sync Cache)) k.later plan.answer k.leads k.at k.same))
-  sync_fails lands Origin h e = let k = at_flush size most words plan (Device (Sync Origin)) y e (λ answer q. absurd (cc)) (λ q. absurd (cc)) f in
-      subst (λ (p : Plan). Then (with_device Origin devices (synced_where lands devices.origin)) p Fault) (sym k.is) (fails_origin size most f.serves words committing orders devices actors a x plan s y ex ey g lands k.later plan.answer k.rest
-      (leading size most f.serves words committing orders devices actors a x plan s y ex ey g (Device (Sync Origin)) k.later plan.answer k.leads k.at k.same))
-  sync_fails lands Metadata h e = absurd h
+  sync_fails lands device h e = let k = at_flush size most words plan (Device (Sync device)) y e (λ answer q. absurd (cc)) (λ q. absurd (cc)) f in
+      subst (λ (p : Plan). Then (with_device device devices (synced_where lands (device_in device devices))) p Fault) (sym k.is) (sync_falls size most f.serves words committing orders devices actors a x plan s y ex ey g lands device h k.later plan.answer
+      (leading size most f.serves words committing orders devices actors a x plan s y ex ey g (Device (Sync device)) k.later plan.answer k.leads k.at k.same))
 
   look : want plan ≡ Cell (Look Fail) → Follows Quietly size most a s words committing orders devices (slice_set actors a (went words Flush plan (Look Fail) x))
   look e = elim f.at [
@@ -90,18 +72,15 @@ module _ (size most : ℕ) (words : Words) (committing : Bool) (orders : List (O
   ]
 
   answer_given : (orders' awaiting' : List Order) → ((o : Order) → Contains (held x) o → Contains (orders' ++ awaiting') o) → (answer : Answer) → want plan ≡ End answer → Follows (Answers (FlushingFor None) answer) size most a s words committing orders devices (slice_set actors a (record x { task = None; orders = orders'; awaiting = awaiting' }))
-  answer_given orders' awaiting' keeps answer e = subst (λ (given : Answer). Follows (Answers (FlushingFor None) given) size most a s words committing orders devices (slice_set actors a (record x { task = None; orders = orders'; awaiting = awaiting' }))) is_given (elim f.at [
+  answer_given orders' awaiting' keeps answer e = subst (λ (given : Answer). Follows (Answers (FlushingFor None) given) size most a s words committing orders devices (slice_set actors a (record x { task = None; orders = orders'; awaiting = awaiting' }))) over.1 (elim f.at [
     | inl l ↦
-        let is : plan ≡ flushing f.serves most [] plan.answer = (λ i. record { job = f.job i; steps = none i; answer = plan.answer }) in
-        answers size most f.serves words committing orders devices actors a x plan s y ex ey g orders' awaiting' keeps plan.answer l.leads (λ q. l.failed q none) (subst (λ (p : Plan). IsFlushing size [] p l.leads y) is l.is)
-    | inr l ↦ late_answers size most f.serves words committing orders devices actors a x plan s y ex ey g orders' awaiting' keeps l f.job none st
+        let is : plan ≡ flushing f.serves most [] plan.answer = (λ i. record { job = f.job i; steps = over.0 i; answer = plan.answer }) in
+        answers size most f.serves words committing orders devices actors a x plan s y ex ey g orders' awaiting' keeps plan.answer l.leads (λ q. l.failed q over.0) (subst (λ (p : Plan). IsFlushing size [] p l.leads y) is l.is)
+    | inr l ↦ late_answers size most f.serves words committing orders devices actors a x plan s y ex ey g orders' awaiting' keeps l f.job over.0 st
   ])
     where
-      none : plan.steps ≡ []
-      none = nothing_left most plan answer e f.steps
-
-      is_given : plan.answer ≡ answer
-      is_given = let same : End plan.answer ≡ End answer = sym (ap (λ (ws : List Want). first_step ws plan.answer) none) ∙ e in cc
+      over : (plan.steps ≡ []) × (plan.answer ≡ answer)
+      over = answers_by plan answer e (λ later k. subst (λ (us : List Want). IsOfFlush most us) k f.steps)
 
 flush_of : (size most : ℕ) (words : Words) (committing : Bool) (orders : List (Option Order)) (devices : Devices (List History)) (actors : List Actor) (a : ℕ) (x : Actor) (plan : Plan) (s : World) (ex : slice_get actors a ≡ Some x) (g : Agrees size most words committing orders devices actors s) → x.task ≡ Some (Flush, plan) →
     (y : AbstractActor) × (slice_get s.actors a ≡ Some y) × StandsFor size most words x y × IsFlushAt size most words plan y

@@ -1,5 +1,6 @@
 -- Each step of a flush is followed.
-use Rattle.std.proofs.Common.{Contains, ◌++◌, map, ◌≡◌, ◌≢◌, ◌+◌, ◌*◌, ◌==◌, ◌∙◌, inl, inr, cond, if◌then◌else◌, ℕ, Bool, true, false, List, [], ◌∷◌, Some, None, refl, sym, ap, subst, slice_get, slice_set, Option}
+use Rattle.std.proofs.Common.{Contains, ◌++◌, map, ◌≡◌, ◌≢◌, ◌+◌, ◌*◌, ◌==◌, ◌∙◌, inl, inr, if◌then◌else◌, ℕ, Bool, true, false, List, [], ◌∷◌, Some, None, refl, sym, ap, subst, slice_get, slice_set, Option}
+use Rattle.wb_types.specs.declared.mode.Dev.{Dev}
 use Rattle.wb_types.specs.declared.mode.Dev.TheVariants.{Metadata, Cache, Origin}
 use Rattle.wb_types.specs.declared.refusal.Refusal.{Refusal}
 use Rattle.wb_types.specs.declared.refusal.Refusal.TheVariants.{Failed, Busy, Memory, GenerationEnd}
@@ -17,15 +18,17 @@ use Rattle.wb_policy.specs.declared.order.Order.{Order}
 use Rattle.wb_tasks.specs.Tables.{Flushing}
 use Rattle.wb_tasks.specs.Plan.{Plan, want, after, device_of, first_step, onward, refused, table}
 use Rattle.wb_tasks.specs.declared.step.Answer.{Answer}
-use Rattle.wb_tasks.specs.declared.step.Answer.TheVariants.{Done as Finished, Refused as Refuses}
+use Rattle.wb_tasks.specs.declared.step.Answer.TheVariants.{Refused as Refuses}
 use Rattle.wb_tasks.specs.declared.step.DeviceStep.{DeviceStep}
-use Rattle.wb_tasks.specs.declared.step.DeviceStep.TheVariants.{Read, Write, Sync, ReadMetadata, WriteNode, WriteRoot}
+use Rattle.wb_tasks.specs.declared.step.DeviceStep.TheVariants.{Sync, WriteNode, WriteRoot}
 use Rattle.wb_tasks.specs.declared.step.DeskStep.TheVariants.{BeginCommit, EndCommit}
 use Rattle.wb_tasks.specs.declared.step.Want.{Want}
 use Rattle.wb_tasks.specs.declared.step.Want.TheVariants.{Cell, Device, Desk, End}
 use Rattle.wb_tasks.specs.declared.step.Got.TheVariants.{Done, Fault, Word, Began, Refused}
 use Rattle.wb_devices.specs.declared.devices.Devices.{Devices}
 use Rattle.std.proofs.lemmas.Bool.{cases_eq}
+use Rattle.wb_devices.specs.Moving.{device_in}
+use Rattle.wb_tasks.specs.Ready.{HoldsBlocks}
 use Rattle.wb_link.proofs.Lists.{get_set_other}
 use Rattle.wb_link.specs.Tables.{Begin, End_running, Done as DoneThere, Flushing as FlushingFor}
 use Rattle.wb_link.specs.World.{World, Shared, Nothing, Actor as AbstractActor, effect, is_alone}
@@ -33,7 +36,7 @@ use Rattle.wb_refines.specs.Going.{gone}
 use Rattle.wb_refines.specs.Translation.{wants_of}
 use Rattle.wb_refines.specs.Models.{WordsAgree}
 use Rattle.wb_refines.specs.Flushes.{IsFlushing, IsOnMetadata, IsNoBegin, IsWrittenAfter, flushing, Leads}
-use Rattle.wb_refines.proofs.Cells.{flag_of, failed_flag}
+use Rattle.wb_refines.proofs.Cells.{failed_flag}
 use Rattle.wb_refines.proofs.Flushing.{flush_steps_followed as followed_alone}
 use Rattle.wb_refines.proofs.Holding.{holds_nothing}
 use Rattle.wb_refines.proofs.Tasks.{tasks_end}
@@ -44,7 +47,6 @@ use Rattle.wb_simulation.specs.Carried.{held}
 use Rattle.wb_simulation.specs.Telling.{Quietly, Answers, Releases}
 use Rattle.wb_simulation.specs.Worlds.{zeros, Agrees, Turn, Stays, Begins, Puts, Ends, GivesUp, TurnedTo, DeskTurnedTo, FollowsBy, Follows, IsUnfinished}
 use Rattle.wb_simulation.specs.Laws.{turn_of, went, IsOnlyOf}
-use Rattle.wb_simulation.proofs.Cells.{shared_stays, gone_nowhere}
 use Rattle.wb_simulation.proofs.Telling.{answers_at, late_answers_so, unnoted_none, nothing_told, quiet_are_unnoted}
 use Rattle.wb_types.specs.declared.number.OBlock.{OBlock}
 use Rattle.wb_tasks.specs.Plan.{release_orders, lets_go_unless_busy}
@@ -55,9 +57,14 @@ use Rattle.wb_simulation.proofs.Orders.{does_none, carries_same}
 use Rattle.wb_disk.proofs.FailedSyncs.{partly_synced as partly_synced_list}
 use Rattle.wb_disk.proofs.Leaving.{newest-synced, read-partly}
 use Rattle.wb_simulation.proofs.Beside.{carries_newest}
-use Rattle.wb_simulation.proofs.Among.{goes_on, goes_leading}
+use Rattle.wb_simulation.proofs.Among.{goes_on, goes_leading, stays_there}
 use Rattle.wb_simulation.proofs.Releasing.{released_there}
+use Rattle.wb_simulation.proofs.Steps.{finds_failed}
 use Rattle.wb_simulation.proofs.Leading.{nodes_on_metadata, commits_on, has_wants, stands, one_here, is_here, leads_on}
+
+some_on : (steps : List Want) → IsOnMetadata steps → steps ≢ []
+some_on [] m = absurd m
+some_on (v ∷ ws) m = λ e. absurd (cc)
 
 module _ (size most : ℕ) (serves : List OBlock) (words : Words) (committing : Bool) (orders : List (Option Order)) (devices : Devices (List History)) (actors : List Actor) (a : ℕ) (x : Actor) (plan : Plan) (s : World) (y : AbstractActor) (ex : slice_get actors a ≡ Some x) (ey : slice_get s.actors a ≡ Some y) (g : Agrees size most words committing orders devices actors s) where
   -- a step on a device, done, with this left
@@ -79,48 +86,35 @@ module _ (size most : ℕ) (serves : List OBlock) (words : Words) (committing : 
   pub leading : (next : Want) (later : List Want) (answer : Answer) (leads : Bool) → leads ≡ true → IsFlushing size [] (flushing serves most (next ∷ later) answer) leads y → IsFlushing size [] (flushing serves most (next ∷ later) answer) true y
   leading next later answer leads e is = subst (λ (b : Bool). IsFlushing size [] (flushing serves most (next ∷ later) answer) b y) e is
 
-  -- cache and origin are synced
-  pub syncs_cache : (later : List Want) (answer : Answer) → IsOfFlush most (Device (Sync Cache) ∷ later) → IsFlushing size [] (flushing serves most (Device (Sync Cache) ∷ later) answer) true y →
-      On (with_device Cache devices (synced devices.cache)) (after (flushing serves most (Device (Sync Cache) ∷ later) answer) Done)
-  syncs_cache (Device (Sync Origin) ∷ ws) answer o is =
+  -- cache and origin are synced, or one of them fails
+  pub syncs : (device : Dev) → HoldsBlocks device → (later : List Want) (answer : Answer) → IsOfFlush most (Device (Sync device) ∷ later) → IsFlushing size [] (flushing serves most (Device (Sync device) ∷ later) answer) true y →
+      On (with_device device devices (synced (device_in device devices))) (after (flushing serves most (Device (Sync device) ∷ later) answer) Done)
+  syncs Cache h (Device (Sync Origin) ∷ ws) answer o is =
       goes Stays (with_device Cache devices (synced devices.cache)) (Device (Sync Cache)) (Device (Sync Origin) ∷ ws) answer _ _ is (λ e. absurd (cc)) (followed_alone.syncs_cache size serves most [] s.actors a s.shared y (Device (Sync Origin) ∷ ws) answer is) refl o refl (λ n. absurd (cc))
       (record { fail = g.words_agree.fail; seals = g.words_agree.seals }) g.origin (ap all_synced g.cache ∙ sym (sync_is_act size zeros devices.cache)) refl refl refl (refl, refl, refl) (refl, refl) refl refl (newest-synced devices.cache)
-  syncs_cache later answer o is = absurd o
-
-  pub syncs_origin : (later : List Want) (answer : Answer) → IsOfFlush most (Device (Sync Origin) ∷ later) → IsFlushing size [] (flushing serves most (Device (Sync Origin) ∷ later) answer) true y →
-      On (with_device Origin devices (synced devices.origin)) (after (flushing serves most (Device (Sync Origin) ∷ later) answer) Done)
-  syncs_origin later answer o is =
-      goes Stays (with_device Origin devices (synced devices.origin)) (Device (Sync Origin)) later answer (flushing serves most later answer) (record s.shared { origin = all_synced s.shared.origin }) is (λ e. absurd (cc)) (followed_alone.syncs_origin size serves most [] s.actors a s.shared y later answer is) refl (commits_on most later o).0 (commits_on most later o).1 (on_metadata_some later o)
+  syncs Cache h later answer o is = absurd o
+  syncs Origin h later answer o is =
+      goes Stays (with_device Origin devices (synced devices.origin)) (Device (Sync Origin)) later answer (flushing serves most later answer) (record s.shared { origin = all_synced s.shared.origin }) is (λ e. absurd (cc)) (followed_alone.syncs_origin size serves most [] s.actors a s.shared y later answer is) refl (commits_on most later o).0 (commits_on most later o).1 (some_on later o)
       (record { fail = g.words_agree.fail; seals = g.words_agree.seals }) (ap all_synced g.origin ∙ sym (sync_is_act size zeros devices.origin)) g.cache refl refl refl (refl, refl, refl) (refl, refl) refl (newest-synced devices.origin) refl
-    where
-      on_metadata_some : (steps : List Want) → IsOnMetadata steps → steps ≢ []
-      on_metadata_some [] m = absurd m
-      on_metadata_some (v ∷ ws) m = λ e. absurd (cc)
+  syncs Metadata h later answer o is = absurd h
 
-  -- or one of them fails
-  pub fails_cache : (lands : ℕ → Bool) (later : List Want) (answer : Answer) → IsOfFlush most (Device (Sync Cache) ∷ later) → IsFlushing size [] (flushing serves most (Device (Sync Cache) ∷ later) answer) true y →
-      On (with_device Cache devices (synced_where lands devices.cache)) (after (flushing serves most (Device (Sync Cache) ∷ later) answer) Fault)
-  fails_cache lands later answer o is =
+  pub sync_falls : (lands : ℕ → Bool) (device : Dev) → HoldsBlocks device → (later : List Want) (answer : Answer) → IsFlushing size [] (flushing serves most (Device (Sync device) ∷ later) answer) true y →
+      On (with_device device devices (synced_where lands (device_in device devices))) (after (flushing serves most (Device (Sync device) ∷ later) answer) Fault)
+  sync_falls lands Cache h later answer is =
       goes Stays (with_device Cache devices (synced_where lands devices.cache)) (Device (Sync Cache)) later answer (after (flushing serves most (Device (Sync Cache) ∷ later) answer) Fault) (record s.shared { cache = partly_synced (λ b o. lands (b * size + o)) s.shared.cache }) is (λ e. absurd (cc))
       (followed_alone.fails_cache size serves most [] s.actors a s.shared y later answer (λ b o. lands (b * size + o)) is) refl refl refl (λ n. absurd (cc))
       (record { fail = g.words_agree.fail; seals = g.words_agree.seals }) g.origin (ap (partly_synced (λ b o. lands (b * size + o))) g.cache ∙ sym (failed_sync_is_act size zeros lands devices.cache)) refl refl refl (refl, refl, refl) (refl, refl) refl refl (read-partly devices.cache (synced_where lands devices.cache) (partly_synced_list lands devices.cache))
-
-  pub fails_origin : (lands : ℕ → Bool) (later : List Want) (answer : Answer) → IsOfFlush most (Device (Sync Origin) ∷ later) → IsFlushing size [] (flushing serves most (Device (Sync Origin) ∷ later) answer) true y →
-      On (with_device Origin devices (synced_where lands devices.origin)) (after (flushing serves most (Device (Sync Origin) ∷ later) answer) Fault)
-  fails_origin lands later answer o is =
+  sync_falls lands Origin h later answer is =
       goes Stays (with_device Origin devices (synced_where lands devices.origin)) (Device (Sync Origin)) later answer (after (flushing serves most (Device (Sync Origin) ∷ later) answer) Fault) (record s.shared { origin = partly_synced (λ b o. lands (b * size + o)) s.shared.origin }) is (λ e. absurd (cc))
       (followed_alone.fails_origin size serves most [] s.actors a s.shared y later answer (λ b o. lands (b * size + o)) is) refl refl refl (λ n. absurd (cc))
       (record { fail = g.words_agree.fail; seals = g.words_agree.seals }) (ap (partly_synced (λ b o. lands (b * size + o))) g.origin ∙ sym (failed_sync_is_act size zeros lands devices.origin)) g.cache refl refl refl (refl, refl, refl) (refl, refl) refl (read-partly devices.origin (synced_where lands devices.origin) (partly_synced_list lands devices.origin)) refl
+  sync_falls lands Metadata h later answer is = absurd h
 
   -- a step on the metadata is done, or fails; the data devices are as they were
   metadata_goes : (turn : Turn) (metadata : List History) (step : DeviceStep) (later : List Want) (answer : Answer) (t : Shared) → IsOnMetadata (Device step ∷ later) → IsOnMetadata later → IsFlushing size [] (flushing serves most (Device step ∷ later) answer) true y → Leads size [] s.actors a s.shared y t (flushing serves most later answer) true →
       WordsAgree words t → t.origin ≡ s.shared.origin → t.cache ≡ s.shared.cache → t.mode ≡ s.shared.mode → t.committing ≡ s.shared.committing → t.broken ≡ s.shared.broken → TurnedTo turn s.shared t → DeskTurnedTo turn s.shared t → t.mapping ≡ s.shared.mapping → OnBy turn (with_device Metadata devices metadata) (flushing serves most later answer)
   metadata_goes turn metadata step later answer t on m is l w og ca mo co br turned desk same_map =
-      goes turn (with_device Metadata devices metadata) (Device step) later answer (flushing serves most later answer) t is (has_wants size (Device step ∷ later) on) l refl (commits_on most later m).0 (commits_on most later m).1 (some later m) w (og ∙ g.origin) (ca ∙ g.cache) mo co br turned desk same_map refl refl
-    where
-      some : (steps : List Want) → IsOnMetadata steps → steps ≢ []
-      some [] m = absurd m
-      some (v ∷ ws) m = λ e. absurd (cc)
+      goes turn (with_device Metadata devices metadata) (Device step) later answer (flushing serves most later answer) t is (has_wants size (Device step ∷ later) on) l refl (commits_on most later m).0 (commits_on most later m).1 (some_on later m) w (og ∙ g.origin) (ca ∙ g.cache) mo co br turned desk same_map refl refl
 
   pub metadata_done : (metadata : List History) (step : DeviceStep) (later : List Want) (answer : Answer) → device_of step ≡ Metadata → IsOfFlush most (Device step ∷ later) → IsFlushing size [] (flushing serves most (Device step ∷ later) answer) true y → OnBy (turn_of step) (with_device Metadata devices metadata) (after (flushing serves most (Device step ∷ later) answer) Done)
   metadata_done metadata (WriteNode number) later answer d o is = metadata_goes Stays metadata (WriteNode number) later answer s.shared o o is (followed_alone.nodes size serves most number [] s.actors a s.shared y later answer is) g.words_agree refl refl refl refl refl (refl, refl, refl) (refl, refl) refl
@@ -128,9 +122,7 @@ module _ (size most : ℕ) (serves : List OBlock) (words : Words) (committing : 
   metadata_done metadata (Sync Cache) later answer d o is = absurd (cc)
   metadata_done metadata (Sync Origin) later answer d o is = absurd (cc)
   metadata_done metadata WriteRoot later answer d o is = metadata_goes (Puts true) metadata WriteRoot later answer (record s.shared { root_written = true }) o o is (followed_alone.writes_root size serves most [] s.actors a s.shared y later answer is) (record { fail = g.words_agree.fail; seals = g.words_agree.seals }) refl refl refl refl refl (refl, refl, refl) (refl, refl) refl
-  metadata_done metadata (ReadMetadata left) later answer d o is = absurd o
-  metadata_done metadata (Read device e) later answer d o is = absurd o
-  metadata_done metadata (Write device e) later answer d o is = absurd o
+  metadata_done metadata step later answer d o is = absurd o
 
   pub metadata_failed : (metadata : List History) (step : DeviceStep) (later : List Want) (answer : Answer) → IsOnMetadata (Device step ∷ later) → IsFlushing size [] (flushing serves most (Device step ∷ later) answer) true y → (written : Bool) × IsWrittenAfter step s.shared.root_written written × OnBy (Puts written) (with_device Metadata devices metadata) (after (flushing serves most (Device step ∷ later) answer) Fault)
   metadata_failed metadata step later answer m is =
@@ -147,9 +139,7 @@ module _ (size most : ℕ) (serves : List OBlock) (words : Words) (committing : 
   is_on_metadata (Sync Cache) later d o = absurd (cc)
   is_on_metadata (Sync Origin) later d o = absurd (cc)
   is_on_metadata WriteRoot later d o = o
-  is_on_metadata (ReadMetadata left) later d o = absurd o
-  is_on_metadata (Read device e) later d o = absurd o
-  is_on_metadata (Write device e) later d o = absurd o
+  is_on_metadata step later d o = absurd o
 
   -- ---- the desk and the words
 
@@ -257,23 +247,24 @@ module _ (size most : ℕ) (serves : List OBlock) (words : Words) (committing : 
 
   pub looks : (later : List Want) (answer : Answer) → later ≡ Desk (BeginCommit false most) ∷ [] → IsFlushing size [] (flushing serves most (Cell (Look Fail) ∷ later) answer) false y →
       Follows Quietly size most a s words committing orders devices (slice_set actors a (went words Flush (flushing serves most (Cell (Look Fail) ∷ later) answer) (Look Fail) x))
-  looks later answer n is = subst (λ (ws : List Want). Goal ws) (sym n) (by_test (words.fail == 0) refl)
+  looks later answer n is = subst (λ (ws : List Want). Goal ws) (sym n)
+      (let k = by_test (words.fail == 0) in follows_alone devices (after begun (Word words.fail)) _ k.2 k.0 k.1 (followed_alone.looks size serves most words.fail [] s.actors a s.shared y answer g.words_agree.fail is') refl (ap (λ (v : AbstractActor). v.order) is.is))
     where
       Goal : List Want → Type 0
       Goal ws = Follows Quietly size most a s words committing orders devices (slice_set actors a (went words Flush (flushing serves most (Cell (Look Fail) ∷ ws) answer) (Look Fail) x))
 
-      is' : IsFlushing size [] (flushing serves most (Cell (Look Fail) ∷ Desk (BeginCommit false most) ∷ []) answer) false y
+      begun : Plan
+      begun = flushing serves most (Cell (Look Fail) ∷ Desk (BeginCommit false most) ∷ []) answer
+
+      is' : IsFlushing size [] begun false y
       is' = subst (λ (ws : List Want). IsFlushing size [] (flushing serves most (Cell (Look Fail) ∷ ws) answer) false y) n is
 
-      by_test : (t : Bool) → (words.fail == 0) ≡ t → Goal (Desk (BeginCommit false most) ∷ [])
-      by_test true e =
-          let plan_is : after (flushing serves most (Cell (Look Fail) ∷ Desk (BeginCommit false most) ∷ []) answer) (Word words.fail) ≡ flushing serves most (Desk (BeginCommit false most) ∷ []) answer = ap (λ (t : Bool). if t then onward (flushing serves most (Cell (Look Fail) ∷ Desk (BeginCommit false most) ∷ []) answer) else refused (flushing serves most (Cell (Look Fail) ∷ Desk (BeginCommit false most) ∷ []) answer) [] Failed) e in
-          follows_alone devices (after (flushing serves most (Cell (Look Fail) ∷ Desk (BeginCommit false most) ∷ []) answer) (Word words.fail)) _ (ap (λ (p : Plan). p.job) plan_is)
-          (subst (λ (p : Plan). IsOfFlush most p.steps) (sym plan_is) (refl, refl, refl)) (subst (λ (p : Plan). LeadsAt false p.steps) (sym plan_is) refl) (followed_alone.looks size serves most words.fail [] s.actors a s.shared y answer g.words_agree.fail is') refl (ap (λ (v : AbstractActor). v.order) is.is)
-      by_test false e =
-          let plan_is : after (flushing serves most (Cell (Look Fail) ∷ Desk (BeginCommit false most) ∷ []) answer) (Word words.fail) ≡ refused (flushing serves most (Cell (Look Fail) ∷ Desk (BeginCommit false most) ∷ []) answer) [] Failed = ap (λ (t : Bool). if t then onward (flushing serves most (Cell (Look Fail) ∷ Desk (BeginCommit false most) ∷ []) answer) else refused (flushing serves most (Cell (Look Fail) ∷ Desk (BeginCommit false most) ∷ []) answer) [] Failed) e in
-          follows_alone devices (after (flushing serves most (Cell (Look Fail) ∷ Desk (BeginCommit false most) ∷ []) answer) (Word words.fail)) _ (ap (λ (p : Plan). p.job) plan_is)
-          (subst (λ (p : Plan). IsOfFlush most p.steps) (sym plan_is) tt) (subst (λ (p : Plan). LeadsAt false p.steps) (sym plan_is) tt) (followed_alone.looks size serves most words.fail [] s.actors a s.shared y answer g.words_agree.fail is') refl (ap (λ (v : AbstractActor). v.order) is.is)
+      left : Bool → Plan
+      left t = if t then onward begun else refused begun [] Failed
+
+      by_test : (t : Bool) → IsOfFlush most (left t).steps × LeadsAt false (left t).steps × ((left t).job ≡ Flushing serves most)
+      by_test true = ((refl, refl, refl), refl, refl)
+      by_test false = (tt, tt, refl)
 
   -- it answers; one that leads a commit still has failed
   pub answers : (orders' awaiting' : List Order) → ((o : Order) → Contains (held x) o → Contains (orders' ++ awaiting') o) → (answer : Answer) (leads : Bool) → (leads ≡ true → flag words.fail ≡ true) → IsFlushing size [] (flushing serves most [] answer) leads y → Follows (Answers (FlushingFor None) answer) size most a s words committing orders devices (slice_set actors a (record x { task = None; orders = orders'; awaiting = awaiting' }))
@@ -297,22 +288,14 @@ module _ (size most : ℕ) (serves : List OBlock) (words : Words) (committing : 
   pub late_looks : IsLate words plan y → StandsFor size most words x y → plan.job ≡ Flushing serves most → want plan ≡ Cell (Look Fail) → Follows Quietly size most a s words committing orders devices (slice_set actors a (went words Flush plan (Look Fail) x))
   late_looks l st j e = elim l.at [
     | inl t ↦
-        let is : plan ≡ flushing serves most (Cell (Look Fail) ∷ Desk (BeginCommit false most) ∷ []) Finished = t ∙ ap (λ k. table k) j in
-        subst (λ (p : Plan). Follows Quietly size most a s words committing orders devices (slice_set actors a (went words Flush p (Look Fail) x))) (sym is) (by_test (words.fail == 0) (flag_of words.fail (words.fail == 0) refl) refl)
+        let over : Plan = flushing serves most [] (Refuses Failed) in
+        let is : after plan (Word words.fail) ≡ over = ap (λ (p : Plan). after p (Word words.fail)) (t ∙ ap (λ k. table k) j) ∙ finds_failed words (Flushing serves most) _ _ l.failed in
+        subst (λ (p : Plan). Follows Quietly size most a s words committing orders devices (slice_set actors a (record x { task = Some (Flush, p); card = card_after words (Look Fail) x.card }))) (sym is)
+        (stays_there size most words committing orders devices actors a x (record x { task = Some (Flush, over); card = card_after words (Look Fail) x.card }) s y g ex ey Quietly ([], unnoted_none y.task, refl)
+        (record { at = record { serves = serves; job = refl; steps = tt; at = inr (record { failed = l.failed; nothing = l.nothing; at = inr (refl, λ e. absurd (cc)) }) }; below = record { owned = st.below.owned; shared = st.below.shared }; among_others = st.among_others }) (λ o h. h) (does_none _ _ _ _ _ _ tt))
     | inr n ↦ absurd (let end : want plan ≡ End plan.answer = ap (λ (ws : List Want). first_step ws plan.answer) n.0 in let bad : Cell (Look Fail) ≡ End plan.answer = sym e ∙ end in cc)
   ]
-    where
-      by_test : (t : Bool) → flag words.fail ≡ cond t false true → (words.fail == 0) ≡ t → Follows Quietly size most a s words committing orders devices (slice_set actors a (went words Flush (flushing serves most (Cell (Look Fail) ∷ Desk (BeginCommit false most) ∷ []) Finished) (Look Fail) x))
-      by_test true f k = absurd (let bad : true ≡ false = sym l.failed ∙ f in cc)
-      by_test false f k =
-          let plan_is : after (flushing serves most (Cell (Look Fail) ∷ Desk (BeginCommit false most) ∷ []) Finished) (Word words.fail) ≡ flushing serves most [] (Refuses Failed) = ap (λ (t : Bool). if t then onward (flushing serves most (Cell (Look Fail) ∷ Desk (BeginCommit false most) ∷ []) Finished) else refused (flushing serves most (Cell (Look Fail) ∷ Desk (BeginCommit false most) ∷ []) Finished) [] Failed) k in
-          subst (λ (p : Plan). Follows Quietly size most a s words committing orders devices (slice_set actors a (record x { task = Some (Flush, p); card = card_after words (Look Fail) x.card }))) (sym plan_is)
-          (goes_on size most words words (λ q. q) committing orders devices actors a x (record x { task = Some (Flush, flushing serves most [] (Refuses Failed)); card = card_after words (Look Fail) x.card }) s y g ex ey Quietly devices [] s.shared ([], unnoted_none y.task, refl) tt (shared_stays s.shared y y.task)
-          (subst (λ (z : AbstractActor). StandsFor size most words (record x { task = Some (Flush, flushing serves most [] (Refuses Failed)); card = card_after words (Look Fail) x.card }) z) (sym (gone_nowhere y y.task))
-          (record { at = record { serves = serves; job = refl; steps = tt; at = inr (record { failed = l.failed; nothing = l.nothing; at = inr (refl, λ e. absurd (cc)) }) }; below = record { owned = st.below.owned; shared = st.below.shared }; among_others = st.among_others }))
-          (λ q. gone_nowhere y y.task) g.words_agree g.origin g.cache refl refl refl (refl, refl, refl) (refl, refl) (ap (λ (v : AbstractActor). v.order) (gone_nowhere y y.task)) (λ o h. h) (carries_same size orders devices actors s a) (does_none _ _ _ _ _ _ tt))
 
   pub late_answers : (orders' awaiting' : List Order) → ((o : Order) → Contains (held x) o → Contains (orders' ++ awaiting') o) → IsLate words plan y → plan.job ≡ Flushing serves most → plan.steps ≡ [] → StandsFor size most words x y → Follows (Answers (FlushingFor None) plan.answer) size most a s words committing orders devices (slice_set actors a (record x { task = None; orders = orders'; awaiting = awaiting' }))
-  late_answers orders' awaiting' keeps l j none st = goes_on size most words words (λ q. q) committing orders devices actors a x (record x { task = None; orders = orders'; awaiting = awaiting' }) s y g ex ey (Answers (FlushingFor None) plan.answer) devices [] s.shared (late_answers_so (FlushingFor None) words plan plan.answer y refl (λ t. let bad : [] ≡ Cell (Look Fail) ∷ Desk (BeginCommit false most) ∷ [] = sym none ∙ ap (λ (p : Plan). p.steps) t ∙ ap (λ k. (table k).steps) j in absurd (cc)) l, nothing_told a y.task (DoneThere ∷ []) l.nothing) tt (shared_stays s.shared y y.task)
-      (subst (λ (z : AbstractActor). StandsFor size most words (record x { task = None; orders = orders'; awaiting = awaiting' }) z) (sym (gone_nowhere y y.task)) (record { at = (l.nothing, inr l.failed); below = st.below; among_others = st.among_others }))
-      (λ q. gone_nowhere y y.task) g.words_agree g.origin g.cache refl refl refl (refl, refl, refl) (refl, refl) (ap (λ (v : AbstractActor). v.order) (gone_nowhere y y.task)) keeps (carries_same size orders devices actors s a) (does_none _ _ _ _ _ _ tt)
+  late_answers orders' awaiting' keeps l j none st = stays_there size most words committing orders devices actors a x (record x { task = None; orders = orders'; awaiting = awaiting' }) s y g ex ey (Answers (FlushingFor None) plan.answer) (late_answers_so (FlushingFor None) words plan plan.answer y refl (λ t. let bad : [] ≡ Cell (Look Fail) ∷ Desk (BeginCommit false most) ∷ [] = sym none ∙ ap (λ (p : Plan). p.steps) t ∙ ap (λ k. (table k).steps) j in absurd (cc)) l, nothing_told a y.task (DoneThere ∷ []) l.nothing)
+      (record { at = (l.nothing, inr l.failed); below = st.below; among_others = st.among_others }) keeps (does_none _ _ _ _ _ _ tt)

@@ -1,12 +1,10 @@
 -- Each step of a read or a write on the shared words is followed.
-use Rattle.std.proofs.Common.{◌≡◌, ◌≢◌, ◌∙◌, ◌⊎◌, ℕ, Bool, false, List, [], ◌∷◌, Option, Some, refl, sym, ap, subst, slice_get, slice_set}
+use Rattle.std.proofs.Common.{◌≡◌, ◌≢◌, ◌∙◌, ◌⊎◌, inl, inr, ℕ, Bool, false, List, [], ◌∷◌, Option, Some, refl, sym, ap, subst, slice_get, slice_set}
 use Rattle.wb_disk.specs.Device.{Content, History}
 use Rattle.wb_words.specs.SharedWords.{Words}
 use Rattle.wb_words.specs.Rule.{LockRule}
 use Rattle.wb_words.specs.Effects.{result_of, words_after, card_after}
 use Rattle.wb_words.specs.declared.step.CellStep.{CellStep}
-use Rattle.wb_words.specs.declared.step.CellStep.TheVariants.{Look, Take, Release, Seal, Finish, Count, SetFailed, SetSuspended}
-use Rattle.wb_words.specs.declared.word.Word.TheVariants.{Cell as LockWord, Seal as SealWord, Number, Count as CountWord, Fail}
 use Rattle.wb_policy.specs.declared.order.Order.{Order}
 use Rattle.wb_tasks.specs.Tables.{BlockRange, BlockJob, Reading, Writing, OnBlock, range_of}
 use Rattle.wb_tasks.specs.Plan.{Plan, want, after, got_of, first_step, work_of}
@@ -18,13 +16,13 @@ use Rattle.wb_devices.specs.declared.devices.Devices.{Devices}
 use Rattle.wb_link.specs.World.{World, Actor as AbstractActor, job_alone}
 use Rattle.wb_refines.specs.Going.{shared_after, gone}
 use Rattle.wb_refines.specs.Translation.{job_for}
-use Rattle.wb_refines.specs.Models.{IsRequest, TakesBeside, plan_of}
+use Rattle.wb_refines.specs.Models.{IsRequest, IsAt, HasStopped, plan_of}
 use Rattle.wb_runs.specs.declared.job.Job.{Job}
-use Rattle.wb_runs.specs.declared.job.Job.TheVariants.{Read, Write, Flush, Open, Migrate, Replace}
+use Rattle.wb_runs.specs.declared.job.Job.TheVariants.{Read, Write, Migrate}
 use Rattle.wb_runs.specs.States.{Actor}
 use Rattle.wb_runs.specs.Holding.{cards_of}
 use Rattle.wb_simulation.specs.Steps.{IsPart, AreOfBlock}
-use Rattle.wb_simulation.specs.Actors.{IsRequestAt, IsDoing, IsBusyAt, StandsFor}
+use Rattle.wb_simulation.specs.Actors.{IsLate, IsRequestAt, IsDoing, IsBusyAt, StandsFor}
 use Rattle.wb_simulation.specs.Telling.{Quietly}
 use Rattle.wb_simulation.specs.Worlds.{Agrees, Follows}
 use Rattle.wb_simulation.specs.Laws.{CellStepsFollowed, IsRequestJob, went}
@@ -32,19 +30,26 @@ use Rattle.wb_simulation.proofs.Telling.{quiet_are_unnoted}
 use Rattle.wb_simulation.proofs.Steps.{read_of_block, write_of_block}
 use Rattle.wb_simulation.proofs.Cells.{Acted, acts_on_words}
 use Rattle.wb_simulation.proofs.Orders.{MigratesNot, does_none, carries_same}
-use Rattle.wb_simulation.proofs.Among.{card_there, own_there, below_beside, failed_stays, goes_on}
+use Rattle.wb_simulation.proofs.Among.{card_there, own_there, takes, failed_stays, goes_on}
 
 -- who does a read or write is at it
 pub doing_of : (size most : ℕ) (words : Words) (x : Actor) (y : AbstractActor) (job : Job) (plan : Plan) → StandsFor size most words x y → x.task ≡ Some (job, plan) → IsDoing size most words job plan x.card y
 doing_of size most words x y job plan st e = subst (λ (t : Option (Job × Plan)). IsBusyAt size most words t x.card y) e st.at
 
--- the step is the first of what is left
-pub begins_by : (plan : Plan) (next : Want) → want plan ≡ next → ((answer : Answer) → next ≢ End answer) → (ws : List Want) × (plan.steps ≡ next ∷ ws)
-begins_by plan next e n = by_steps plan.steps refl
+-- The next step is the first of what is left, or the answer where nothing is left.
+next_is : (plan : Plan) (next : Want) → want plan ≡ next → ((ws : List Want) × (plan.steps ≡ next ∷ ws)) ⊎ ((plan.steps ≡ []) × (End plan.answer ≡ next))
+next_is plan next e = by_steps plan.steps refl
   where
-    by_steps : (steps : List Want) → plan.steps ≡ steps → (ws : List Want) × (plan.steps ≡ next ∷ ws)
-    by_steps [] k = absurd (n plan.answer (sym (sym (ap (λ (us : List Want). first_step us plan.answer) k) ∙ e)))
-    by_steps (v ∷ ws) k = (ws, k ∙ ap (λ (u : Want). u ∷ ws) (sym (ap (λ (us : List Want). first_step us plan.answer) k) ∙ e))
+    by_steps : (steps : List Want) → plan.steps ≡ steps → ((ws : List Want) × (plan.steps ≡ next ∷ ws)) ⊎ ((plan.steps ≡ []) × (End plan.answer ≡ next))
+    by_steps [] k = inr (k, sym (ap (λ (us : List Want). first_step us plan.answer) k) ∙ e)
+    by_steps (v ∷ ws) k = inl (ws, k ∙ ap (λ (u : Want). u ∷ ws) (sym (ap (λ (us : List Want). first_step us plan.answer) k) ∙ e))
+
+pub begins_by : (plan : Plan) (next : Want) → want plan ≡ next → ((answer : Answer) → next ≢ End answer) → (ws : List Want) × (plan.steps ≡ next ∷ ws)
+begins_by plan next e n = elim (next_is plan next e) [ inl b ↦ b | inr o ↦ absurd (n plan.answer (sym o.1)) ]
+
+-- Nothing is left of a plan that answers, if no answer is among its steps.
+pub answers_by : (plan : Plan) (answer : Answer) → want plan ≡ End answer → ((ws : List Want) → plan.steps ≢ End answer ∷ ws) → (plan.steps ≡ []) × (plan.answer ≡ answer)
+answers_by plan answer e never = elim (next_is plan (End answer) e) [ inl b ↦ absurd (never b.0 b.1) | inr o ↦ (o.0, (let same : End plan.answer ≡ End answer = o.1 in cc)) ]
 
 -- a request is no migration
 no_request : (job : Job) → IsRequestJob job → MigratesNot job
@@ -53,42 +58,20 @@ no_request job r = tt
 
 module _ (size most blocks : ℕ) (words : Words) (committing : Bool) (orders : List (Option Order)) (devices : Devices (List History)) (actors : List Actor) (a : ℕ) (x : Actor) (plan : Plan) (step : CellStep) (s : World) (y : AbstractActor)
     (rule : LockRule blocks words (cards_of actors)) (ex : slice_get actors a ≡ Some x) (ey : slice_get s.actors a ≡ Some y) (job : Job) (request_job : IsRequestJob job) (task : x.task ≡ Some (job, plan)) (suits : Suits blocks plan x.card) (next : want plan ≡ Cell step) (g : Agrees size most words committing orders devices actors s) (st : StandsFor size most words x y) where
-  -- where it takes its block, no other one counts on its card
-  takes : (q : CellStep) (ws : List Want) → plan.steps ≡ Cell q ∷ ws → TakesBeside q s.actors (cards_of actors) a a
-  takes (Look (Number b)) ws e = below_beside size most words committing orders devices actors s g a
-  takes (Look Fail) ws e = tt
-  takes (Look (LockWord b)) ws e = tt
-  takes (Look (SealWord b)) ws e = tt
-  takes (Look (CountWord kind)) ws e = tt
-  takes (Take access b seen) ws e = tt
-  takes (Release access b) ws e = tt
-  takes (Seal b place dirty) ws e = tt
-  takes (Finish b) ws e = tt
-  takes (Count kind) ws e = tt
-  takes SetFailed ws e = tt
-  takes SetSuspended ws e = tt
-
   -- a request's, by its actor alone
   request_acts : (content : Content) (job_on : BlockRange → BlockJob) → ((part : BlockRange) → IsRequest (job_on part)) → ((part : BlockRange) → range_of (job_on part) ≡ part) →
       ((part : BlockRange) → IsPart size part → (seal : ℕ) → AreOfBlock size part.block.0 (work_of (OnBlock (job_on part)) seal)) → ((part : BlockRange) → job_alone (job_for size content (OnBlock (job_on part))) ≡ false) →
       IsRequestAt size content words job_on plan x.card y → Acted size content s.actors a s.shared y (words_after words step) job_on (after plan (got_of (result_of words step))) (card_after words step x.card)
-  request_acts content job_on request range works among r = by_steps plan.steps refl
+  request_acts content job_on request range works among r =
+      subst (λ (p : Plan). Acted size content s.actors a s.shared y (words_after words step) job_on (after p (got_of (result_of words step))) (card_after words step x.card)) (sym is)
+      (acts_on_words size content job_on request range works among r.part r.is_part blocks words s.actors a x.card s.shared y plan.answer g.words_agree (cards_of actors) step b.0 rule (card_there actors a x ex) (takes size most words committing orders devices actors s g a step) st.below st.among_others
+      (subst (λ (ws : List Want). AreOfBlock size r.part.block.0 ws) b.1 r.of_block) (subst (λ (p : Plan). Suits blocks p x.card) is suits) (subst (λ (p : Plan). IsAt size content p x.card y ⊎ HasStopped words p x.card y ⊎ IsLate words p y) is r.at))
     where
-      Of_plan : Plan → Type 0
-      Of_plan p = Acted size content s.actors a s.shared y (words_after words step) job_on (after p (got_of (result_of words step))) (card_after words step x.card)
+      b : (ws : List Want) × (plan.steps ≡ Cell step ∷ ws)
+      b = begins_by plan (Cell step) next (λ answer q. absurd (cc))
 
-      by_steps : (steps : List Want) → plan.steps ≡ steps → Of_plan plan
-      by_steps [] e = let bad = sym (ap (λ (ws : List Want). first_step ws plan.answer) e) ∙ next in absurd (cc)
-      by_steps (v ∷ ws) e =
-          let first : v ≡ Cell step = sym (ap (λ (us : List Want). first_step us plan.answer) e) ∙ next in
-          let is : plan ≡ plan_of (job_on r.part) (Cell step ∷ ws) plan.answer = (λ i. record { job = r.job i; steps = (e ∙ ap (λ (u : Want). u ∷ ws) first) i; answer = plan.answer }) in
-          let r' = subst (λ (p : Plan). IsRequestAt size content words job_on p x.card y) is r in
-          subst Of_plan (sym is) (acts_on_words size content job_on request range works among r.part r.is_part blocks words s.actors a x.card s.shared y plan.answer g.words_agree (cards_of actors) step ws rule (card_there actors a x ex)
-          (takes step ws (e ∙ ap (λ (u : Want). u ∷ ws) first)) st.below st.among_others (subst (λ (ws' : List Want). AreOfBlock size r.part.block.0 ws') (e ∙ ap (λ (u : Want). u ∷ ws) first) r.of_block)
-          (subst (λ (p : Plan). Suits blocks p x.card) is suits) (subst (λ (p : Plan). At p) is r.at))
-        where
-          At : Plan → Type 0
-          At p = Rattle.wb_refines.specs.Models.IsAt size content p x.card y ⊎ Rattle.wb_refines.specs.Models.HasStopped words p x.card y ⊎ Rattle.wb_simulation.specs.Actors.IsLate words p y
+      is : plan ≡ plan_of (job_on r.part) (Cell step ∷ b.0) plan.answer
+      is = λ i. record { job = r.job i; steps = b.1 i; answer = plan.answer }
 
   -- among all others
   among_all : (content : Content) (job_on : BlockRange → BlockJob) → (acted : Acted size content s.actors a s.shared y (words_after words step) job_on (after plan (got_of (result_of words step))) (card_after words step x.card)) →
@@ -97,7 +80,6 @@ module _ (size most blocks : ℕ) (words : Words) (committing : Bool) (orders : 
   among_all content job_on acted doing =
       let t = shared_after s.shared y y.task acted.results in
       let k = acted.same.images in
-      let b = begins_by plan (Cell step) next (λ answer q. absurd (cc)) in
       goes_on size most words (words_after words step) (failed_stays words step _ _ rule.logs.fail) committing orders devices actors a x (went words job plan step x) s y g ex ey Quietly devices acted.results t (acted.results, quiet_are_unnoted y.task acted.results acted.quiet, refl) acted.may refl
       (record { at = doing; below = acted.below; among_others = acted.among_others }) acted.leads acted.words_agree (acted.same.origin ∙ g.origin) (acted.same.cache ∙ g.cache) k.mode k.committing k.broken (k.committed, k.running, k.root_written) (k.mapping, k.blocks) acted.order (λ o h. h) (carries_same size orders devices actors s a) (does_none _ _ _ _ _ _ (no_request job request_job))
 
@@ -110,10 +92,7 @@ followed size most blocks words committing orders devices actors a x plan step s
 followed size most blocks words committing orders devices actors a x plan step s y rule ex ey (Write extent content) q e suits next g st =
     let acted = request_acts size most blocks words committing orders devices actors a x plan step s y rule ex ey (Write extent content) q e suits next g st content Writing (λ part. tt) (λ part. refl) (write_of_block size) (λ part. refl) (doing_of size most words x y (Write extent content) plan st e) in
     among_all size most blocks words committing orders devices actors a x plan step s y rule ex ey (Write extent content) q e suits next g st content Writing acted acted.request
-followed size most blocks words committing orders devices actors a x plan step s y rule ex ey Flush q e suits next g st = absurd q
-followed size most blocks words committing orders devices actors a x plan step s y rule ex ey (Open mode) q e suits next g st = absurd q
-followed size most blocks words committing orders devices actors a x plan step s y rule ex ey (Migrate migration block) q e suits next g st = absurd q
-followed size most blocks words committing orders devices actors a x plan step s y rule ex ey (Replace old new) q e suits next g st = absurd q
+followed size most blocks words committing orders devices actors a x plan step s y rule ex ey job q e suits next g st = absurd q
 
 pub cell_steps_followed : CellStepsFollowed
 cell_steps_followed size most blocks words committing orders devices actors a x job plan step s q rule ex task suits next g =

@@ -1,24 +1,24 @@
 -- A migration's steps on the shared words are followed.
-use Rattle.std.proofs.Common.{cond, ◌≡◌, ◌==◌, ◌∙◌, inl, inr, if◌then◌else◌, ℕ, Bool, true, false, List, [], ◌∷◌, Option, Some, refl, sym, ap, subst, arith, slice_get, Contains}
+use Rattle.std.proofs.Common.{◌≡◌, ◌∙◌, inl, inr, ℕ, Bool, List, [], ◌∷◌, Option, Some, refl, sym, ap, subst, arith, slice_get, Contains}
 use Rattle.wb_types.specs.declared.number.OBlock.{OBlock}
 use Rattle.wb_types.specs.declared.number.CBlock.{CBlock}
 use Rattle.wb_disk.specs.Device.{History}
-use Rattle.wb_words.specs.SharedWords.{Words, flag, word_at, place_in}
+use Rattle.wb_words.specs.SharedWords.{Words, word_at, place_in}
 use Rattle.wb_words.specs.Rule.{LockRule}
 use Rattle.wb_words.specs.Effects.{result_of, words_after, card_after}
 use Rattle.wb_words.proofs.Totals.{at_slice}
 use Rattle.wb_words.specs.declared.card.Card.{Card}
 use Rattle.wb_words.specs.declared.step.CellStep.{CellStep}
-use Rattle.wb_words.specs.declared.step.CellStep.TheVariants.{Look, Take, Release, Seal, Finish, Count, SetFailed, SetSuspended}
-use Rattle.wb_words.specs.declared.word.Word.TheVariants.{Cell as LockWord, Seal as SealWord, Number, Count as CountWord, Fail}
+use Rattle.wb_words.specs.declared.step.CellStep.TheVariants.{Look, Release, Seal}
+use Rattle.wb_words.specs.declared.word.Word.TheVariants.{Seal as SealWord, Number, Fail}
 use Rattle.wb_policy.specs.declared.order.Order.{Order}
 use Rattle.wb_tasks.specs.Tables.{BlockRange, Migrating, OnBlock}
-use Rattle.wb_tasks.specs.Plan.{Plan, want, after, got_of, onward, refused}
+use Rattle.wb_tasks.specs.Plan.{Plan, want, after, got_of}
 use Rattle.wb_tasks.specs.Ready.{Has, Suits}
 use Rattle.wb_types.specs.declared.refusal.Refusal.TheVariants.{Failed}
 use Rattle.wb_words.specs.declared.word.Access.TheVariants.{Owned}
 use Rattle.wb_tasks.proofs.Readiness.{job_stays}
-use Rattle.wb_simulation.proofs.Among.{card_there, own_there, below_beside, failed_stays, goes_on}
+use Rattle.wb_simulation.proofs.Among.{card_there, own_there, takes, failed_stays, stays_there}
 use Rattle.wb_tasks.specs.declared.step.Answer.{Answer}
 use Rattle.wb_tasks.specs.declared.step.Migration.{Migration}
 use Rattle.wb_tasks.specs.declared.step.Want.{Want}
@@ -26,7 +26,7 @@ use Rattle.wb_tasks.specs.declared.step.Want.TheVariants.{Cell}
 use Rattle.wb_devices.specs.declared.devices.Devices.{Devices}
 use Rattle.wb_link.specs.World.{World, Actor as AbstractActor}
 use Rattle.wb_refines.specs.Going.{shared_after, gone}
-use Rattle.wb_refines.specs.Models.{TakesBeside, plan_of}
+use Rattle.wb_refines.specs.Models.{plan_of}
 use Rattle.wb_refines.specs.Migrations.{order_on, source, IsWhere}
 use Rattle.wb_refines.specs.Carried.{IsMigrationAt, FindsWhere, FollowsMigration}
 use Rattle.wb_refines.proofs.Carried.{migration_cells_followed}
@@ -38,19 +38,17 @@ use Rattle.wb_simulation.specs.Carried.{order_there, target, IsCarried}
 use Rattle.wb_simulation.specs.Worlds.{Agrees, Stays}
 use Rattle.wb_simulation.specs.Laws.{went}
 use Rattle.wb_simulation.specs.Migrating.{SealTells, SeesWhere, Carried}
-use Rattle.wb_simulation.proofs.Steps.{AreCopies, after_cell, migration_works}
+use Rattle.wb_simulation.proofs.Steps.{AreCopies, after_cell, finds_failed, migration_works}
 use Rattle.wb_simulation.proofs.Cells.{tells}
 use Rattle.wb_simulation.proofs.Followed.{begins_by}
-use Rattle.wb_simulation.proofs.Orders.{IsDone, carries_same}
+use Rattle.wb_simulation.proofs.Orders.{carried_again, carries_same}
 use Rattle.wb_simulation.proofs.Carrying.{IsOn, stands_there, carry_on, carried_job, carried_order, late_done}
 use Rattle.wb_simulation.proofs.Copying.{no_write_read}
-use Rattle.wb_simulation.proofs.Cells.{shared_stays, gone_nowhere}
 use Rattle.wb_simulation.specs.Telling.{Carries, AreCarried}
 use Rattle.wb_simulation.specs.Actors.{IsLate, StandsFor}
 use Rattle.wb_link.specs.Tables.{Script}
 use Rattle.wb_tasks.specs.declared.step.Got.TheVariants.{Word}
 use Rattle.wb_tasks.specs.Plan.{table}
-use Rattle.wb_refines.proofs.Cells.{flag_of}
 use Rattle.wb_tasks.specs.declared.step.Answer.TheVariants.{Refused as Refuses}
 use Rattle.wb_refines.specs.Carried.{IsMigrationAt}
 
@@ -60,27 +58,7 @@ use Rattle.wb_refines.specs.Carried.{IsMigrationAt}
 tail_after : (words : Words) (part : BlockRange) (migration : Migration) (step : CellStep) (ws : List Want) (answer : Answer) → IsTail (Cell step ∷ ws) → IsTail (after (plan_of (Migrating migration part) (Cell step ∷ ws) answer) (got_of (result_of words step))).steps
 tail_after words part migration (Seal b place dirty) ws answer t = t
 tail_after words part migration (Release access b) ws answer t = t
-tail_after words part migration (Look word) ws answer t = absurd t
-tail_after words part migration (Take access b seen) ws answer t = absurd t
-tail_after words part migration (Finish b) ws answer t = absurd t
-tail_after words part migration (Count kind) ws answer t = absurd t
-tail_after words part migration SetFailed ws answer t = absurd t
-tail_after words part migration SetSuspended ws answer t = absurd t
-
--- where it takes its block, no other one counts on its card
-takes : (size most : ℕ) (words : Words) (committing : Bool) (orders : List (Option Order)) (devices : Devices (List History)) (actors : List Actor) (a : ℕ) (s : World) → Agrees size most words committing orders devices actors s → (q : CellStep) → TakesBeside q s.actors (cards_of actors) a a
-takes size most words committing orders devices actors a s g (Look (Number b)) = below_beside size most words committing orders devices actors s g a
-takes size most words committing orders devices actors a s g (Look Fail) = tt
-takes size most words committing orders devices actors a s g (Look (LockWord b)) = tt
-takes size most words committing orders devices actors a s g (Look (SealWord b)) = tt
-takes size most words committing orders devices actors a s g (Look (CountWord kind)) = tt
-takes size most words committing orders devices actors a s g (Take access b seen) = tt
-takes size most words committing orders devices actors a s g (Release access b) = tt
-takes size most words committing orders devices actors a s g (Seal b place dirty) = tt
-takes size most words committing orders devices actors a s g (Finish b) = tt
-takes size most words committing orders devices actors a s g (Count kind) = tt
-takes size most words committing orders devices actors a s g SetFailed = tt
-takes size most words committing orders devices actors a s g SetSuspended = tt
+tail_after words part migration step ws answer t = absurd t
 
 module _ (size most blocks : ℕ) (words : Words) (committing : Bool) (orders : List (Option Order)) (devices : Devices (List History)) (actors : List Actor) (a : ℕ) (x : Actor) (step : CellStep) (s : World) (y : AbstractActor) (g : Agrees size most words committing orders devices actors s)
     (rule : LockRule blocks words (cards_of actors)) (ex : slice_get actors a ≡ Some x) (ey : slice_get s.actors a ≡ Some y) (m : Migration) (block : OBlock) (part : BlockRange) (ws : List Want) (answer : Answer) (f : IsCarried size orders devices m block part (Cell step ∷ ws) answer x y) (suits : Suits blocks (plan_of (Migrating m part) (Cell step ∷ ws) answer) x.card) (sees : SeesWhere words orders s.shared.mapping m block step) where
@@ -136,45 +114,21 @@ module _ (size most blocks : ℕ) (words : Words) (committing : Bool) (orders : 
   finds_where (Look (Number b)) is seen has = λ seal known.
       let told : word_at words.seals part.block ≡ seal = (rule.knows a x.card (at_slice (cards_of actors) a x.card (card_there actors a x ex))).seal Owned part.block seal has.0 known in
       subst (λ (v : ℕ). IsWhere m cache (place_in v)) told (tells_where (subst (λ (v : CellStep). ¬ IsTail (Cell v ∷ ws)) (sym is) (λ t. t)) seen part.block f.block_is)
-  finds_where (Look Fail) is seen has = tt
-  finds_where (Look (LockWord b)) is seen has = tt
-  finds_where (Look (SealWord b)) is seen has = tt
-  finds_where (Look (CountWord kind)) is seen has = tt
-  finds_where (Take access b was) is seen has = tt
-  finds_where (Release access b) is seen has = tt
-  finds_where (Seal b place dirty) is seen has = tt
-  finds_where (Finish b) is seen has = tt
-  finds_where (Count kind) is seen has = tt
-  finds_where SetFailed is seen has = tt
-  finds_where SetSuspended is seen has = tt
+  finds_where q is seen has = tt
 
   goes_there : FollowsMigration s.actors a s.shared y words' part cache f.next m f.kept plan' card'
   goes_there = migration_cells_followed blocks words (cards_of actors) s.actors a a x.card s.shared y part cache f.next m f.kept step ws answer
       (let some = f.is_part.some in let sized = f.is_part.sized in omega (arith, some, sized)) rule (card_there actors a x ex)
-      (takes size most words committing orders devices actors a s g step) g.words_agree (tells size part.block.0 step ws f.of_block).0 f.fills (finds_where step refl sees suits.1) suits f.at
+      (takes size most words committing orders devices actors s g a step) g.words_agree (tells size part.block.0 step ws f.of_block).0 f.fills (finds_where step refl sees suits.1) suits f.at
 
   abbrev z : AbstractActor
   z = gone y y.task goes_there.results
 
   on : IsOn size words' orders devices m block part plan' x' z
   on = elim goes_there.at [
-    | inl i ↦ inl (record {
-      block_is = f.block_is;
-      is_part = f.is_part;
-      c = f.c;
-      small = f.small;
-      fills = f.fills;
-      of_block = copies.0;
-      paired = copies.1;
-      next = f.next;
-      order = f.order;
-      of = f.of;
-      kept = f.kept;
-      has = elim f.has [ inl l ↦ inl l | inr t ↦ inr (tail_after words part m step ws answer t) ];
-      at = subst (λ (p : Plan). IsMigrationAt part cache f.next m f.kept p card' z) (λ k. record { job = job_stays plan (got_of (result_of words step)) k; steps = plan'.steps; answer = plan'.answer }) i;
-      copies = copies.3;
-      buffer = no_write_read size _ _ plan'.steps x.buffer copies.2;
-    })
+    | inl i ↦ inl (carried_again size orders orders devices devices m block part (Cell step ∷ ws) plan'.steps answer plan'.answer x x' y z f f.kept (elim f.has [ inl l ↦ inl l | inr t ↦ inr (tail_after words part m step ws answer t) ])
+        (subst (λ (p : Plan). IsMigrationAt part cache f.next m f.kept p card' z) (λ k. record { job = job_stays plan (got_of (result_of words step)) k; steps = plan'.steps; answer = plan'.answer }) i)
+        (record { of_block = copies.0; paired = copies.1; copies = copies.3; read = no_write_read size _ _ plan'.steps x.buffer copies.2 }))
     | inr k ↦ inr (record { failed = k.0; c = f.c; kept = f.kept; next = f.next; is = k.1 })
   ]
 
@@ -191,20 +145,12 @@ module _ (size most : ℕ) (words : Words) (committing : Bool) (orders : List (O
   -- who is late finds that the target has failed
   late_looks : (plan : Plan) → plan.job ≡ OnBlock (Migrating migration part) → IsLate words plan y → StandsFor size most words x y → plan ≡ table plan.job → Carried Stays size most a s words committing orders devices actors (went words (Migrate migration block) plan (Look Fail) x)
   late_looks plan job l st t =
-      let is : plan ≡ (table (OnBlock (Migrating migration part))) = t ∙ ap (λ j. table j) job in
-      subst (λ (p : Plan). Carried Stays size most a s words committing orders devices actors (went words (Migrate migration block) p (Look Fail) x)) (sym is) (by_test (words.fail == 0) (flag_of words.fail (words.fail == 0) refl) refl)
-    where
-      by_test : (t : Bool) → flag words.fail ≡ cond t false true → (words.fail == 0) ≡ t → Carried Stays size most a s words committing orders devices actors (went words (Migrate migration block) (table (OnBlock (Migrating migration part))) (Look Fail) x)
-      by_test true f k = absurd (let bad : true ≡ false = sym l.failed ∙ f in cc)
-      by_test false f k =
-          let over : Plan = plan_of (Migrating migration part) [] (Refuses Failed) in
-          let x' : Actor = record x { task = Some (Migrate migration block, over); card = card_after words (Look Fail) x.card } in
-          let plan_is : after (table (OnBlock (Migrating migration part))) (Word words.fail) ≡ over = ap (λ (t : Bool). if t then onward (table (OnBlock (Migrating migration part))) else refused (table (OnBlock (Migrating migration part))) [] Failed) k in
-          subst (λ (p : Plan). Carried Stays size most a s words committing orders devices actors (record x { task = Some (Migrate migration block, p); card = card_after words (Look Fail) x.card })) (sym plan_is)
-          (goes_on size most words words (λ q. q) committing orders devices actors a x x' s y g ex ey Carries devices [] s.shared ([], subst (λ (t : Option Script). AreCarried t []) (sym l.nothing) tt, refl) tt (shared_stays s.shared y y.task)
-          (subst (λ (z : AbstractActor). StandsFor size most words x' z) (sym (gone_nowhere y y.task)) (record { at = tt; below = record { owned = st.below.owned; shared = st.below.shared }; among_others = st.among_others }))
-          (λ q. gone_nowhere y y.task) g.words_agree g.origin g.cache refl refl refl (refl, refl, refl) (refl, refl) (ap (λ (v : AbstractActor). v.order) (gone_nowhere y y.task)) (λ o h. h) (carries_same size orders devices actors s a)
-          (subst (λ (z : AbstractActor). IsDone size words orders devices x' z) (sym (gone_nowhere y y.task)) (late_done size words orders devices migration block part over x' y refl refl (record { failed = l.failed; nothing = l.nothing; at = inr (refl, λ e. absurd (cc)) }))))
+      let over : Plan = plan_of (Migrating migration part) [] (Refuses Failed) in
+      let x' : Actor = record x { task = Some (Migrate migration block, over); card = card_after words (Look Fail) x.card } in
+      let is : after plan (Word words.fail) ≡ over = ap (λ (p : Plan). after p (Word words.fail)) (t ∙ ap (λ j. table j) job) ∙ finds_failed words (OnBlock (Migrating migration part)) _ _ l.failed in
+      subst (λ (p : Plan). Carried Stays size most a s words committing orders devices actors (record x { task = Some (Migrate migration block, p); card = card_after words (Look Fail) x.card })) (sym is)
+      (stays_there size most words committing orders devices actors a x x' s y g ex ey Carries ([], subst (λ (t : Option Script). AreCarried t []) (sym l.nothing) tt, refl) (record { at = tt; below = record { owned = st.below.owned; shared = st.below.shared }; among_others = st.among_others }) (λ o h. h)
+      (late_done size words orders devices migration block part over x' y refl refl (record { failed = l.failed; nothing = l.nothing; at = inr (refl, λ e. absurd (cc)) })))
 
 pub cells : (size most blocks : ℕ) (words : Words) (committing : Bool) (orders : List (Option Order)) (devices : Devices (List History)) (actors : List Actor) (a : ℕ) (x : Actor) (migration : Migration) (block : OBlock) (plan : Plan) (step : CellStep) (s : World) →
     LockRule blocks words (cards_of actors) → slice_get actors a ≡ Some x → x.task ≡ Some (Migrate migration block, plan) → Suits blocks plan x.card → want plan ≡ Cell step → SeesWhere words orders s.shared.mapping migration block step → Agrees size most words committing orders devices actors s →

@@ -11,9 +11,8 @@ use Rattle.wb_words.specs.SharedWords.{Words}
 use Rattle.wb_policy.specs.declared.order.Order.{Order}
 use Rattle.wb_policy.specs.declared.order.Order.TheVariants.{Replace, Demote as DemoteOrder}
 use Rattle.wb_words.specs.Rule.{LockRule}
-use Rattle.wb_words.specs.declared.card.Card.{Card}
-use Rattle.wb_tasks.specs.Tables.{BlockJob, BlockRange, Migrating, OnBlock}
-use Rattle.wb_tasks.specs.Plan.{Plan, want, after, first_step}
+use Rattle.wb_tasks.specs.Tables.{BlockRange, Migrating}
+use Rattle.wb_tasks.specs.Plan.{Plan, want, after}
 use Rattle.wb_tasks.specs.Ready.{Suits, IsRest, target_of}
 use Rattle.wb_tasks.specs.declared.step.Answer.{Answer}
 use Rattle.wb_tasks.specs.declared.step.DeviceStep.TheVariants.{Read, Write}
@@ -36,7 +35,7 @@ use Rattle.wb_simulation.specs.Steps.{IsWrittenNext, IsOutside}
 use Rattle.wb_simulation.specs.Worlds.{Agrees, Stays, Maps, Unmaps, GivesUp}
 use Rattle.wb_simulation.specs.Laws.{after_step}
 use Rattle.wb_simulation.specs.Migrating.{MigrationsFollowed, Carried, EndsOrder, TurnsOrder, LeavesFrom}
-use Rattle.wb_simulation.proofs.Followed.{begins_by}
+use Rattle.wb_simulation.proofs.Followed.{begins_by, answers_by}
 use Rattle.wb_simulation.proofs.Moving.{same_device}
 use Rattle.wb_simulation.proofs.Migrating.{cells}
 use Rattle.wb_simulation.proofs.Copying.{reads, writes, write_falls, read_falls, writes_blocks}
@@ -55,10 +54,9 @@ use Rattle.wb_simulation.specs.Actors.{StandsFor}
 use Rattle.wb_simulation.specs.Carried.{IsOrderFor, IsCarried, IsAtMigration}
 use Rattle.wb_simulation.specs.Telling.{Rests, Rested, IsMigrating}
 use Rattle.wb_simulation.specs.Migrating.{Goes}
-use Rattle.wb_simulation.proofs.Cells.{shared_stays, gone_nowhere}
 use Rattle.wb_simulation.proofs.Telling.{nothing_told}
 use Rattle.wb_simulation.proofs.Orders.{carries_same, does_none}
-use Rattle.wb_simulation.proofs.Among.{own_there, goes_on}
+use Rattle.wb_simulation.proofs.Among.{own_there, goes_on, stays_there}
 use Rattle.wb_simulation.proofs.Carrying.{carried_leads, under_migrates}
 use Rattle.wb_simulation.proofs.Deciding.{map_refused, mapped, unmapped, turned_over, given_up}
 
@@ -66,21 +64,6 @@ use Rattle.wb_simulation.proofs.Deciding.{map_refused, mapped, unmapped, turned_
 written_after : (size block : ℕ) (e : Extent) (ws : List Want) → IsWrittenNext size e ws → (device : Dev) × (w : Extent) × (rest : List Want) × (ws ≡ Device (Write device w) ∷ rest)
 written_after size block e (Device (Write device w) ∷ rest) n = (device, w, rest, refl)
 written_after size block e ws n = absurd n
-
--- a migration's write is of its target
-target_is : (migration : Migration) (part : BlockRange) (next : Bool) (device : Dev) (e : Extent) (ws : List Want) → IsRest (Migrating migration part) next (Device (Write device e) ∷ ws) → device ≡ target_of migration
-target_is migration part next device e ws rest = rest.0
-
--- nothing is left of a job on a block that answers
-nothing_left : (blocks : ℕ) (job : BlockJob) (plan : Plan) (card : Card) (answer : Answer) → plan.job ≡ OnBlock job → Suits blocks plan card → want plan ≡ End answer → plan.steps ≡ []
-nothing_left blocks job plan card answer j suits e = by plan.steps refl
-  where
-    by : (steps : List Want) → plan.steps ≡ steps → plan.steps ≡ []
-    by [] k = k
-    by (v ∷ vs) k =
-        let first : v ≡ End answer = sym (ap (λ (us : List Want). first_step us plan.answer) k) ∙ e in
-        let is : plan ≡ plan_of job (End answer ∷ vs) plan.answer = (λ i. record { job = j i; steps = (k ∙ ap (λ (u : Want). u ∷ vs) first) i; answer = plan.answer }) in
-        absurd (subst (λ (p : Plan). Suits blocks p card) is suits).1.1.1
 
 -- A migration whose next step is on a device or the desk is at the same there.
 record IsFound (size : ℕ) (orders : List (Option Order)) (devices : Devices (List History)) (migration : Migration) (block : OBlock) (plan : Plan) (next : Want) (x : Actor) (y : AbstractActor) : Type 0 where
@@ -134,14 +117,14 @@ module _ (size most blocks : ℕ) (words : Words) (committing : Bool) (orders : 
         let f = found (Device (Write device e)) asked (λ answer q. absurd (cc)) (λ o. o) in
         let has = has_now (Device (Write device e)) f in
         told_by (Device (Write device e)) f (λ p. Carried Stays size most a s words committing orders (with_device device devices (written_each (device_in device devices) e.first x.buffer)) actors (after_step (Migrate migration block) p Done x))
-        (writes size most blocks words committing orders devices actors a x s its.0 g ex its.1 migration block f.part device e plan.answer (target_is migration f.part has.1.1.0 device e f.later has.1.1.1) f.later f.carried has room rule suited)
+        (writes size most blocks words committing orders devices actors a x s its.0 g ex its.1 migration block f.part device e plan.answer has.1.1.1.0 f.later f.carried has room rule suited)
 
     write_has_failed : LockRule blocks words (cards_of actors) → AllSuited blocks actors → (lands : ℕ → Bool) → want plan ≡ Device (Write device e) → e.first + e.count ≤ length (device_in device devices) → Carried Stays size most a s words committing orders (with_device device devices (written_where lands (device_in device devices) e.first x.buffer)) actors (after_step (Migrate migration block) plan Fault x)
     write_has_failed rule suited lands asked room =
         let f = found (Device (Write device e)) asked (λ answer q. absurd (cc)) (λ o. o) in
         let has = has_now (Device (Write device e)) f in
         told_by (Device (Write device e)) f (λ p. Carried Stays size most a s words committing orders (with_device device devices (written_where lands (device_in device devices) e.first x.buffer)) actors (after_step (Migrate migration block) p Fault x))
-        (write_falls size most blocks words committing orders devices actors a x s its.0 g ex its.1 migration block f.part device e plan.answer (target_is migration f.part has.1.1.0 device e f.later has.1.1.1) f.later f.carried has room rule suited lands)
+        (write_falls size most blocks words committing orders devices actors a x s its.0 g ex its.1 migration block f.part device e plan.answer has.1.1.1.0 f.later f.carried has room rule suited lands)
 
     read_has_failed : want plan ≡ Device (Read device e) → Carried Stays size most a s words committing orders devices actors (after_step (Migrate migration block) plan Fault x)
     read_has_failed asked =
@@ -149,7 +132,7 @@ module _ (size most blocks : ℕ) (words : Words) (committing : Bool) (orders : 
         let w = written_after size block.0 e f.later f.carried.paired.0 in
         let has = has_now (Device (Read device e)) f in
         let jobs = subst (λ (us : List Want). IsRest (Migrating migration f.part) has.1.1.0 us) w.3 has.1.1.1.1 in
-        let on_target = target_is migration f.part has.1.1.0 w.0 w.1 w.2 jobs in
+        let on_target : w.0 ≡ target_of migration = jobs.0 in
         subst (λ (ds : Devices (List History)). Carried Stays size most a s words committing orders ds actors (after_step (Migrate migration block) plan Fault x)) (same_device w.0 devices (writes_blocks migration w.0 on_target))
         (told_by (Device (Read device e)) f (λ p. Carried Stays size most a s words committing orders (with_device w.0 devices (device_in w.0 devices)) actors (after_step (Migrate migration block) p Fault x))
         (read_falls size most blocks words committing orders devices actors a x s its.0 g ex its.1 migration block f.part w.0 w.1 plan.answer on_target device e w.2
@@ -286,13 +269,11 @@ module _ (size most blocks : ℕ) (words : Words) (committing : Bool) (orders : 
   answers_late : its.0.task ≡ None → flag words.fail ≡ true → Over
   answers_late none failed =
       let st = g.each a x its.0 ex its.1 in
-      goes_on size most words words (λ q. q) committing orders devices actors a x over s its.0 g ex its.1 Rests devices [] s.shared (subst (λ (t : Option Script). Rested t) (sym none) tt, nothing_told a its.0.task (DoneThere ∷ []) none) tt (shared_stays s.shared its.0 its.0.task)
-      (subst (λ (v : AbstractActor). StandsFor size most words over v) (sym (gone_nowhere its.0 its.0.task)) (record { at = (none, inr failed); below = st.below; among_others = st.among_others }))
-      (λ q. gone_nowhere its.0 its.0.task) g.words_agree g.origin g.cache refl refl refl (refl, refl, refl) (refl, refl) (ap (λ (v : AbstractActor). v.order) (gone_nowhere its.0 its.0.task)) (λ o h. h) (carries_same size orders devices actors s a) (does_none _ _ _ _ _ _ tt)
+      stays_there size most words committing orders devices actors a x over s its.0 g ex its.1 Rests (subst (λ (t : Option Script). Rested t) (sym none) tt, nothing_told a its.0.task (DoneThere ∷ []) none) (record { at = (none, inr failed); below = st.below; among_others = st.among_others }) (λ o h. h) (does_none _ _ _ _ _ _ tt)
 
   answered : (answer : Answer) → want plan ≡ End answer → Over
   answered answer asked =
-      let nothing = nothing_left blocks (Migrating migration at.part) plan x.card answer at.job suits asked in
+      let nothing = (answers_by plan answer asked (λ later k. (subst (λ (p : Plan). Suits blocks p x.card) (λ i. record { job = at.job i; steps = k i; answer = plan.answer }) suits).1.1.1)).0 in
       elim at.at [
         | inl k ↦
             let k' = subst (λ (us : List Want). IsCarried size orders devices migration block at.part us plan.answer x its.0) nothing k in

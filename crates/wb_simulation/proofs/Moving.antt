@@ -5,6 +5,7 @@ use Rattle.wb_types.specs.declared.mode.Dev.{Dev}
 use Rattle.wb_types.specs.declared.mode.Dev.TheVariants.{Metadata, Cache, Origin}
 use Rattle.wb_disk.specs.Device.{Content, History}
 use Rattle.wb_disk.specs.Extents.{GivesEach, written_each, written_where}
+use Rattle.wb_contents.specs.Devices.{by_block}
 use Rattle.wb_words.specs.SharedWords.{Words, word_at}
 use Rattle.wb_words.specs.Rule.{LockRule}
 use Rattle.wb_words.specs.declared.card.Card.{Card}
@@ -69,26 +70,29 @@ words_beside words to s t b w = record { fail = b.fail ∙ w.fail; seals = λ bl
 
 module _ (size most : ℕ) (words : Words) (committing : Bool) (orders : List (Option Order)) (devices : Devices (List History)) (actors : List Actor) (a : ℕ) (x : Actor) (s : World) (y : AbstractActor) (ex : slice_get actors a ≡ Some x) (ey : slice_get s.actors a ≡ Some y) (g : Agrees size most words committing orders devices actors s) where
   -- the device of a location is its list
-  side_of : (device : Dev) (e : Extent) → HoldsBlocks device → IsSide size zeros (location_at size device e) (device_in device devices) s.shared
+  pub side_of : (device : Dev) (e : Extent) → HoldsBlocks device → IsSide size zeros (location_at size device e) (device_in device devices) s.shared
   side_of Cache e h = g.cache
   side_of Origin e h = g.origin
   side_of Metadata e h = absurd h
+
+  -- and where that is another list now, the other device stays
+  pub sides : (device : Dev) (e : Extent) → HoldsBlocks device → (list : List History) (t : Shared) → IsSide size zeros (location_at size device e) list t → SameBeside (location_at size device e) s.shared t →
+      (t.origin ≡ by_block size zeros (with_device device devices list).origin) × (t.cache ≡ by_block size zeros (with_device device devices list).cache)
+  sides Cache e h list t side beside = (beside.other ∙ g.origin, side)
+  sides Origin e h list t side beside = (side, beside.other ∙ g.cache)
+  sides Metadata e h list t side beside = absurd h
 
   -- an actor of a request has moved an extent, and its device is this list now
   moved : (telling : Telling) (job : Job) (content : Content) (job_on : BlockRange → BlockJob) (plan : Plan) (device : Dev) (e : Extent) (results : List AbstractGot) (list : List History) → IsTold telling a y.task (records a y.task results) → HoldsBlocks device →
       Moves size zeros content s.actors a s.shared y (location_at size device e) results list plan x.card → is_alone (gone y y.task results).task ≡ false → IsDoing size most words job plan x.card (gone y y.task results) →
       y.order ≡ None → MigratesNot job → CarriesOthers size orders orders devices (with_device device devices list) actors s a → Follows telling size most a s words committing orders (with_device device devices list) (slice_set actors a (record x { task = Some (job, plan) }))
-  moved telling job content job_on plan Metadata e results list told h m alone doing own other carries = absurd h
-  moved telling job content job_on plan Cache e results list told h m alone doing own other carries =
-      let t = shared_after s.shared y y.task results in let k = m.beside.images in
-      goes_on size most words words (λ f. f) committing orders devices actors a x (record x { task = Some (job, plan) }) s y g ex ey telling (with_device Cache devices list) results t told m.may refl
-      (record { at = doing; below = has_no_more size content plan x.card (gone y y.task results) m.at; among_others = alone }) (λ l. let bad : true ≡ false = sym l ∙ ap (λ (v : AbstractActor). v.leads) m.at.is in absurd (cc)) (words_beside words (location_at size Cache e) s.shared t m.beside g.words_agree)
-      (m.beside.other ∙ g.origin) m.side_is k.mode k.committing k.broken (k.committed, k.running, k.root_written) (k.mapping, k.blocks) (ap (λ (v : AbstractActor). v.order) m.at.is ∙ sym own) (λ o h. h) carries (does_none _ _ _ _ _ _ other)
-  moved telling job content job_on plan Origin e results list told h m alone doing own other carries =
-      let t = shared_after s.shared y y.task results in let k = m.beside.images in
-      goes_on size most words words (λ f. f) committing orders devices actors a x (record x { task = Some (job, plan) }) s y g ex ey telling (with_device Origin devices list) results t told m.may refl
-      (record { at = doing; below = has_no_more size content plan x.card (gone y y.task results) m.at; among_others = alone }) (λ l. let bad : true ≡ false = sym l ∙ ap (λ (v : AbstractActor). v.leads) m.at.is in absurd (cc)) (words_beside words (location_at size Origin e) s.shared t m.beside g.words_agree)
-      m.side_is (m.beside.other ∙ g.cache) k.mode k.committing k.broken (k.committed, k.running, k.root_written) (k.mapping, k.blocks) (ap (λ (v : AbstractActor). v.order) m.at.is ∙ sym own) (λ o h. h) carries (does_none _ _ _ _ _ _ other)
+  moved telling job content job_on plan device e results list told h m alone doing own other carries =
+      let t = shared_after s.shared y y.task results in
+      let k = m.beside.images in
+      let now = sides device e h list t m.side_is m.beside in
+      goes_on size most words words (λ f. f) committing orders devices actors a x (record x { task = Some (job, plan) }) s y g ex ey telling (with_device device devices list) results t told m.may refl
+      (record { at = doing; below = has_no_more size content plan x.card (gone y y.task results) m.at; among_others = alone }) (λ l. let bad : true ≡ false = sym l ∙ ap (λ (v : AbstractActor). v.leads) m.at.is in absurd (cc)) (words_beside words (location_at size device e) s.shared t m.beside g.words_agree)
+      now.0 now.1 k.mode k.committing k.broken (k.committed, k.running, k.root_written) (k.mapping, k.blocks) (ap (λ (v : AbstractActor). v.order) m.at.is ∙ sym own) (λ o h. h) carries (does_none _ _ _ _ _ _ other)
 
 pub same_device : (device : Dev) (devices : Devices (List History)) → HoldsBlocks device → with_device device devices (device_in device devices) ≡ devices
 same_device Cache devices h = refl
@@ -126,8 +130,7 @@ module _ (size most blocks : ℕ) (words : Words) (committing : Bool) (orders : 
     | inl l ↦ away (ap (λ (v : OBlock). v.0) (k.block_is ∙ of_from m other k.next k.order from k.of (b k.c.0 k.order l.0 (sym same))))
     | inr t ↦ absurd (no_tail t)
   ]
-  beside_copies Origin b d z u m other pt steps told n eu k no_tail on from away same = absurd (cc)
-  beside_copies Metadata b d z u m other pt steps told n eu k no_tail on from away same = absurd (cc)
+  beside_copies device' b d z u m other pt steps told n eu k no_tail on from away same = absurd (cc)
 
   -- its block is its own, whichever sectors land
   moves_own : LockRule blocks words (cards_of actors) → AllSuited blocks actors → Suits blocks writing x.card → AreOfBlock size part.block.0 (Device (WriteExtent device e) ∷ ws) → IsBesideOrders size orders part.block device e → (lands : ℕ → Bool) (content : Content) →

@@ -10,13 +10,13 @@ use Rattle.wb_contents.specs.Volume.{changed}
 use Rattle.wb_contents.specs.Devices.{by_block}
 use Rattle.wb_contents.proofs.Positions.{changed_same, changed_other}
 use Rattle.wb_link.specs.Tables.{Script, Job as AbstractJob, Reading, Writing, Writing_through, Promoting, Returning, Flushing, Suspending, Want, Write_at, End, Got, Gave, Fault, Done, Answer as AbstractAnswer, Finished as AnsweredDone, want, after, table, read_each, write_each}
-use Rattle.wb_link.specs.World.{Release, release_order, World, Shared, Record, Start, Again, Actor as AbstractActor, resting, after_all, after_record, actor_after, task_after, start_actor, again_actor, reserved, given, effect}
+use Rattle.wb_link.specs.World.{Release, release_order, World, Shared, Record, Start, Again, Actor as AbstractActor, resting, after_all, after_record, actor_after, task_after, start_actor, again_actor, reserved, given}
 use Rattle.wb_link.specs.Clerk.{Notes as AbstractNotes, Entry, histories_after, entered_after, finished_after, floors_after, job_noted, note, noted_step, opened, raised as raised_there}
 use Rattle.wb_link.specs.Openings.{On, AllRight}
 use Rattle.wb_link.proofs.Lists.{get_set_same, get_set_other, replicated}
 use Rattle.wb_link.proofs.Steps.{in_set}
 use Rattle.wb_refines.specs.Going.{records, shared_after, gone}
-use Rattle.wb_refines.proofs.Going.{with_own, set_twice, set_same, step_own}
+use Rattle.wb_refines.proofs.Going.{own_steps, with_own, set_twice, set_same}
 use Rattle.wb_runs.specs.declared.job.Job.{Job}
 use Rattle.wb_runs.specs.Clerk.{Notes, Doing, Position, Entering, begins, begun, put, nobody, entering, enter, enter_each, write_note, all_raised, greater_of}
 use Rattle.wb_simulation.specs.Noting.{counts_by_block, AreEntries, DoesAlike, IsNotedSo, NotesAgree}
@@ -29,21 +29,10 @@ use Rattle.wb_simulation.specs.Telling.{IsMigrating, IsResumed, Given, Kept, Fai
 use Rattle.wb_simulation.specs.Worlds.{zeros}
 use Rattle.wb_simulation.proofs.Counts.{everywhere, all_raised-length, no_entries_alike, greater_counts, greater-length}
 use Rattle.wb_simulation.proofs.Telling.{reads_unnoted}
-use Rattle.wb_simulation.proofs.Told.{until_written, IsJob, after_job, untold, reads_newest, Wrote, writes_told, length-written, changed_nothing}
+use Rattle.wb_link.proofs.Actors.{job_on}
+use Rattle.wb_simulation.proofs.Told.{until_written, IsJob, untold, reads_newest, Wrote, writes_told, length-written, changed_nothing}
 
 -- ---- where an actor's own steps lead
-
-own_steps : (gots : List Got) (w : World) (a : ℕ) (y : AbstractActor) (task : Option Script) → slice_get w.actors a ≡ Some y → y.task ≡ task → after_all w (records a task gots) ≡ with_own w a (shared_after w.shared y task gots) (gone y task gots)
-own_steps [] w a y None e t = ap (λ (ys : List AbstractActor). record { shared = w.shared; actors = ys; waiting = w.waiting }) (sym (set_same w.actors a y e))
-own_steps [] w a y (Some script) e t = ap (λ (ys : List AbstractActor). record { shared = w.shared; actors = ys; waiting = w.waiting }) (sym (set_same w.actors a y e))
-own_steps (got ∷ gots) w a y None e t = ap (λ (ys : List AbstractActor). record { shared = w.shared; actors = ys; waiting = w.waiting }) (sym (set_same w.actors a y e))
-own_steps (got ∷ gots) w a y (Some script) e t =
-    let y' = actor_after y script (want script) got in
-    let s' = effect w.shared script.job y.buffer (want script) got in
-    let is = step_own w a y script got e t in
-    let later = own_steps gots (with_own w a s' y') a y' (task_after script (want script) got) (get_set_same w.actors a y y' e) refl in
-    ap (λ (v : World). after_all v (records a (task_after script (want script) got) gots)) is ∙ later
-    ∙ (λ i. record { shared = shared_after s' y' (task_after script (want script) got) gots; actors = set_twice w.actors a y' (gone y' (task_after script (want script) got) gots) i; waiting = w.waiting })
 
 abbrev AreGoing : Option Script → List Got → Type 0
 AreGoing None gots = Unit {0}
@@ -77,7 +66,7 @@ gone_job (got ∷ gots) y (Some script) e u =
     let y' = actor_after y script (want script) got in
     let then_task = (gone y' (task_after script (want script) got) gots).task in
     let later = subst (λ (t : Option Script). SameJob t then_task) (task_goes script (want script) got u.0) (gone_job gots y' (task_after script (want script) got) refl u.1) in
-    (later.0, later.1, later.2 ∙ after_job script got)
+    (later.0, later.1, later.2 ∙ job_on script got)
 
 noted_job : (size sectors : ℕ) (task then_task : Option Script) (o : Option (Option Doing)) (a : ℕ) (m : AbstractNotes) → SameJob task then_task → IsNotedSo size sectors task o a m → IsNotedSo size sectors then_task o a m
 noted_job size sectors None then_task o a m same is = subst (λ (t : Option Script). IsNotedSo size sectors t o a m) (sym same) tt
@@ -139,11 +128,11 @@ pub record IsOver (job : AbstractJob) (task : Option Script) : Type 0 where
 
 -- Who has done something is another one now, and of others nothing has changed.
 module _ (size a : ℕ) (s : World) (y : AbstractActor) (n : Notes) (m : AbstractNotes) (ey : slice_get s.actors a ≡ Some y) (among : a < length n.doings) (g : NotesAgree size n s m) where
-  agree_waiting : (waiting : ℕ → Option AbstractOrder) (n' : Notes) (m' : AbstractNotes) (t : Shared) (y' : AbstractActor) → m'.histories ≡ by_block size zeros n'.histories → m'.finished ≡ counts_by_block size n'.finished → m'.floors ≡ counts_by_block size n'.floors →
+  agree_after : (waiting : ℕ → Option AbstractOrder) (n' : Notes) (m' : AbstractNotes) (t : Shared) (y' : AbstractActor) → m'.histories ≡ by_block size zeros n'.histories → m'.finished ≡ counts_by_block size n'.finished → m'.floors ≡ counts_by_block size n'.floors →
       length n'.histories ≡ length n.histories → length n'.finished ≡ length n.finished → length n'.floors ≡ length n.floors →
       ((b : ℕ) → b ≢ a → slice_get n'.doings b ≡ slice_get n.doings b) → length n'.doings ≡ length n.doings → ((b : ℕ) → b ≢ a → m'.jobs b ≡ m.jobs b) → ((b : ℕ) → b ≢ a → m'.entered b ≡ m.entered b) → ((b : ℕ) → b ≢ a → m'.asked b ≡ m.asked b) →
       IsNotedSo size (length n.histories) y'.task (slice_get n'.doings a) a m' → NotesAgree size n' (record { shared = t; actors = slice_set s.actors a y'; waiting = waiting }) m'
-  agree_waiting waiting n' m' t y' h f l long finished_long floors_long doings many jobs entered asked here = record {
+  agree_after waiting n' m' t y' h f l long finished_long floors_long doings many jobs entered asked here = record {
     histories = h;
     finished = f;
     floors = l;
@@ -154,12 +143,6 @@ module _ (size a : ℕ) (s : World) (y : AbstractActor) (n : Notes) (m : Abstrac
         (noted_beside size (length n.histories) z.task (slice_get n.doings b) b m m' (jobs b ne) (entered b ne) (asked b ne) (g.each b z (omega (arith, k, many)) e)))) b z e l;
   }
 
-  agree_after : (n' : Notes) (m' : AbstractNotes) (t : Shared) (y' : AbstractActor) → m'.histories ≡ by_block size zeros n'.histories → m'.finished ≡ counts_by_block size n'.finished → m'.floors ≡ counts_by_block size n'.floors →
-      length n'.histories ≡ length n.histories → length n'.finished ≡ length n.finished → length n'.floors ≡ length n.floors →
-      ((b : ℕ) → b ≢ a → slice_get n'.doings b ≡ slice_get n.doings b) → length n'.doings ≡ length n.doings → ((b : ℕ) → b ≢ a → m'.jobs b ≡ m.jobs b) → ((b : ℕ) → b ≢ a → m'.entered b ≡ m.entered b) → ((b : ℕ) → b ≢ a → m'.asked b ≡ m.asked b) →
-      IsNotedSo size (length n.histories) y'.task (slice_get n'.doings a) a m' → NotesAgree size n' (with_own s a t y') m'
-  agree_after n' m' t y' h f l long finished_long floors_long doings many jobs entered asked here = agree_waiting s.waiting n' m' t y' h f l long finished_long floors_long doings many jobs entered asked here
-
   -- by these steps
   abbrev After : List Got → Notes → Type 0
   After gots n' = NotesAgree size n' (after_all s (records a y.task gots)) (told m (records a y.task gots))
@@ -167,11 +150,17 @@ module _ (size a : ℕ) (s : World) (y : AbstractActor) (n : Notes) (m : Abstrac
   to_world : (gots : List Got) (n' : Notes) → NotesAgree size n' (with_own s a (shared_after s.shared y y.task gots) (gone y y.task gots)) (told m (records a y.task gots)) → After gots n'
   to_world gots n' k = subst (λ (v : World). NotesAgree size n' v (told m (records a y.task gots))) (sym (own_steps gots s a y y.task ey refl)) k
 
+  -- who has the same job still, and of whom nothing was told, is noted as before
+  job_here : IsJob m a y.task
+  job_here = is_job size (length n.histories) y.task (slice_get n.doings a) a m (g.each a y among ey)
+
+  untold_after : (gots : List Got) → told m (records a y.task gots) ≡ m → AreGoing y.task gots → After gots n
+  untold_after gots same go = to_world gots n (subst (λ (k : AbstractNotes). NotesAgree size n (with_own s a (shared_after s.shared y y.task gots) (gone y y.task gots)) k) (sym same)
+      (agree_after s.waiting n m (shared_after s.shared y y.task gots) (gone y y.task gots) g.histories g.finished g.floors refl refl refl (λ b e. refl) refl (λ b e. refl) (λ b e. refl) (λ b e. refl)
+      (noted_job size (length n.histories) y.task (gone y y.task gots).task (slice_get n.doings a) a m (gone_job gots y y.task refl go) (g.each a y among ey))))
+
   unnoted_after : (gots : List Got) → AreUnnoted y.task gots → After gots n
-  unnoted_after gots u = to_world gots n (subst (λ (k : AbstractNotes). NotesAgree size n (with_own s a (shared_after s.shared y y.task gots) (gone y y.task gots)) k)
-      (sym (untold gots y.task m a (is_job size (length n.histories) y.task (slice_get n.doings a) a m (g.each a y among ey)) u))
-      (agree_after n m (shared_after s.shared y y.task gots) (gone y y.task gots) g.histories g.finished g.floors refl refl refl (λ b e. refl) refl (λ b e. refl) (λ b e. refl) (λ b e. refl)
-      (noted_job size (length n.histories) y.task (gone y y.task gots).task (slice_get n.doings a) a m (gone_job gots y y.task refl (unnoted_going y.task gots u)) (g.each a y among ey))))
+  unnoted_after gots u = untold_after gots (untold gots y.task m a job_here u) (unnoted_going y.task gots u)
 
   put_others : (o : Option Doing) (b : ℕ) → b ≢ a → slice_get (slice_set n.doings a o) b ≡ slice_get n.doings b
   put_others o b ne = get_set_other n.doings a b o ne
@@ -211,7 +200,7 @@ module _ (size a : ℕ) (s : World) (y : AbstractActor) (n : Notes) (m : Abstrac
       let w : Wrote size (length n.histories) a m m' e = subst (λ (t : Option Script). Wrote size (length n.histories) a m (told m (records a t gots)) e) (sym at)
       (writes_told size location block all content a count gots rest answer offset m n.histories doing.entered are d.job_is g.histories d.entered l inside) in
       let doing' : Doing = record doing { entered = e.entered } in
-      to_world gots (write_note n a doing e) (agree_after (write_note n a doing e) m' (shared_after s.shared y y.task gots) (gone y y.task gots) w.histories (w.finished ∙ g.finished) (w.floors ∙ g.floors)
+      to_world gots (write_note n a doing e) (agree_after s.waiting (write_note n a doing e) m' (shared_after s.shared y y.task gots) (gone y y.task gots) w.histories (w.finished ∙ g.finished) (w.floors ∙ g.floors)
       (entering_length content (rising (block * size + offset) count) (entering n doing)) refl refl (put_others (Some doing')) (length-set n.doings a (Some doing')) (λ b ne. ap (λ (f : ℕ → Option AbstractJob). f b) w.jobs) w.others (λ b ne. ap (λ (f : ℕ → ℕ → ℕ → ℕ). f b) w.asked)
       (subst (λ (o : Option (Option Doing)). IsNotedSo size (length n.histories) (gone y y.task gots).task o a m') (sym (set_here (Some doing') (Some doing) here))
       (noted_job size (length n.histories) (Some script) (gone y y.task gots).task (Some (Some doing')) a m'
@@ -235,7 +224,7 @@ module _ (size a : ℕ) (s : World) (y : AbstractActor) (n : Notes) (m : Abstrac
   answered : (n' : Notes) (script : Script) (job : AbstractJob) (answer : AbstractAnswer) → y.task ≡ Some script → script.steps ≡ [] → script.answer ≡ answer → script.job ≡ job →
       NotesAgree size n' (with_own s a s.shared (record y { task = None })) (noted_step m a (Some job) (End answer)) → After (Done ∷ []) n'
   answered n' script job answer at none ans is k =
-      let own : m.jobs a ≡ Some script.job = subst (λ (t : Option Script). IsJob m a t) at (is_job size (length n.histories) y.task (slice_get n.doings a) a m (g.each a y among ey)) in
+      let own : m.jobs a ≡ Some script.job = subst (λ (t : Option Script). IsJob m a t) at job_here in
       of_task (Some (record { job = job; steps = []; answer = answer })) (Done ∷ []) n' (at ∙ (λ i. Some (record { job = is i; steps = none i; answer = ans i })))
       (subst (λ (k : AbstractNotes). NotesAgree size n' (with_own s a s.shared (record y { task = None })) k) (λ i. noted_step m a ((sym (own ∙ ap (λ (j : AbstractJob). Some j) is)) i) (End answer)) k)
 
@@ -244,7 +233,7 @@ module _ (size a : ℕ) (s : World) (y : AbstractActor) (n : Notes) (m : Abstrac
 
   read_answers : (block : ℕ) (os : List ℕ) (script : Script) → y.task ≡ Some script → script.steps ≡ [] → script.answer ≡ AnsweredDone → script.job ≡ Reading false block os → After (Done ∷ []) (put n a None)
   read_answers block os script at none ans is = answered (put n a None) script (Reading false block os) AnsweredDone at none ans is
-      (agree_after (put n a None) (noted_step m a (Some (Reading false block os)) (End AnsweredDone)) s.shared over g.histories g.finished g.floors refl refl refl (put_others None) (length-set n.doings a None) (λ b ne. changed_other m.jobs a b None ne) (λ b ne. changed_other m.entered a b (m.entered a) ne) (λ b ne. refl) tt)
+      (agree_after s.waiting (put n a None) (noted_step m a (Some (Reading false block os)) (End AnsweredDone)) s.shared over g.histories g.finished g.floors refl refl refl (put_others None) (length-set n.doings a None) (λ b ne. changed_other m.jobs a b None ne) (λ b ne. changed_other m.entered a b (m.entered a) ne) (λ b ne. refl) tt)
 
   does_alike : (job : AbstractJob) (script : Script) (doing : Doing) → y.task ≡ Some script → script.job ≡ job → slice_get n.doings a ≡ Some (Some doing) → DoesAlike size (length n.histories) doing job a m
   does_alike job script doing at is here = subst (λ (j : AbstractJob). DoesAlike size (length n.histories) doing j a m) is
@@ -255,7 +244,7 @@ module _ (size a : ℕ) (s : World) (y : AbstractActor) (n : Notes) (m : Abstrac
   write_answers block os content script doing at none ans is here =
       let d = does_alike (Writing false block os content) script doing at is here in
       answered (put (record n { finished = all_raised n.finished doing.entered }) a None) script (Writing false block os content) AnsweredDone at none ans is
-      (agree_after (put (record n { finished = all_raised n.finished doing.entered }) a None) (noted_step m a (Some (Writing false block os content)) (End AnsweredDone)) s.shared over g.histories
+      (agree_after s.waiting (put (record n { finished = all_raised n.finished doing.entered }) a None) (noted_step m a (Some (Writing false block os content)) (End AnsweredDone)) s.shared over g.histories
       (ap (raised_there (m.entered a)) g.finished ∙ d.entered n.finished g.as_many) g.floors refl (all_raised-length n.finished doing.entered) refl (put_others None) (length-set n.doings a None) (λ b ne. changed_other m.jobs a b None ne) (λ b ne. changed_other m.entered a b (m.entered a) ne) (λ b ne. refl) tt)
 
   flush_answers : (script : Script) (doing : Doing) → y.task ≡ Some script → script.steps ≡ [] → script.answer ≡ AnsweredDone → script.job ≡ Flushing None → slice_get n.doings a ≡ Some (Some doing) → length doing.then_finished ≡ length n.floors →
@@ -263,22 +252,26 @@ module _ (size a : ℕ) (s : World) (y : AbstractActor) (n : Notes) (m : Abstrac
   flush_answers script doing at none ans is here long =
       let d = does_alike (Flushing None) script doing at is here in
       answered (put (record n { floors = greater_of n.floors doing.then_finished }) a None) script (Flushing None) AnsweredDone at none ans is
-      (agree_after (put (record n { floors = greater_of n.floors doing.then_finished }) a None) (noted_step m a (Some (Flushing None)) (End AnsweredDone)) s.shared over g.histories g.finished
+      (agree_after s.waiting (put (record n { floors = greater_of n.floors doing.then_finished }) a None) (noted_step m a (Some (Flushing None)) (End AnsweredDone)) s.shared over g.histories g.finished
       ((λ i b o. max (g.floors i b o) (d.asked i b o)) ∙ sym (greater_counts size n.floors doing.then_finished (sym long))) refl refl (greater-length n.floors doing.then_finished (sym long)) (put_others None) (length-set n.doings a None) (λ b ne. changed_other m.jobs a b None ne) (λ b ne. changed_other m.entered a b (m.entered a) ne) (λ b ne. refl) tt)
 
-  refusal_answers : (script : Script) → y.task ≡ Some script → script.steps ≡ [] → script.answer ≢ AnsweredDone → After (Done ∷ []) (put n a None)
-  refusal_answers script at none undone = answered (put n a None) script script.job script.answer at none refl refl
-      (subst (λ (k : AbstractNotes). NotesAgree size (put n a None) (with_own s a s.shared over) k) (sym (refused_note m a script.job script.answer undone))
-      (agree_after (put n a None) (record m { jobs = changed m.jobs a None }) s.shared over g.histories g.finished g.floors refl refl refl (put_others None) (length-set n.doings a None) (λ b ne. changed_other m.jobs a b None ne) (λ b ne. refl) (λ b ne. refl) tt))
+  -- of which nothing is noted but that its task is over
+  ends_alone : (script : Script) → y.task ≡ Some script → script.steps ≡ [] → noted_step m a (Some script.job) (End script.answer) ≡ record m { jobs = changed m.jobs a None } → After (Done ∷ []) (put n a None)
+  ends_alone script at none same = answered (put n a None) script script.job script.answer at none refl refl (subst (λ (k : AbstractNotes). NotesAgree size (put n a None) (with_own s a s.shared over) k) (sym same)
+      (agree_after s.waiting (put n a None) (record m { jobs = changed m.jobs a None }) s.shared over g.histories g.finished g.floors refl refl refl (put_others None) (length-set n.doings a None) (λ b ne. changed_other m.jobs a b None ne) (λ b ne. refl) (λ b ne. refl) tt))
 
-  absent_answers : y.task ≡ None → After (Done ∷ []) (put n a None)
-  absent_answers e = absent (Done ∷ []) (put n a None) e (agree_after (put n a None) m s.shared y g.histories g.finished g.floors refl refl refl (put_others None) (length-set n.doings a None) (λ b ne. refl) (λ b ne. refl) (λ b ne. refl) (subst (λ (t : Option Script). IsNotedSo size (length n.histories) t (slice_get (slice_set n.doings a None) a) a m) (sym e) tt))
+  -- who has no task there is of no account
+  without_task : (doing : Option Doing) → y.task ≡ None → NotesAgree size (put n a doing) (with_own s a s.shared y) m
+  without_task doing e = agree_after s.waiting (put n a doing) m s.shared y g.histories g.finished g.floors refl refl refl (put_others doing) (length-set n.doings a doing) (λ b ne. refl) (λ b ne. refl) (λ b ne. refl) (subst (λ (t : Option Script). IsNotedSo size (length n.histories) t (slice_get (slice_set n.doings a doing) a) a m) (sym e) tt)
+
+  set_aside : (doing : Option Doing) → y.task ≡ None → NotesAgree size (put n a doing) s m
+  set_aside doing e = subst (λ (ys : List AbstractActor). NotesAgree size (put n a doing) (record { shared = s.shared; actors = ys; waiting = s.waiting }) m) (set_same s.actors a y ey) (without_task doing e)
 
   -- ---- starts
 
   -- its job is given to it, under whatever order
   began_after : (waiting : ℕ → Option AbstractOrder) (t : Shared) (abstract_job : AbstractJob) (job : Job) (was : Option Doing) → slice_get n.doings a ≡ Some was → NotesAgree size (put n a (Some (begun n job))) (record { shared = t; actors = slice_set s.actors a (given y abstract_job); waiting = waiting }) (note m (Start a abstract_job))
-  began_after waiting t abstract_job job was here = agree_waiting waiting (put n a (Some (begun n job))) (note m (Start a abstract_job)) t (given y abstract_job) g.histories g.finished g.floors refl refl refl (put_others (Some (begun n job))) (length-set n.doings a (Some (begun n job)))
+  began_after waiting t abstract_job job was here = agree_after waiting (put n a (Some (begun n job))) (note m (Start a abstract_job)) t (given y abstract_job) g.histories g.finished g.floors refl refl refl (put_others (Some (begun n job))) (length-set n.doings a (Some (begun n job)))
       (λ b ne. changed_other m.jobs a b (Some abstract_job) ne) (λ b ne. changed_other m.entered a b [] ne) (λ b ne. changed_other m.asked a b m.finished ne)
       (subst (λ (o : Option (Option Doing)). IsNotedSo size (length n.histories) (Some (table abstract_job)) o a (note m (Start a abstract_job))) (sym (set_here (Some (begun n job)) was here)) (record {
         job_is = changed_same m.jobs a (Some abstract_job);
@@ -290,8 +283,7 @@ module _ (size a : ℕ) (s : World) (y : AbstractActor) (n : Notes) (m : Abstrac
   start_after abstract_job job was here = subst (λ (v : World). NotesAgree size (put n a (Some (begun n job))) v (note m (Start a abstract_job))) (sym (ap (λ o. start_actor s a o abstract_job) ey)) (began_after (aside s.waiting y.order) (reserved s.shared abstract_job) abstract_job job was here)
 
   late_after : (gots : List Got) (job : Job) → y.task ≡ None → After gots (put n a (Some (begun n job)))
-  late_after gots job e = absent gots (put n a (Some (begun n job))) e (agree_after (put n a (Some (begun n job))) m s.shared y g.histories g.finished g.floors refl refl refl (put_others (Some (begun n job))) (length-set n.doings a (Some (begun n job))) (λ b ne. refl) (λ b ne. refl) (λ b ne. refl)
-      (subst (λ (t : Option Script). IsNotedSo size (length n.histories) t (slice_get (slice_set n.doings a (Some (begun n job))) a) a m) (sym e) tt))
+  late_after gots job e = absent gots (put n a (Some (begun n job))) e (without_task (Some (begun n job)) e)
 
 -- ---- what hangs on no step
 
@@ -333,50 +325,26 @@ migrating_nothing m a job next own i no_end = ap (λ (o : Option AbstractJob). n
     stays w n = refl
 
 carried_untold : (gots : List Got) (task : Option Script) (m : AbstractNotes) (a : ℕ) → IsJob m a task → AreCarried task gots → told m (records a task gots) ≡ m
-carried_untold [] None m a j c = refl
+carried_untold gots None m a j c = refl
 carried_untold [] (Some script) m a j c = refl
-carried_untold (got ∷ gots) None m a j c = refl
 carried_untold (got ∷ gots) (Some script) m a j c =
     let is = task_goes script (want script) got c.1 in
-    let later : IsJob m a (task_after script (want script) got) = subst (λ (t : Option Script). IsJob m a t) (sym is) (j ∙ ap (λ (k : AbstractJob). Some k) (sym (after_job script got))) in
+    let later : IsJob m a (task_after script (want script) got) = subst (λ (t : Option Script). IsJob m a t) (sym is) (j ∙ ap (λ (k : AbstractJob). Some k) (sym (job_on script got))) in
     ap (λ (k : AbstractNotes). told k (records a (task_after script (want script) got) gots)) (migrating_nothing m a script.job (want script) j c.0 c.1) ∙ carried_untold gots (task_after script (want script) got) m a later c.2
 
 module _ (size a : ℕ) (s : World) (y : AbstractActor) (n : Notes) (m : AbstractNotes) (ey : slice_get s.actors a ≡ Some y) (among : a < length n.doings) (g : NotesAgree size n s m) where
   carried_after : (gots : List Got) → AreCarried y.task gots → NotesAgree size n (after_all s (records a y.task gots)) (told m (records a y.task gots))
-  carried_after gots u = to_world size a s y n m ey among g gots n (subst (λ (k : AbstractNotes). NotesAgree size n (with_own s a (shared_after s.shared y y.task gots) (gone y y.task gots)) k)
-      (sym (carried_untold gots y.task m a (is_job size (length n.histories) y.task (slice_get n.doings a) a m (g.each a y among ey)) u))
-      (agree_after size a s y n m ey among g n m (shared_after s.shared y y.task gots) (gone y y.task gots) g.histories g.finished g.floors refl refl refl (λ b e. refl) refl (λ b e. refl) (λ b e. refl) (λ b e. refl)
-      (noted_job size (length n.histories) y.task (gone y y.task gots).task (slice_get n.doings a) a m (gone_job gots y y.task refl (carried_goes y.task gots u)) (g.each a y among ey))))
+  carried_after gots u = untold_after size a s y n m ey among g gots (carried_untold gots y.task m a (job_here size a s y n m ey among g) u) (carried_goes y.task gots u)
 
   -- its answer
   rests_after : (task : Option Script) → y.task ≡ task → Rested y.task → NotesAgree size (put n a None) (after_all s (records a y.task (Done ∷ []))) (told m (records a y.task (Done ∷ [])))
-  rests_after None e r = absent_answers size a s y n m ey among g e
-  rests_after (Some script) e r = let k = subst (λ (t : Option Script). Rested t) e r in
-      answered size a s y n m ey among g (put n a None) script script.job script.answer e k.0 refl refl
-      (subst (λ (k : AbstractNotes). NotesAgree size (put n a None) (with_own s a s.shared (record y { task = None })) k) (sym (migrating_note m a script.job (End script.answer) k.1))
-      (agree_after size a s y n m ey among g (put n a None) (record m { jobs = changed m.jobs a None }) s.shared (record y { task = None }) g.histories g.finished g.floors refl refl refl (put_others size a s y n m ey among g None) (length-set n.doings a None) (λ b ne. changed_other m.jobs a b None ne) (λ b ne. refl) (λ b ne. refl) tt))
+  rests_after None e r = absent size a s y n m ey among g (Done ∷ []) (put n a None) e (without_task size a s y n m ey among g None e)
+  rests_after (Some script) e r = let k = subst (λ (t : Option Script). Rested t) e r in ends_alone size a s y n m ey among g script e k.0 (migrating_note m a script.job (End script.answer) k.1)
 
   -- it begins once more
   again_after : (abstract_job : AbstractJob) (job : Job) (was : Option Doing) → slice_get n.doings a ≡ Some was → NotesAgree size (put n a (Some (begun n job))) (after_all s (Again a abstract_job ∷ [])) (told m (Again a abstract_job ∷ []))
   again_after abstract_job job was here = subst (λ (v : World). NotesAgree size (put n a (Some (begun n job))) v (note m (Again a abstract_job))) (sym (ap (λ o. again_actor s a o abstract_job) ey))
       (began_after size a s y n m ey among g (taken (aside s.waiting y.order) (order_of abstract_job)) s.shared abstract_job job was here)
-
--- who has no task there is of no account
-set_aside : (size : ℕ) (n : Notes) (s : World) (m : AbstractNotes) (a : ℕ) (y : AbstractActor) (doing : Option Doing) → NotesAgree size n s m → slice_get s.actors a ≡ Some y → y.task ≡ None → NotesAgree size (put n a doing) s m
-set_aside size n s m a y doing g ey none = record {
-  histories = g.histories;
-  finished = g.finished;
-  floors = g.floors;
-  as_many = g.as_many;
-  floors_as_many = g.floors_as_many;
-  each = λ b z l e. elim (cases_eq b a) [
-    | inl same ↦
-        let here : Some y ≡ Some z = sym ey ∙ ap (λ (k : ℕ). slice_get s.actors k) (sym same) ∙ e in
-        let is : y ≡ z = cc in
-        subst (λ (t : Option Script). IsNotedSo size (length n.histories) t (slice_get (slice_set n.doings a doing) b) b m) (sym none ∙ ap (λ (v : AbstractActor). v.task) is) tt
-    | inr ne ↦ subst (λ (o : Option (Option Doing)). IsNotedSo size (length n.histories) z.task o b m) (sym (get_set_other n.doings a b doing ne)) (g.each b z (subst (λ (k : ℕ). b < k) (length-set n.doings a doing) l) e)
-  ];
-}
 
 -- an order that is given up is no actor's
 release_after : (size : ℕ) (n : Notes) (s : World) (m : AbstractNotes) (k : ℕ) → NotesAgree size n s m → NotesAgree size n (after_all s (Release k ∷ [])) (told m (Release k ∷ []))
@@ -436,7 +404,8 @@ module _ (size a : ℕ) (s : World) (y : AbstractActor) (n : Notes) (m : Abstrac
   failing_after =
       let k = stops abstract_job migrates in
       let g3 = rests_after size a s2 y2 n1 (told (note m (Start a abstract_job)) (records a (Some (table abstract_job)) (Flag true ∷ []))) ey2 among1 g2 (Some looked) refl k in
-      let g4 = set_aside size (put n1 a None) s3 _ a (gone y2 (Some looked) (Done ∷ [])) (Some (begun n job)) g3 ey3 (ends looked refl k.0) in
+      let among3 : a < length (put n1 a None).doings = subst (λ (i : ℕ). a < i) (sym (length-set n1.doings a None)) among1 in
+      let g4 = set_aside size a s3 (gone y2 (Some looked) (Done ∷ [])) (put n1 a None) _ ey3 among3 g3 (Some (begun n job)) (ends looked refl k.0) in
       subst (λ (ds : List (Option Doing)). NotesAgree size (record n { doings = ds }) s3 (told m (Start a abstract_job ∷ records a (Some (table abstract_job)) (Flag true ∷ Done ∷ []))))
       (set_twice (slice_set n.doings a (Some (begun n job))) a None (Some (begun n job)) ∙ set_twice n.doings a (Some (begun n job)) (Some (begun n job))) g4
 
@@ -526,11 +495,11 @@ notes_followed = record {
 
     by_task : (size a : ℕ) (s : World) (y : AbstractActor) (n : Notes) (m : AbstractNotes) (ey : slice_get s.actors a ≡ Some y) (among : a < length n.doings) (g : NotesAgree size n s m) (job : AbstractJob) (refusal : Refusal) (task : Option Script) → y.task ≡ task → AnswersSo job (Refuses refusal) y.task →
         NotesAgree size (put n a None) (after_all s (records a y.task (Done ∷ []))) (told m (records a y.task (Done ∷ [])))
-    by_task size a s y n m ey among g job refusal None e so = absent_answers size a s y n m ey among g e
-    by_task size a s y n m ey among g job refusal (Some script) e so = let so' = subst (λ (t : Option Script). AnswersSo job (Refuses refusal) t) e so in refusal_answers size a s y n m ey among g script e so'.0 so'.1
+    by_task size a s y n m ey among g job refusal None e so = absent size a s y n m ey among g (Done ∷ []) (put n a None) e (without_task size a s y n m ey among g None e)
+    by_task size a s y n m ey among g job refusal (Some script) e so = let so' = subst (λ (t : Option Script). AnswersSo job (Refuses refusal) t) e so in ends_alone size a s y n m ey among g script e so'.0 (refused_note m a script.job script.answer so'.1)
 
     resumed : (size a : ℕ) (s : World) (y : AbstractActor) (n : Notes) (m : AbstractNotes) (ey : slice_get s.actors a ≡ Some y) (among : a < length n.doings) (g : NotesAgree size n s m) (job : Job) (was : Option Doing) → slice_get n.doings a ≡ Some was → (rs : List Record) → IsResumed a y.task rs → NotesAgree size (put n a (Some (begun n job))) (after_all s rs) (told m rs)
     resumed size a s y n m ey among g job was here rs (Given j i e) = subst (λ (qs : List Record). NotesAgree size (put n a (Some (begun n job))) (after_all s qs) (told m qs)) (sym e) (start_after size a s y n m ey among g j job was here)
     resumed size a s y n m ey among g job was here rs (Kept j i e) = subst (λ (qs : List Record). NotesAgree size (put n a (Some (begun n job))) (after_all s qs) (told m qs)) (sym e) (again_after size a s y n m ey among g j job was here)
     resumed size a s y n m ey among g job was here rs (Failing j i none e) = subst (λ (qs : List Record). NotesAgree size (put n a (Some (begun n job))) (after_all s qs) (told m qs)) (sym e) (failing_after size a s y n m ey among g j i job was here)
-    resumed size a s y n m ey among g job was here rs (Nowhere none e) = subst (λ (qs : List Record). NotesAgree size (put n a (Some (begun n job))) (after_all s qs) (told m qs)) (sym e) (set_aside size n s m a y (Some (begun n job)) g ey none)
+    resumed size a s y n m ey among g job was here rs (Nowhere none e) = subst (λ (qs : List Record). NotesAgree size (put n a (Some (begun n job))) (after_all s qs) (told m qs)) (sym e) (set_aside size a s y n m ey among g (Some (begun n job)) none)

@@ -15,10 +15,10 @@ use Rattle.wb_policy.specs.declared.order.Order.{Order}
 use Rattle.wb_tasks.specs.Tables.{BlockRange, whole_block}
 use Rattle.wb_tasks.specs.Plan.{Plan}
 use Rattle.wb_tasks.specs.declared.step.Migration.{Migration}
-use Rattle.wb_tasks.specs.declared.step.Migration.TheVariants.{Promote, Demote, Clean}
+use Rattle.wb_tasks.specs.declared.step.Migration.TheVariants.{Promote}
 use Rattle.wb_devices.specs.declared.devices.Devices.{Devices}
 use Rattle.wb_link.specs.Tables.{Job as AbstractJob, Order as AbstractOrder, Finished as AnsweredDone}
-use Rattle.wb_link.specs.World.{order_of as order_of_job, IsRun, World, Shared, Start, Again, Apart, Ungiven, MayStart, MayAgain, Actor as AbstractActor, reserved}
+use Rattle.wb_link.specs.World.{IsRun, World, Shared, Start, Again, Apart, Ungiven, MayStart, MayAgain, Actor as AbstractActor, reserved}
 use Rattle.wb_link.proofs.Lists.{get_set_same, get_set_other}
 use Rattle.wb_refines.specs.Tasks.{AllInBlocks}
 use Rattle.wb_refines.specs.Models.{held_of, WordsAgree}
@@ -26,7 +26,7 @@ use Rattle.wb_refines.specs.Translation.{offsets}
 use Rattle.wb_refines.specs.Migrations.{order_on, job_under, Fills}
 use Rattle.wb_refines.specs.Copies.{migrating}
 use Rattle.wb_refines.specs.Carrying.{without_block}
-use Rattle.wb_refines.proofs.Carrying.{migrations_begin}
+use Rattle.wb_refines.proofs.Carrying.{under_order, migrations_begin}
 use Rattle.wb_refines.proofs.Tasks.{within_offsets}
 use Rattle.wb_runs.specs.declared.job.Job.TheVariants.{Migrate}
 use Rattle.wb_runs.specs.States.{Actor}
@@ -41,15 +41,14 @@ use Rattle.wb_refines.specs.Tasks.{IsResting}
 use Rattle.wb_refines.proofs.Going.{goes, set_twice}
 use Rattle.wb_simulation.specs.Steps.{IsPart}
 use Rattle.wb_simulation.specs.Carried.{held, order_there, live_there, IsOf, IsOrderFor, IsCarried}
-use Rattle.wb_simulation.specs.Telling.{IsMigrating, Resumes, IsResumed, Given, Kept, Failing, Nowhere}
+use Rattle.wb_simulation.specs.Telling.{Resumes, IsResumed, Given, Kept, Failing, Nowhere}
 use Rattle.wb_simulation.specs.Worlds.{Agrees, OrdersAgree, IsThere, IsUnfinished, Stays, TurnedTo, DeskTurnedTo}
 use Rattle.wb_simulation.specs.Migrating.{order_of, Goes, IsUngiven, MayBeGiven, MayBeKept, given_by, migrates, begun}
-use Rattle.wb_simulation.proofs.Cells.{shared_stays, gone_nowhere}
 use Rattle.std.proofs.lemmas.List.Elements.{Contains-append_left}
 use Rattle.wb_simulation.specs.Laws.{IsOnlyOf}
-use Rattle.wb_simulation.proofs.Orders.{CarriesOthers, IsDone, carried_beside, carries_same, begins_so, is_aside, who}
-use Rattle.wb_simulation.proofs.Among.{whose, nobody_alone, goes_on, each_on, led_on, whole_on, one_on}
-use Rattle.wb_simulation.proofs.Carrying.{is_done, late_done, on_stands}
+use Rattle.wb_simulation.proofs.Orders.{CarriesOthers, IsDone, carried_beside, begins_so, is_aside, who}
+use Rattle.wb_simulation.proofs.Among.{whose, nobody_alone, stays_there, each_on, led_on, whole_on, one_on}
+use Rattle.wb_simulation.proofs.Carrying.{under_migrates, is_done, late_done, on_stands}
 
 -- ---- what lives there
 
@@ -135,23 +134,19 @@ module _ (size most : ℕ) (words : Words) (committing : Bool) (orders : List (O
 
   fills_given : (m : Migration) → MayBeGiven m block.0 c.0 s.shared → Fills m c
   fills_given (Promote k) may = λ i. record { 0 = may.0 i }
-  fills_given Demote may = tt
-  fills_given Clean may = tt
+  fills_given m may = tt
 
   fills_kept : (m : Migration) → MayBeKept m c.0 s.shared → Fills m c
   fills_kept (Promote k) may = λ i. record { 0 = may.0 i }
-  fills_kept Demote may = tt
-  fills_kept Clean may = tt
+  fills_kept m may = tt
 
   may_start : (m : Migration) → MayBeGiven m block.0 c.0 s.shared → Ungiven s own → ((b : ℕ) → next ≡ Some b → s.shared.mapping b ≡ None) → MayStart size s (job_under own (offsets size cut) m)
   may_start (Promote k) may free waits = (within_offsets size cut inside, whole_covered size block some cut is_cut, free, writes_back, may.1, may.2, waits)
-  may_start Demote may free waits = (within_offsets size cut inside, whole_covered size block some cut is_cut, free, writes_back, may.0, may.1, waits)
-  may_start Clean may free waits = (within_offsets size cut inside, whole_covered size block some cut is_cut, free, writes_back, may.0, may.1, waits)
+  may_start m may free waits = (within_offsets size cut inside, whole_covered size block some cut is_cut, free, writes_back, may.0, may.1, waits)
 
   may_again : (m : Migration) → MayBeKept m c.0 s.shared → MayAgain size s.shared (job_under own (offsets size cut) m)
   may_again (Promote k) may = (within_offsets size cut inside, whole_covered size block some cut is_cut, may.1)
-  may_again Demote may = (within_offsets size cut inside, whole_covered size block some cut is_cut, may)
-  may_again Clean may = (within_offsets size cut inside, whole_covered size block some cut is_cut, may)
+  may_again m may = (within_offsets size cut inside, whole_covered size block some cut is_cut, may)
 
   -- an order that is given reserves a promotion's cache block, and is nothing else to what is shared
   record IsGiven (m : Migration) (t : Shared) : Type 0 where
@@ -166,18 +161,11 @@ module _ (size most : ℕ) (words : Words) (committing : Bool) (orders : List (O
 
   is_given : (m : Migration) → IsGiven m (reserved s.shared (job_under own (offsets size cut) m))
   is_given (Promote k) = record { words_agree = record { fail = g.words_agree.fail; seals = g.words_agree.seals }; origin = refl; cache = refl; mode = refl; commits = refl; broken = refl; turned = (refl, refl, refl); desk = (refl, refl) }
-  is_given Demote = record { words_agree = g.words_agree; origin = refl; cache = refl; mode = refl; commits = refl; broken = refl; turned = (refl, refl, refl); desk = (refl, refl) }
-  is_given Clean = record { words_agree = g.words_agree; origin = refl; cache = refl; mode = refl; commits = refl; broken = refl; turned = (refl, refl, refl); desk = (refl, refl) }
+  is_given m = record { words_agree = g.words_agree; origin = refl; cache = refl; mode = refl; commits = refl; broken = refl; turned = (refl, refl, refl); desk = (refl, refl) }
 
   map_given : (m : Migration) → (reserved s.shared (job_under own (offsets size cut) m)).mapping ≡ s.shared.mapping
   map_given (Promote k) = refl
-  map_given Demote = refl
-  map_given Clean = refl
-
-  is_migrating : (m : Migration) → IsMigrating (job_under own (offsets size cut) m)
-  is_migrating (Promote k) = tt
-  is_migrating Demote = tt
-  is_migrating Clean = tt
+  map_given m = refl
 
   st : StandsFor size most words x y
   st = g.each a x y ex ey
@@ -262,13 +250,7 @@ module _ (size most : ℕ) (words : Words) (committing : Bool) (orders : List (O
 
   falls : (ys : List AbstractActor) (m : Migration) (u : Shared) (v : AbstractActor) → u.fail ≡ true → MayGo ys a u v (Some (table_there (job_under own (offsets size cut) m))) (Flag true ∷ DoneThere ∷ []) × (shared_after u v (Some (table_there (job_under own (offsets size cut) m))) (Flag true ∷ DoneThere ∷ []) ≡ u) × (gone v (Some (table_there (job_under own (offsets size cut) m))) (Flag true ∷ DoneThere ∷ []) ≡ record v { task = None })
   falls ys (Promote k) u v f = ((sym f, tt, (tt, tt, tt)), refl, refl)
-  falls ys Demote u v f = ((sym f, tt, (tt, tt, tt)), refl, refl)
-  falls ys Clean u v f = ((sym f, tt, (tt, tt, tt)), refl, refl)
-
-  under_is : (m : Migration) → order_of_job (job_under own (offsets size cut) m) ≡ Some own
-  under_is (Promote k) = refl
-  under_is Demote = refl
-  under_is Clean = refl
+  falls ys m u v f = ((sym f, tt, (tt, tt, tt)), refl, refl)
 
   module _ (no_order : slice_get orders c.0 ≡ Some None) (apart : IsUngiven s.shared.mapping orders own) (waits : (b : ℕ) → next ≡ Some b → s.shared.mapping b ≡ None) (may : MayBeGiven migration block.0 c.0 s.shared) where
     abbrev orders_then : List (Option Order)
@@ -298,7 +280,7 @@ module _ (size most : ℕ) (words : Words) (committing : Bool) (orders : List (O
               (λ d p e w. not_aside size most words committing orders devices actors s g c.0 no_order a y ey d p e w) alone (reserved s.shared job) (map_given migration) (fills_given migration may) (inl k));
           turned = subst (λ (v : World). TurnedTo (given_by migration c.0) s.shared v.shared) (sym start.1) k.turned;
           desk = subst (λ (v : World). DeskTurnedTo (given_by migration c.0) s.shared v.shared) (sym start.1) k.desk;
-          told = λ v e. Given job (is_migrating migration) refl;
+          told = λ v e. Given job (under_migrates own (offsets size cut) migration) refl;
         }
 
     -- it has kept something at a failure, and is refused there at once
@@ -314,7 +296,7 @@ module _ (size most : ℕ) (words : Words) (committing : Bool) (orders : List (O
         let f = falls (slice_set s.actors a y1) migration t y1 stopped in
         let went = goes size results w1 a y1 (Some (table_there job)) (get_set_same s.actors a y y1 ey) refl f.0 in
         let w2 : World = record { shared = t; actors = slice_set s.actors a (record y { task = None; order = Some own }); waiting = aside s.waiting y.order } in
-        let then_is : after_all w1 (records a (Some (table_there job)) results) ≡ w2 = went.is ∙ (λ i. record { shared = f.1 i; actors = slice_set (slice_set s.actors a y1) a (f.2 i); waiting = aside s.waiting y.order }) ∙ (λ i. record { shared = t; actors = set_twice s.actors a y1 (record y { task = None; order = under_is migration i }) i; waiting = aside s.waiting y.order }) in
+        let then_is : after_all w1 (records a (Some (table_there job)) results) ≡ w2 = went.is ∙ (λ i. record { shared = f.1 i; actors = slice_set (slice_set s.actors a y1) a (f.2 i); waiting = aside s.waiting y.order }) ∙ (λ i. record { shared = t; actors = set_twice s.actors a y1 (record y { task = None; order = under_order own (offsets size cut) migration i }) i; waiting = aside s.waiting y.order }) in
         let all : after_all (start_actor s a (slice_get s.actors a) job) (records a (Some (table_there job)) results) ≡ w2 = ap (λ (w : World). after_all w (records a (Some (table_there job)) results)) begun_is ∙ then_is in
         record {
           records = Start a job ∷ records a (Some (table_there job)) results;
@@ -327,7 +309,7 @@ module _ (size most : ℕ) (words : Words) (committing : Bool) (orders : List (O
               (λ d p e w. not_aside size most words committing orders devices actors s g c.0 no_order a y ey d p e w) alone t (map_given migration) failed k);
           turned = subst (λ (v : World). TurnedTo (given_by migration c.0) s.shared v.shared) (sym all) k.turned;
           desk = subst (λ (v : World). DeskTurnedTo (given_by migration c.0) s.shared v.shared) (sym all) k.desk;
-          told = λ v e. let both : Some y ≡ Some v = sym ey ∙ e in let same : y ≡ v = cc in Failing job (is_migrating migration) (ap (λ (u : AbstractActor). u.task) (sym same) ∙ rests.0) refl;
+          told = λ v e. let both : Some y ≡ Some v = sym ey ∙ e in let same : y ≡ v = cc in Failing job (under_migrates own (offsets size cut) migration) (ap (λ (u : AbstractActor). u.task) (sym same) ∙ rests.0) refl;
         }
 
     pub starts : Goal
@@ -342,10 +324,8 @@ module _ (size most : ℕ) (words : Words) (committing : Bool) (orders : List (O
 
     -- it has kept something at a failure, and nothing is begun there
     late : flag words.fail ≡ true → Again_goal
-    late failed = goes_on size most words words (λ q. q) committing orders devices actors a x resuming s y g ex ey Resumes devices [] s.shared (subst (λ (t : Option Script). IsResumed a t (records a t [])) (sym rests.0) (Nowhere refl refl)) tt (shared_stays s.shared y y.task)
-        (subst (λ (z : AbstractActor). StandsFor size most words resuming z) (sym (gone_nowhere y y.task)) (record { at = tt; below = st.below; among_others = st.among_others }))
-        (λ q. gone_nowhere y y.task) g.words_agree g.origin g.cache refl refl refl (refl, refl, refl) (refl, refl) (ap (λ (v : AbstractActor). v.order) (gone_nowhere y y.task)) (λ o h. h) (carries_same size orders devices actors s a)
-        (subst (λ (z : AbstractActor). IsDone size words orders devices resuming z) (sym (gone_nowhere y y.task)) (late_done size words orders devices migration block part plan resuming y refl refl (record { failed = failed; nothing = rests.0; at = inl refl })))
+    late failed = stays_there size most words committing orders devices actors a x resuming s y g ex ey Resumes (subst (λ (t : Option Script). IsResumed a t (records a t [])) (sym rests.0) (Nowhere refl refl)) (record { at = tt; below = st.below; among_others = st.among_others }) (λ o h. h)
+        (late_done size words orders devices migration block part plan resuming y refl refl (record { failed = failed; nothing = rests.0; at = inl refl }))
 
     -- no other actor has it
     nobody_else : (b : ℕ) (v : AbstractActor) (p : AbstractOrder) → b ≢ a → slice_get s.actors b ≡ Some v → v.order ≡ Some p → p.cache ≡ c.0 → ⊥
@@ -372,7 +352,7 @@ module _ (size most : ℕ) (words : Words) (committing : Bool) (orders : List (O
               (λ d p e w. let bad : None ≡ Some p = sym (changed_same (aside s.waiting y.order) c.0 None) ∙ ap (taken (aside s.waiting y.order) (Some own)) (sym e) ∙ w in absurd (cc)) nobody_else s.shared refl (fills_kept migration may) (inr refl));
           turned = subst (λ (v : World). TurnedTo Stays s.shared v.shared) (sym start.1) (refl, refl, refl);
           desk = subst (λ (v : World). DeskTurnedTo Stays s.shared v.shared) (sym start.1) (refl, refl);
-          told = λ v e. Kept job (is_migrating migration) refl;
+          told = λ v e. Kept job (under_migrates own (offsets size cut) migration) refl;
         }
 
     pub again : Again_goal

@@ -24,10 +24,9 @@ use Rattle.wb_simulation.specs.Actors.{IsLate, IsBusyAt, IsDoing, StandsFor}
 use Rattle.wb_simulation.specs.Telling.{Quietly, Starts}
 use Rattle.wb_simulation.specs.Worlds.{Agrees, Stays, TurnedTo, DeskTurnedTo, Follows}
 use Rattle.wb_simulation.specs.Laws.{StartsFollowed}
-use Rattle.wb_simulation.proofs.Cells.{shared_stays, gone_nowhere}
 use Rattle.wb_simulation.proofs.Telling.{unnoted_none}
-use Rattle.wb_simulation.proofs.Orders.{MigratesNot, does_none, carries_same, orders_begun}
-use Rattle.wb_simulation.proofs.Among.{own_there, nobody_alone, goes_on, each_on, led_on, whole_on, one_on}
+use Rattle.wb_simulation.proofs.Orders.{MigratesNot, does_none, orders_begun}
+use Rattle.wb_simulation.proofs.Among.{stays_there, own_there, nobody_alone, each_on, led_on, whole_on, one_on}
 
 all_inside : (size : ℕ) (part : BlockRange) → IsPart size part → AllInBlocks size part.extents
 all_inside size part is e c = (is.each e c).room
@@ -65,9 +64,7 @@ module _ (size most : ℕ) (words : Words) (committing : Bool) (orders : List (O
 
   -- nothing is started there, since the actor has kept something
   begins_late : (y : AbstractActor) → slice_get s.actors a ≡ Some y → StandsFor size most words x y → IsDoing size most words job plan x.card y → Goal
-  begins_late y ey st doing = goes_on size most words words (λ f. f) committing orders devices actors a x (record x { task = Some (job, plan) }) s y g ex ey Quietly devices [] s.shared ([], unnoted_none y.task, refl) tt (shared_stays s.shared y y.task)
-      (subst (λ (z : AbstractActor). StandsFor size most words (record x { task = Some (job, plan) }) z) (sym (gone_nowhere y y.task)) (record { at = doing; below = st.below; among_others = st.among_others }))
-      (λ l. gone_nowhere y y.task) g.words_agree g.origin g.cache refl refl refl (refl, refl, refl) (refl, refl) (ap (λ (v : AbstractActor). v.order) (gone_nowhere y y.task)) (λ o h. h) (carries_same size orders devices actors s a) (does_none _ _ _ _ _ _ other)
+  begins_late y ey st doing = stays_there size most words committing orders devices actors a x (record x { task = Some (job, plan) }) s y g ex ey Quietly ([], unnoted_none y.task, refl) (record { at = doing; below = st.below; among_others = st.among_others }) (λ o h. h) (does_none _ _ _ _ _ _ other)
 
 rests : (size most : ℕ) (words : Words) (x : Actor) (y : AbstractActor) → StandsFor size most words x y → x.task ≡ None → (y.task ≡ None) × (IsResting y ⊎ (flag words.fail ≡ true))
 rests size most words x y st e = subst (λ t. IsBusyAt size most words t x.card y) e st.at

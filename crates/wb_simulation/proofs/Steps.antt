@@ -6,11 +6,11 @@ use Rattle.wb_types.proofs.Lists.{Contains-first, Contains-behind}
 use Rattle.wb_types.specs.declared.extent.Extent.{Extent}
 use Rattle.wb_types.specs.declared.mode.Dev.TheVariants.{Cache, Origin}
 use Rattle.wb_types.specs.declared.number.CBlock.{CBlock}
-use Rattle.wb_words.specs.SharedWords.{place_in, cached_at, seal_word, dirty_in}
+use Rattle.wb_words.specs.SharedWords.{flag, place_in, cached_at, seal_word, dirty_in}
 use Rattle.wb_words.specs.SharedWords.{Words, word_at}
 use Rattle.wb_words.specs.Effects.{result_of}
 use Rattle.wb_words.specs.declared.step.CellResult.TheVariants.{Done as Won, Lost as NotWon}
-use Rattle.wb_words.specs.declared.word.Word.TheVariants.{Cell as LockWord, Seal as SealWord, Number, Count as CountWord, Fail}
+use Rattle.wb_words.specs.declared.word.Word.TheVariants.{Cell as LockWord, Seal as SealWord, Number, Fail}
 use Rattle.wb_types.specs.declared.number.OBlock.{OBlock}
 use Rattle.wb_types.specs.declared.refusal.Refusal.TheVariants.{Failed, Worn, Busy}
 use Rattle.wb_tasks.specs.Tables.{TaskJob, BlockRange, Reading, Writing, Migrating, OnBlock, read_step, write_step, read_count, write_count, cache_extent, dirtying, copies, ending, work}
@@ -22,11 +22,14 @@ use Rattle.wb_tasks.specs.declared.step.Want.{Want}
 use Rattle.wb_tasks.specs.declared.step.Want.TheVariants.{Cell}
 use Rattle.wb_words.specs.declared.word.Access.TheVariants.{Shared, Owned}
 use Rattle.wb_words.specs.declared.step.CellStep.{CellStep}
-use Rattle.wb_words.specs.declared.step.CellStep.TheVariants.{Look, Take, Release, Seal, Finish, Count, SetFailed, SetSuspended}
+use Rattle.wb_words.specs.declared.step.CellStep.TheVariants.{Look, Take, Release, Finish}
 use Rattle.wb_refines.specs.Data.{IsInBlock}
 use Rattle.wb_refines.specs.Translation.{location_at}
 use Rattle.wb_refines.proofs.Tables.{at_place}
 use Rattle.wb_refines.specs.Migrations.{order_on, source, Fills, IsWhere}
+use Rattle.wb_tasks.specs.declared.step.Got.TheVariants.{Word}
+use Rattle.wb_tasks.specs.declared.step.Answer.TheVariants.{Refused as Refuses}
+use Rattle.wb_refines.proofs.Cells.{flag_of}
 use Rattle.wb_simulation.specs.Carried.{target, AreCopiedAt}
 use Rattle.wb_simulation.specs.Steps.{IsOfBlock, IsPart, AreOfBlock, ArePaired, IsNoWrite}
 
@@ -124,18 +127,20 @@ after_cell P job words (Look (Number b)) ws answer none stays exchanges works ba
     by_test : (t : Bool) → P (if t then refused (record { job = job; steps = Cell (Look (Number b)) ∷ ws; answer = answer }) (gives_back job) Worn else onward (record { job = job; steps = Cell (Look (Number b)) ∷ ws; answer = answer })).steps
     by_test true = back
     by_test false = stays
-after_cell P job words (Look (CountWord kind)) ws answer none stays exchanges works back = stays
 after_cell P job words (Take access b seen) ws answer none stays exchanges works back = by_test (word_at words.cells b == seen)
   where
     by_test : (t : Bool) → P (after (record { job = job; steps = Cell (Take access b seen) ∷ ws; answer = answer }) (got_of (if t then Won else NotWon))).steps
     by_test true = stays
     by_test false = none
-after_cell P job words (Release access b) ws answer none stays exchanges works back = stays
-after_cell P job words (Seal b place dirty) ws answer none stays exchanges works back = stays
-after_cell P job words (Finish b) ws answer none stays exchanges works back = stays
-after_cell P job words (Count kind) ws answer none stays exchanges works back = stays
-after_cell P job words SetFailed ws answer none stays exchanges works back = stays
-after_cell P job words SetSuspended ws answer none stays exchanges works back = stays
+after_cell P job words step ws answer none stays exchanges works back = stays
+
+-- where the target has failed, whoever looks at the fail word is refused
+pub finds_failed : (words : Words) (job : TaskJob) (ws : List Want) (answer : Answer) → flag words.fail ≡ true → after (record { job = job; steps = Cell (Look Fail) ∷ ws; answer = answer }) (Word words.fail) ≡ record { job = job; steps = []; answer = Refuses Failed }
+finds_failed words job ws answer f = by_test (words.fail == 0) (flag_of words.fail (words.fail == 0) refl)
+  where
+    by_test : (t : Bool) → flag words.fail ≡ cond t false true → (if t then onward (record { job = job; steps = Cell (Look Fail) ∷ ws; answer = answer }) else refused (record { job = job; steps = Cell (Look Fail) ∷ ws; answer = answer }) [] Failed) ≡ record { job = job; steps = []; answer = Refuses Failed }
+    by_test true e = let bad : true ≡ false = sym f ∙ e in absurd (cc)
+    by_test false e = refl
 
 module _ (size : ℕ) (part : BlockRange) (is : IsPart size part) where
   abbrev Copies : (from to : Option ℕ) → List Want → Type 0

@@ -1,5 +1,5 @@
 -- What the abstract world's clerk notes of the steps of an actor's task.
-use Rattle.std.proofs.Common.{◌≡◌, ◌≢◌, ◌<◌, ◌≤◌, ◌+◌, ◌*◌, ◌∙◌, ◌++◌, inl, inr, ℕ, zero, suc, Bool, true, false, cond, List, [], ◌∷◌, Option, Some, None, length, map, refl, sym, ap, subst, arith, slice_get, unwrap_or}
+use Rattle.std.proofs.Common.{◌≡◌, ◌≢◌, ◌<◌, ◌≤◌, ◌+◌, ◌*◌, ◌∙◌, ◌++◌, inl, inr, ℕ, zero, suc, Bool, false, cond, List, [], ◌∷◌, Option, Some, None, length, map, refl, sym, ap, subst, arith, slice_get, unwrap_or}
 use Rattle.std.proofs.lemmas.Bool.{cases_eq, lt-ltb}
 use Rattle.std.proofs.lemmas.Option.{slice_get-get_or}
 use Rattle.wb_types.specs.Extents.{rising}
@@ -14,6 +14,7 @@ use Rattle.wb_link.specs.Clerk.{Notes, Entry, note, noted_step, histories_after,
 use Rattle.wb_link.specs.Openings.{On, AllRight}
 use Rattle.wb_refines.specs.Going.{records}
 use Rattle.wb_runs.specs.Clerk.{Position, Entering, enter, enter_each, next_position}
+use Rattle.wb_link.proofs.Actors.{job_on}
 use Rattle.wb_simulation.specs.Noting.{AreEntries}
 use Rattle.wb_simulation.specs.Noted.{told, AreNewest}
 use Rattle.wb_simulation.specs.Telling.{IsUnnoted, AreUnnoted, AreWrites, reading, writing}
@@ -71,36 +72,16 @@ abbrev pub IsJob : Notes → ℕ → Option Script → Type 0
 IsJob m a None = Unit {0}
 IsJob m a (Some script) = m.jobs a ≡ Some script.job
 
--- whatever comes of a step, the job stays
-pub after_job : (script : Script) (got : Got) → (after script got).job ≡ script.job
-after_job script Done = refl
-after_job script Rattle.wb_link.specs.Tables.Lost = refl
-after_job script (Rattle.wb_link.specs.Tables.Flag true) = refl
-after_job script (Rattle.wb_link.specs.Tables.Flag false) = refl
-after_job script (Rattle.wb_link.specs.Tables.Seen seal) = refl
-after_job script (Gave c) = refl
-after_job script (Rattle.wb_link.specs.Tables.Ticket k) = refl
-after_job script Rattle.wb_link.specs.Tables.Served = refl
-after_job script Rattle.wb_link.specs.Tables.Broken = refl
-after_job script Rattle.wb_link.specs.Tables.Short = refl
-after_job script (Fault choice) = by_want (want script)
-  where
-    by_want : (w : Want) → (Rattle.wb_link.specs.Tables.after_fault script choice.more w).job ≡ script.job
-    by_want (Read_at location b o) = refl
-    by_want (Write_at location b o) = refl
-    by_want w = refl
-
 pub task_stays : (script : Script) (w : Want) (got : Got) → IsUnnoted w → task_after script w got ≡ Some (after script got)
 task_stays script (End answer) got u = absurd u
 task_stays script w got u = refl
 
 pub untold : (gots : List Got) (task : Option Script) (m : Notes) (a : ℕ) → IsJob m a task → AreUnnoted task gots → told m (records a task gots) ≡ m
-untold [] None m a j u = refl
+untold gots None m a j u = refl
 untold [] (Some script) m a j u = refl
-untold (got ∷ gots) None m a j u = refl
 untold (got ∷ gots) (Some script) m a j u =
     let is = task_stays script (want script) got u.0 in
-    let later : IsJob m a (task_after script (want script) got) = subst (λ (t : Option Script). IsJob m a t) (sym is) (j ∙ ap (λ (k : Job). Some k) (sym (after_job script got))) in
+    let later : IsJob m a (task_after script (want script) got) = subst (λ (t : Option Script). IsJob m a t) (sym is) (j ∙ ap (λ (k : Job). Some k) (sym (job_on script got))) in
     ap (λ (k : Notes). told k (records a (task_after script (want script) got) gots)) (unnoted m a script.job (want script) got j u.0) ∙ untold gots (task_after script (want script) got) m a later u.1
 
 -- ---- reads
