@@ -54,22 +54,12 @@ module _ (sectors : ℕ) where
 
   device_asked : (shape : Shape) (n : Notes) (a : ℕ) (doing : Doing) (job : Job) (step : DeviceStep) (got : Got) (read : List Bytes) → AllAsked sectors n.doings → length doing.then_finished ≡ sectors → AllAsked sectors (device_note shape n a doing job step got read).doings
   device_asked shape n a doing (Read extent) (ReadExtent d e) Done read all l = same_asked n.doings a doing _ all l
-  device_asked shape n a doing (Read extent) (ReadExtent d e) got read all l = all
   device_asked shape n a doing (Write extent content) (WriteExtent d e) got read all l = same_asked n.doings a doing _ all l
-  device_asked shape n a doing (Read extent) step got read all l = all
-  device_asked shape n a doing (Write extent content) step got read all l = all
-  device_asked shape n a doing Flush step got read all l = all
-  device_asked shape n a doing (Open mode) step got read all l = all
-  device_asked shape n a doing (Migrate migration block) step got read all l = all
-  device_asked shape n a doing (Replace old new) step got read all l = all
+  device_asked shape n a doing job step got read all l = all
 
   finished_asked : (n : Notes) (a : ℕ) (doing : Doing) (job : Job) (shown : List Bytes) → AllAsked sectors n.doings → AllAsked sectors (finished_note n a doing job shown).doings
-  finished_asked n a doing (Read extent) shown all = none_asked n.doings a all
-  finished_asked n a doing (Write extent content) shown all = none_asked n.doings a all
-  finished_asked n a doing Flush shown all = none_asked n.doings a all
   finished_asked n a doing (Open mode) shown all = λ b d e. nobody_at (length n.doings) b d e
-  finished_asked n a doing (Migrate migration block) shown all = none_asked n.doings a all
-  finished_asked n a doing (Replace old new) shown all = none_asked n.doings a all
+  finished_asked n a doing job shown all = none_asked n.doings a all
 
   step_asked : (shape : Shape) (shown : List Bytes) (n : Notes) (a : ℕ) (o : Option (Option Doing)) (next : Want) (got : Got) (read : List Bytes) → slice_get n.doings a ≡ o → AllAsked sectors n.doings → AllAsked sectors (noted_step shape shown n a o next got read).doings
   step_asked shape shown n a (Some (Some doing)) (Device step) got read e all =
@@ -77,37 +67,15 @@ module _ (sectors : ℕ) where
       device_asked shape (put n a (Some (failing doing step got))) a (failing doing step got) doing.job step got read (same_asked n.doings a doing (failing doing step got) all l) l
   step_asked shape shown n a (Some (Some doing)) (End Finished) got read e all = finished_asked n a doing doing.job shown all
   step_asked shape shown n a (Some (Some doing)) (End (Refuses refusal)) got read e all = none_asked n.doings a all
-  step_asked shape shown n a (Some (Some doing)) (Cell step) got read e all = all
-  step_asked shape shown n a (Some (Some doing)) (Desk step) got read e all = all
-  step_asked shape shown n a (Some None) next got read e all = all
-  step_asked shape shown n a None next got read e all = all
+  step_asked shape shown n a o next got read e all = all
 
   starting_asked : (n : Notes) (job : Job) → AllAsked sectors n.doings → AllAsked sectors (starting n job).doings
   starting_asked n (Open mode) all = nobody_asked n.doings
-  starting_asked n (Read extent) all = all
-  starting_asked n (Write extent content) all = all
-  starting_asked n Flush all = all
-  starting_asked n (Migrate migration block) all = all
-  starting_asked n (Replace old new) all = all
+  starting_asked n job all = all
 
   pub what_asked : (shape : Shape) (shown : List Bytes) (n : Notes) (event : Event) (what : What) (read : List Bytes) → length n.finished ≡ sectors → AllAsked sectors n.doings → AllAsked sectors (noted_what shape shown n event what read).doings
   what_asked shape shown n (Start a job) Started read l all = same_asked (starting n job).doings a (begun n (begun_as job)) (begun n (begun_as job)) (starting_asked n job all) l
   what_asked shape shown n (Step a) (Stepped next got) read l all = step_asked shape shown n a (slice_get n.doings a) next got read refl all
   what_asked shape shown n (FaultStep a choice) (Stepped next got) read l all = step_asked shape shown n a (slice_get n.doings a) next got read refl all
   what_asked shape shown n (Stop choice) Stopped read l all = nobody_asked n.doings
-  what_asked shape shown n (Start a job) Skipped read l all = all
-  what_asked shape shown n (Start a job) (Refused refusal) read l all = all
-  what_asked shape shown n (Start a job) (Stepped next got) read l all = all
-  what_asked shape shown n (Start a job) Stopped read l all = all
-  what_asked shape shown n (Step a) Skipped read l all = all
-  what_asked shape shown n (Step a) (Refused refusal) read l all = all
-  what_asked shape shown n (Step a) Started read l all = all
-  what_asked shape shown n (Step a) Stopped read l all = all
-  what_asked shape shown n (FaultStep a choice) Skipped read l all = all
-  what_asked shape shown n (FaultStep a choice) (Refused refusal) read l all = all
-  what_asked shape shown n (FaultStep a choice) Started read l all = all
-  what_asked shape shown n (FaultStep a choice) Stopped read l all = all
-  what_asked shape shown n (Stop choice) Skipped read l all = all
-  what_asked shape shown n (Stop choice) (Refused refusal) read l all = all
-  what_asked shape shown n (Stop choice) Started read l all = all
-  what_asked shape shown n (Stop choice) (Stepped next got) read l all = all
+  what_asked shape shown n event what read l all = all

@@ -60,22 +60,12 @@ GivenIf shape n job step got read = Unit {0}
 
 device_latest : (shape : Shape) (n : Notes) (a : ℕ) (doing : Doing) (job : Job) (step : DeviceStep) (got : Got) (read : List Bytes) → AllLatest n.doings → IsLatestSoFar doing → GivenIf shape n job step got read → AllLatest (device_note shape n a doing job step got read).doings
 device_latest shape n a doing (Read extent) (ReadExtent d e) Done read all l g = put_latest n.doings a _ all (All-append IsLatest doing.readings (readings_from n.histories (sector_for shape extent e) read) l g)
-device_latest shape n a doing (Read extent) (ReadExtent d e) got read all l g = all
 device_latest shape n a doing (Write extent content) (WriteExtent d e) got read all l g = put_latest n.doings a _ all l
-device_latest shape n a doing (Read extent) step got read all l g = all
-device_latest shape n a doing (Write extent content) step got read all l g = all
-device_latest shape n a doing Flush step got read all l g = all
-device_latest shape n a doing (Open mode) step got read all l g = all
-device_latest shape n a doing (Migrate migration block) step got read all l g = all
-device_latest shape n a doing (Replace old new) step got read all l g = all
+device_latest shape n a doing job step got read all l g = all
 
 finished_latest : (n : Notes) (a : ℕ) (doing : Doing) (job : Job) (shown : List Bytes) → AllLatest n.doings → AllLatest (finished_note n a doing job shown).doings
-finished_latest n a doing (Read extent) shown all = none_latest n.doings a all
-finished_latest n a doing (Write extent content) shown all = none_latest n.doings a all
-finished_latest n a doing Flush shown all = none_latest n.doings a all
 finished_latest n a doing (Open mode) shown all = λ b d e. absurd (let same : ◌≡◌ {A = Option Doing} None (Some d) = replicated (length n.doings) b None (Some d) e in cc)
-finished_latest n a doing (Migrate migration block) shown all = none_latest n.doings a all
-finished_latest n a doing (Replace old new) shown all = none_latest n.doings a all
+finished_latest n a doing job shown all = none_latest n.doings a all
 
 step_latest : (shape : Shape) (shown : List Bytes) (n : Notes) (a : ℕ) (o : Option (Option Doing)) (next : Want) (got : Got) (read : List Bytes) → slice_get n.doings a ≡ o → AllLatest n.doings → ((doing : Doing) (step : DeviceStep) → o ≡ Some (Some doing) → next ≡ Device step → GivenIf shape n doing.job step got read) → AllLatest (noted_step shape shown n a o next got read).doings
 step_latest shape shown n a (Some (Some doing)) (Device step) got read e all given =
@@ -109,18 +99,11 @@ step_latest shape shown n a (Some (Some doing)) (Device step) got read e all giv
     same job WriteRoot got g = tt
 step_latest shape shown n a (Some (Some doing)) (End Finished) got read e all given = finished_latest n a doing doing.job shown all
 step_latest shape shown n a (Some (Some doing)) (End (Refuses refusal)) got read e all given = none_latest n.doings a all
-step_latest shape shown n a (Some (Some doing)) (Cell step) got read e all given = all
-step_latest shape shown n a (Some (Some doing)) (Desk step) got read e all given = all
-step_latest shape shown n a (Some None) next got read e all given = all
-step_latest shape shown n a None next got read e all given = all
+step_latest shape shown n a o next got read e all given = all
 
 starting_latest : (n : Notes) (job : Job) → AllLatest n.doings → AllLatest (starting n job).doings
 starting_latest n (Open mode) all = nobody_latest n.doings
-starting_latest n (Read extent) all = all
-starting_latest n (Write extent content) all = all
-starting_latest n Flush all = all
-starting_latest n (Migrate migration block) all = all
-starting_latest n (Replace old new) all = all
+starting_latest n job all = all
 
 -- a step that is chosen to fail does
 abbrev pub IsFault : Event → What → Type 0
@@ -152,19 +135,4 @@ what_latest shape shown n (FaultStep a choice) (Stepped next got) read r fails a
     none job (WriteNode number) = tt
     none job WriteRoot = tt
 what_latest shape shown n (Stop choice) Stopped read r fails all = nobody_latest n.doings
-what_latest shape shown n (Start a job) Skipped read r fails all = all
-what_latest shape shown n (Start a job) (Refused refusal) read r fails all = all
-what_latest shape shown n (Start a job) (Stepped next got) read r fails all = all
-what_latest shape shown n (Start a job) Stopped read r fails all = all
-what_latest shape shown n (Step a) Skipped read r fails all = all
-what_latest shape shown n (Step a) (Refused refusal) read r fails all = all
-what_latest shape shown n (Step a) Started read r fails all = all
-what_latest shape shown n (Step a) Stopped read r fails all = all
-what_latest shape shown n (FaultStep a choice) Skipped read r fails all = all
-what_latest shape shown n (FaultStep a choice) (Refused refusal) read r fails all = all
-what_latest shape shown n (FaultStep a choice) Started read r fails all = all
-what_latest shape shown n (FaultStep a choice) Stopped read r fails all = all
-what_latest shape shown n (Stop choice) Skipped read r fails all = all
-what_latest shape shown n (Stop choice) (Refused refusal) read r fails all = all
-what_latest shape shown n (Stop choice) Started read r fails all = all
-what_latest shape shown n (Stop choice) (Stepped next got) read r fails all = all
+what_latest shape shown n event what read r fails all = all

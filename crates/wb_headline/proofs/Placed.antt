@@ -254,11 +254,7 @@ module _ (P A : Type 0) (shape : Shape) where
   -- a task that is no write is left so
   other_job : (job : Job) (plan : Plan) (card : Card) → ((extent : Extent) (content : Bytes) → job ≡ Write extent content → ⊥) → JobPlaced (block_size shape) job plan card
   other_job (Write extent content) plan card n = absurd (n extent content refl)
-  other_job (Read extent) plan card n = tt
-  other_job Flush plan card n = tt
-  other_job (Open mode) plan card n = tt
-  other_job (Migrate migration block) plan card n = tt
-  other_job (Replace old new) plan card n = tt
+  other_job job plan card n = tt
 
   no_write : (job : Job) (plan : Plan) (card : Card) (next : Want) (got : Got) → ((extent : Extent) (content : Bytes) → job ≡ Write extent content → ⊥) → TaskPlaced (block_size shape) card (task_then (Some (job, plan)) next got)
   no_write job plan card (End answer) got n = tt
@@ -361,19 +357,11 @@ module _ (P A : Type 0) (shape : Shape) where
     -- who starts has its table
     table_placed : (job : Job) (x : Actor) (chosen : Chosen P A) → TaskPlaced (block_size shape) x.card (Some (begun_as job, table (task_job shape x.awaiting job (cut_of chosen))))
     table_placed (Write extent content) x chosen = record { part = block_range shape extent (cut_of chosen); job = refl; sized = refl; at = inl tt }
-    table_placed (Read extent) x chosen = tt
-    table_placed Flush x chosen = tt
-    table_placed (Open mode) x chosen = tt
-    table_placed (Migrate migration block) x chosen = tt
-    table_placed (Replace old new) x chosen = tt
+    table_placed job x chosen = tt
 
     clear : (job : Job) → Placed (cleared w job)
     clear (Open mode) = rest_placed (block_size shape) w.actors
-    clear (Read extent) = all
-    clear (Write extent content) = all
-    clear Flush = all
-    clear (Migrate migration block) = all
-    clear (Replace old new) = all
+    clear job = all
 
     starts : (a : ℕ) (job : Job) (chosen : Chosen P A) → Placed (started shape w a job chosen)
     starts a job chosen = by_actor (slice_get (cleared w job).actors a)
@@ -387,19 +375,4 @@ module _ (P A : Type 0) (shape : Shape) where
     placed_what (Step a) (Stepped next got) read chosen h = steps a next got read chosen (slice_get w.actors a) refl h
     placed_what (FaultStep a choice) (Stepped next got) read chosen h = subst (λ (g : Got). Placed (after_what shape w (FaultStep a choice) (Stepped next g) chosen)) (sym h.1) (faults a choice next chosen (slice_get w.actors a) refl h.2)
     placed_what (Stop choice) Stopped read chosen h = rest_placed (block_size shape) w.actors
-    placed_what (Start a job) Skipped read chosen h = all
-    placed_what (Start a job) (Refused refusal) read chosen h = all
-    placed_what (Start a job) (Stepped next got) read chosen h = all
-    placed_what (Start a job) Stopped read chosen h = all
-    placed_what (Step a) Skipped read chosen h = all
-    placed_what (Step a) (Refused refusal) read chosen h = all
-    placed_what (Step a) Started read chosen h = all
-    placed_what (Step a) Stopped read chosen h = all
-    placed_what (FaultStep a choice) Skipped read chosen h = all
-    placed_what (FaultStep a choice) (Refused refusal) read chosen h = all
-    placed_what (FaultStep a choice) Started read chosen h = all
-    placed_what (FaultStep a choice) Stopped read chosen h = all
-    placed_what (Stop choice) Skipped read chosen h = all
-    placed_what (Stop choice) (Refused refusal) read chosen h = all
-    placed_what (Stop choice) Started read chosen h = all
-    placed_what (Stop choice) (Stepped next got) read chosen h = all
+    placed_what event what read chosen h = all

@@ -391,16 +391,8 @@ module _ (P A : Type 0) (shape : Shape) where
     keep_start w (Stands t) e n b a x (Replace old new) chosen ex xt place g =
         let is : record { devices = w.devices; commit = w.commit; phase = Stands t; actors = w.actors } ≡ w = λ i. record w { phase = sym e i } in
         subst (λ (v : State P A). Keeps (started shape v a (Replace old new) chosen)) is (keep_at_target t w.commit w.devices w.actors n (subst (λ (v : State P A). Whole v n) (sym is) b) a x (Replace old new) chosen ex xt place g refl)
-    keep_start w Gone e n b a x (Read extent) chosen ex xt place g = absurd (place (λ z. z))
-    keep_start w Gone e n b a x (Write extent content) chosen ex xt place g = absurd (place (λ z. z))
-    keep_start w Gone e n b a x Flush chosen ex xt place g = absurd (place (λ z. z))
-    keep_start w Gone e n b a x (Migrate m block) chosen ex xt place g = absurd (place (λ z. z))
-    keep_start w Gone e n b a x (Replace old new) chosen ex xt place g = absurd (place (λ z. z))
-    keep_start w (Opens mode reading) e n b a x (Read extent) chosen ex xt place g = absurd (place (λ z. z))
-    keep_start w (Opens mode reading) e n b a x (Write extent content) chosen ex xt place g = absurd (place (λ z. z))
-    keep_start w (Opens mode reading) e n b a x Flush chosen ex xt place g = absurd (place (λ z. z))
-    keep_start w (Opens mode reading) e n b a x (Migrate m block) chosen ex xt place g = absurd (place (λ z. z))
-    keep_start w (Opens mode reading) e n b a x (Replace old new) chosen ex xt place g = absurd (place (λ z. z))
+    keep_start w Gone e n b a x job chosen ex xt place g = absurd (place (λ z. z))
+    keep_start w (Opens mode reading) e n b a x job chosen ex xt place g = absurd (place (λ z. z))
 
     keep_starts : (w : State P A) (n : Notes) → Whole w n → (a : ℕ) (job : Job) (chosen : Chosen P A) → (¬ DoesNotApply w (Start a job)) → StartGives shape w.phase (slice_get w.actors a) job Started chosen → Keeps (started shape w a job chosen)
     keep_starts w n b a job chosen applies g =
@@ -412,22 +404,7 @@ module _ (P A : Type 0) (shape : Shape) where
     keep_what w n b (Step a) (Stepped next got) read chosen h = keep_steps w n b a next got read chosen (slice_get w.actors a) refl h
     keep_what w n b (FaultStep a choice) (Stepped next got) read chosen h = subst (λ (g : Got). Keeps (after_what shape w (FaultStep a choice) (Stepped next g) chosen)) (sym h.1) (keep_faults w n b a choice next chosen (slice_get w.actors a) refl h.2)
     keep_what w n b (Stop choice) Stopped read chosen h = none_rest w.actors
-    keep_what w n b (Start a job) Skipped read chosen h = b.keeping
-    keep_what w n b (Start a job) (Refused refusal) read chosen h = b.keeping
-    keep_what w n b (Step a) Skipped read chosen h = b.keeping
-    keep_what w n b (Step a) (Refused refusal) read chosen h = b.keeping
-    keep_what w n b (FaultStep a choice) Skipped read chosen h = b.keeping
-    keep_what w n b (FaultStep a choice) (Refused refusal) read chosen h = b.keeping
-    keep_what w n b (Stop choice) Skipped read chosen h = b.keeping
-    keep_what w n b (Stop choice) (Refused refusal) read chosen h = b.keeping
-    keep_what w n b (Start a job) (Stepped next got) read chosen h = b.keeping
-    keep_what w n b (Start a job) Stopped read chosen h = b.keeping
-    keep_what w n b (Step a) Started read chosen h = b.keeping
-    keep_what w n b (Step a) Stopped read chosen h = b.keeping
-    keep_what w n b (FaultStep a choice) Started read chosen h = b.keeping
-    keep_what w n b (FaultStep a choice) Stopped read chosen h = b.keeping
-    keep_what w n b (Stop choice) Started read chosen h = b.keeping
-    keep_what w n b (Stop choice) (Stepped next got) read chosen h = b.keeping
+    keep_what w n b event what read chosen h = b.keeping
 
     -- ---- every event
 
@@ -437,22 +414,7 @@ module _ (P A : Type 0) (shape : Shape) where
     goes_what w n b (FaultStep a choice) (Stepped next got) read chosen h =
         subst (λ (g : Got). Goes P A shape (after_what shape w (FaultStep a choice) (Stepped next g) chosen) (noted_what shape (shown shape (after_what shape w (FaultStep a choice) (Stepped next g) chosen)) n (FaultStep a choice) (Stepped next g) read)) (sym h.1) (fault_goes w n b a choice next read chosen (slice_get w.actors a) refl h.2)
     goes_what w n b (Stop choice) Stopped read chosen h = crash_goes P A shape b.goes.images w n b.goes.known b.goes.followed choice
-    goes_what w n b (Start a job) Skipped read chosen h = b.goes
-    goes_what w n b (Start a job) (Refused refusal) read chosen h = b.goes
-    goes_what w n b (Start a job) (Stepped next got) read chosen h = b.goes
-    goes_what w n b (Start a job) Stopped read chosen h = b.goes
-    goes_what w n b (Step a) Skipped read chosen h = b.goes
-    goes_what w n b (Step a) (Refused refusal) read chosen h = b.goes
-    goes_what w n b (Step a) Started read chosen h = b.goes
-    goes_what w n b (Step a) Stopped read chosen h = b.goes
-    goes_what w n b (FaultStep a choice) Skipped read chosen h = b.goes
-    goes_what w n b (FaultStep a choice) (Refused refusal) read chosen h = b.goes
-    goes_what w n b (FaultStep a choice) Started read chosen h = b.goes
-    goes_what w n b (FaultStep a choice) Stopped read chosen h = b.goes
-    goes_what w n b (Stop choice) Skipped read chosen h = b.goes
-    goes_what w n b (Stop choice) (Refused refusal) read chosen h = b.goes
-    goes_what w n b (Stop choice) Started read chosen h = b.goes
-    goes_what w n b (Stop choice) (Stepped next got) read chosen h = b.goes
+    goes_what w n b event what read chosen h = b.goes
 
     pub whole_after : (w : State P A) (n : Notes) (h : Happening P A) → Whole w n → MayBe shape w h.record_is.event h.record_is.what h.record_is.read.items h.chosen → Whole (after_happening shape w h) (note_happening shape w n h)
     whole_after w n h b m =
