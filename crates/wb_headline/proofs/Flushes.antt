@@ -108,20 +108,9 @@ failed_written steps = true
 
 -- so it is there
 written_there : (image : Image) (steps : CommitSteps) (step : DeviceStep) (before after : Bool) → is_coming image steps step ≡ true → (is_written steps ≡ true → before ≡ true) → IsWrittenAfter step before after → failed_written steps ≡ true → after ≡ true
-written_there image (NodesWritten count) step before after e b w f = absurd (cc)
 written_there image NodesSynced WriteRoot before after e b w f = w
-written_there image NodesSynced (Sync device) before after e b w f = absurd (cc)
-written_there image NodesSynced (ReadExtent d x) before after e b w f = absurd (cc)
-written_there image NodesSynced (WriteExtent d x) before after e b w f = absurd (cc)
-written_there image NodesSynced (ReadMetadata left) before after e b w f = absurd (cc)
-written_there image NodesSynced (WriteNode number) before after e b w f = absurd (cc)
 written_there image RootWritten (Sync device) before after e b w f = w (b refl)
-written_there image RootWritten (ReadExtent d x) before after e b w f = absurd (cc)
-written_there image RootWritten (WriteExtent d x) before after e b w f = absurd (cc)
-written_there image RootWritten (ReadMetadata left) before after e b w f = absurd (cc)
-written_there image RootWritten (WriteNode number) before after e b w f = absurd (cc)
-written_there image RootWritten WriteRoot before after e b w f = absurd (cc)
-written_there image Committed step before after e b w f = absurd (cc)
+written_there image steps step before after e b w f = absurd (cc)
 
 module _ (g : Geometry) (images : Images) (commit : RunningCommit) (of : Commit) (old new : List History) (u : Underway g images commit of old) where
   -- what is read once a step failed

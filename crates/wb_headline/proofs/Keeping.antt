@@ -139,17 +139,7 @@ same_right old new card (Some doing) same r = λ access b h. subst (λ (o : Opti
 -- the next step seals so
 sealed_next : (b : OBlock) (place : Option CBlock) (ws : List Want) (answer : Answer) → IsSealed b place ws → (dirty : Bool) × (first_step ws answer ≡ Cell (Seal b place dirty))
 sealed_next b place (Cell (Seal o at dirty) ∷ ws) answer i = (dirty, ap (λ (v : OBlock). Cell (Seal v at dirty)) i.0 ∙ ap (λ (v : Option CBlock). Cell (Seal b v dirty)) i.1)
-sealed_next b place [] answer i = absurd i
-sealed_next b place (Cell (Look w) ∷ ws) answer i = absurd i
-sealed_next b place (Cell (Take access o seen) ∷ ws) answer i = absurd i
-sealed_next b place (Cell (Release access o) ∷ ws) answer i = absurd i
-sealed_next b place (Cell (Finish o) ∷ ws) answer i = absurd i
-sealed_next b place (Cell (Count kind) ∷ ws) answer i = absurd i
-sealed_next b place (Cell SetFailed ∷ ws) answer i = absurd i
-sealed_next b place (Cell SetSuspended ∷ ws) answer i = absurd i
-sealed_next b place (Device step ∷ ws) answer i = absurd i
-sealed_next b place (Desk step ∷ ws) answer i = absurd i
-sealed_next b place (End a ∷ ws) answer i = absurd i
+sealed_next b place ws answer i = absurd i
 
 -- seals after a step that seals nothing
 seals_same : (words : Words) (step : CellStep) → ((b : OBlock) (place : Option CBlock) (dirty : Bool) → step ≢ Seal b place dirty) → (words_after words step).seals ≡ words.seals

@@ -193,11 +193,7 @@ module _ (P A : Type 0) (shape : Shape) (images : Images) (t : Target P) (commit
       where
         given_word : (j : Job) → Gives shape (standing P A shape images t commit devices actors n) x j (Cell step) got read chosen → got ≡ got_of (result_of t.words step)
         given_word (Read extent) g = g.1
-        given_word (Write extent content) g = g.1
-        given_word Flush g = g.1
-        given_word (Open mode) g = g.1
-        given_word (Migrate m b) g = g.1
-        given_word (Replace old new) g = g.1
+        given_word j g = g.1
 
         by : got ≡ got_of (result_of t.words step) → After (Cell step) got chosen
         by is = subst (λ (v : Got). After (Cell step) v chosen) (sym is) (cell_keeps P A shape images t commit devices actors n known f rule all_suited k a x ex job plan xt step e)
@@ -209,11 +205,7 @@ module _ (P A : Type 0) (shape : Shape) (images : Images) (t : Target P) (commit
       where
         given_begin : (j : Job) → Gives shape (standing P A shape images t commit devices actors n) x j (Desk (BeginCommit clean most)) got read chosen → DoesBegin most t.desk got chosen
         given_begin (Read extent) g = g.2
-        given_begin (Write extent content) g = g.2
-        given_begin Flush g = g.2
-        given_begin (Open mode) g = g.2
-        given_begin (Migrate m b) g = g.2
-        given_begin (Replace old new) g = g.2
+        given_begin j g = g.2
     step_keeps (Desk (Map bl c)) got read chosen e g = by job xt g
       where
         by : (j : Job) → x.task ≡ Some (j, plan) → Gives shape (standing P A shape images t commit devices actors n) x j (Desk (Map bl c)) got read chosen → After (Desk (Map bl c)) got chosen
@@ -223,11 +215,7 @@ module _ (P A : Type 0) (shape : Shape) (images : Images) (t : Target P) (commit
             by_got Done (Asks new) d = map_keeps P A shape images t commit devices actors n known f rule all_suited k a x ex m b plan jt bl c new e d.0 d.1 d.2
             by_got (GotRefused refusal) Plain d = map_refused_keeps P A shape images t commit devices actors n known f rule all_suited k a x ex m b plan jt bl c refusal e
             by_got got chosen d = absurd d
-        by (Read extent) jt g = absurd g
-        by (Write extent content) jt g = absurd g
-        by Flush jt g = absurd g
-        by (Open mode) jt g = absurd g
-        by (Replace old new) jt g = absurd g
+        by j jt g = absurd g
     step_keeps (Desk (Unmap bl)) got read chosen e g = by job xt g
       where
         by : (j : Job) → x.task ≡ Some (j, plan) → Gives shape (standing P A shape images t commit devices actors n) x j (Desk (Unmap bl)) got read chosen → After (Desk (Unmap bl)) got chosen
@@ -236,11 +224,7 @@ module _ (P A : Type 0) (shape : Shape) (images : Images) (t : Target P) (commit
             by_chosen : (chosen : Chosen P A) → DoesUnmap bl t.desk chosen → After (Desk (Unmap bl)) Done chosen
             by_chosen (Asks new) d = unmap_keeps P A shape images t commit devices actors n known f rule all_suited k a x ex m b plan jt bl new e d
             by_chosen chosen d = absurd d
-        by (Read extent) jt g = absurd g
-        by (Write extent content) jt g = absurd g
-        by Flush jt g = absurd g
-        by (Open mode) jt g = absurd g
-        by (Replace old new) jt g = absurd g
+        by j jt g = absurd g
     step_keeps (Desk (ReleaseOrder bl)) got read chosen e g = by job xt g
       where
         by : (j : Job) → x.task ≡ Some (j, plan) → Gives shape (standing P A shape images t commit devices actors n) x j (Desk (ReleaseOrder bl)) got read chosen → After (Desk (ReleaseOrder bl)) got chosen
@@ -254,10 +238,7 @@ module _ (P A : Type 0) (shape : Shape) (images : Images) (t : Target P) (commit
             by_chosen : (chosen : Chosen P A) → DoesRelease x.awaiting bl t.desk chosen → After (Desk (ReleaseOrder bl)) Done chosen
             by_chosen (Asks new) d = flush_release_keeps P A shape images t commit devices actors n known f rule all_suited k a x ex plan jt bl new e d
             by_chosen chosen d = absurd d
-        by (Read extent) jt g = absurd g
-        by (Write extent content) jt g = absurd g
-        by (Open mode) jt g = absurd g
-        by (Replace old new) jt g = absurd g
+        by j jt g = absurd g
 
     -- a step on a device that fails
     pub fault_keeps : (step : DeviceStep) (chosen : Chosen P A) → Device step ≡ want plan → After (Device step) Fault chosen

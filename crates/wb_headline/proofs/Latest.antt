@@ -86,17 +86,10 @@ step_latest shape shown n a (Some (Some doing)) (Device step) got read e all giv
           where
             by_job : (job : Job) → GivenIf shape n job (ReadExtent d x) Done read → GivenIf shape (put n a (Some doing)) job (ReadExtent d x) Done read
             by_job (Read extent) g = g
-            by_job (Write extent content) g = g
-            by_job Flush g = g
-            by_job (Open mode) g = g
-            by_job (Migrate migration block) g = g
-            by_job (Replace old new) g = g
+            by_job job g = g
         by v g = tt
     same job (WriteExtent d x) got g = tt
-    same job (Sync d) got g = tt
-    same job (ReadMetadata left) got g = tt
-    same job (WriteNode number) got g = tt
-    same job WriteRoot got g = tt
+    same job step got g = tt
 step_latest shape shown n a (Some (Some doing)) (End Finished) got read e all given = finished_latest n a doing doing.job shown all
 step_latest shape shown n a (Some (Some doing)) (End (Refuses refusal)) got read e all given = none_latest n.doings a all
 step_latest shape shown n a o next got read e all given = all
@@ -119,20 +112,11 @@ what_latest shape shown n (Step a) (Stepped next got) read r fails all = step_la
       where
         given : (step : DeviceStep) (v : Got) → ReadsRightly shape n (Step a) (Stepped (Device step) v) read → GivenIf shape n doing.job step v read
         given (ReadExtent d x) Done g = subst (λ (o : Option (Option Doing)). IsGiven shape n o x read) noted g
-        given (ReadExtent d x) v g = tt
-        given (WriteExtent d x) v g = tt
-        given (Sync d) v g = tt
-        given (ReadMetadata left) v g = tt
-        given (WriteNode number) v g = tt
-        given WriteRoot v g = tt
+        given step v g = tt
 what_latest shape shown n (FaultStep a choice) (Stepped next got) read r fails all = step_latest shape shown n a (slice_get n.doings a) next got read refl all (λ doing step noted is. subst (λ (v : Got). GivenIf shape n doing.job step v read) (sym fails) (none doing.job step))
   where
     none : (job : Job) (step : DeviceStep) → GivenIf shape n job step Fault read
     none job (ReadExtent d x) = tt
-    none job (WriteExtent d x) = tt
-    none job (Sync d) = tt
-    none job (ReadMetadata left) = tt
-    none job (WriteNode number) = tt
-    none job WriteRoot = tt
+    none job step = tt
 what_latest shape shown n (Stop choice) Stopped read r fails all = nobody_latest n.doings
 what_latest shape shown n event what read r fails all = all

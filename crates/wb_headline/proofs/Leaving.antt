@@ -43,9 +43,7 @@ pub of_order : (m : Migration) (b : OBlock) (next : Option ℕ) (o : Order) → 
 of_order m b next o (inl is) = ap (is_of b) is.0 ∙ for_block m b b refl
 of_order Demote b next (Replace old new c) (inr is) = or_left (is_of b (DemoteOrder old)) (is_of b (DemoteOrder new)) (eq-eqb old.0 b.0 (ap (λ (v : OBlock). v.0) is.0))
 of_order (Promote k) b next (Replace old new c) (inr is) = or_right (is_of b (DemoteOrder old)) (is_of b (DemoteOrder new)) (eq-eqb new.0 b.0 (ap (λ (v : OBlock). v.0) is.0))
-of_order Demote b next o (inr is) = absurd is
-of_order (Promote k) b next o (inr is) = absurd is
-of_order Clean b next o (inr is) = absurd is
+of_order m b next o (inr is) = absurd is
 
 module _ (P : Type 0) (desk : DeskState P) (kept : DeskInvariant unknowing desk) where
   module _ (s : Shared) (g : DeskAgrees desk s) where

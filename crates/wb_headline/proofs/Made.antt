@@ -58,12 +58,7 @@ module _ (P A : Type 0) (shape : Shape) (images : Images) (devices : Devices (Li
                 (at_rest P A shape images devices commit mode reading actors n known f alone a x ex opened_in plan xt got i ph rd policy d.1 cache_size origin_size)
                 (λ block. sym (same_number (place_in (word_at (target_over shape mode policy rd.0.stored).words.seals block))) ∙ opened_tells P A shape images devices commit mode reading actors n known f alone a x ex opened_in plan xt got i ph rd policy d.1 cache_size origin_size block))
             by_chosen c d = absurd d
-        by_stage total left Settling ph rd e = absurd (cc)
-        by_stage total left Caching ph rd e = absurd (cc)
-        by_stage total left Basing ph rd e = absurd (cc)
-        by_stage total left Looking ph rd e = absurd (cc)
-        by_stage total left (Rooting i) ph rd e = absurd (cc)
-        by_stage total left (Renewing i) ph rd e = absurd (cc)
+        by_stage total left stage ph rd e = absurd (cc)
 
         by_at : AtStage reading commit f.phase.later plan f.site.phase ⊎ IsOver plan f.site.phase → Then Finished (phase_opened shape mode reading chosen)
         by_at (inl s) = by_stage s.total s.left s.stage s.phase_is s.read (next ∙ ap want s.is)

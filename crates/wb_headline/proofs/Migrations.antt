@@ -128,16 +128,7 @@ module _ (P A : Type 0) (shape : Shape) (t : Target P) (commit : Option RunningC
   sees : (step : CellStep) → Cell step ≡ want plan → SeesWhere t.words slots f.site.world.shared.mapping migration block step
   sees (Look (SealWord o)) e = seal_tells_order P t.desk kept slots (named P t.desk kept) t.words f.site.world.shared.mapping migration block (place_told (looks_seal (size P A shape) (most P A shape) shape.geometry.origin_blocks t.words t.desk.space.committing slots devices actors f.site.world agrees a x migration block plan ex xt suits o e) (λ place dirty q. absurd (let bad : Cell (Look (SealWord o)) ≡ Cell (Seal block place dirty) = e ∙ q in cc))) f.phase.desk.mapping
   sees (Look (Number o)) e = seal_tells_order P t.desk kept slots (named P t.desk kept) t.words f.site.world.shared.mapping migration block (place_told (looks_number (size P A shape) (most P A shape) shape.geometry.origin_blocks t.words t.desk.space.committing slots devices actors f.site.world agrees a x migration block plan ex xt suits o e) (λ place dirty q. absurd (let bad : Cell (Look (Number o)) ≡ Cell (Seal block place dirty) = e ∙ q in cc))) f.phase.desk.mapping
-  sees (Look Fail) e = tt
-  sees (Look (LockWord o)) e = tt
-  sees (Look (CountWord kind)) e = tt
-  sees (Take access o word) e = tt
-  sees (Release access o) e = tt
-  sees (Seal o place dirty) e = tt
-  sees (Finish o) e = tt
-  sees (Count kind) e = tt
-  sees SetFailed e = tt
-  sees SetSuspended e = tt
+  sees step e = tt
 
   inside : (next : Want) → next ≡ want plan → StepInside shape next
   inside next e = subst (λ (v : Want). StepInside shape v) (sym e) (want_inside shape plan (subst (λ (o : Option (Job × Plan)). PlanInside shape o) xt (b.inside.tasks a x ex)).1)
@@ -307,6 +298,4 @@ module _ (P A : Type 0) (shape : Shape) (t : Target P) (commit : Option RunningC
   any_fault choice (Device (ReadMetadata k)) read chosen e m g = absurd ((own_step (Device (ReadMetadata k)) e (λ v q. absurd (cc)) (λ ws o. o)).2)
   any_fault choice (Device (WriteNode k)) read chosen e m g = absurd ((own_step (Device (WriteNode k)) e (λ v q. absurd (cc)) (λ ws o. o)).2)
   any_fault choice (Device WriteRoot) read chosen e m g = absurd ((own_step (Device WriteRoot) e (λ v q. absurd (cc)) (λ ws o. o)).2)
-  any_fault choice (Cell step) read chosen e m g = absurd m
-  any_fault choice (Desk step) read chosen e m g = absurd m
-  any_fault choice (End answer) read chosen e m g = absurd m
+  any_fault choice next read chosen e m g = absurd m

@@ -100,12 +100,8 @@ looked_same : (word : WordName) (x : ℕ) (card : Card) → is_own_seal card.hol
 looked_same word x card e = ap (λ (t : Bool). cond t (Some x) card.seal) e
 
 not_seal : (hold : Hold) (word : WordName) → ((b : OBlock) → word ≡ SealWord b → ⊥) → is_own_seal hold word ≡ false
-not_seal Nothing word n = refl
-not_seal (Held access b) (LockWord a) n = refl
 not_seal (Held access b) (SealWord a) n = absurd (n a refl)
-not_seal (Held access b) (Number a) n = refl
-not_seal (Held access b) (CountWord kind) n = refl
-not_seal (Held access b) Fail n = refl
+not_seal hold word n = refl
 
 own_seal : (hold : Hold) (b : OBlock) → hold ≡ Held Owned b → is_own_seal hold (SealWord b) ≡ true
 own_seal hold b e = ap (λ (h : Hold). is_own_seal h (SealWord b)) e ∙ eq-eqb b.0 b.0 refl
@@ -258,9 +254,7 @@ module _ (P A : Type 0) (shape : Shape) where
 
   no_write : (job : Job) (plan : Plan) (card : Card) (next : Want) (got : Got) → ((extent : Extent) (content : Bytes) → job ≡ Write extent content → ⊥) → TaskPlaced (block_size shape) card (task_then (Some (job, plan)) next got)
   no_write job plan card (End answer) got n = tt
-  no_write job plan card (Cell step) got n = other_job job (after plan got) card n
-  no_write job plan card (Device step) got n = other_job job (after plan got) card n
-  no_write job plan card (Desk step) got n = other_job job (after plan got) card n
+  no_write job plan card next got n = other_job job (after plan got) card n
 
   module _ (w : State P A) (a : ℕ) (x : Actor) (ex : slice_get w.actors a ≡ Some x) (all : AllPlaced (block_size shape) w.actors) (plan : Plan) (suits : Suits shape.geometry.origin_blocks plan x.card) where
     abbrev At : Job → Want → Got → Type 0
@@ -304,9 +298,7 @@ module _ (P A : Type 0) (shape : Shape) where
       write_fault choice (Device (ReadMetadata k)) e m = absurd (own (Device (ReadMetadata k)) e)
       write_fault choice (Device (WriteNode k)) e m = absurd (own (Device (WriteNode k)) e)
       write_fault choice (Device WriteRoot) e m = absurd (own (Device WriteRoot) e)
-      write_fault choice (Cell step) e m = absurd m
-      write_fault choice (Desk step) e m = absurd m
-      write_fault choice (End answer) e m = absurd m
+      write_fault choice next e m = absurd m
 
     job_on : (job : Job) → x.task ≡ Some (job, plan) → (next : Want) (got : Got) (read : List Bytes) (chosen : Chosen P A) → next ≡ want plan → Gives shape w x job next got read chosen → At job next got
     job_on (Write extent content) xt next got read chosen e g = write_on extent content xt next got read chosen e g

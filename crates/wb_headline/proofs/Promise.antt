@@ -53,20 +53,13 @@ module _ (P A : Type 0) (shape : Shape) where
   read_by_phase devices commit (Stands t) actors n b a x (Read extent) plan ex xt d device e read chosen next g =
       given_latest P A shape b.goes.images t commit devices actors n b.goes.known b.goes.followed b.used.here b.used.suited a x ex plan (subst (λ (o : Option (Job × Plan)). TaskSuits shape.geometry.origin_blocks x.card o) xt (b.used.suited a x ex)) d.doing d.is extent xt d.job_is d.claim device e next g.0 read g.3 g.4
   read_by_phase devices commit (Stands t) actors n b a x (Migrate migration block) plan ex xt d device e read chosen next g = g.1.0
-  read_by_phase devices commit (Stands t) actors n b a x (Write extent content) plan ex xt d device e read chosen next g = absurd g
-  read_by_phase devices commit (Stands t) actors n b a x Flush plan ex xt d device e read chosen next g = absurd g
-  read_by_phase devices commit (Stands t) actors n b a x (Open mode) plan ex xt d device e read chosen next g = absurd g
-  read_by_phase devices commit (Stands t) actors n b a x (Replace old new) plan ex xt d device e read chosen next g = absurd g
   read_by_phase devices commit Gone actors n b a x job plan ex xt d device e read chosen next g = absurd (subst (λ (o : Option (Job × Plan)). TaskHere {P = P} {A = A} Gone o) xt (b.linked.here a x ex))
   read_by_phase devices commit (Opens mode reading) actors n b a x job plan ex xt d device e read chosen next g = by_job job (subst (λ (o : Option (Job × Plan)). TaskHere {P = P} {A = A} (Opens mode reading) o) xt (b.linked.here a x ex)) g
     where
       by_job : (job : Job) → InPhase {P = P} {A = A} (Opens mode reading) job → Gives shape (record { devices = devices; commit = commit; phase = Opens mode reading; actors = actors }) x job (Device (ReadExtent device e)) Done read chosen → GivesLatest shape n job e read
       by_job (Open m) h g = absurd g
-      by_job (Read extent) h g = absurd h
-      by_job (Write extent content) h g = absurd h
-      by_job Flush h g = absurd h
-      by_job (Migrate migration block) h g = absurd h
-      by_job (Replace old new) h g = absurd h
+      by_job job h g = absurd h
+  read_by_phase devices commit (Stands t) actors n b a x job plan ex xt d device e read chosen next g = absurd g
 
   -- ---- what an opening shows
 
@@ -86,12 +79,7 @@ module _ (P A : Type 0) (shape : Shape) where
           by_chosen (Opened policy) d = subst (λ (r : Option (ReadSteps A)). ShowsAllowed n (shown_in shape devices (phase_opened shape mode r (Opened policy)))) (sym rd.0.reading_is)
               (shows P A shape b.goes.images devices commit mode reading actors n b.goes.known f b.linked.alone a x ex opened_in plan xt got i ph rd policy d.1 b.inside.cache b.inside.origin)
           by_chosen c d = absurd d
-      by_stage later total left Settling ph rd is e l = absurd (cc)
-      by_stage later total left Caching ph rd is e l = absurd (cc)
-      by_stage later total left Basing ph rd is e l = absurd (cc)
-      by_stage later total left Looking ph rd is e l = absurd (cc)
-      by_stage later total left (Rooting i) ph rd is e l = absurd (cc)
-      by_stage later total left (Renewing i) ph rd is e l = absurd (cc)
+      by_stage later total left stage ph rd is e l = absurd (cc)
 
       by_at : AtStage reading commit f.phase.later plan f.site.phase ⊎ IsOver plan f.site.phase → ShowsAllowed n (shown_in shape devices (phase_opened shape mode reading chosen))
       by_at (inl s) = by_stage f.phase.later s.total s.left s.stage s.phase_is s.read s.is (next ∙ ap want s.is) refl
@@ -129,52 +117,21 @@ module _ (P A : Type 0) (shape : Shape) where
           where
             by_job : (job : Job) (plan : Plan) → x.task ≡ Some (job, plan) → End Finished ≡ want plan → Gives shape w x job (End Finished) got read chosen → ShownBy n (shown_in shape w.devices (phase_then shape w.phase (End Finished) got chosen)) job
             by_job (Open m) plan xt next g = shows_by_phase w.devices w.commit w.phase w.actors n b a x m plan e xt got read chosen next g
-            by_job (Read extent) plan xt next g = tt
-            by_job (Write extent content) plan xt next g = tt
-            by_job Flush plan xt next g = tt
-            by_job (Migrate migration block) plan xt next g = tt
-            by_job (Replace old new) plan xt next g = tt
+            by_job job plan xt next g = tt
 
   -- ---- one happening
 
   reads_rightly : (w : State P A) (n : Notes) → Whole P A shape w n → (event : Event) (what : What) (read : List Bytes) (chosen : Chosen P A) → MayBe shape w event what read chosen → ReadsRightly shape n event what read
   reads_rightly w n b (Step a) (Stepped (Device (ReadExtent device e)) Done) read chosen h = read_rightly w n b a device e read chosen (slice_get w.actors a) refl h
-  reads_rightly w n b (Step a) (Stepped (Device (ReadExtent device e)) got) read chosen h = tt
-  reads_rightly w n b (Step a) (Stepped (Device step) got) read chosen h = tt
-  reads_rightly w n b (Step a) (Stepped (Cell step) got) read chosen h = tt
-  reads_rightly w n b (Step a) (Stepped (Desk step) got) read chosen h = tt
-  reads_rightly w n b (Step a) (Stepped (End answer) got) read chosen h = tt
-  reads_rightly w n b (Step a) Skipped read chosen h = tt
-  reads_rightly w n b (Step a) (Refused refusal) read chosen h = tt
-  reads_rightly w n b (Step a) Started read chosen h = tt
-  reads_rightly w n b (Step a) Stopped read chosen h = tt
-  reads_rightly w n b (Start a job) what read chosen h = tt
-  reads_rightly w n b (FaultStep a choice) what read chosen h = tt
-  reads_rightly w n b (Stop choice) what read chosen h = tt
+  reads_rightly w n b event what read chosen h = tt
 
   opens_rightly : (w : State P A) (n : Notes) → Whole P A shape w n → (event : Event) (what : What) (read : List Bytes) (chosen : Chosen P A) → MayBe shape w event what read chosen → OpensRightly (shown shape (after_what shape w event what chosen)) n event what
   opens_rightly w n b (Step a) (Stepped (End Finished) got) read chosen h = open_rightly w n b a got read chosen (slice_get w.actors a) refl h
-  opens_rightly w n b (Step a) (Stepped (End (Refuses refusal)) got) read chosen h = tt
-  opens_rightly w n b (Step a) (Stepped (Device step) got) read chosen h = tt
-  opens_rightly w n b (Step a) (Stepped (Cell step) got) read chosen h = tt
-  opens_rightly w n b (Step a) (Stepped (Desk step) got) read chosen h = tt
-  opens_rightly w n b (Step a) Skipped read chosen h = tt
-  opens_rightly w n b (Step a) (Refused refusal) read chosen h = tt
-  opens_rightly w n b (Step a) Started read chosen h = tt
-  opens_rightly w n b (Step a) Stopped read chosen h = tt
-  opens_rightly w n b (Start a job) what read chosen h = tt
-  opens_rightly w n b (FaultStep a choice) what read chosen h = tt
-  opens_rightly w n b (Stop choice) what read chosen h = tt
+  opens_rightly w n b event what read chosen h = tt
 
   fault_is : (w : State P A) (event : Event) (what : What) (read : List Bytes) (chosen : Chosen P A) → MayBe shape w event what read chosen → IsFault event what
   fault_is w (FaultStep a choice) (Stepped next got) read chosen h = h.1
-  fault_is w (FaultStep a choice) Skipped read chosen h = tt
-  fault_is w (FaultStep a choice) (Refused refusal) read chosen h = tt
-  fault_is w (FaultStep a choice) Started read chosen h = tt
-  fault_is w (FaultStep a choice) Stopped read chosen h = tt
-  fault_is w (Step a) what read chosen h = tt
-  fault_is w (Start a job) what read chosen h = tt
-  fault_is w (Stop choice) what read chosen h = tt
+  fault_is w event what read chosen h = tt
 
   -- an answer is right, by what it covers, why it refuses, what it has read and what it shows
   right_doing : (n : Notes) (shown_now : List Bytes) (o : Option (Option Doing)) (answer : Answer) → ((d : Doing) → o ≡ Some (Some d) → All Rattle.wb_runs.specs.Headline.IsLatest d.readings) → DoingCovers o answer → ((refusal : Refusal) → answer ≡ Refuses refusal → RefusedRightly o refusal) → (answer ≡ Finished → ShowsRightly n shown_now o) → DoingRightly n shown_now o answer
@@ -185,11 +142,7 @@ module _ (P A : Type 0) (shape : Shape) where
       by_job (Write extent content) Finished c r s = c
       by_job (Open mode) Finished c r s = s refl
       by_job (Open mode) (Refuses refusal) c r s = r refusal refl
-      by_job (Read extent) (Refuses refusal) c r s = tt
-      by_job (Write extent content) (Refuses refusal) c r s = tt
-      by_job Flush answer c r s = tt
-      by_job (Migrate migration block) answer c r s = tt
-      by_job (Replace old new) answer c r s = tt
+      by_job job answer c r s = tt
   right_doing n shown_now (Some None) answer latest covers refuses _ = absurd covers
   right_doing n shown_now None answer latest covers refuses _ = absurd covers
 
@@ -201,16 +154,7 @@ module _ (P A : Type 0) (shape : Shape) where
       refusal_in : Refusal → Answer → Refusal
       refusal_in d (Refuses r) = r
       refusal_in d Finished = d
-  right_answer shown_now n (Step a) (Stepped (Device step) got) l c r o = tt
-  right_answer shown_now n (Step a) (Stepped (Cell step) got) l c r o = tt
-  right_answer shown_now n (Step a) (Stepped (Desk step) got) l c r o = tt
-  right_answer shown_now n (Step a) Skipped l c r o = tt
-  right_answer shown_now n (Step a) (Refused refusal) l c r o = tt
-  right_answer shown_now n (Step a) Started l c r o = tt
-  right_answer shown_now n (Step a) Stopped l c r o = tt
-  right_answer shown_now n (Start a job) what l c r o = tt
-  right_answer shown_now n (FaultStep a choice) what l c r o = tt
-  right_answer shown_now n (Stop choice) what l c r o = tt
+  right_answer shown_now n event what l c r o = tt
 
   -- ---- runs
 

@@ -35,12 +35,7 @@ quietens size v (Advances outcome) m may down = by_outcome outcome may.3 (λ e. 
     no_showing stage mode s (Learns i) y d = refl
     no_showing stage mode s Refused y d = refl
     no_showing stage mode s (Broke choice) y d = refl
-    no_showing Settling mode s (Shown blocks view) y d = absurd y
-    no_showing Caching mode s (Shown blocks view) y d = absurd y
-    no_showing Basing mode s (Shown blocks view) y d = absurd y
-    no_showing Looking mode s (Shown blocks view) y d = absurd y
-    no_showing (Rooting i) mode s (Shown blocks view) y d = absurd y
-    no_showing (Renewing i) mode s (Shown blocks view) y d = absurd y
+    no_showing stage mode s (Shown blocks view) y d = absurd y
 
     by_outcome : (o : Outcome) → Yields v.world.shared may.0 may.1 o → next_phase may.0 may.1 o ≢ Stands → Quietens v (Advances o) m
     by_outcome o y d = record { plain = tt; shared = advanced v.world.shared may.0 may.1 o; world_is = world o; notes_are = no_showing may.1 may.0 v.world.shared o y d }

@@ -106,9 +106,7 @@ module _ (P A : Type 0) (shape : Shape) (images : Images) (t : Target P) (commit
     read_faults choice (Device (ReadMetadata k)) read chosen e m g = absurd (own of_read (Device (ReadMetadata k)) claim.is_job e)
     read_faults choice (Device (WriteNode k)) read chosen e m g = absurd (own of_read (Device (WriteNode k)) claim.is_job e)
     read_faults choice (Device WriteRoot) read chosen e m g = absurd (own of_read (Device WriteRoot) claim.is_job e)
-    read_faults choice (Cell step) read chosen e m g = absurd m
-    read_faults choice (Desk step) read chosen e m g = absurd m
-    read_faults choice (End answer) read chosen e m g = absurd m
+    read_faults choice next read chosen e m g = absurd m
 
   -- ---- writes
 
@@ -144,9 +142,7 @@ module _ (P A : Type 0) (shape : Shape) (images : Images) (t : Target P) (commit
     write_faults choice (Device (ReadMetadata k)) read chosen inside cs os e m g = absurd (own of_write (Device (ReadMetadata k)) claim.is_job e)
     write_faults choice (Device (WriteNode k)) read chosen inside cs os e m g = absurd (own of_write (Device (WriteNode k)) claim.is_job e)
     write_faults choice (Device WriteRoot) read chosen inside cs os e m g = absurd (own of_write (Device WriteRoot) claim.is_job e)
-    write_faults choice (Cell step) read chosen inside cs os e m g = absurd m
-    write_faults choice (Desk step) read chosen inside cs os e m g = absurd m
-    write_faults choice (End answer) read chosen inside cs os e m g = absurd m
+    write_faults choice next read chosen inside cs os e m g = absurd m
 
   -- ---- flushes
 
@@ -212,12 +208,9 @@ module _ (P A : Type 0) (shape : Shape) (images : Images) (t : Target P) (commit
         subst (λ (v : Got). Done_by Flush (Desk EndCommit) v read chosen) (sym g.1) (ends P A shape images t commit devices actors n known f rule a x ex plan xt [] doing noted job_is c.0 c.1 e c.2)
     flush_steps (End answer) got read chosen asked e g = subst (λ (v : Got). Done_by Flush (End answer) v read chosen) (sym g.1) (subst (λ (c : Chosen P A). Done_by Flush (End answer) Done read c) (sym g.0.1)
         (flush_answers P A shape images t commit devices actors n known f rule a x ex plan xt _ doing noted job_is answer read e asked))
-    flush_steps (Device (ReadExtent d ex')) got read chosen asked e g = absurd g
-    flush_steps (Device (WriteExtent d ex')) got read chosen asked e g = absurd g
     flush_steps (Device (ReadMetadata k)) got read chosen asked e g = absurd (mine (Device (ReadMetadata k)) e)
-    flush_steps (Desk (Map b c)) got read chosen asked e g = absurd g
-    flush_steps (Desk (Unmap b)) got read chosen asked e g = absurd g
     flush_steps (Desk (ReleaseOrder b)) got read chosen asked e g = subst (λ (v : Got). Done_by Flush (Desk (ReleaseOrder b)) v read chosen) (sym g.1) (by_release b read chosen e g.2)
+    flush_steps next got read chosen asked e g = absurd g
 
     -- a step of the commit that fails
     failing : (c : RunningCommit) (new : List History) (choice : Choice) → LandedOr (lands Metadata choice (sector_put (coming_step c.image c.steps))) (DoesStep c.image c.steps devices.metadata new) (new ≡ devices.metadata) → DoesStep c.image c.steps devices.metadata new ⊎ (new ≡ devices.metadata)
@@ -253,6 +246,4 @@ module _ (P A : Type 0) (shape : Shape) (images : Images) (t : Target P) (commit
     flush_faults choice (Device (ReadExtent d ex')) read chosen e m g = absurd (mine (Device (ReadExtent d ex')) e)
     flush_faults choice (Device (WriteExtent d ex')) read chosen e m g = absurd (mine (Device (WriteExtent d ex')) e)
     flush_faults choice (Device (ReadMetadata k)) read chosen e m g = absurd (mine (Device (ReadMetadata k)) e)
-    flush_faults choice (Cell step) read chosen e m g = absurd m
-    flush_faults choice (Desk step) read chosen e m g = absurd m
-    flush_faults choice (End answer) read chosen e m g = absurd m
+    flush_faults choice next read chosen e m g = absurd m

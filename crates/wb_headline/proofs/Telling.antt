@@ -129,7 +129,6 @@ module _ (places : ℕ → Option ℕ) (job : BlockJob) (words : Words) (card : 
       by_test : (t : Bool) → SealsRight (places b.0) (if t then refused (of (Cell (Look (Number o)) ∷ ws)) (gives_back (OnBlock job)) Worn else of ws).steps
       by_test true = tt
       by_test false = r access b e
-  on_words (Look (CountWord kind)) ws h sees r access b e = r access b e
   on_words (Take taken o seen) ws h sees r access b e = by_test (word_at words.cells o == seen)
     where
       by_test : (t : Bool) → SealsRight (places b.0) (after (of (Cell (Take taken o seen) ∷ ws)) (got_of (if t then Won else NotWon))).steps
@@ -137,10 +136,9 @@ module _ (places : ℕ → Option ℕ) (job : BlockJob) (words : Words) (card : 
       by_test false = tt
   on_words (Release given o) ws h sees r access b e = absurd (nothing_held Nothing access b refl e)
   on_words (Seal o place dirty) ws h sees r access b e = (r access b e).1
-  on_words (Finish o) ws h sees r access b e = r access b e
-  on_words (Count kind) ws h sees r access b e = r access b e
   on_words SetFailed ws h sees r access b e = subst (λ (us : List Want). SealsRight (places b.0) us) (sym h.1) tt
   on_words SetSuspended ws h sees r access b e = absurd h.1.1
+  on_words step ws h sees r access b e = r access b e
 
 -- ---- who owns a block has it alone
 

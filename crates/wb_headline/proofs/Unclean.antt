@@ -88,14 +88,9 @@ work_plain (Returning true order os) seal = dirty_plain seal.dirty order os _ (t
 work_plain (Returning false order os) seal = dirty_plain seal.dirty order os _ (tt, (tt, (tt, tt)))
 
 table_plain : (job : Job) → job_alone job ≡ false → IsPlainTask (Some (table job))
-table_plain (Reading past b os) j = (j, (tt, (tt, (tt, tt))))
-table_plain (Writing past b os c) j = (j, (tt, (tt, (tt, tt))))
-table_plain (Writing_through b os c) j = (j, (tt, (tt, (tt, tt))))
-table_plain (Invalidating b) j = (j, (tt, (tt, (tt, tt))))
 table_plain (Flushing order) j = (j, (tt, (tt, (tt, (tt, (tt, (tt, (tt, tt))))))))
 table_plain Suspending j = absurd (cc)
-table_plain (Promoting order os) j = (j, (tt, (tt, (tt, tt))))
-table_plain (Returning leaves order os) j = (j, (tt, (tt, (tt, tt))))
+table_plain job j = (j, (tt, (tt, (tt, tt))))
 
 later_plain : (ws : List Want) → ArePlain ws → ArePlain (later_steps ws)
 later_plain [] p = tt
@@ -116,14 +111,9 @@ fault_plain : (job : Job) (more : Bool) (ws : List Want) → ArePlain (steps_aft
 fault_plain (Writing past b os c) true ws = until_plain ws
 fault_plain (Promoting order os) true ws = until_plain ws
 fault_plain (Returning leaves order os) true ws = until_plain ws
-fault_plain (Writing past b os c) false ws = (tt, tt)
-fault_plain (Promoting order os) false ws = (tt, tt)
-fault_plain (Returning leaves order os) false ws = (tt, tt)
-fault_plain (Reading past b os) more ws = (tt, tt)
-fault_plain (Writing_through b os c) more ws = (tt, tt)
-fault_plain (Invalidating b) more ws = (tt, tt)
 fault_plain (Flushing order) more ws = (tt, (tt, tt))
 fault_plain Suspending more ws = (tt, (tt, tt))
+fault_plain job more ws = (tt, tt)
 
 release_plain : (job : Job) → ArePlain (release job)
 release_plain (Flushing order) = tt
@@ -140,14 +130,10 @@ letting_plain job = tt
 
 after_plain : (script : Script) (got : Got) → IsPlainTask (Some script) → IsPlainTask (Some (after script got))
 after_plain s Done p = (p.0, later_plain s.steps p.1)
-after_plain s Lost p = (p.0, tt)
-after_plain s (Flag true) p = (p.0, tt)
 after_plain s (Flag false) p = (p.0, later_plain s.steps p.1)
 after_plain s (Seen seal) p = (p.0, work_plain s.job seal)
 after_plain s (Gave c) p = (p.0, later_plain s.steps p.1)
 after_plain s (Ticket k) p = (p.0, (tt, later_plain s.steps p.1))
-after_plain s Served p = (p.0, tt)
-after_plain s Broken p = (p.0, tt)
 after_plain s Short p = (p.0, letting_plain s.job)
 after_plain s (Fault choice) p = by_want (want s)
   where
@@ -155,6 +141,7 @@ after_plain s (Fault choice) p = by_want (want s)
     by_want (Read_at location b o) = (p.0, release_plain s.job)
     by_want (Write_at location b o) = (p.0, fault_plain s.job choice.more (later_steps s.steps))
     by_want w = (p.0, breaking_plain s.job)
+after_plain s got p = (p.0, tt)
 
 task_plain : (script : Script) (w : Want) (got : Got) → IsPlainTask (Some script) → IsPlainTask (task_after script w got)
 task_plain script (End answer) got p = tt
@@ -248,10 +235,8 @@ records_on w (r ∷ rs) p n = records_on (after_record w r) rs p.1 (record_on w 
 
 -- steps alone start nothing
 pub steps_plain : (a : ℕ) (task : Option Script) (results : List Got) → ArePlainRecords (records a task results)
-steps_plain a None [] = tt
-steps_plain a None (got ∷ gots) = tt
-steps_plain a (Some script) [] = tt
 steps_plain a (Some script) (got ∷ gots) = (tt, steps_plain a (task_after script (want script) got) gots)
+steps_plain a task results = tt
 
 -- ---- events
 

@@ -184,11 +184,7 @@ module _ (P A : Type 0) (shape : Shape) where
         by_job : (job : Job) → x.task ≡ Some (job, plan) → (d : Noted shape job plan (slice_get n.doings a)) → Gives shape (record { devices = devices; commit = commit; phase = Opens mode reading; actors = actors }) x job next got read chosen → InPhase {P = P} {A = A} (Opens mode reading) job →
             Stepped_to (record { devices = devices; commit = commit; phase = Opens mode reading; actors = actors }) n a x job next got read chosen d.doing
         by_job (Open m) xt d g h = opening_steps P A shape b.goes.images devices commit mode reading actors n b.goes.known b.goes.followed b.linked.alone b.keeping a x ex m d.doing d.job_is b.inside.cache b.inside.origin plan xt (Open m) x.buffer next got read chosen e g
-        by_job (Read extent) xt d g h = absurd h
-        by_job (Write extent content) xt d g h = absurd h
-        by_job Flush xt d g h = absurd h
-        by_job (Migrate migration block) xt d g h = absurd h
-        by_job (Replace old new) xt d g h = absurd h
+        by_job job xt d g h = absurd h
 
     fault_by_phase : (devices : Devices (List History)) (commit : Option RunningCommit) (phase : Phase P A) (actors : List Actor) (n : Notes) → Whole (record { devices = devices; commit = commit; phase = phase; actors = actors }) n → (a : ℕ) (x : Actor) (job : Job) (plan : Plan) → slice_get actors a ≡ Some x → x.task ≡ Some (job, plan) →
         (d : Noted shape job plan (slice_get n.doings a)) (choice : Choice) (next : Want) (read : List Bytes) (chosen : Chosen P A) → next ≡ want plan → MayFailAt devices choice next → Falters (record { devices = devices; commit = commit; phase = phase; actors = actors }) choice next chosen →
@@ -213,11 +209,7 @@ module _ (P A : Type 0) (shape : Shape) where
       where
         by_job : (job : Job) → x.task ≡ Some (job, plan) → (d : Noted shape job plan (slice_get n.doings a)) → InPhase {P = P} {A = A} (Opens mode reading) job → Faulted_to (record { devices = devices; commit = commit; phase = Opens mode reading; actors = actors }) n a x choice job next read chosen d.doing
         by_job (Open md) xt d h = opening_faults P A shape b.goes.images devices commit mode reading actors n b.goes.known b.goes.followed b.linked.alone b.keeping a x ex md d.doing d.job_is b.inside.cache b.inside.origin plan xt (Open md) x.buffer choice next read chosen e g
-        by_job (Read extent) xt d h = absurd h
-        by_job (Write extent content) xt d h = absurd h
-        by_job Flush xt d h = absurd h
-        by_job (Migrate migration block) xt d h = absurd h
-        by_job (Replace old new) xt d h = absurd h
+        by_job job xt d h = absurd h
 
     module _ (w : State P A) (n : Notes) (b : Whole w n) (a : ℕ) where
       noted_for : (x : Actor) (job : Job) (plan : Plan) → slice_get w.actors a ≡ Some x → x.task ≡ Some (job, plan) → Noted shape job plan (slice_get n.doings a)
@@ -295,16 +287,7 @@ module _ (P A : Type 0) (shape : Shape) where
         let is : record { devices = w.devices; commit = w.commit; phase = Stands t; actors = w.actors } ≡ w = λ i. record w { phase = sym e i } in
         subst (λ (v : State P A). Begun_to v n a job chosen) is (start_at_target t w.commit w.devices w.actors n (subst (λ (v : State P A). Whole v n) (sym is) b) a x job chosen ex xt place g)
     start_by_phase w phase e n b a x (Open mode) chosen ex xt place g = start_opening w n b a x mode chosen ex (subst (λ (p : Phase P A). ¬ Rattle.wb_runs.specs.Happenings.IsOutOfPlace p (Open mode)) (sym e) place)
-    start_by_phase w Gone e n b a x (Read extent) chosen ex xt place g = absurd (place (λ z. z))
-    start_by_phase w Gone e n b a x (Write extent content) chosen ex xt place g = absurd (place (λ z. z))
-    start_by_phase w Gone e n b a x Flush chosen ex xt place g = absurd (place (λ z. z))
-    start_by_phase w Gone e n b a x (Migrate migration block) chosen ex xt place g = absurd (place (λ z. z))
-    start_by_phase w Gone e n b a x (Replace old new) chosen ex xt place g = absurd (place (λ z. z))
-    start_by_phase w (Opens mode reading) e n b a x (Read extent) chosen ex xt place g = absurd (place (λ z. z))
-    start_by_phase w (Opens mode reading) e n b a x (Write extent content) chosen ex xt place g = absurd (place (λ z. z))
-    start_by_phase w (Opens mode reading) e n b a x Flush chosen ex xt place g = absurd (place (λ z. z))
-    start_by_phase w (Opens mode reading) e n b a x (Migrate migration block) chosen ex xt place g = absurd (place (λ z. z))
-    start_by_phase w (Opens mode reading) e n b a x (Replace old new) chosen ex xt place g = absurd (place (λ z. z))
+    start_by_phase w phase e n b a x job chosen ex xt place g = absurd (place (λ z. z))
 
     start_goes : (w : State P A) (n : Notes) → Whole w n → (a : ℕ) (job : Job) (chosen : Chosen P A) → (¬ DoesNotApply w (Start a job)) → StartGives shape w.phase (slice_get w.actors a) job Started chosen → Begun_to w n a job chosen
     start_goes w n b a job chosen applies g =
@@ -324,20 +307,14 @@ module _ (P A : Type 0) (shape : Shape) where
         by (Open opened_in) jt (Cell step) e g h = none_goes P A shape (Opens mode reading) devices actors a x (Cell step) got ex b.keeping
         by (Open opened_in) jt (Device step) e g h = none_goes P A shape (Opens mode reading) devices actors a x (Device step) got ex b.keeping
         by (Open opened_in) jt (Desk step) e g h = none_goes P A shape (Opens mode reading) devices actors a x (Desk step) got ex b.keeping
-        by (Read extent) jt v e g h = absurd h
-        by (Write extent content) jt v e g h = absurd h
-        by Flush jt v e g h = absurd h
-        by (Migrate migration block) jt v e g h = absurd h
-        by (Replace old new) jt v e g h = absurd h
+        by j jt v e g h = absurd h
 
     keep_fault : (devices : Devices (List History)) (commit : Option RunningCommit) (phase : Phase P A) (actors : List Actor) (n : Notes) → Whole (record { devices = devices; commit = commit; phase = phase; actors = actors }) n → (a : ℕ) (x : Actor) (job : Job) (plan : Plan) → slice_get actors a ≡ Some x → x.task ≡ Some (job, plan) → (choice : Choice) (next : Want) (chosen : Chosen P A) → next ≡ want plan → MayFailAt devices choice next →
         Keeping (phase_then shape phase next Fault chosen) (slice_set actors a (actor_then shape phase devices x next Fault))
     keep_fault devices commit (Stands t) actors n b a x job plan ex xt choice (Device step) chosen e m = fault_keeps P A shape b.goes.images t commit devices actors n b.goes.known b.goes.followed b.used.here b.used.suited b.keeping a x ex job plan xt step chosen e
     keep_fault devices commit Gone actors n b a x job plan ex xt choice (Device step) chosen e m = none_goes P A shape Gone devices actors a x (Device step) Fault ex b.keeping
     keep_fault devices commit (Opens mode reading) actors n b a x job plan ex xt choice (Device step) chosen e m = none_goes P A shape (Opens mode reading) devices actors a x (Device step) Fault ex b.keeping
-    keep_fault devices commit phase actors n b a x job plan ex xt choice (Cell step) chosen e m = absurd m
-    keep_fault devices commit phase actors n b a x job plan ex xt choice (Desk step) chosen e m = absurd m
-    keep_fault devices commit phase actors n b a x job plan ex xt choice (End answer) chosen e m = absurd m
+    keep_fault devices commit phase actors n b a x job plan ex xt choice next chosen e m = absurd m
 
     abbrev Keeps : State P A → Type 0
     Keeps w = Keeping w.phase w.actors
