@@ -143,21 +143,17 @@ sealed_next b place ws answer i = absurd i
 
 -- seals after a step that seals nothing
 seals_same : (words : Words) (step : CellStep) → ((b : OBlock) (place : Option CBlock) (dirty : Bool) → step ≢ Seal b place dirty) → (words_after words step).seals ≡ words.seals
-seals_same words (Look word) n = refl
 seals_same words (Take access block seen) n = by_test (word_at words.cells block == seen)
   where
     by_test : (t : Bool) → (if t then Rattle.wb_words.specs.SharedWords.with_cell words block (Rattle.wb_words.specs.SharedWords.taken access seen) else words).seals ≡ words.seals
     by_test true = refl
     by_test false = refl
-seals_same words (Release access block) n = refl
 seals_same words (Seal block place dirty) n = absurd (n block place dirty refl)
-seals_same words (Finish block) n = refl
 seals_same words (Count ReadHit) n = refl
 seals_same words (Count ReadMiss) n = refl
 seals_same words (Count WriteHit) n = refl
 seals_same words (Count WriteMiss) n = refl
-seals_same words SetFailed n = refl
-seals_same words SetSuspended n = refl
+seals_same words step n = refl
 
 module _ (P A : Type 0) (shape : Shape) (images : Images) (t : Target P) (commit : Option RunningCommit) (devices : Devices (List History)) (actors : List Actor) (n : Notes) (known : MetadataKept {P = P} {A = A} shape.geometry images (Stands t) commit devices.metadata)
     (f : Followed P A shape images (standing P A shape images t commit devices actors n) n) (rule : LockRule shape.geometry.origin_blocks t.words (cards_of actors)) (all_suited : AllSuited shape.geometry.origin_blocks actors) (k : KeepingAt t actors) (a : ℕ) (x : Actor) (ex : slice_get actors a ≡ Some x) where
@@ -340,13 +336,7 @@ module _ (P A : Type 0) (shape : Shape) (images : Images) (t : Target P) (commit
         where
           by : (s : CellStep) → step ≡ s → Told s
           by (Seal o place dirty) is = by_seal o place dirty is
-          by (Look w) is = subst Told is (not_by (λ o p d q. absurd (let bad : Look w ≡ Seal o p d = sym is ∙ q in cc)))
-          by (Take access o seen) is = subst Told is (not_by (λ b p d q. absurd (let bad : Take access o seen ≡ Seal b p d = sym is ∙ q in cc)))
-          by (Release access o) is = subst Told is (not_by (λ b p d q. absurd (let bad : Release access o ≡ Seal b p d = sym is ∙ q in cc)))
-          by (Finish o) is = subst Told is (not_by (λ b p d q. absurd (let bad : Finish o ≡ Seal b p d = sym is ∙ q in cc)))
-          by (Count kind) is = subst Told is (not_by (λ b p d q. absurd (let bad : Count kind ≡ Seal b p d = sym is ∙ q in cc)))
-          by SetFailed is = subst Told is (not_by (λ b p d q. absurd (let bad : SetFailed ≡ Seal b p d = sym is ∙ q in cc)))
-          by SetSuspended is = subst Told is (not_by (λ b p d q. absurd (let bad : SetSuspended ≡ Seal b p d = sym is ∙ q in cc)))
+          by s is = subst Told is (not_by (λ b p d q. absurd (let bad : s ≡ Seal b p d = sym is ∙ q in cc)))
 
       pub cell_keeps : KeepingAt (record { words = words_after t.words step; desk = t.desk }) (slice_set actors a (y (Cell step) (got_of (result_of t.words step))))
       cell_keeps =
@@ -379,8 +369,7 @@ module _ (P A : Type 0) (shape : Shape) (images : Images) (t : Target P) (commit
 
           by : (q : TaskJob) → plan.job ≡ q → RightWhere (place_of t.desk.tree.entries) x.card (after plan got).steps
           by (OnBlock j) is = of_block j is (gave j is)
-          by (Flushing serves m) is = holds_none x.card (after plan got).steps (place_of t.desk.tree.entries) (subst (λ (q : TaskJob). SuitsJob shape.geometry.origin_blocks q x.card plan.steps) is suits).0
-          by (Opening left) is = holds_none x.card (after plan got).steps (place_of t.desk.tree.entries) (subst (λ (q : TaskJob). SuitsJob shape.geometry.origin_blocks q x.card plan.steps) is suits).0
+          by q is = holds_none x.card (after plan got).steps (place_of t.desk.tree.entries) (subst (λ (q : TaskJob). SuitsJob shape.geometry.origin_blocks q x.card plan.steps) is suits).0
 
       pub device_keeps : KeepingAt t (slice_set actors a (y (Device step) got))
       device_keeps = plainly t (y (Device step) got) refl (λ b. refl) (not_sealing (Device step) e (λ b p d q. absurd (cc))) (owned_same P t.desk actors a x (y (Device step) got) ex k.owned t.desk refl refl) (y_parted (Device step) got)
@@ -517,8 +506,7 @@ module _ (P A : Type 0) (shape : Shape) (images : Images) (t : Target P) (commit
           where
             by : (q : TaskJob) → plan.job ≡ q → SealsRight (place_of t.desk.tree.entries o.0) (lets_go plan.job)
             by (OnBlock j) is = subst (λ (q : TaskJob). SealsRight (place_of t.desk.tree.entries o.0) (lets_go q)) (sym is) (lets_go_right (place_of t.desk.tree.entries o.0) j (access_of j) (range_of j).block)
-            by (Flushing serves n) is = absurd (let none = (subst (λ (q : TaskJob). SuitsJob shape.geometry.origin_blocks q x.card plan.steps) is its).0 in let bad : Nothing ≡ Held access o = sym none ∙ h in cc)
-            by (Opening left) is = absurd (let none = (subst (λ (q : TaskJob). SuitsJob shape.geometry.origin_blocks q x.card plan.steps) is its).0 in let bad : Nothing ≡ Held access o = sym none ∙ h in cc)
+            by q is = absurd (let none = (subst (λ (q : TaskJob). SuitsJob shape.geometry.origin_blocks q x.card plan.steps) is its).0 in let bad : Nothing ≡ Held access o = sym none ∙ h in cc)
 
   -- a flush gives up an order that waits for it
   module _ (plan : Plan) (xt : x.task ≡ Some (Flush, plan)) where

@@ -107,17 +107,11 @@ ended_same P X of desk same = by desk.space.committing
 -- a read or write of an extent that does not fail is done
 gives_done : (P A : Type 0) (shape : Shape) (w : State P A) (x : Actor) (job : Job) (j : BlockJob) (step : DeviceStep) (got : Got) (read : List Bytes) (chosen : Chosen P A) → IsJobs j step → Gives shape w x job (Device step) got read chosen → got ≡ Done
 gives_done P A shape w x (Read extent) j (ReadExtent d e) got read chosen i g = g.2
-gives_done P A shape w x (Read extent) j (WriteExtent d e) got read chosen i g = absurd g
-gives_done P A shape w x (Write extent content) j (ReadExtent d e) got read chosen i g = absurd g
 gives_done P A shape w x (Write extent content) j (WriteExtent d e) got read chosen i g = g.2
-gives_done P A shape w x Flush j (ReadExtent d e) got read chosen i g = absurd g
-gives_done P A shape w x Flush j (WriteExtent d e) got read chosen i g = absurd g
-gives_done P A shape w x (Open mode) j (ReadExtent d e) got read chosen i g = absurd g
-gives_done P A shape w x (Open mode) j (WriteExtent d e) got read chosen i g = absurd g
 gives_done P A shape w x (Migrate m block) j (ReadExtent d e) got read chosen i g = g.2
 gives_done P A shape w x (Migrate m block) j (WriteExtent d e) got read chosen i g = g.2
-gives_done P A shape w x (Replace old new) j (ReadExtent d e) got read chosen i g = absurd g
-gives_done P A shape w x (Replace old new) j (WriteExtent d e) got read chosen i g = absurd g
+gives_done P A shape w x job j (ReadExtent d e) got read chosen i g = absurd g
+gives_done P A shape w x job j (WriteExtent d e) got read chosen i g = absurd g
 gives_done P A shape w x job (Reading part) step got read chosen i g = absurd i
 gives_done P A shape w x job (Writing part) step got read chosen i g = absurd i
 gives_done P A shape w x job (Migrating m part) step got read chosen i g = absurd i
@@ -159,12 +153,11 @@ module _ (P A : Type 0) (shape : Shape) (images : Images) (t : Target P) (commit
       by_job (Migrate m b) (Orders cut c) h =
           let y : Actor = given {P = P} {A = A} shape x (Migrate m b) (Orders cut c) in
           kept (record { words = t.words; desk = Rattle.wb_desk.specs.Calls.reserved t.desk c (order_for m b) false }) y (Migrate m b) _ refl refl refl (λ i. refl) (owned_given P t.desk actors a x y ex k.owned c (order_for m b) known.is.orders h.1 refl) (parted_with (order_for m b) c h.1)
-      by_job (Migrate m b) chosen h = absurd h
       by_job (Replace old new) (Cut cut) h = plain (Migrate Demote old) (given {P = P} {A = A} shape x (Replace old new) (Cut cut)) _ refl refl refl (k.parted a x ex)
       by_job (Replace old new) (Orders cut c) h =
           let y : Actor = given {P = P} {A = A} shape x (Replace old new) (Orders cut c) in
           kept (record { words = t.words; desk = Rattle.wb_desk.specs.Calls.reserved t.desk c (ReplaceOrder old new c) false }) y (Migrate Demote old) _ refl refl refl (λ i. refl) (owned_given P t.desk actors a x y ex k.owned c (ReplaceOrder old new c) known.is.orders h.1 refl) (parted_with (ReplaceOrder old new c) c h.1)
-      by_job (Replace old new) chosen h = absurd h
+      by_job job chosen h = absurd h
 
   module _ (job : Job) (plan : Plan) (xt : x.task ≡ Some (job, plan)) where
     abbrev After : Want → Got → Chosen P A → Type 0

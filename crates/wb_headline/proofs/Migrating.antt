@@ -67,7 +67,6 @@ use Rattle.wb_headline.proofs.Whole.{Whole, at_target, MigrationsGo}
 
 -- what an order names there it names at the desk
 named_there : (m : Locations) (k : ℕ) (o : Order) (v : ℕ) → NamesThere (order_there m k o) v → IsNamed o v
-named_there m k (PromoteOrder x c) v (inr e) = absurd (let bad : None ≡ Some v = e in cc)
 named_there m k (ReplaceOrder old x c) v n = by (is_at (m old.0) k) n
   where
     by : (t : Bool) → NamesThere (replacement_there t old.0 x.0 k) v → IsNamed (ReplaceOrder old x c) v
@@ -75,9 +74,8 @@ named_there m k (ReplaceOrder old x c) v n = by (is_at (m old.0) k) n
     by true (inr e) = inr (let both : Some x.0 ≡ Some v = e in cc)
     by false (inl e) = inr e
     by false (inr e) = absurd (let bad : None ≡ Some v = e in cc)
-named_there m k (DemoteOrder x) v (inr e) = absurd (let bad : None ≡ Some v = e in cc)
-named_there m k (CleanOrder x) v (inr e) = absurd (let bad : None ≡ Some v = e in cc)
 named_there m k o v (inl e) = inl e
+named_there m k o v (inr e) = absurd (let bad : None ≡ Some v = e in cc)
 
 -- a migration's own order is of its block alone
 plain_named : (m : Migration) (block : OBlock) (c : CBlock) (v : ℕ) → NamesThere (order_of block c None) v → IsNamed (order_for m block) v

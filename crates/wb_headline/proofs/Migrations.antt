@@ -271,13 +271,8 @@ module _ (P A : Type 0) (shape : Shape) (t : Target P) (commit : Option RunningC
   any_step (Desk (ReleaseOrder bl)) got read chosen e g = subst (λ (v : Got). To (Desk (ReleaseOrder bl)) v read chosen) (sym g.1) (by_release bl read chosen e g.2)
   any_step (End answer) got read chosen e g = subst (λ (v : Got). To (End answer) v read chosen) (sym g.1) (subst (λ (c : Chosen P A). To (End answer) Done read c) (sym g.0.1)
       (answers P A shape b.goes.images t commit devices actors n b.goes.known f a x ex migration block plan xt suits doing noted job_is answer _ read e))
-  any_step (Device (Sync d)) got read chosen e g = absurd ((own_step (Device (Sync d)) e (λ v q. absurd (cc)) (λ ws o. o)).2)
-  any_step (Device (ReadMetadata k)) got read chosen e g = absurd ((own_step (Device (ReadMetadata k)) e (λ v q. absurd (cc)) (λ ws o. o)).2)
-  any_step (Device (WriteNode k)) got read chosen e g = absurd ((own_step (Device (WriteNode k)) e (λ v q. absurd (cc)) (λ ws o. o)).2)
-  any_step (Device WriteRoot) got read chosen e g = absurd ((own_step (Device WriteRoot) e (λ v q. absurd (cc)) (λ ws o. o)).2)
   any_step (Desk (Unmap bl)) got read chosen e g = subst (λ (v : Got). To (Desk (Unmap bl)) v read chosen) (sym g.1) (by_unmap bl read chosen e g.2)
-  any_step (Desk (BeginCommit clean m)) got read chosen e g = absurd ((own_step (Desk (BeginCommit clean m)) e (λ v q. absurd (cc)) (λ ws o. o)).2)
-  any_step (Desk EndCommit) got read chosen e g = absurd ((own_step (Desk EndCommit) e (λ v q. absurd (cc)) (λ ws o. o)).2)
+  any_step next got read chosen e g = absurd ((own_step next e (λ v q. absurd (cc)) (λ ws o. o)).2)
 
   room : (d : Dev) (ext : Extent) → HoldsBlocks d → StepInside shape (Device (WriteExtent d ext)) → ext.first + ext.count ≤ length (Rattle.wb_devices.specs.Moving.device_in d devices)
   room Cache ext h i = subst (λ (k : ℕ). ext.first + ext.count ≤ k) (sym b.inside.cache) i
@@ -294,8 +289,5 @@ module _ (P A : Type 0) (shape : Shape) (t : Target P) (commit : Option RunningC
       (read_fails P A shape b.goes.images t commit devices actors n b.goes.known f a x ex migration block plan xt suits doing noted job_is d ext read e))
   any_fault choice (Device (WriteExtent d ext)) read chosen e m g = subst (λ (c : Chosen P A). Fails choice (Device (WriteExtent d ext)) read c) (sym g.0)
       (write_fails P A shape b.goes.images t commit devices actors n b.goes.known f a x ex migration block plan xt suits doing noted job_is b.used.here b.used.suited d ext read (lands d choice) g.1 e (room d ext g.1 (inside (Device (WriteExtent d ext)) e)))
-  any_fault choice (Device (Sync d)) read chosen e m g = absurd ((own_step (Device (Sync d)) e (λ v q. absurd (cc)) (λ ws o. o)).2)
-  any_fault choice (Device (ReadMetadata k)) read chosen e m g = absurd ((own_step (Device (ReadMetadata k)) e (λ v q. absurd (cc)) (λ ws o. o)).2)
-  any_fault choice (Device (WriteNode k)) read chosen e m g = absurd ((own_step (Device (WriteNode k)) e (λ v q. absurd (cc)) (λ ws o. o)).2)
-  any_fault choice (Device WriteRoot) read chosen e m g = absurd ((own_step (Device WriteRoot) e (λ v q. absurd (cc)) (λ ws o. o)).2)
+  any_fault choice (Device step) read chosen e m g = absurd ((own_step (Device step) e (λ v q. absurd (cc)) (λ ws o. o)).2)
   any_fault choice next read chosen e m g = absurd m

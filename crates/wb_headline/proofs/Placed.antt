@@ -270,8 +270,7 @@ module _ (P A : Type 0) (shape : Shape) where
 
       on_cell : (phase : Phase P A) (step : CellStep) (got : Got) → Cell step ≡ want plan → OfTarget phase (λ t. got ≡ got_of (result_of t.words step)) → WritePlaced (block_size shape) (after plan got) (card_then shape phase x.card (Cell step))
       on_cell (Stands t) step got e g = subst (λ (v : Got). WritePlaced (block_size shape) (after plan v) (card_after t.words step x.card)) (sym g) (cell_on (block_size shape) some plan x.card is shape.geometry.origin_blocks t.words step suits e)
-      on_cell Gone step got e g = absurd g
-      on_cell (Opens mode reading) step got e g = absurd g
+      on_cell phase step got e g = absurd g
 
       same_card : (phase : Phase P A) (step : DeviceStep) → card_then shape phase x.card (Device step) ≡ x.card
       same_card (Stands t) step = refl
@@ -284,20 +283,11 @@ module _ (P A : Type 0) (shape : Shape) where
       write_on (Device (WriteExtent d ext)) got read chosen e g =
           subst (λ (v : Got). WritePlaced (block_size shape) (after plan v) (card_then shape w.phase x.card (Device (WriteExtent d ext)))) (sym g.2)
           (subst (λ (c : Card). WritePlaced (block_size shape) (after plan Done) c) (sym (same_card w.phase (WriteExtent d ext))) (extent_on (block_size shape) some plan x.card is d ext e))
-      write_on (Device (ReadExtent d ext)) got read chosen e g = absurd (own (Device (ReadExtent d ext)) e)
-      write_on (Device (Sync d)) got read chosen e g = absurd (own (Device (Sync d)) e)
-      write_on (Device (ReadMetadata k)) got read chosen e g = absurd (own (Device (ReadMetadata k)) e)
-      write_on (Device (WriteNode k)) got read chosen e g = absurd (own (Device (WriteNode k)) e)
-      write_on (Device WriteRoot) got read chosen e g = absurd (own (Device WriteRoot) e)
-      write_on (Desk step) got read chosen e g = absurd (own (Desk step) e)
+      write_on next got read chosen e g = absurd (own next e)
 
       write_fault : (choice : Choice) (next : Want) → next ≡ want plan → MayFailAt w.devices choice next → At (Write extent content) next Fault
       write_fault choice (Device (WriteExtent d ext)) e m = subst (λ (c : Card). WritePlaced (block_size shape) (after plan Fault) c) (sym (same_card w.phase (WriteExtent d ext))) (fault_on (block_size shape) some plan x.card is d ext e)
-      write_fault choice (Device (ReadExtent d ext)) e m = absurd (own (Device (ReadExtent d ext)) e)
-      write_fault choice (Device (Sync d)) e m = absurd (own (Device (Sync d)) e)
-      write_fault choice (Device (ReadMetadata k)) e m = absurd (own (Device (ReadMetadata k)) e)
-      write_fault choice (Device (WriteNode k)) e m = absurd (own (Device (WriteNode k)) e)
-      write_fault choice (Device WriteRoot) e m = absurd (own (Device WriteRoot) e)
+      write_fault choice (Device step) e m = absurd (own (Device step) e)
       write_fault choice next e m = absurd m
 
     job_on : (job : Job) → x.task ≡ Some (job, plan) → (next : Want) (got : Got) (read : List Bytes) (chosen : Chosen P A) → next ≡ want plan → Gives shape w x job next got read chosen → At job next got

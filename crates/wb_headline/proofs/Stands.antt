@@ -50,9 +50,8 @@ use Rattle.wb_headline.proofs.Requests.{on_words as request_words, reads, read_f
 use Rattle.wb_headline.proofs.Flushes.{syncs, sync_fails as data_sync_fails, node_done, sync_done, root_done, node_fails, metadata_sync_fails, root_fails, begins, begin_refused, ends, on_words as flush_words, answers as flush_answers, gives_up, serving}
 
 same_device : (device : Dev) (devices : Devices (List History)) → HoldsBlocks device → with_device device devices (device_in device devices) ≡ devices
-same_device Cache devices h = refl
-same_device Origin devices h = refl
 same_device Metadata devices h = absurd h
+same_device device devices h = refl
 
 and_left : (a b : Bool) → (a && b) ≡ true → a ≡ true
 and_left true b e = refl
@@ -91,21 +90,13 @@ module _ (P A : Type 0) (shape : Shape) (images : Images) (t : Target P) (commit
     read_steps (End answer) got read chosen e g = subst (λ (v : Got). Done_by (Read extent) (End answer) v read chosen) (sym g.1) (subst (λ (c : Chosen P A). Done_by (Read extent) (End answer) Done read c) (sym g.0.1)
         (request_answers P A shape images t commit devices actors n known f rule all_suited a x ex _ doing noted (Read extent) tt plan xt suits job_is claim answer e read))
     read_steps (Device (WriteExtent d ex')) got read chosen e g = absurd g
-    read_steps (Device (Sync d)) got read chosen e g = absurd (own of_read (Device (Sync d)) claim.is_job e)
-    read_steps (Device (ReadMetadata k)) got read chosen e g = absurd (own of_read (Device (ReadMetadata k)) claim.is_job e)
-    read_steps (Device (WriteNode k)) got read chosen e g = absurd (own of_read (Device (WriteNode k)) claim.is_job e)
-    read_steps (Device WriteRoot) got read chosen e g = absurd (own of_read (Device WriteRoot) claim.is_job e)
-    read_steps (Desk step) got read chosen e g = absurd (own of_read (Desk step) claim.is_job e)
+    read_steps next got read chosen e g = absurd (own of_read next claim.is_job e)
 
     pub read_faults : (choice : Choice) (next : Want) (read : List Bytes) (chosen : Chosen P A) → next ≡ want plan → MayFailAt devices choice next → Falters w choice next chosen → Failed_by choice (Read extent) next read chosen
     read_faults choice (Device (ReadExtent d ex')) read chosen e m g = subst (λ (c : Chosen P A). Failed_by choice (Read extent) (Device (ReadExtent d ex')) read c) (sym g.0)
         (subst (λ (ds : Devices (List History)). Goes P A shape (record { devices = ds; commit = commit; phase = Stands t; actors = slice_set actors a (actor_then {P = P} {A = A} shape (Stands t) devices x (Device (ReadExtent d ex')) Fault) }) (noted_step shape [] n a (Some (Some doing)) (Device (ReadExtent d ex')) Fault read)) (sym (same_device d devices g.1))
         (read_fails P A shape images t commit devices actors n known f rule all_suited a x ex [] doing noted extent plan xt suits job_is claim d ex' e g.1 read))
-    read_faults choice (Device (WriteExtent d ex')) read chosen e m g = absurd (own of_read (Device (WriteExtent d ex')) claim.is_job e)
-    read_faults choice (Device (Sync d)) read chosen e m g = absurd (own of_read (Device (Sync d)) claim.is_job e)
-    read_faults choice (Device (ReadMetadata k)) read chosen e m g = absurd (own of_read (Device (ReadMetadata k)) claim.is_job e)
-    read_faults choice (Device (WriteNode k)) read chosen e m g = absurd (own of_read (Device (WriteNode k)) claim.is_job e)
-    read_faults choice (Device WriteRoot) read chosen e m g = absurd (own of_read (Device WriteRoot) claim.is_job e)
+    read_faults choice (Device step) read chosen e m g = absurd (own of_read (Device step) claim.is_job e)
     read_faults choice next read chosen e m g = absurd m
 
   -- ---- writes
@@ -123,11 +114,7 @@ module _ (P A : Type 0) (shape : Shape) (images : Images) (t : Target P) (commit
     write_steps (End answer) got read chosen e g = subst (λ (v : Got). Done_by (Write extent content) (End answer) v read chosen) (sym g.1) (subst (λ (c : Chosen P A). Done_by (Write extent content) (End answer) Done read c) (sym g.0.1)
         (request_answers P A shape images t commit devices actors n known f rule all_suited a x ex _ doing noted (Write extent content) tt plan xt suits job_is claim answer e read))
     write_steps (Device (ReadExtent d ex')) got read chosen e g = absurd g
-    write_steps (Device (Sync d)) got read chosen e g = absurd (own of_write (Device (Sync d)) claim.is_job e)
-    write_steps (Device (ReadMetadata k)) got read chosen e g = absurd (own of_write (Device (ReadMetadata k)) claim.is_job e)
-    write_steps (Device (WriteNode k)) got read chosen e g = absurd (own of_write (Device (WriteNode k)) claim.is_job e)
-    write_steps (Device WriteRoot) got read chosen e g = absurd (own of_write (Device WriteRoot) claim.is_job e)
-    write_steps (Desk step) got read chosen e g = absurd (own of_write (Desk step) claim.is_job e)
+    write_steps next got read chosen e g = absurd (own of_write next claim.is_job e)
 
     pub write_faults : (choice : Choice) (next : Want) (read : List Bytes) (chosen : Chosen P A) → StepInside shape next → (length devices.cache ≡ Rattle.wb_runs.specs.States.cache_sector_count shape) → (length devices.origin ≡ sector_count shape) → next ≡ want plan → MayFailAt devices choice next → Falters w choice next chosen → Failed_by choice (Write extent content) next read chosen
     write_faults choice (Device (WriteExtent d ex')) read chosen inside cs os e m g = subst (λ (c : Chosen P A). Failed_by choice (Write extent content) (Device (WriteExtent d ex')) read c) (sym g.0)
@@ -137,11 +124,7 @@ module _ (P A : Type 0) (shape : Shape) (images : Images) (t : Target P) (commit
         by Cache h i = subst (λ (k : ℕ). ex'.first + ex'.count ≤ k) (sym cs) i
         by Origin h i = subst (λ (k : ℕ). ex'.first + ex'.count ≤ k) (sym os) i
         by Metadata h i = absurd h
-    write_faults choice (Device (ReadExtent d ex')) read chosen inside cs os e m g = absurd (own of_write (Device (ReadExtent d ex')) claim.is_job e)
-    write_faults choice (Device (Sync d)) read chosen inside cs os e m g = absurd (own of_write (Device (Sync d)) claim.is_job e)
-    write_faults choice (Device (ReadMetadata k)) read chosen inside cs os e m g = absurd (own of_write (Device (ReadMetadata k)) claim.is_job e)
-    write_faults choice (Device (WriteNode k)) read chosen inside cs os e m g = absurd (own of_write (Device (WriteNode k)) claim.is_job e)
-    write_faults choice (Device WriteRoot) read chosen inside cs os e m g = absurd (own of_write (Device WriteRoot) claim.is_job e)
+    write_faults choice (Device step) read chosen inside cs os e m g = absurd (own of_write (Device step) claim.is_job e)
     write_faults choice next read chosen inside cs os e m g = absurd m
 
   -- ---- flushes
@@ -161,7 +144,6 @@ module _ (P A : Type 0) (shape : Shape) (images : Images) (t : Target P) (commit
     -- a step of the commit that runs
     put_step : (step : DeviceStep) (read : List Bytes) (chosen : Chosen P A) (o : Option RunningCommit) → commit ≡ o → DoesPut o step devices.metadata chosen → (new : List History) × (chosen ≡ Puts new) × (c : RunningCommit) × (commit ≡ Some c) × (is_coming c.image c.steps step ≡ true) × DoesStep c.image c.steps devices.metadata new
     put_step step read (Puts new) (Some c) e d = (new, refl, c, e, and_left _ _ d.0, d.1)
-    put_step step read (Puts new) None e d = absurd d
     put_step step read chosen o e d = absurd d
 
     -- with its commit led on
@@ -223,13 +205,11 @@ module _ (P A : Type 0) (shape : Shape) (images : Images) (t : Target P) (commit
     by_node_fault : (choice : Choice) (k : ℕ) (read : List Bytes) (chosen : Chosen P A) (o : Option RunningCommit) → commit ≡ o → FailsPut o choice (WriteNode k) devices.metadata chosen → Device (WriteNode k) ≡ want plan → Failed_by choice Flush (Device (WriteNode k)) read chosen
     by_node_fault choice k read (Puts new) (Some c) runs d e = leads (WriteNode k) Fault read new (led commit Fault) None (ap (λ (m : Option RunningCommit). led m Fault) runs)
         (node_fails P A shape images t commit devices actors n known f rule a x ex plan xt [] doing noted job_is read c runs new k e (and_left _ _ d.0) (put_fails c.image c.steps (WriteNode k) devices.metadata new tt d.0 (failing c new choice d.1)))
-    by_node_fault choice k read (Puts new) None runs d e = absurd d
     by_node_fault choice k read chosen o runs d e = absurd d
 
     by_root_fault : (choice : Choice) (read : List Bytes) (chosen : Chosen P A) (o : Option RunningCommit) → commit ≡ o → FailsPut o choice WriteRoot devices.metadata chosen → Device WriteRoot ≡ want plan → Failed_by choice Flush (Device WriteRoot) read chosen
     by_root_fault choice read (Puts new) (Some c) runs d e = leads WriteRoot Fault read new (led commit Fault) None (ap (λ (m : Option RunningCommit). led m Fault) runs)
         (root_fails P A shape images t commit devices actors n known f rule a x ex plan xt [] doing noted job_is read c runs new e (and_left _ _ d.0) (put_fails c.image c.steps WriteRoot devices.metadata new tt d.0 (failing c new choice d.1)))
-    by_root_fault choice read (Puts new) None runs d e = absurd d
     by_root_fault choice read chosen o runs d e = absurd d
 
     by_sync_fault : (choice : Choice) (read : List Bytes) (o : Option RunningCommit) → commit ≡ o → FailsSync {P = P} {A = A} (Stands t) o devices.metadata → Device (Sync Metadata) ≡ want plan → Failed_by choice Flush (Device (Sync Metadata)) read Plain
@@ -243,7 +223,5 @@ module _ (P A : Type 0) (shape : Shape) (images : Images) (t : Target P) (commit
     flush_faults choice (Device (Sync Metadata)) read chosen e m g = subst (λ (c : Chosen P A). Failed_by choice Flush (Device (Sync Metadata)) read c) (sym g.0) (by_sync_fault choice read commit refl g.1 e)
     flush_faults choice (Device (WriteNode k)) read chosen e m g = by_node_fault choice k read chosen commit refl g e
     flush_faults choice (Device WriteRoot) read chosen e m g = by_root_fault choice read chosen commit refl g e
-    flush_faults choice (Device (ReadExtent d ex')) read chosen e m g = absurd (mine (Device (ReadExtent d ex')) e)
-    flush_faults choice (Device (WriteExtent d ex')) read chosen e m g = absurd (mine (Device (WriteExtent d ex')) e)
-    flush_faults choice (Device (ReadMetadata k)) read chosen e m g = absurd (mine (Device (ReadMetadata k)) e)
+    flush_faults choice (Device step) read chosen e m g = absurd (mine (Device step) e)
     flush_faults choice next read chosen e m g = absurd m

@@ -123,7 +123,6 @@ release_plain (Returning leaves order os) = (tt, (tt, tt))
 release_plain job = (tt, tt)
 
 letting_plain : (job : Job) → ArePlain (letting job)
-letting_plain (Flushing None) = tt
 letting_plain (Flushing (Some order)) = (tt, tt)
 letting_plain (Promoting order os) = (tt, (tt, tt))
 letting_plain job = tt
@@ -275,5 +274,4 @@ event_on v (Advances outcome) i n = by_phase v.phase
   where
     by_phase : (phase : Phase) → NeverClean (advance v.world phase outcome).world
     by_phase (Opens mode stage) = record { tasks = emptied_plain v.world (advanced v.world.shared mode stage outcome); images = advanced_unclean v.world.shared mode stage outcome n.images }
-    by_phase Stands = n
-    by_phase Gone = n
+    by_phase phase = n

@@ -278,8 +278,7 @@ module _ (P A : Type 0) (shape : Shape) where
         let w = at_target t commit devices actors in
         subst (λ (o : Option Actor). Goes P A shape (with_actor w o (λ y. record w { phase = phase_given w.phase (Replace old new) chosen; actors = slice_set w.actors a (given {P = P} {A = A} shape y (Replace old new) chosen) })) (put n a (Some (begun n (begun_as (Replace old new)))))) (sym ex)
         (migrations.replaces t commit devices actors n b a x old new chosen ex xt g)
-    start_at_target t commit devices actors n b a x (Read extent) chosen ex xt place g = absurd g
-    start_at_target t commit devices actors n b a x (Write extent content) chosen ex xt place g = absurd g
+    start_at_target t commit devices actors n b a x job chosen ex xt place g = absurd g
 
     -- where none stands, nothing but an opening is in place
     start_by_phase : (w : State P A) (phase : Phase P A) → w.phase ≡ phase → (n : Notes) → Whole w n → (a : ℕ) (x : Actor) (job : Job) (chosen : Chosen P A) → slice_get w.actors a ≡ Some x → x.task ≡ None → (¬ Rattle.wb_runs.specs.Happenings.IsOutOfPlace phase job) → StartGives shape phase (Some x) job Started chosen → Begun_to w n a job chosen
@@ -368,8 +367,7 @@ module _ (P A : Type 0) (shape : Shape) where
     keep_start w (Stands t) e n b a x (Replace old new) chosen ex xt place g =
         let is : record { devices = w.devices; commit = w.commit; phase = Stands t; actors = w.actors } ≡ w = λ i. record w { phase = sym e i } in
         subst (λ (v : State P A). Keeps (started shape v a (Replace old new) chosen)) is (keep_at_target t w.commit w.devices w.actors n (subst (λ (v : State P A). Whole v n) (sym is) b) a x (Replace old new) chosen ex xt place g refl)
-    keep_start w Gone e n b a x job chosen ex xt place g = absurd (place (λ z. z))
-    keep_start w (Opens mode reading) e n b a x job chosen ex xt place g = absurd (place (λ z. z))
+    keep_start w phase e n b a x job chosen ex xt place g = absurd (place (λ z. z))
 
     keep_starts : (w : State P A) (n : Notes) → Whole w n → (a : ℕ) (job : Job) (chosen : Chosen P A) → (¬ DoesNotApply w (Start a job)) → StartGives shape w.phase (slice_get w.actors a) job Started chosen → Keeps (started shape w a job chosen)
     keep_starts w n b a job chosen applies g =
