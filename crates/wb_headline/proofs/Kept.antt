@@ -145,19 +145,17 @@ module _ (P A : Type 0) (shape : Shape) (images : Images) (t : Target P) (commit
       parted_with order c may o h w = first_or order o x.orders ⊥ h (λ same. fresh order c may (subst (λ (p : Order). Contains x.awaiting p) same w)) (λ later. k.parted a x ex o later w)
 
       by_job : (job : Job) (chosen : Chosen P A) → StartGives shape (Stands t) (Some x) job Started chosen → Keeping (phase_given {P = P} {A = A} (Stands t) job chosen) (slice_set actors a (given shape x job chosen))
-      by_job (Read extent) chosen h = plain (Read extent) (given shape x (Read extent) chosen) _ refl refl refl (k.parted a x ex)
-      by_job (Write extent content) chosen h = plain (Write extent content) (given shape x (Write extent content) chosen) _ refl refl refl (k.parted a x ex)
-      by_job Flush chosen h = plain Flush (given shape x Flush chosen) _ refl refl refl (k.parted a x ex)
-      by_job (Open mode) chosen h = plain (Open mode) (given shape x (Open mode) chosen) _ refl refl refl (k.parted a x ex)
       by_job (Migrate m b) (Cut cut) h = plain (Migrate m b) (given {P = P} {A = A} shape x (Migrate m b) (Cut cut)) _ refl refl refl (k.parted a x ex)
       by_job (Migrate m b) (Orders cut c) h =
           let y : Actor = given {P = P} {A = A} shape x (Migrate m b) (Orders cut c) in
           kept (record { words = t.words; desk = Rattle.wb_desk.specs.Calls.reserved t.desk c (order_for m b) false }) y (Migrate m b) _ refl refl refl (λ i. refl) (owned_given P t.desk actors a x y ex k.owned c (order_for m b) known.is.orders h.1 refl) (parted_with (order_for m b) c h.1)
+      by_job (Migrate m b) chosen h = absurd h
       by_job (Replace old new) (Cut cut) h = plain (Migrate Demote old) (given {P = P} {A = A} shape x (Replace old new) (Cut cut)) _ refl refl refl (k.parted a x ex)
       by_job (Replace old new) (Orders cut c) h =
           let y : Actor = given {P = P} {A = A} shape x (Replace old new) (Orders cut c) in
           kept (record { words = t.words; desk = Rattle.wb_desk.specs.Calls.reserved t.desk c (ReplaceOrder old new c) false }) y (Migrate Demote old) _ refl refl refl (λ i. refl) (owned_given P t.desk actors a x y ex k.owned c (ReplaceOrder old new c) known.is.orders h.1 refl) (parted_with (ReplaceOrder old new c) c h.1)
-      by_job job chosen h = absurd h
+      by_job (Replace old new) chosen h = absurd h
+      by_job job chosen h = plain job (given shape x job chosen) _ refl refl refl (k.parted a x ex)
 
   module _ (job : Job) (plan : Plan) (xt : x.task ≡ Some (job, plan)) where
     abbrev After : Want → Got → Chosen P A → Type 0

@@ -74,22 +74,8 @@ step_latest shape shown n a (Some (Some doing)) (Device step) got read e all giv
   where
     same : (job : Job) (step : DeviceStep) (got : Got) → GivenIf shape n job step got read → GivenIf shape (put n a (Some (failing doing step got))) job step got read
     same (Read extent) (ReadExtent d x) Done g = g
-    same (Write extent content) (ReadExtent d x) Done g = g
-    same Flush (ReadExtent d x) Done g = g
-    same (Open mode) (ReadExtent d x) Done g = g
-    same (Migrate migration block) (ReadExtent d x) Done g = g
-    same (Replace old new) (ReadExtent d x) Done g = g
-    same job (ReadExtent d x) got g = by got g
-      where
-        by : (v : Got) → GivenIf shape n job (ReadExtent d x) v read → GivenIf shape (put n a (Some (failing doing (ReadExtent d x) v))) job (ReadExtent d x) v read
-        by Done g = by_job job g
-          where
-            by_job : (job : Job) → GivenIf shape n job (ReadExtent d x) Done read → GivenIf shape (put n a (Some doing)) job (ReadExtent d x) Done read
-            by_job (Read extent) g = g
-            by_job job g = g
-        by v g = tt
-    same job (WriteExtent d x) got g = tt
-    same job step got g = tt
+    same job (ReadExtent d x) Done g = g
+    same job step got g = g
 step_latest shape shown n a (Some (Some doing)) (End Finished) got read e all given = finished_latest n a doing doing.job shown all
 step_latest shape shown n a (Some (Some doing)) (End (Refuses refusal)) got read e all given = none_latest n.doings a all
 step_latest shape shown n a o next got read e all given = all

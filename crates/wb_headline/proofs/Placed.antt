@@ -151,13 +151,11 @@ module _ (size : ℕ) (part : BlockRange) (some : 0 < size) (sized : part.block_
       by_test : (t : Bool) → IsPlaced size (card_after words (Take access b seen) card) (after (of (Cell (Take access b seen) ∷ ws)) (got_of (if t then Won else NotWon))).steps
       by_test true = inl (no_more ws (Cell (Take access b seen)) (λ n. n) (λ place w. w) p)
       by_test false = inl tt
-  on_words (Release access b) ws h p = inl (no_more ws (Cell (Release access b)) (λ n. n) (λ place w. w) p)
-  on_words SetFailed ws h p = inl (no_more ws (Cell SetFailed) (λ n. n) (λ place w. w) p)
-  on_words SetSuspended ws h p = inl (no_more ws (Cell SetSuspended) (λ n. n) (λ place w. w) p)
   on_words (Seal b place dirty) ws h (inl n) = absurd n
   on_words (Seal b place dirty) ws h (inr w) = inr (seal_word place dirty, refl, subst (λ (o : Option CBlock). WritesThere size o ws) (sym w.2.0) w.2.1)
   on_words (Finish b) ws h p = onward ws (card_after words (Finish b) card) (Cell (Finish b)) (λ n. n) (λ place w. w) refl p
   on_words (Count kind) ws h p = onward ws (card_after words (Count kind) card) (Cell (Count kind)) (λ n. n) (λ place w. w) refl p
+  on_words step ws h p = inl (no_more ws (Cell step) (λ n. n) (λ place w. w) p)
 
 -- ---- a write
 
@@ -292,19 +290,11 @@ module _ (P A : Type 0) (shape : Shape) where
 
     job_on : (job : Job) → x.task ≡ Some (job, plan) → (next : Want) (got : Got) (read : List Bytes) (chosen : Chosen P A) → next ≡ want plan → Gives shape w x job next got read chosen → At job next got
     job_on (Write extent content) xt next got read chosen e g = write_on extent content xt next got read chosen e g
-    job_on (Read extent) xt next got read chosen e g = no_write (Read extent) plan (card_then shape w.phase x.card next) next got (λ ex c s. absurd (cc))
-    job_on Flush xt next got read chosen e g = no_write Flush plan (card_then shape w.phase x.card next) next got (λ ex c s. absurd (cc))
-    job_on (Open mode) xt next got read chosen e g = no_write (Open mode) plan (card_then shape w.phase x.card next) next got (λ ex c s. absurd (cc))
-    job_on (Migrate migration block) xt next got read chosen e g = no_write (Migrate migration block) plan (card_then shape w.phase x.card next) next got (λ ex c s. absurd (cc))
-    job_on (Replace old new) xt next got read chosen e g = no_write (Replace old new) plan (card_then shape w.phase x.card next) next got (λ ex c s. absurd (cc))
+    job_on job xt next got read chosen e g = no_write job plan (card_then shape w.phase x.card next) next got (λ ex c s. absurd (cc))
 
     job_fault : (job : Job) → x.task ≡ Some (job, plan) → (choice : Choice) (next : Want) → next ≡ want plan → MayFailAt w.devices choice next → At job next Fault
     job_fault (Write extent content) xt choice next e m = write_fault extent content xt choice next e m
-    job_fault (Read extent) xt choice next e m = no_write (Read extent) plan (card_then shape w.phase x.card next) next Fault (λ ex c s. absurd (cc))
-    job_fault Flush xt choice next e m = no_write Flush plan (card_then shape w.phase x.card next) next Fault (λ ex c s. absurd (cc))
-    job_fault (Open mode) xt choice next e m = no_write (Open mode) plan (card_then shape w.phase x.card next) next Fault (λ ex c s. absurd (cc))
-    job_fault (Migrate migration block) xt choice next e m = no_write (Migrate migration block) plan (card_then shape w.phase x.card next) next Fault (λ ex c s. absurd (cc))
-    job_fault (Replace old new) xt choice next e m = no_write (Replace old new) plan (card_then shape w.phase x.card next) next Fault (λ ex c s. absurd (cc))
+    job_fault job xt choice next e m = no_write job plan (card_then shape w.phase x.card next) next Fault (λ ex c s. absurd (cc))
 
   abbrev Placed : State P A → Type 0
   Placed w = AllPlaced (block_size shape) w.actors

@@ -30,12 +30,8 @@ quietens size v (Advances outcome) m may down = by_outcome outcome may.3 (λ e. 
 
     no_showing : (stage : Stage) (mode : Mode) (s : Shared) (o : Outcome) → Yields s mode stage o → next_phase mode stage o ≢ Stands → note_event m (Advances o) ≡ m
     no_showing (Answering i) mode s (Shown blocks view) y d = absurd (d refl)
-    no_showing stage mode s (Settled new_root) y d = refl
-    no_showing stage mode s Fine y d = refl
-    no_showing stage mode s (Learns i) y d = refl
-    no_showing stage mode s Refused y d = refl
-    no_showing stage mode s (Broke choice) y d = refl
     no_showing stage mode s (Shown blocks view) y d = absurd y
+    no_showing stage mode s o y d = refl
 
     by_outcome : (o : Outcome) → Yields v.world.shared may.0 may.1 o → next_phase may.0 may.1 o ≢ Stands → Quietens v (Advances o) m
     by_outcome o y d = record { plain = tt; shared = advanced v.world.shared may.0 may.1 o; world_is = world o; notes_are = no_showing may.1 may.0 v.world.shared o y d }

@@ -84,11 +84,8 @@ module _ (here : Option ℕ) (part : BlockRange) where
   migrating_right : (m : Migration) (place : Option CBlock) (dirty : Bool) → number_of place ≡ here → SealsRight here (work (Migrating m part) place dirty)
   migrating_right (Promote c) place dirty e = copies_right None (Some c) part.extents (ending (Promote c) part.block place) (ending_right (Promote c) place e)
   migrating_right Demote (Some c) true e = copies_right (Some c) None part.extents (ending Demote part.block (Some c)) (ending_right Demote (Some c) e)
-  migrating_right Demote (Some c) false e = ending_right Demote (Some c) e
-  migrating_right Demote None dirty e = ending_right Demote None e
   migrating_right Clean (Some c) true e = copies_right (Some c) None part.extents (ending Clean part.block (Some c)) (ending_right Clean (Some c) e)
-  migrating_right Clean (Some c) false e = ending_right Clean (Some c) e
-  migrating_right Clean None dirty e = ending_right Clean None e
+  migrating_right m place dirty e = ending_right m place e
 
 work_right : (here : Option ℕ) (job : BlockJob) (place : Option CBlock) (dirty : Bool) → number_of place ≡ here → SealsRight here (work job place dirty)
 work_right here (Reading part) place dirty e = reading_right here part place dirty

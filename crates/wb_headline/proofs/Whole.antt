@@ -303,16 +303,13 @@ module _ (P A : Type 0) (shape : Shape) where
       where
         by : (j : Job) → x.task ≡ Some (j, plan) → (v : Want) → v ≡ want plan → Gives shape (record { devices = devices; commit = commit; phase = Opens mode reading; actors = actors }) x j v got read chosen → InPhase {P = P} {A = A} (Opens mode reading) j → Keeping (phase_then {P = P} {A = A} shape (Opens mode reading) v got chosen) (slice_set actors a (actor_then {P = P} {A = A} shape (Opens mode reading) devices x v got))
         by (Open opened_in) jt (End answer) e g h = opening_keeps P A shape b.goes.images devices commit mode reading actors n b.goes.known b.goes.followed b.linked.alone b.keeping a x ex opened_in plan jt b.inside.cache b.inside.origin got read answer chosen e g
-        by (Open opened_in) jt (Cell step) e g h = none_goes P A shape (Opens mode reading) devices actors a x (Cell step) got ex b.keeping
-        by (Open opened_in) jt (Device step) e g h = none_goes P A shape (Opens mode reading) devices actors a x (Device step) got ex b.keeping
-        by (Open opened_in) jt (Desk step) e g h = none_goes P A shape (Opens mode reading) devices actors a x (Desk step) got ex b.keeping
+        by (Open opened_in) jt v e g h = none_goes P A shape (Opens mode reading) devices actors a x v got ex b.keeping
         by j jt v e g h = absurd h
 
     keep_fault : (devices : Devices (List History)) (commit : Option RunningCommit) (phase : Phase P A) (actors : List Actor) (n : Notes) → Whole (record { devices = devices; commit = commit; phase = phase; actors = actors }) n → (a : ℕ) (x : Actor) (job : Job) (plan : Plan) → slice_get actors a ≡ Some x → x.task ≡ Some (job, plan) → (choice : Choice) (next : Want) (chosen : Chosen P A) → next ≡ want plan → MayFailAt devices choice next →
         Keeping (phase_then shape phase next Fault chosen) (slice_set actors a (actor_then shape phase devices x next Fault))
     keep_fault devices commit (Stands t) actors n b a x job plan ex xt choice (Device step) chosen e m = fault_keeps P A shape b.goes.images t commit devices actors n b.goes.known b.goes.followed b.used.here b.used.suited b.keeping a x ex job plan xt step chosen e
-    keep_fault devices commit Gone actors n b a x job plan ex xt choice (Device step) chosen e m = none_goes P A shape Gone devices actors a x (Device step) Fault ex b.keeping
-    keep_fault devices commit (Opens mode reading) actors n b a x job plan ex xt choice (Device step) chosen e m = none_goes P A shape (Opens mode reading) devices actors a x (Device step) Fault ex b.keeping
+    keep_fault devices commit phase actors n b a x job plan ex xt choice (Device step) chosen e m = none_goes P A shape phase devices actors a x (Device step) Fault ex b.keeping
     keep_fault devices commit phase actors n b a x job plan ex xt choice next chosen e m = absurd m
 
     abbrev Keeps : State P A → Type 0
@@ -352,21 +349,9 @@ module _ (P A : Type 0) (shape : Shape) where
 
     keep_start : (w : State P A) (phase : Phase P A) → w.phase ≡ phase → (n : Notes) → Whole w n → (a : ℕ) (x : Actor) (job : Job) (chosen : Chosen P A) → slice_get w.actors a ≡ Some x → x.task ≡ None → (¬ Rattle.wb_runs.specs.Happenings.IsOutOfPlace phase job) → StartGives shape phase (Some x) job Started chosen → Keeps (started shape w a job chosen)
     keep_start w phase e n b a x (Open mode) chosen ex xt place g = keep_opening w a x mode chosen ex
-    keep_start w (Stands t) e n b a x (Read extent) chosen ex xt place g =
+    keep_start w (Stands t) e n b a x job chosen ex xt place g =
         let is : record { devices = w.devices; commit = w.commit; phase = Stands t; actors = w.actors } ≡ w = λ i. record w { phase = sym e i } in
-        subst (λ (v : State P A). Keeps (started shape v a (Read extent) chosen)) is (keep_at_target t w.commit w.devices w.actors n (subst (λ (v : State P A). Whole v n) (sym is) b) a x (Read extent) chosen ex xt place g refl)
-    keep_start w (Stands t) e n b a x (Write extent content) chosen ex xt place g =
-        let is : record { devices = w.devices; commit = w.commit; phase = Stands t; actors = w.actors } ≡ w = λ i. record w { phase = sym e i } in
-        subst (λ (v : State P A). Keeps (started shape v a (Write extent content) chosen)) is (keep_at_target t w.commit w.devices w.actors n (subst (λ (v : State P A). Whole v n) (sym is) b) a x (Write extent content) chosen ex xt place g refl)
-    keep_start w (Stands t) e n b a x Flush chosen ex xt place g =
-        let is : record { devices = w.devices; commit = w.commit; phase = Stands t; actors = w.actors } ≡ w = λ i. record w { phase = sym e i } in
-        subst (λ (v : State P A). Keeps (started shape v a Flush chosen)) is (keep_at_target t w.commit w.devices w.actors n (subst (λ (v : State P A). Whole v n) (sym is) b) a x Flush chosen ex xt place g refl)
-    keep_start w (Stands t) e n b a x (Migrate m block) chosen ex xt place g =
-        let is : record { devices = w.devices; commit = w.commit; phase = Stands t; actors = w.actors } ≡ w = λ i. record w { phase = sym e i } in
-        subst (λ (v : State P A). Keeps (started shape v a (Migrate m block) chosen)) is (keep_at_target t w.commit w.devices w.actors n (subst (λ (v : State P A). Whole v n) (sym is) b) a x (Migrate m block) chosen ex xt place g refl)
-    keep_start w (Stands t) e n b a x (Replace old new) chosen ex xt place g =
-        let is : record { devices = w.devices; commit = w.commit; phase = Stands t; actors = w.actors } ≡ w = λ i. record w { phase = sym e i } in
-        subst (λ (v : State P A). Keeps (started shape v a (Replace old new) chosen)) is (keep_at_target t w.commit w.devices w.actors n (subst (λ (v : State P A). Whole v n) (sym is) b) a x (Replace old new) chosen ex xt place g refl)
+        subst (λ (v : State P A). Keeps (started shape v a job chosen)) is (keep_at_target t w.commit w.devices w.actors n (subst (λ (v : State P A). Whole v n) (sym is) b) a x job chosen ex xt place g refl)
     keep_start w phase e n b a x job chosen ex xt place g = absurd (place (λ z. z))
 
     keep_starts : (w : State P A) (n : Notes) → Whole w n → (a : ℕ) (job : Job) (chosen : Chosen P A) → (¬ DoesNotApply w (Start a job)) → StartGives shape w.phase (slice_get w.actors a) job Started chosen → Keeps (started shape w a job chosen)
