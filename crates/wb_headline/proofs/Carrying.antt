@@ -47,21 +47,12 @@ use Rattle.wb_simulation.proofs.Noted.{notes_followed}
 use Rattle.wb_simulation.proofs.Migrations.{migrations_followed}
 use Rattle.wb_headline.specs.Desks.{live_orders}
 use Rattle.wb_headline.proofs.Following.{size, most, Sized, Followed, Goes}
-use Rattle.wb_headline.proofs.Targets.{standing, actor_is, beside, noted_within, stays_on}
-
-failing_same : (doing : Doing) (step : DeviceStep) (got : Got) → ((failing doing step got).entered ≡ doing.entered) × ((failing doing step got).then_finished ≡ doing.then_finished)
-failing_same doing step Fault = (refl, refl)
-failing_same doing step got = (refl, refl)
+use Rattle.wb_headline.proofs.Targets.{standing, actor_is, beside, failing_same, metadata_same, noted_within, stays_on}
 
 -- a migration that is answered leaves its actor the orders that it has
 answered_still : (orders awaiting : List Order) (migration : Migration) (block : OBlock) (answer : Answer) → (orders_then orders awaiting (Migrate migration block) (End answer) Done ≡ orders) × (awaiting_then orders awaiting (Migrate migration block) (End answer) Done ≡ awaiting)
 answered_still orders awaiting migration block Finished = (refl, refl)
 answered_still orders awaiting migration block (Refuses refusal) = (refl, refl)
-
-metadata_same : (device : Dev) (devices : Devices (List History)) (list : List History) → HoldsBlocks device → (with_device device devices list).metadata ≡ devices.metadata
-metadata_same Cache devices list h = refl
-metadata_same Origin devices list h = refl
-metadata_same Metadata devices list h = absurd h
 
 module _ (P A : Type 0) (shape : Shape) (images : Images) (t : Target P) (commit : Option RunningCommit) (devices : Devices (List History)) (actors : List Actor) (n : Notes) (known : MetadataKept {P = P} {A = A} shape.geometry images (Stands t) commit devices.metadata)
     (f : Followed P A shape images (standing P A shape images t commit devices actors n) n) (a : ℕ) (x : Actor) (ex : slice_get actors a ≡ Some x) where
@@ -78,12 +69,6 @@ module _ (P A : Type 0) (shape : Shape) (images : Images) (t : Target P) (commit
       let b = beside P A shape images t commit devices actors n known f a x ex in
       notes_followed.carries turn (size P A shape) (most P A shape) a f.site.world words' committing' orders' devices' actors' g b.0 n f.notes b.1 noted_less f.notes_agree
 
-  sized_put : (d : Option Doing) (y : Actor) → Sized P A shape (slice_set actors a y) (put n a d)
-  sized_put d y = record { actors_many = length-set actors a y ∙ f.sized.actors_many; doings_many = length-set n.doings a d ∙ f.sized.doings_many; sectors = f.sized.sectors }
-
-  pub sized_plain : (y : Actor) → Sized P A shape (slice_set actors a y) n
-  sized_plain y = record { actors_many = length-set actors a y ∙ f.sized.actors_many; doings_many = f.sized.doings_many; sectors = f.sized.sectors }
-
   module _ (migration : Migration) (block : OBlock) (plan : Plan) (xt : x.task ≡ Some (Migrate migration block, plan)) (suits : Suits shape.geometry.origin_blocks plan x.card) (doing : Doing) (noted : slice_get n.doings a ≡ Some (Some doing)) (job_is : doing.job ≡ Migrate migration block) where
     abbrev job : Job
     job = Migrate migration block
@@ -96,7 +81,7 @@ module _ (P A : Type 0) (shape : Shape) (images : Images) (t : Target P) (commit
         let g = migrations_followed.cells (size P A shape) (most P A shape) shape.geometry.origin_blocks t.words t.desk.space.committing slots devices actors a x migration block plan step f.site.world rule ex xt suits (sym next) sees f.phase.agrees in
         subst (λ (y : Actor). Goes P A shape (record { devices = devices; commit = commit; phase = Stands (record { words = words_after t.words step; desk = t.desk }); actors = slice_set actors a y }) n) (sym (actor_is P A shape (Stands t) devices x job plan (Cell step) (got_of (result_of t.words step)) xt))
         (stays_on P A shape images t commit devices actors n known f a x ex Carries (words_after t.words step) devices y n g tt
-        (carried_notes Stays (words_after t.words step) t.desk.space.committing slots devices (slice_set actors a (went t.words job plan step x)) g) (sized_plain y) refl)
+        (carried_notes Stays (words_after t.words step) t.desk.space.committing slots devices (slice_set actors a (went t.words job plan step x)) g) refl refl refl)
 
     -- on a device
     module _ (step : DeviceStep) (got : Got) (contents : List Bytes) (devices' : Devices (List History)) (y : Actor) (is : actor_then {P = P} {A = A} shape (Stands t) devices x (Device step) got ≡ y)
@@ -108,7 +93,7 @@ module _ (P A : Type 0) (shape : Shape) (images : Images) (t : Target P) (commit
           let notes = notes_followed.redone (size P A shape) n (after_all f.site.world g.records) (told f.notes g.records) a doing mid (carried_notes Stays t.words t.desk.space.committing slots devices' (slice_set actors a y) g) noted e.0 e.1 in
           subst (λ (q : Job). Goes P A shape (record { devices = devices'; commit = commit; phase = Stands t; actors = slice_set actors a (actor_then {P = P} {A = A} shape (Stands t) devices x (Device step) got) }) (device_note shape (put n a (Some mid)) a mid q step got contents)) (sym job_is)
           (subst (λ (v : Actor). Goes P A shape (record { devices = devices'; commit = commit; phase = Stands t; actors = slice_set actors a v }) (put n a (Some mid))) (sym is)
-          (stays_on P A shape images t commit devices actors n known f a x ex Carries t.words devices' y (put n a (Some mid)) g tt notes (sized_put (Some mid) y) same))
+          (stays_on P A shape images t commit devices actors n known f a x ex Carries t.words devices' y (put n a (Some mid)) g tt notes (length-set n.doings a (Some mid)) refl same))
 
     pub read_done : (device : Dev) (e : Extent) (contents : List Bytes) → Device (ReadExtent device e) ≡ want plan → e.first + e.count ≤ length (device_in device devices) →
         Goes P A shape (record { devices = devices; commit = commit; phase = Stands t; actors = slice_set actors a (actor_then {P = P} {A = A} shape (Stands t) devices x (Device (ReadExtent device e)) Done) }) (noted_step shape [] n a (Some (Some doing)) (Device (ReadExtent device e)) Done contents)
@@ -145,7 +130,7 @@ module _ (P A : Type 0) (shape : Shape) (images : Images) (t : Target P) (commit
         let g = migrations_followed.is_refused (size P A shape) (most P A shape) shape.geometry.origin_blocks t.words t.desk.space.committing slots devices actors a x migration block b c plan refusal f.site.world ex xt suits (sym next) f.phase.agrees in
         subst (λ (y : Actor). Goes P A shape (record { devices = devices; commit = commit; phase = Stands t; actors = slice_set actors a y }) n) (sym (actor_is P A shape (Stands t) devices x job plan (Desk (Map b c)) (GotRefused refusal) xt))
         (stays_on P A shape images t commit devices actors n known f a x ex Carries t.words devices y n g tt
-        (carried_notes Stays t.words t.desk.space.committing slots devices (slice_set actors a (after_step job plan (GotRefused refusal) x)) g) (sized_plain y) refl)
+        (carried_notes Stays t.words t.desk.space.committing slots devices (slice_set actors a (after_step job plan (GotRefused refusal) x)) g) refl refl refl)
 
     -- it is answered
     pub answers : (answer : Answer) (shown contents : List Bytes) → End answer ≡ want plan →
@@ -161,7 +146,7 @@ module _ (P A : Type 0) (shape : Shape) (images : Images) (t : Target P) (commit
             let b = beside P A shape images t commit devices actors n known f a x ex in
             subst (λ (v' : Actor). Goes P A shape (record { devices = devices; commit = commit; phase = Stands t; actors = slice_set actors a v' }) (put n a None)) (sym (actor_is P A shape (Stands t) devices x job plan (End v) Done xt ∙ (λ i. record { task = None; card = x.card; orders = (answered_still x.orders x.awaiting migration block v).0 i; awaiting = (answered_still x.orders x.awaiting migration block v).1 i; buffer = x.buffer })))
             (stays_on P A shape images t commit devices actors n known f a x ex Rests t.words devices (record x { task = None }) (put n a None) g tt
-            (notes_followed.rests Stays (size P A shape) (most P A shape) a f.site.world t.words t.desk.space.committing slots devices (slice_set actors a (record x { task = None })) g b.0 n f.notes b.1 noted_less f.notes_agree) (sized_put None (record x { task = None })) refl)
+            (notes_followed.rests Stays (size P A shape) (most P A shape) a f.site.world t.words t.desk.space.committing slots devices (slice_set actors a (record x { task = None })) g b.0 n f.notes b.1 noted_less f.notes_agree) (length-set n.doings a None) refl refl)
 
         by_answer : (v : Answer) → End v ≡ want plan → Goes P A shape (record { devices = devices; commit = commit; phase = Stands t; actors = slice_set actors a (actor_then {P = P} {A = A} shape (Stands t) devices x (End v) Done) }) (noted_step shape shown n a (Some (Some doing)) (End v) Done contents)
         by_answer (Refuses refusal) e = rested (Refuses refusal) e

@@ -81,7 +81,7 @@ use Rattle.wb_headline.proofs.Following.{size, most, Sized, Followed, Goes}
 use Rattle.wb_headline.proofs.Rooted.{same_one}
 use Rattle.wb_headline.proofs.Seeing.{orders_set, slot_there, slot_within}
 use Rattle.wb_headline.proofs.Finding.{found_of, none_dropped}
-use Rattle.wb_headline.proofs.Targets.{standing, actor_is, beside, noted_within, leads_on, stays_on}
+use Rattle.wb_headline.proofs.Targets.{standing, actor_is, beside, failing_same, metadata_same, noted_within, leads_on, stays_on}
 
 -- ---- the commit, by itself
 
@@ -96,10 +96,6 @@ written_before image NodesSynced WriteRoot e n w = absurd (n refl)
 written_before image NodesSynced step e n w = absurd (cc)
 written_before image RootWritten step e n w = refl
 written_before image Committed step e n w = refl
-
-and_left : (a b : Bool) → (a && b) ≡ true → a ≡ true
-and_left true b e = refl
-and_left false b e = absurd (cc)
 
 -- whether the root may have been written once a step failed
 abbrev failed_written : CommitSteps → Bool
@@ -131,16 +127,8 @@ runs_there : (of : Commit) (written : Bool) (s : Shared) → (written ≡ true �
 runs_there of true s w r = (w refl, r)
 runs_there of false s w r = tt
 
-unnoted_none : (task : Option Script) → AreUnnoted task []
-unnoted_none None = tt
-unnoted_none (Some script) = tt
-
 some_is : {X : Type 0} (a b : X) → ◌≡◌ {A = Option X} (Some a) (Some b) → a ≡ b
 some_is a b e = ap (λ o. Rattle.std.proofs.Common.unwrap_or o a) e
-
-failing_entered : (doing : Doing) (step : DeviceStep) (got : Got) → ((failing doing step got).entered ≡ doing.entered) × ((failing doing step got).then_finished ≡ doing.then_finished)
-failing_entered doing step Fault = (refl, refl)
-failing_entered doing step got = (refl, refl)
 
 module _ (P A : Type 0) (shape : Shape) (images : Images) (t : Target P) (commit : Option RunningCommit) (devices : Devices (List History)) (actors : List Actor) (n : Notes) (known : MetadataKept {P = P} {A = A} shape.geometry images (Stands t) commit devices.metadata)
     (f : Followed P A shape images (standing P A shape images t commit devices actors n) n) (rule : LockRule shape.geometry.origin_blocks t.words (cards_of actors)) (a : ℕ) (x : Actor) (ex : slice_get actors a ≡ Some x) (plan : Plan) (xt : x.task ≡ Some (Flush, plan))
@@ -169,12 +157,6 @@ module _ (P A : Type 0) (shape : Shape) (images : Images) (t : Target P) (commit
   abbrev device_n : DeviceStep → Got → Notes
   device_n step got = put n a (Some (failing doing step got))
 
-  sized_device : (step : DeviceStep) (got : Got) (y : Actor) → Sized P A shape (slice_set actors a y) (device_n step got)
-  sized_device step got y = record { actors_many = length-set actors a y ∙ f.sized.actors_many; doings_many = length-set n.doings a (Some (failing doing step got)) ∙ f.sized.doings_many; sectors = f.sized.sectors }
-
-  sized_plain : (y : Actor) → Sized P A shape (slice_set actors a y) n
-  sized_plain y = record { actors_many = length-set actors a y ∙ f.sized.actors_many; doings_many = f.sized.doings_many; sectors = f.sized.sectors }
-
   noted_less : Rattle.std.proofs.Common.◌<◌ a (length n.doings)
   noted_less = noted_within P A shape images t commit devices actors n known f a x ex
 
@@ -189,29 +171,21 @@ module _ (P A : Type 0) (shape : Shape) (images : Images) (t : Target P) (commit
   module _ (turn : Turn) (step : DeviceStep) (got : Got) (contents : List Bytes) (t' : Target P) (commit' : Option RunningCommit) (devices' : Devices (List History)) (images' : Images) (plain : Rattle.wb_runs.specs.Effects.buffer_then devices x.buffer (Device step) got Flush ≡ x.buffer) (next : Device step ≡ want plan)
       (g : FollowsBy turn Quietly (size P A shape) (most P A shape) a f.site.world t'.words t'.desk.space.committing (live_orders t'.desk) devices' (slice_set actors a (after_step Flush plan got x))) where
     device_notes : NotesAgree (size P A shape) (device_n step got) (after_all f.site.world g.records) (told f.notes g.records)
-    device_notes = let e = failing_entered doing step got in notes_followed.redone (size P A shape) n (after_all f.site.world g.records) (told f.notes g.records) a doing (failing doing step got) (quiet_notes turn t'.words t'.desk.space.committing (live_orders t'.desk) devices' (after_step Flush plan got x) g) noted e.0 e.1
+    device_notes = let e = failing_same doing step got in notes_followed.redone (size P A shape) n (after_all f.site.world g.records) (told f.notes g.records) a doing (failing doing step got) (quiet_notes turn t'.words t'.desk.space.committing (live_orders t'.desk) devices' (after_step Flush plan got x) g) noted e.0 e.1
 
     on_device : AtDesk shape.geometry images' t'.desk commit' devices'.metadata → DeskAgrees t'.desk (after_all f.site.world g.records).shared → ImagesAgree shape.geometry images'.committed (later_of images') devices'.metadata (after_all f.site.world g.records).shared →
         ((state : Stored) → images'.running ≡ Some state → (after_all f.site.world g.records).shared.running ≡ locations state) → Goes P A shape (then_is t' commit' devices' (Device step) got) (noted_step shape shown n a (Some (Some doing)) (Device step) got contents)
     on_device known' desk images_agree running =
         subst (λ (q : Job). Goes P A shape (then_is t' commit' devices' (Device step) got) (device_note shape (device_n step got) a (failing doing step got) q step got contents)) (sym job_is)
         (subst (λ (y : Actor). Goes P A shape (record { devices = devices'; commit = commit'; phase = Stands t'; actors = slice_set actors a y }) (device_n step got)) (sym (actor_is P A shape (Stands t) devices x Flush plan (Device step) got xt ∙ (λ i. record (after_step Flush plan got x) { buffer = plain i })))
-        (leads_on P A shape images t commit devices actors n known f a x ex turn Quietly t' commit' devices' (slice_set actors a (after_step Flush plan got x)) (device_n step got) images' (live_orders t'.desk) g tt device_notes (sized_device step got (after_step Flush plan got x)) known' refl desk images_agree running))
+        (leads_on P A shape images t commit devices actors n known f a x ex turn Quietly t' commit' devices' (after_step Flush plan got x) (device_n step got) images' (live_orders t'.desk) g tt device_notes (length-set n.doings a (Some (failing doing step got))) refl known' refl desk images_agree running))
 
   -- cache and origin are synced, or fail to be
   module _ (device : Dev) (holds : HoldsBlocks device) (next : Device (Sync device) ≡ want plan) (contents : List Bytes) where
-    metadata_same : (list : List History) → (with_device device devices list).metadata ≡ devices.metadata
-    metadata_same list = by device holds
-      where
-        by : (d : Dev) → HoldsBlocks d → (with_device d devices list).metadata ≡ devices.metadata
-        by Cache h = refl
-        by Origin h = refl
-        by Metadata h = absurd h
-
     synced_so : (got : Got) → (list : List History) → Follows Quietly (size P A shape) (most P A shape) a f.site.world t.words t.desk.space.committing slots (with_device device devices list) (slice_set actors a (after_step Flush plan got x)) →
         Goes P A shape (then_is t commit (with_device device devices list) (Device (Sync device)) got) (noted_step shape shown n a (Some (Some doing)) (Device (Sync device)) got contents)
     synced_so got list g =
-        let known' = subst (λ (m : List History). AtDesk shape.geometry images t.desk commit m) (sym (metadata_same list)) known in
+        let known' = subst (λ (m : List History). AtDesk shape.geometry images t.desk commit m) (sym (metadata_same device devices list holds)) known in
         let s' = (after_all f.site.world g.records).shared in
         let readable = kept_readable shape.geometry images (with_device device devices list).metadata P A (Stands t) commit known' in
         on_device Stays (Sync device) got contents t commit (with_device device devices list) images refl next g known' (desk_stays P t.desk s s' f.phase.desk t.desk refl refl g.desk.0 g.desk.1)
@@ -362,7 +336,7 @@ module _ (P A : Type 0) (shape : Shape) (images : Images) (t : Target P) (commit
           let same : b.now.committed ≡ images.committed = same_one b.turn images b.now (ap (λ (i : Images). i.running) q.are) b.turned in
           let later : later_of b.now ≡ None = ap later_of l.under.are ∙ ap (λ (v : CommitSteps). if is_written v then Some l.of.new else None) steps in
           subst (λ (y : Actor). Goes P A shape (record { devices = devices; commit = Some c; phase = Stands t'; actors = slice_set actors a y }) n) (sym (actor_is P A shape (Stands t) devices x Flush plan (Desk (BeginCommit clean allowed)) (Began nodes) xt))
-          (leads_on P A shape images t commit devices actors n known f a x ex Begins Quietly t' (Some c) devices (slice_set actors a y) n b.now (live_orders t'.desk) g tt (quiet_notes Begins t.words true slots devices (after_step Flush plan (Began nodes) x) g) (sized_plain y) b.kept.0 refl (desk_begins P t.desk s s' f.phase.desk tree begun.image_is.same_entries g.desk.0 g.desk.1) (subst (λ (o : Option Stored). ImagesAgree shape.geometry b.now.committed o devices.metadata s') (sym later) (subst (λ (v : Stored). ImagesAgree shape.geometry v None devices.metadata s') (sym same) begun_there.0)) (λ state e. begun_there.1 ∙ f.phase.desk.mapping ∙ ap (λ es. Rattle.wb_simulation.specs.Opened.located es) (sym b.kept.1.2) ∙ ap locations (some_is b.kept.1.0 state (sym b.kept.1.1 ∙ e))))
+          (leads_on P A shape images t commit devices actors n known f a x ex Begins Quietly t' (Some c) devices y n b.now (live_orders t'.desk) g tt (quiet_notes Begins t.words true slots devices (after_step Flush plan (Began nodes) x) g) refl refl b.kept.0 refl (desk_begins P t.desk s s' f.phase.desk tree begun.image_is.same_entries g.desk.0 g.desk.1) (subst (λ (o : Option Stored). ImagesAgree shape.geometry b.now.committed o devices.metadata s') (sym later) (subst (λ (v : Stored). ImagesAgree shape.geometry v None devices.metadata s') (sym same) begun_there.0)) (λ state e. begun_there.1 ∙ f.phase.desk.mapping ∙ ap (λ es. Rattle.wb_simulation.specs.Opened.located es) (sym b.kept.1.2) ∙ ap locations (some_is b.kept.1.0 state (sym b.kept.1.1 ∙ e))))
 
       by_commit : (o : Option RunningCommit) → commit ≡ o → AtDesk shape.geometry images t.desk commit devices.metadata → Goes P A shape (then_is (record { words = t.words; desk = commit_begun t.desk tree }) (Some c) devices (Desk (BeginCommit clean allowed)) (Began nodes)) n
       by_commit (Some d) e k = absurd (let k' = subst (λ (m : Option RunningCommit). AtDesk shape.geometry images t.desk m devices.metadata) e k in let busy = k'.stands.busy in let bad : false ≡ true = sym idle ∙ busy in cc)
@@ -376,7 +350,7 @@ module _ (P A : Type 0) (shape : Shape) (images : Images) (t : Target P) (commit
       let g = flush_steps_followed.is_refused (size P A shape) (most P A shape) allowed clean refusal t.words t.desk.space.committing slots devices actors a x plan f.site.world (no_begin refusal r) ex xt (asks _ next) f.phase.agrees in
       let y = after_step Flush plan (GotRefused refusal) x in
       subst (λ (y : Actor). Goes P A shape (record { devices = devices; commit = commit; phase = Stands t; actors = slice_set actors a y }) n) (sym (actor_is P A shape (Stands t) devices x Flush plan (Desk (BeginCommit clean allowed)) (GotRefused refusal) xt))
-      (stays_on P A shape images t commit devices actors n known f a x ex Quietly t.words devices y n g tt (quiet_notes Stays t.words t.desk.space.committing slots devices (after_step Flush plan (GotRefused refusal) x) g) (sized_plain y) refl)
+      (stays_on P A shape images t commit devices actors n known f a x ex Quietly t.words devices y n g tt (quiet_notes Stays t.words t.desk.space.committing slots devices (after_step Flush plan (GotRefused refusal) x) g) refl refl refl)
 
   -- the commit ends
   pub ends : (c : RunningCommit) → commit ≡ Some c → Desk EndCommit ≡ want plan → is_committed c.steps ≡ true → Goes P A shape (then_is (record { words = t.words; desk = ended t.desk }) None devices (Desk EndCommit) Done) n
@@ -396,7 +370,7 @@ module _ (P A : Type 0) (shape : Shape) (images : Images) (t : Target P) (commit
       let agree = images_followed.end shape.geometry e.kept.1.0 devices.metadata s s' g.turned (f.phase.running e.kept.1.0 e.kept.1.1) read in
       subst (λ (d : DeskState P). Goes P A shape (then_is (record { words = t.words; desk = d }) None devices (Desk EndCommit) Done) n) (sym is)
       (subst (λ (y : Actor). Goes P A shape (record { devices = devices; commit = None; phase = Stands t'; actors = slice_set actors a y }) n) (sym (actor_is P A shape (Stands t) devices x Flush plan (Desk EndCommit) Done xt))
-      (leads_on P A shape images t commit devices actors n known f a x ex Ends Quietly t' None devices (slice_set actors a y) n e.now (live_orders t'.desk) g tt (quiet_notes Ends t.words false slots devices (after_step Flush plan Done x) g) (sized_plain y) known' refl (desk_ends P t.desk s s' f.phase.desk g.desk.0 g.desk.1) (subst (λ (i : Images). ImagesAgree shape.geometry i.committed (later_of i) devices.metadata s') (sym one) agree) (λ state r. absurd (let bad : None ≡ Some state = sym (ap (λ (i : Images). i.running) one) ∙ r in cc))))
+      (leads_on P A shape images t commit devices actors n known f a x ex Ends Quietly t' None devices y n e.now (live_orders t'.desk) g tt (quiet_notes Ends t.words false slots devices (after_step Flush plan Done x) g) refl refl known' refl (desk_ends P t.desk s s' f.phase.desk g.desk.0 g.desk.1) (subst (λ (i : Images). ImagesAgree shape.geometry i.committed (later_of i) devices.metadata s') (sym one) agree) (λ state r. absurd (let bad : None ≡ Some state = sym (ap (λ (i : Images). i.running) one) ∙ r in cc))))
 
   -- ---- the shared words, and the answer
 
@@ -406,7 +380,7 @@ module _ (P A : Type 0) (shape : Shape) (images : Images) (t : Target P) (commit
       let y = went t.words Flush plan step x in
       subst (λ (y : Actor). Goes P A shape (record { devices = devices; commit = commit; phase = Stands (record { words = words_after t.words step; desk = t.desk }); actors = slice_set actors a y }) n) (sym (actor_is P A shape (Stands t) devices x Flush plan (Cell step) (got_of (result_of t.words step)) xt))
       (stays_on P A shape images t commit devices actors n known f a x ex Quietly (words_after t.words step) devices y n g tt
-      (quiet_notes Stays (words_after t.words step) t.desk.space.committing slots devices (went t.words Flush plan step x) g) (sized_plain y) refl)
+      (quiet_notes Stays (words_after t.words step) t.desk.space.committing slots devices (went t.words Flush plan step x) g) refl refl refl)
 
   pub on_words : (step : CellStep) → (step ≡ Look Fail) ⊎ (step ≡ SetFailed) → Cell step ≡ want plan → Goes P A shape (then_is (record { words = words_after t.words step; desk = t.desk }) commit devices (Cell step) (got_of (result_of t.words step))) n
   on_words step (inl is) next = subst (λ (v : CellStep). Goes P A shape (then_is (record { words = words_after t.words v; desk = t.desk }) commit devices (Cell v) (got_of (result_of t.words v))) n) (sym is)
@@ -431,8 +405,7 @@ module _ (P A : Type 0) (shape : Shape) (images : Images) (t : Target P) (commit
           NotesAgree (size P A shape) n' (after_all f.site.world g.records) (told f.notes g.records) → length n'.doings ≡ length n.doings → length n'.histories ≡ length n.histories → Goes P A shape (then_is t commit devices (End v) Done) n'
       finish v y same n' g notes d h =
           subst (λ (y : Actor). Goes P A shape (record { devices = devices; commit = commit; phase = Stands t; actors = slice_set actors a y }) n') (sym (actor_is P A shape (Stands t) devices x Flush plan (End v) Done xt ∙ same))
-          (stays_on P A shape images t commit devices actors n known f a x ex (Answers (FlushingFor None) v) t.words devices y n' g tt notes
-          (record { actors_many = length-set actors a y ∙ f.sized.actors_many; doings_many = d ∙ f.sized.doings_many; sectors = h ∙ f.sized.sectors }) refl)
+          (stays_on P A shape images t commit devices actors n known f a x ex (Answers (FlushingFor None) v) t.words devices y n' g tt notes d h refl)
 
       served : (o : Order) → Contains (held_of x) o → Contains ((x.awaiting ++ x.orders) ++ []) o
       served o h = Contains-append_left (x.awaiting ++ x.orders) [] o (elim (Contains-append_cases x.orders x.awaiting o h) [ inl i ↦ Contains-append_right x.awaiting x.orders o i | inr i ↦ Contains-append_left x.awaiting x.orders o i ])
@@ -464,7 +437,7 @@ module _ (P A : Type 0) (shape : Shape) (images : Images) (t : Target P) (commit
       by_order None e d =
           let g = flush_steps_followed.releases (size P A shape) (most P A shape) block t.words t.desk.space.committing slots devices actors a x plan f.site.world ex xt (sym next) f.phase.agrees in
           subst To (sym d) (subst (λ (os : List Order). Goes P A shape (record { devices = devices; commit = commit; phase = Stands t; actors = slice_set actors a (record x { task = Some (Flush, after plan Done); awaiting = os }) }) n) (sym (none_dropped block x.awaiting e))
-          (stays_on P A shape images t commit devices actors n known f a x ex Quietly t.words devices (after_step Flush plan Done x) n g tt (quiet_notes Stays t.words t.desk.space.committing slots devices (after_step Flush plan Done x) g) (sized_plain (after_step Flush plan Done x)) refl))
+          (stays_on P A shape images t commit devices actors n known f a x ex Quietly t.words devices (after_step Flush plan Done x) n g tt (quiet_notes Stays t.words t.desk.space.committing slots devices (after_step Flush plan Done x) g) refl refl refl))
       by_order (Some order) e d =
           let y : Actor = record x { task = Some (Flush, after plan Done); awaiting = dropped block x.awaiting } in
           let mine = found_of block x.awaiting order e in
@@ -480,8 +453,8 @@ module _ (P A : Type 0) (shape : Shape) (images : Images) (t : Target P) (commit
           (λ c z ez h. owned.one c a z x order ez ex h had) f.phase.agrees in
           let s' = (after_all f.site.world g.records).shared in
           let readable = kept_readable shape.geometry images devices.metadata P A (Stands t) commit known in
-          subst To (sym is) (leads_on P A shape images t commit devices actors n known f a x ex (GivesUp l.cache.0) Releases (record { words = t.words; desk = released t.desk l.cache }) commit devices (slice_set actors a y) n images (slice_set (live_orders t.desk) l.cache.0 None) g tt
+          subst To (sym is) (leads_on P A shape images t commit devices actors n known f a x ex (GivesUp l.cache.0) Releases (record { words = t.words; desk = released t.desk l.cache }) commit devices y n images (slice_set (live_orders t.desk) l.cache.0 None) g tt
           (notes_followed.released (GivesUp l.cache.0) (size P A shape) (most P A shape) a f.site.world t.words t.desk.space.committing (slice_set (live_orders t.desk) l.cache.0 None) devices (slice_set actors a y) g b.0 n f.notes b.1 noted_less f.notes_agree)
-          (sized_plain y) (subst (λ (v : DeskState P). AtDesk shape.geometry images v commit devices.metadata) is (given_up_stands P shape.geometry images t.desk commit devices.metadata new order known d))
+          refl refl (subst (λ (v : DeskState P). AtDesk shape.geometry images v commit devices.metadata) is (given_up_stands P shape.geometry images t.desk commit devices.metadata new order known d))
           (sym (orders_set t.desk.orders.slots l.cache.0 None)) (desk_releases P t.desk s s' f.phase.desk l.cache (omega (arith, inside, many_slots, many_blocks)) g.desk.0 g.desk.1)
           (images_followed.stay shape.geometry images.committed (later_of images) devices.metadata devices.metadata s s' f.phase.images_agree g.turned readable.read) (λ state e. g.turned.1 ∙ f.phase.running state e))

@@ -34,7 +34,8 @@ use Rattle.wb_simulation.specs.Actors.{IsRequestAt}
 use Rattle.wb_simulation.specs.Noted.{AreNewest}
 use Rattle.wb_simulation.specs.Steps.{AreOfBlock}
 use Rattle.wb_simulation.specs.Worlds.{zeros, Stays}
-use Rattle.wb_simulation.proofs.Followed.{doing_of}
+use Rattle.wb_headline.proofs.Allowed.{there}
+use Rattle.wb_simulation.proofs.Followed.{begins_by, doing_of}
 use Rattle.wb_simulation.proofs.Noted.{notes_followed}
 use Rattle.wb_headline.specs.Desks.{live_orders}
 use Rattle.wb_headline.proofs.Events.{records_happen, is_right}
@@ -50,23 +51,11 @@ newest_latest sectors histories b o (c ∷ contents) room inside all =
     (subst (λ (k : ℕ). All IsLatest (readings_from histories k contents)) (let e : b * sectors + (o + 1) ≡ suc (b * sectors + o) = omega arith in e)
     (newest_latest sectors histories b (o + 1) contents (omega (arith, room)) (omega (arith, inside)) all.1))
   where
-    there : (hs : List History) (i : ℕ) → i < length hs → (h : History) × (slice_get hs i ≡ Some h)
-    there [] i l = absurd (omega (arith, l))
-    there (h ∷ hs) zero l = (h, refl)
-    there (h ∷ hs) (suc i) l = there hs i (omega (arith, l))
-
     here : IsLatest (record { sector = b * sectors + o; content = c; latest = Rattle.wb_runs.specs.Clerk.latest_of (slice_get histories (b * sectors + o)) })
     here =
         let h = there histories (b * sectors + o) (omega (arith, inside)) in
         let is : by_block sectors zeros histories b o ≡ h.0 = is_there sectors zeros histories b o h.0 (omega (arith, room)) h.1 in
         ap Rattle.wb_runs.specs.Clerk.latest_of h.1 ∙ ap (λ (g : History). Some (newest g)) (sym is) ∙ ap (λ (x : Bytes). Some x) (sym all.0)
-
-begins_by : (plan : Plan) (step : DeviceStep) → want plan ≡ Device step → (ws : List Want) × (plan.steps ≡ Device step ∷ ws)
-begins_by plan step e = by_steps plan.steps refl
-  where
-    by_steps : (steps : List Want) → plan.steps ≡ steps → (ws : List Want) × (plan.steps ≡ Device step ∷ ws)
-    by_steps [] k = absurd (let bad : End plan.answer ≡ Device step = sym (ap (λ (us : List Want). first_step us plan.answer) k) ∙ e in cc)
-    by_steps (v ∷ ws) k = (ws, k ∙ ap (λ (u : Want). u ∷ ws) (sym (ap (λ (us : List Want). first_step us plan.answer) k) ∙ e))
 
 module _ (P A : Type 0) (shape : Shape) (images : Images) (t : Target P) (commit : Option RunningCommit) (devices : Devices (List History)) (actors : List Actor) (n : Notes) (known : MetadataKept {P = P} {A = A} shape.geometry images (Stands t) commit devices.metadata)
     (f : Followed P A shape images (standing P A shape images t commit devices actors n) n) (rule : LockRule shape.geometry.origin_blocks t.words (cards_of actors)) (all_suited : AllSuited shape.geometry.origin_blocks actors) (a : ℕ) (x : Actor) (ex : slice_get actors a ≡ Some x) (plan : Plan) (suits : Suits shape.geometry.origin_blocks plan x.card)
@@ -80,7 +69,7 @@ module _ (P A : Type 0) (shape : Shape) (images : Images) (t : Target P) (commit
       let right = is_right (size P A shape) (many P A shape) f.site f.notes f.reached _ (records_happen (size P A shape) f.site g.records f.phase.phase_is g.run) in
       let newest = notes_followed.newest_read Stays (size P A shape) (most P A shape) a part.block.0 (e.first % size P A shape) contents f.site.world t.words t.desk.space.committing (live_orders t.desk) devices _ g b.0 n f.notes b.1 less f.notes_agree right in
       let r : IsRequestAt (size P A shape) [] t.words ReadingPart plan x.card b.0 = doing_of (size P A shape) (most P A shape) t.words x b.0 (Read extent) plan (f.phase.agrees.each a x b.0 ex b.1) xt in
-      let first = begins_by plan (ReadExtent device e) (sym next) in
+      let first = begins_by plan (Device (ReadExtent device e)) (sym next) (λ answer q. absurd (cc)) in
       let room = (subst (λ (ws : List Want). AreOfBlock (size P A shape) r.part.block.0 ws) first.1 r.of_block).0.room in
       let m = may_start shape extent claim.inside in
       let low : part.block.0 < shape.geometry.origin_blocks = div_below extent.first shape.geometry.block shape.geometry.origin_blocks (some_sectors shape extent m) (let i = m.inside in let s = m.some in omega (arith, i, s, mul_comm shape.geometry.block shape.geometry.origin_blocks)) in

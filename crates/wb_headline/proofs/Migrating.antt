@@ -166,9 +166,6 @@ module _ (P A : Type 0) (shape : Shape) (t : Target P) (commit : Option RunningC
     small : (c : ℕ) → c < length t.desk.orders.slots → c < 2 ^ 32
     small c l = let many = kept.slots in let limit = t.desk.geometry.within.cache_to in omega (arith, l, many, limit)
 
-    sized : (y : Actor) → Sized P A shape (slice_set actors a y) n'
-    sized y = record { actors_many = length-set actors a y ∙ g.sized.actors_many; doings_many = length-set n.doings a (Some (begun n begun_job)) ∙ g.sized.doings_many; sectors = g.sized.sectors }
-
     -- it is noted to be at its job, while nobody is told of it there
     notes_then : (turn : Turn) (orders' : List (Option Order)) (y : Actor) (h : FollowsBy turn Resumes (size P A shape) (most P A shape) a g.site.world t.words t.desk.space.committing orders' devices (slice_set actors a y)) → y.task ≡ Some (begun_job, begun_plan) →
         NotesAgree (size P A shape) n' (after_all g.site.world h.records) (told g.notes h.records)
@@ -191,8 +188,8 @@ module _ (P A : Type 0) (shape : Shape) (t : Target P) (commit : Option RunningC
         let s' = (after_all g.site.world h.records).shared in
         let turned = images_stay migration c.0 s s' h.turned in
         let readable = kept_readable shape.geometry b.goes.images devices.metadata P A (Stands t) commit b.goes.known in
-        leads_on P A shape b.goes.images t commit devices actors n b.goes.known g a x ex (given_by migration c.0) Resumes (record { words = t.words; desk = desk' }) commit devices (slice_set actors a y) n' b.goes.images (slice_set slots c.0 (Some o)) h tt
-        (notes_then (given_by migration c.0) (slice_set slots c.0 (Some o)) y h refl) (sized y) (reserved_stands P shape.geometry b.goes.images t.desk commit devices.metadata c o b.goes.known may)
+        leads_on P A shape b.goes.images t commit devices actors n b.goes.known g a x ex (given_by migration c.0) Resumes (record { words = t.words; desk = desk' }) commit devices y n' b.goes.images (slice_set slots c.0 (Some o)) h tt
+        (notes_then (given_by migration c.0) (slice_set slots c.0 (Some o)) y h refl) (length-set n.doings a (Some (begun n begun_job))) refl (reserved_stands P shape.geometry b.goes.images t.desk commit devices.metadata c o b.goes.known may)
         (sym (orders_set t.desk.orders.slots c.0 (Some (record { order = o; sectors = sectors_asked t.desk.geometry o; threshold = t.desk.threshold; number = t.desk.orders.given; waits = false })))) (desk_then s' h.desk)
         (images_followed.stay shape.geometry b.goes.images.committed (later_of b.goes.images) devices.metadata devices.metadata s s' g.phase.images_agree turned readable.read)
         (λ state e. turned.1 ∙ g.phase.running state e)
@@ -208,7 +205,7 @@ module _ (P A : Type 0) (shape : Shape) (t : Target P) (commit : Option RunningC
         let k = kept_there l.cache here in
         let h = migrations_followed.again (size P A shape) (most P A shape) t.words t.desk.space.committing slots devices actors a x migration block l.cache next o cut g.site.world ex xt holds some (small l.cache.0 (slot_within t.desk.orders.slots l.cache.0 l.live l.there)) cuts here of k.0 has
         (λ d z ez i. b.keeping.owned.one d a z x o ez ex i had) k.1 g.phase.agrees in
-        stays_on P A shape b.goes.images t commit devices actors n b.goes.known g a x ex Resumes t.words devices y n' h tt (notes_then Stays slots y h refl) (sized y) refl
+        stays_on P A shape b.goes.images t commit devices actors n b.goes.known g a x ex Resumes t.words devices y n' h tt (notes_then Stays slots y h refl) (length-set n.doings a (Some (begun n begun_job))) refl refl
 
   -- ---- any start
 

@@ -63,6 +63,7 @@ use Rattle.wb_simulation.specs.Steps.{IsOutside}
 use Rattle.wb_simulation.specs.Telling.{Carries}
 use Rattle.wb_simulation.specs.Worlds.{Agrees, Maps, Unmaps, GivesUp, FollowsBy}
 use Rattle.wb_simulation.proofs.Migrations.{migrations_followed}
+use Rattle.wb_simulation.proofs.Moving.{same_device}
 use Rattle.wb_simulation.proofs.Opening.{images_followed}
 use Rattle.wb_headline.specs.Desks.{orders_of, live_orders, DeskAgrees}
 use Rattle.wb_contents.specs.Volume.{Locations}
@@ -79,7 +80,7 @@ use Rattle.wb_headline.specs.Desks.{block_there}
 use Rattle.wb_headline.proofs.Leaving.{keeps_so, leaves_from, left, none_waits, of_order, past, stands_so}
 use Rattle.wb_headline.proofs.Owned.{at_there, live_at}
 use Rattle.wb_headline.proofs.Carried.{own, looks_seal, looks_number}
-use Rattle.wb_headline.proofs.Carrying.{cells, read_done, read_fails, write_done, write_fails, map_refused, answers, carried_notes, sized_plain}
+use Rattle.wb_headline.proofs.Carrying.{cells, read_done, read_fails, write_done, write_fails, map_refused, answers, carried_notes}
 use Rattle.wb_headline.proofs.Desking.{desk_maps, desk_releases, desk_unmaps}
 use Rattle.wb_headline.proofs.Following.{size, most, Followed, Goes}
 use Rattle.wb_headline.proofs.Owned.{for_block, only_held}
@@ -88,11 +89,6 @@ use Rattle.wb_runs.proofs.Located.{stands_alone, unmapped_there}
 use Rattle.wb_headline.proofs.Seeing.{named, orders_set, seal_tells_order, slot_within}
 use Rattle.wb_headline.proofs.Targets.{standing, actor_is, leads_on}
 use Rattle.wb_headline.proofs.Whole.{Whole, Stepped_to, Faulted_to, at_target, held_tells}
-
-same_device : (device : Dev) (devices : Devices (List History)) → HoldsBlocks device → Rattle.wb_runs.specs.States.with_device device devices (Rattle.wb_devices.specs.Moving.device_in device devices) ≡ devices
-same_device Cache devices h = refl
-same_device Origin devices h = refl
-same_device Metadata devices h = absurd h
 
 module _ (P A : Type 0) (shape : Shape) (t : Target P) (commit : Option RunningCommit) (devices : Devices (List History)) (actors : List Actor) (n : Notes) (b : Whole P A shape (at_target P A shape t commit devices actors) n) (a : ℕ) (x : Actor) (migration : Migration) (block : OBlock) (plan : Plan) (doing : Doing) (ex : slice_get actors a ≡ Some x) (xt : x.task ≡ Some (Migrate migration block, plan))
     (noted : slice_get n.doings a ≡ Some (Some doing)) (job_is : doing.job ≡ Migrate migration block) where
@@ -160,9 +156,8 @@ module _ (P A : Type 0) (shape : Shape) (t : Target P) (commit : Option RunningC
       let turned = stays g.turned in
       let readable = kept_readable shape.geometry b.goes.images devices.metadata P A (Stands t) commit b.goes.known in
       subst (λ (v : Actor). Goes P A shape (record { devices = devices; commit = commit; phase = Stands (record { words = t.words; desk = desk' }); actors = slice_set actors a v }) n) (sym is)
-      (leads_on P A shape b.goes.images t commit devices actors n b.goes.known f a x ex turn Carries (record { words = t.words; desk = desk' }) commit devices (slice_set actors a y) n b.goes.images orders' g tt
-      (carried_notes P A shape b.goes.images t commit devices actors n b.goes.known f a x ex turn t.words desk'.space.committing orders' devices (slice_set actors a y) g)
-      (sized_plain P A shape b.goes.images t commit devices actors n b.goes.known f a x ex y) known' same desk
+      (leads_on P A shape b.goes.images t commit devices actors n b.goes.known f a x ex turn Carries (record { words = t.words; desk = desk' }) commit devices y n b.goes.images orders' g tt
+      (carried_notes P A shape b.goes.images t commit devices actors n b.goes.known f a x ex turn t.words desk'.space.committing orders' devices (slice_set actors a y) g) refl refl known' same desk
       (images_followed.stay shape.geometry b.goes.images.committed (later_of b.goes.images) devices.metadata devices.metadata s s' f.phase.images_agree turned readable.read)
       (λ state e. turned.1 ∙ f.phase.running state e))
 

@@ -41,6 +41,8 @@ use Rattle.wb_runs.proofs.Underway.{sync_does, sync_fails, put_fails}
 use Rattle.wb_runs.proofs.Metadata.{MetadataKept}
 use Rattle.wb_runs.proofs.Claims.{JobClaim}
 use Rattle.wb_simulation.specs.Laws.{IsBesideOrders}
+use Rattle.wb_simulation.proofs.Moving.{same_device}
+use Rattle.wb_types.proofs.Truth.{and_true}
 use Rattle.wb_headline.specs.Desks.{live_orders}
 use Rattle.wb_runs.proofs.Owning.{Owned}
 use Rattle.wb_types.specs.declared.number.OBlock.{OBlock}
@@ -48,14 +50,6 @@ use Rattle.wb_headline.proofs.Following.{size, most, Followed, Goes}
 use Rattle.wb_headline.proofs.Targets.{standing}
 use Rattle.wb_headline.proofs.Requests.{on_words as request_words, reads, read_fails, writes, write_fails, answers as request_answers}
 use Rattle.wb_headline.proofs.Flushes.{syncs, sync_fails as data_sync_fails, node_done, sync_done, root_done, node_fails, metadata_sync_fails, root_fails, begins, begin_refused, ends, on_words as flush_words, answers as flush_answers, gives_up, serving}
-
-same_device : (device : Dev) (devices : Devices (List History)) → HoldsBlocks device → with_device device devices (device_in device devices) ≡ devices
-same_device Metadata devices h = absurd h
-same_device device devices h = refl
-
-and_left : (a b : Bool) → (a && b) ≡ true → a ≡ true
-and_left true b e = refl
-and_left false b e = absurd (cc)
 
 module _ (P A : Type 0) (shape : Shape) (images : Images) (t : Target P) (commit : Option RunningCommit) (devices : Devices (List History)) (actors : List Actor) (n : Notes) (known : MetadataKept {P = P} {A = A} shape.geometry images (Stands t) commit devices.metadata)
     (f : Followed P A shape images (standing P A shape images t commit devices actors n) n) (rule : LockRule shape.geometry.origin_blocks t.words (cards_of actors)) (all_suited : AllSuited shape.geometry.origin_blocks actors) (a : ℕ) (x : Actor) (ex : slice_get actors a ≡ Some x) (plan : Plan) (suits : Suits shape.geometry.origin_blocks plan x.card)
@@ -143,7 +137,7 @@ module _ (P A : Type 0) (shape : Shape) (images : Images) (t : Target P) (commit
 
     -- a step of the commit that runs
     put_step : (step : DeviceStep) (read : List Bytes) (chosen : Chosen P A) (o : Option RunningCommit) → commit ≡ o → DoesPut o step devices.metadata chosen → (new : List History) × (chosen ≡ Puts new) × (c : RunningCommit) × (commit ≡ Some c) × (is_coming c.image c.steps step ≡ true) × DoesStep c.image c.steps devices.metadata new
-    put_step step read (Puts new) (Some c) e d = (new, refl, c, e, and_left _ _ d.0, d.1)
+    put_step step read (Puts new) (Some c) e d = (new, refl, c, e, (and_true _ _ d.0).0, d.1)
     put_step step read chosen o e d = absurd d
 
     -- with its commit led on
@@ -154,7 +148,7 @@ module _ (P A : Type 0) (shape : Shape) (images : Images) (t : Target P) (commit
     by_sync : (read : List Bytes) (chosen : Chosen P A) (o : Option RunningCommit) → commit ≡ o → DoesSync {P = P} {A = A} (Stands t) o devices.metadata chosen → Device (Sync Metadata) ≡ want plan → Done_by Flush (Device (Sync Metadata)) Done read chosen
     by_sync read chosen (Some c) runs d e = subst (λ (ch : Chosen P A). Done_by Flush (Device (Sync Metadata)) Done read ch) (sym d.1)
         (leads (Sync Metadata) Done read (synced devices.metadata) (led commit Done) _ (ap (λ (m : Option RunningCommit). led m Done) runs)
-        (sync_done P A shape images t commit devices actors n known f rule a x ex plan xt [] doing noted job_is read c runs (synced devices.metadata) e (and_left _ _ d.0) (sync_does c.image c.steps devices.metadata d.0)))
+        (sync_done P A shape images t commit devices actors n known f rule a x ex plan xt [] doing noted job_is read c runs (synced devices.metadata) e (and_true _ _ d.0).0 (sync_does c.image c.steps devices.metadata d.0)))
     by_sync read chosen None runs d e = absurd d
 
     by_begin : (clean : Bool) (allowed : ℕ) (got : Got) (read : List Bytes) (chosen : Chosen P A) → Desk (BeginCommit clean allowed) ≡ want plan → DoesBegin allowed t.desk got chosen → Done_by Flush (Desk (BeginCommit clean allowed)) got read chosen
@@ -204,17 +198,17 @@ module _ (P A : Type 0) (shape : Shape) (images : Images) (t : Target P) (commit
 
     by_node_fault : (choice : Choice) (k : ℕ) (read : List Bytes) (chosen : Chosen P A) (o : Option RunningCommit) → commit ≡ o → FailsPut o choice (WriteNode k) devices.metadata chosen → Device (WriteNode k) ≡ want plan → Failed_by choice Flush (Device (WriteNode k)) read chosen
     by_node_fault choice k read (Puts new) (Some c) runs d e = leads (WriteNode k) Fault read new (led commit Fault) None (ap (λ (m : Option RunningCommit). led m Fault) runs)
-        (node_fails P A shape images t commit devices actors n known f rule a x ex plan xt [] doing noted job_is read c runs new k e (and_left _ _ d.0) (put_fails c.image c.steps (WriteNode k) devices.metadata new tt d.0 (failing c new choice d.1)))
+        (node_fails P A shape images t commit devices actors n known f rule a x ex plan xt [] doing noted job_is read c runs new k e (and_true _ _ d.0).0 (put_fails c.image c.steps (WriteNode k) devices.metadata new tt d.0 (failing c new choice d.1)))
     by_node_fault choice k read chosen o runs d e = absurd d
 
     by_root_fault : (choice : Choice) (read : List Bytes) (chosen : Chosen P A) (o : Option RunningCommit) → commit ≡ o → FailsPut o choice WriteRoot devices.metadata chosen → Device WriteRoot ≡ want plan → Failed_by choice Flush (Device WriteRoot) read chosen
     by_root_fault choice read (Puts new) (Some c) runs d e = leads WriteRoot Fault read new (led commit Fault) None (ap (λ (m : Option RunningCommit). led m Fault) runs)
-        (root_fails P A shape images t commit devices actors n known f rule a x ex plan xt [] doing noted job_is read c runs new e (and_left _ _ d.0) (put_fails c.image c.steps WriteRoot devices.metadata new tt d.0 (failing c new choice d.1)))
+        (root_fails P A shape images t commit devices actors n known f rule a x ex plan xt [] doing noted job_is read c runs new e (and_true _ _ d.0).0 (put_fails c.image c.steps WriteRoot devices.metadata new tt d.0 (failing c new choice d.1)))
     by_root_fault choice read chosen o runs d e = absurd d
 
     by_sync_fault : (choice : Choice) (read : List Bytes) (o : Option RunningCommit) → commit ≡ o → FailsSync {P = P} {A = A} (Stands t) o devices.metadata → Device (Sync Metadata) ≡ want plan → Failed_by choice Flush (Device (Sync Metadata)) read Plain
     by_sync_fault choice read (Some c) runs d e = leads (Sync Metadata) Fault read (synced_where (lands Metadata choice) devices.metadata) (led commit Fault) None (ap (λ (m : Option RunningCommit). led m Fault) runs)
-        (metadata_sync_fails P A shape images t commit devices actors n known f rule a x ex plan xt [] doing noted job_is read c runs (synced_where (lands Metadata choice) devices.metadata) e (and_left _ _ d.0) (sync_fails c.image c.steps (lands Metadata choice) devices.metadata d.0))
+        (metadata_sync_fails P A shape images t commit devices actors n known f rule a x ex plan xt [] doing noted job_is read c runs (synced_where (lands Metadata choice) devices.metadata) e (and_true _ _ d.0).0 (sync_fails c.image c.steps (lands Metadata choice) devices.metadata d.0))
     by_sync_fault choice read None runs d e = absurd d
 
     pub flush_faults : (choice : Choice) (next : Want) (read : List Bytes) (chosen : Chosen P A) → next ≡ want plan → MayFailAt devices choice next → Falters w choice next chosen → Failed_by choice Flush next read chosen
