@@ -3,7 +3,6 @@ use Rattle.std.proofs.Common.{◌≡◌, ◌∙◌, ◌<◌, ◌≤◌, ◌+◌,
 use Rattle.std.proofs.lemmas.List.{length-set}
 use Rattle.wb_types.specs.declared.extent.Extent.{Extent}
 use Rattle.wb_types.specs.declared.mode.Dev.{Dev}
-use Rattle.wb_types.specs.declared.mode.Dev.TheVariants.{Metadata, Cache, Origin}
 use Rattle.wb_types.specs.declared.number.OBlock.{OBlock}
 use Rattle.wb_types.specs.declared.number.CBlock.{CBlock}
 use Rattle.wb_types.specs.declared.refusal.Refusal.{Refusal}
@@ -46,7 +45,7 @@ use Rattle.wb_simulation.specs.Migrating.{SeesWhere}
 use Rattle.wb_simulation.proofs.Noted.{notes_followed}
 use Rattle.wb_simulation.proofs.Migrations.{migrations_followed}
 use Rattle.wb_headline.specs.Desks.{live_orders}
-use Rattle.wb_headline.proofs.Following.{size, most, Sized, Followed, Goes}
+use Rattle.wb_headline.proofs.Following.{size, most, Followed, Goes}
 use Rattle.wb_headline.proofs.Targets.{standing, actor_is, beside, failing_same, metadata_same, noted_within, stays_on}
 
 -- a migration that is answered leaves its actor the orders that it has

@@ -6,7 +6,7 @@ use Rattle.wb_types.specs.declared.number.OBlock.{OBlock}
 use Rattle.wb_types.specs.declared.geometry.Geometry.{Geometry}
 use Rattle.wb_types.specs.declared.number.Place.{Place}
 use Rattle.wb_types.specs.declared.mode.Dev.{Dev}
-use Rattle.wb_types.specs.declared.mode.Dev.TheVariants.{Metadata, Cache, Origin}
+use Rattle.wb_types.specs.declared.mode.Dev.TheVariants.{Metadata}
 use Rattle.wb_types.specs.declared.refusal.Refusal.{Refusal}
 use Rattle.wb_types.specs.declared.refusal.Refusal.TheVariants.{Busy, Memory, GenerationEnd}
 use Rattle.wb_disk.specs.Device.{Content as Bytes, History, synced}
@@ -36,7 +36,7 @@ use Rattle.wb_tasks.specs.Ready.{HoldsBlocks}
 use Rattle.wb_tasks.specs.declared.step.Answer.{Answer}
 use Rattle.wb_tasks.specs.declared.step.Answer.TheVariants.{Done as Finished, Refused as Refuses}
 use Rattle.wb_tasks.specs.declared.step.DeviceStep.{DeviceStep}
-use Rattle.wb_tasks.specs.declared.step.DeviceStep.TheVariants.{Read as ReadExtent, Write as WriteExtent, Sync, ReadMetadata, WriteNode, WriteRoot}
+use Rattle.wb_tasks.specs.declared.step.DeviceStep.TheVariants.{Sync, WriteNode, WriteRoot}
 use Rattle.wb_tasks.specs.declared.step.DeskStep.TheVariants.{BeginCommit, EndCommit, ReleaseOrder}
 use Rattle.wb_tasks.specs.declared.step.Want.{Want}
 use Rattle.wb_tasks.specs.declared.step.Want.TheVariants.{Cell, Device, Desk, End}
@@ -61,7 +61,7 @@ use Rattle.wb_runs.proofs.Ordering.{held_of}
 use Rattle.wb_runs.proofs.Images.{Images, later_of, one_image}
 use Rattle.wb_runs.proofs.Underway.{Underway, Readable, images_of, is_written, led_on}
 use Rattle.wb_runs.proofs.Metadata.{MetadataKept, AtDesk, Leading, Quiet, begins_over, ends_over, kept_readable}
-use Rattle.wb_link.specs.Tables.{Script, Flushing as FlushingFor}
+use Rattle.wb_link.specs.Tables.{Flushing as FlushingFor}
 use Rattle.wb_link.specs.World.{World, Shared, after_all}
 use Rattle.wb_refines.specs.Flushes.{IsNoBegin, IsWrittenAfter}
 use Rattle.wb_simulation.specs.Actors.{IsFlushAt}
@@ -69,7 +69,7 @@ use Rattle.wb_simulation.proofs.Followed.{doing_of}
 use Rattle.wb_simulation.specs.Noting.{NotesAgree}
 use Rattle.wb_simulation.specs.Noted.{told}
 use Rattle.wb_simulation.specs.Sites.{ImagesAgree, IsRunning, locations}
-use Rattle.wb_simulation.specs.Telling.{AreUnnoted, Quietly, Releases, Answers}
+use Rattle.wb_simulation.specs.Telling.{Quietly, Releases, Answers}
 use Rattle.wb_simulation.specs.Worlds.{Agrees, Turn, Stays, Begins, Puts, Ends, GivesUp, FollowsBy, Follows}
 use Rattle.wb_simulation.specs.Laws.{went, after_step}
 use Rattle.wb_simulation.proofs.Flushes.{flush_steps_followed}
@@ -77,7 +77,7 @@ use Rattle.wb_simulation.proofs.Noted.{notes_followed}
 use Rattle.wb_simulation.proofs.Opening.{images_followed}
 use Rattle.wb_headline.specs.Desks.{DeskAgrees, live_orders}
 use Rattle.wb_headline.proofs.Desking.{desk_stays, desk_begins, desk_ends, desk_releases}
-use Rattle.wb_headline.proofs.Following.{size, most, Sized, Followed, Goes}
+use Rattle.wb_headline.proofs.Following.{size, most, Followed, Goes}
 use Rattle.wb_headline.proofs.Rooted.{same_one}
 use Rattle.wb_headline.proofs.Seeing.{orders_set, slot_there, slot_within}
 use Rattle.wb_headline.proofs.Finding.{found_of, none_dropped}

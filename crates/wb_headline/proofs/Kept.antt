@@ -31,7 +31,7 @@ use Rattle.wb_tasks.specs.declared.step.Got.TheVariants.{Done, Fault, Began, Ref
 use Rattle.wb_devices.specs.declared.devices.Devices.{Devices}
 use Rattle.wb_devices.specs.declared.running.RunningCommit.{RunningCommit}
 use Rattle.wb_runs.specs.declared.job.Job.{Job}
-use Rattle.wb_runs.specs.declared.job.Job.TheVariants.{Read, Write, Flush, Open, Migrate, Replace}
+use Rattle.wb_runs.specs.declared.job.Job.TheVariants.{Read, Write, Flush, Migrate, Replace}
 use Rattle.wb_runs.specs.declared.event.What.TheVariants.{Started}
 use Rattle.wb_runs.specs.States.{Shape, State, Actor, Target, Phase, Stands, resting}
 use Rattle.wb_runs.specs.Happenings.{Chosen, Plain, Cut, Orders, Asks, Commits, Gives, DoesBegin, DoesMap, DoesUnmap, DoesRelease, StartGives, order_for}

@@ -15,7 +15,7 @@ use Rattle.wb_desk.specs.Desks.{DeskState, DeskInvariant, IsLive, Names, holding
 use Rattle.wb_desk.specs.Entries.{HasLeft, IsRemoved, Removes, is_replacement, keeps, orders_past}
 use Rattle.wb_stage.specs.Asking.{is_of, DidUnmap}
 use Rattle.wb_tasks.specs.declared.step.Migration.{Migration}
-use Rattle.wb_tasks.specs.declared.step.Migration.TheVariants.{Promote, Demote, Clean}
+use Rattle.wb_tasks.specs.declared.step.Migration.TheVariants.{Promote, Demote}
 use Rattle.wb_runs.specs.States.{Actor}
 use Rattle.wb_runs.specs.Effects.{dropped, replacing}
 use Rattle.wb_runs.proofs.Located.{stands_there}

@@ -24,7 +24,7 @@ use Rattle.wb_refines.specs.Translation.{number_of as number_there}
 use Rattle.wb_runs.proofs.Images.{Images}
 use Rattle.wb_runs.proofs.Linking.{AtPhase}
 use Rattle.wb_runs.proofs.Metadata.{MetadataKept}
-use Rattle.wb_link.specs.Openings.{Stage, Settling, Caching, Basing, Looking, Rooting, Renewing, Answering, Opens as OpensThere}
+use Rattle.wb_link.specs.Openings.{Stage, Answering, Opens as OpensThere}
 use Rattle.wb_headline.proofs.Following.{AtStage, IsOver, HasReadAt, opening_at, Followed}
 use Rattle.wb_headline.proofs.Keeping.{Keeping, NoOrders}
 use Rattle.wb_headline.proofs.Kept.{made_keeps, none_goes}

@@ -56,7 +56,7 @@ use Rattle.wb_headline.specs.Desks.{live_orders, block_there, DeskAgrees}
 use Rattle.wb_simulation.proofs.Orders.{cache_there}
 use Rattle.wb_headline.proofs.Allowed.{there}
 use Rattle.wb_headline.proofs.Desking.{desk_stays, desk_reserves}
-use Rattle.wb_headline.proofs.Following.{size, most, Sized, Followed, Goes}
+use Rattle.wb_headline.proofs.Following.{size, most, Followed, Goes}
 use Rattle.wb_headline.proofs.Migrations.{any_step, any_fault}
 use Rattle.wb_runs.proofs.Located.{stands_there, unmapped_there}
 use Rattle.wb_headline.proofs.Seeing.{live_here, named, orders_set, slot_there, slot_within, vacant_there}

@@ -15,7 +15,7 @@ use Rattle.wb_meta.specs.Representing.{Stored}
 use Rattle.wb_meta.specs.Steps.{DoesStep, FailsStep}
 use Rattle.wb_meta.specs.Reads.{sectors_read}
 use Rattle.wb_meta.specs.declared.read_steps.ReadSteps.{ReadSteps}
-use Rattle.wb_meta.specs.declared.read_steps.ReadSteps.TheVariants.{Begun, FirstSlotRead, RootFound, Done as AllRead}
+use Rattle.wb_meta.specs.declared.read_steps.ReadSteps.TheVariants.{Begun, Done as AllRead}
 use Rattle.wb_tasks.specs.Tables.{Opening}
 use Rattle.wb_tasks.specs.Plan.{Plan, after}
 use Rattle.wb_tasks.specs.declared.step.Answer.TheVariants.{Done as Finished}

@@ -5,7 +5,7 @@ use Rattle.wb_types.specs.declared.mode.Mode.{Mode}
 use Rattle.wb_link.specs.Tables.{Script}
 use Rattle.wb_link.specs.World.{World, Shared, Actor as AbstractActor, resting}
 use Rattle.wb_link.specs.Clerk.{Notes as AbstractNotes}
-use Rattle.wb_link.specs.Openings.{Site, Phase, Stands, Stage, Settling, Caching, Basing, Looking, Rooting, Renewing, Answering, Outcome, Settled, Fine, Learns, Refused, Broke, Shown, Event, On, Stopped, Begins, Advances, after_event, note_event, MayHappen, Yields, advance, advanced, next_phase, emptied}
+use Rattle.wb_link.specs.Openings.{Site, Phase, Stands, Stage, Answering, Outcome, Shown, Event, On, Stopped, Begins, Advances, after_event, note_event, MayHappen, Yields, advance, advanced, next_phase, emptied}
 use Rattle.wb_link.proofs.Lists.{replicated}
 use Rattle.wb_runs.specs.Clerk.{Notes}
 use Rattle.wb_simulation.specs.Noting.{NotesAgree, IsNotedSo}

@@ -35,7 +35,7 @@ use Rattle.wb_headline.proofs.Allowed.{there}
 use Rattle.wb_headline.proofs.Events.{gone_on, records_reach}
 use Rattle.wb_headline.proofs.Unclean.{ArePlainRecords, records_on, steps_plain}
 use Rattle.wb_headline.proofs.Desking.{desk_stays}
-use Rattle.wb_headline.proofs.Following.{many, size, most, Sized, Followed, Goes}
+use Rattle.wb_headline.proofs.Following.{many, size, most, Followed, Goes}
 use Rattle.wb_simulation.proofs.Followed.{doing_of}
 use Rattle.wb_types.specs.declared.number.OBlock.{OBlock}
 use Rattle.wb_runs.specs.declared.job.Job.TheVariants.{Replace}

@@ -3,9 +3,9 @@ use Rattle.std.proofs.Common.{◌≡◌, inl, inr, ℕ, Bool, true, false, List,
 use Rattle.wb_types.proofs.Lists.{set_cases}
 use Rattle.wb_disk.specs.Device.{Content}
 use Rattle.wb_types.specs.declared.mode.Mode.{Mode}
-use Rattle.wb_link.specs.Tables.{Job, Reading, Writing, Writing_through, Flushing, Suspending, Promoting, Returning, Invalidating, Order, Script, Seal, Want, Begin, Begin_clean, End_running, Read_at, Write_at, Sync_cache_device, Sync_origin_device, End, Got, Done, Lost, Flag, Seen, Gave, Ticket, Served, Broken, Short, Fault, read_each, write_each, copy_each, write_through_each, dirtying, copy_dirty, dropping, read_from, write_work, work, table, want, first_of_steps, later_steps, until_failed, breaking, steps_after_fault, after_fault, letting, release, after}
+use Rattle.wb_link.specs.Tables.{Job, Reading, Writing, Writing_through, Flushing, Suspending, Promoting, Returning, Invalidating, Order, Script, Seal, Want, Begin, Begin_clean, End_running, Read_at, Write_at, Sync_cache_device, Sync_origin_device, End, Got, Done, Flag, Seen, Gave, Ticket, Short, Fault, read_each, write_each, copy_each, write_through_each, dirtying, copy_dirty, dropping, read_from, write_work, work, table, want, first_of_steps, later_steps, until_failed, breaking, steps_after_fault, after_fault, letting, release, after}
 use Rattle.wb_link.specs.World.{World, Shared, Actor, Record, Start, Again, Step, Release, release_order, effect, if_landed, put_sector, task_after, actor_after, step_task, step_actor, start_actor, again_actor, reserved, after_record, after_all, job_alone, given}
-use Rattle.wb_link.specs.Openings.{Site, Phase, Stands, Gone, Opens, Stage, Settling, Caching, Basing, Rooting, Answering, Outcome, Settled, Fine, Learns, Refused, Broke, Shown, Event, On, Stopped, Begins, Advances, after_event, advance, advanced, found_clean, emptied, stopped}
+use Rattle.wb_link.specs.Openings.{Site, Phase, Opens, Stage, Settling, Caching, Basing, Rooting, Answering, Outcome, Settled, Fine, Learns, Refused, Broke, Shown, Event, On, Stopped, Begins, Advances, after_event, advance, advanced, found_clean, emptied, stopped}
 use Rattle.wb_link.proofs.Lists.{replicated}
 use Rattle.wb_refines.specs.Going.{records}
 
