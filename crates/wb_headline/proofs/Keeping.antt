@@ -27,11 +27,11 @@ use Rattle.wb_words.specs.Rule.{LockRule}
 use Rattle.wb_tree.specs.Edits.{IsChangedAt}
 use Rattle.wb_policy.specs.Law.{IsMappedAt}
 use Rattle.wb_policy.specs.declared.order.Order.{Order}
-use Rattle.wb_policy.specs.declared.order.Order.TheVariants.{Demote as DemoteOrder}
+use Rattle.wb_policy.specs.declared.order.Order.TheVariants.{Demote as DemoteOrder, Replace as ReplaceOrder}
 use Rattle.wb_orders.specs.Orders.{AreOrders}
 use Rattle.wb_desk.specs.Desks.{DeskState, IsLive, holdings}
 use Rattle.wb_desk.specs.Calls.{released}
-use Rattle.wb_desk.specs.Entries.{entry_of, mapped, MayMap}
+use Rattle.wb_desk.specs.Entries.{entry_of, mapped, MayMap, Removes, is_replacement, unmapped}
 use Rattle.wb_desk.proofs.Entering.{entrance, named_inside}
 use Rattle.wb_desk.proofs.Leaving.{mapped_within}
 use Rattle.wb_stage.specs.Asking.{DidRelease, DidUnmap, IsGivenUp, is_of, order_of as order_found}
@@ -76,14 +76,11 @@ use Rattle.wb_headline.proofs.Allowed.{there}
 use Rattle.wb_headline.proofs.Carried.{carried}
 use Rattle.wb_headline.proofs.Desking.{located_entered, located_left}
 use Rattle.wb_headline.proofs.Following.{size, most, Followed}
-use Rattle.wb_desk.specs.Entries.{Removes, is_replacement, unmapped}
-use Rattle.wb_policy.specs.declared.order.Order.TheVariants.{Replace as ReplaceOrder}
 use Rattle.wb_simulation.specs.Carried.{IsOrderFor}
 use Rattle.wb_simulation.specs.Migrating.{EndsOrder}
 use Rattle.wb_simulation.specs.Worlds.{GivesUp}
 use Rattle.wb_headline.proofs.Leaving.{leaves_from, left, of_order, owned_then, stands_so}
-use Rattle.wb_headline.proofs.Owned.{at_there, live_at}
-use Rattle.wb_headline.proofs.Owned.{AreParted, for_block, one_of_block, only_held, over}
+use Rattle.wb_headline.proofs.Owned.{at_there, live_at, AreParted, for_block, one_of_block, only_held, over}
 use Rattle.wb_headline.proofs.Finding.{found_of, only_of, replacing_is, true_not}
 use Rattle.wb_runs.proofs.Located.{stands_alone, unmapped_there}
 use Rattle.wb_headline.proofs.Targets.{standing, beside}

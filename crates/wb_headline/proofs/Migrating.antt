@@ -38,13 +38,11 @@ use Rattle.wb_runs.specs.Clerk.{Notes, put, begun}
 use Rattle.wb_runs.proofs.Desks.{reserved_stands}
 use Rattle.wb_runs.proofs.Images.{later_of}
 use Rattle.wb_runs.proofs.Metadata.{unknowing, kept_readable}
-use Rattle.wb_link.specs.World.{Shared, after_all, Mapped as MappedThere}
+use Rattle.wb_link.specs.World.{Shared, after_all, Mapped as MappedThere, Names as NamesThere}
 use Rattle.wb_contents.specs.Volume.{Locations}
-use Rattle.wb_link.specs.World.{Names as NamesThere}
 use Rattle.std.proofs.lemmas.Bool.{eq-eqb}
 use Rattle.wb_simulation.specs.Carried.{is_at, order_there, replacement_there, IsOrderFor}
-use Rattle.wb_simulation.specs.Migrating.{order_of}
-use Rattle.wb_simulation.specs.Migrating.{IsUngiven, MayBeGiven, MayBeKept, given_by, migrates}
+use Rattle.wb_simulation.specs.Migrating.{order_of, IsUngiven, MayBeGiven, MayBeKept, given_by, migrates}
 use Rattle.wb_simulation.specs.Noted.{told}
 use Rattle.wb_simulation.specs.Noting.{NotesAgree}
 use Rattle.wb_simulation.specs.Telling.{Resumes}

@@ -10,7 +10,7 @@ use Rattle.wb_types.specs.declared.number.CBlock.{CBlock}
 use Rattle.wb_disk.specs.Device.{Content as Bytes, History}
 use Rattle.wb_disk.specs.Crash.{Choice}
 use Rattle.wb_disk.specs.Failing.{lands}
-use Rattle.wb_contents.specs.Volume.{changed}
+use Rattle.wb_contents.specs.Volume.{changed, Locations}
 use Rattle.wb_words.specs.SharedWords.{word_at, place_in}
 use Rattle.wb_words.specs.declared.word.Access.TheVariants.{Owned as Own}
 use Rattle.wb_words.specs.declared.word.Word.TheVariants.{Seal as SealWord, Number}
@@ -19,13 +19,13 @@ use Rattle.wb_words.specs.declared.step.CellStep.{CellStep}
 use Rattle.wb_words.specs.declared.step.CellStep.TheVariants.{Look, Seal}
 use Rattle.wb_policy.specs.declared.order.Order.{Order}
 use Rattle.wb_policy.specs.declared.order.Order.TheVariants.{Replace as ReplaceOrder, Demote as DemoteOrder}
-use Rattle.wb_space.specs.declared.block.Block.TheVariants.{Mapped, Reserved}
+use Rattle.wb_space.specs.declared.block.Block.TheVariants.{Mapped, Reserved, Quarantined}
 use Rattle.wb_tree.specs.Mapping.{Mapping}
 use Rattle.wb_tree.specs.Edits.{IsChangedAt}
-use Rattle.wb_orders.specs.Orders.{AreOrders}
+use Rattle.wb_orders.specs.Orders.{AreOrders, Orders, without_order}
 use Rattle.wb_desk.specs.Desks.{DeskState, DeskInvariant, holdings}
 use Rattle.wb_desk.specs.Calls.{released}
-use Rattle.wb_desk.specs.Entries.{MayMap, mapped, unmapped, entry_of}
+use Rattle.wb_desk.specs.Entries.{MayMap, mapped, unmapped, entry_of, Removes, is_replacement}
 use Rattle.wb_desk.proofs.Entering.{entrance}
 use Rattle.wb_desk.proofs.Leaving.{mapped_state}
 use Rattle.wb_stage.specs.Asking.{DidRelease, DidUnmap, IsGivenUp, is_of, order_of as order_found}
@@ -57,33 +57,24 @@ use Rattle.wb_runs.proofs.Desks.{mapped_stands, unmapped_stands, released_for}
 use Rattle.wb_runs.proofs.Images.{later_of}
 use Rattle.wb_runs.proofs.InsideRuns.{PlanInside, want_inside}
 use Rattle.wb_runs.proofs.Metadata.{AtDesk, unknowing, kept_readable}
-use Rattle.wb_link.specs.World.{after_all}
-use Rattle.wb_simulation.specs.Migrating.{SeesWhere}
+use Rattle.wb_link.specs.World.{after_all, Shared, removed}
+use Rattle.wb_simulation.specs.Migrating.{SeesWhere, EndsOrder}
 use Rattle.wb_simulation.specs.Steps.{IsOutside}
 use Rattle.wb_simulation.specs.Telling.{Carries}
-use Rattle.wb_simulation.specs.Worlds.{Agrees, Maps, Unmaps, GivesUp, FollowsBy}
+use Rattle.wb_simulation.specs.Worlds.{Agrees, Maps, Unmaps, GivesUp, FollowsBy, Turn, Stays, TurnedTo}
 use Rattle.wb_simulation.proofs.Migrations.{migrations_followed}
 use Rattle.wb_simulation.proofs.Moving.{same_device}
 use Rattle.wb_simulation.proofs.Opening.{images_followed}
-use Rattle.wb_headline.specs.Desks.{orders_of, live_orders, DeskAgrees}
-use Rattle.wb_contents.specs.Volume.{Locations}
+use Rattle.wb_headline.specs.Desks.{orders_of, live_orders, DeskAgrees, block_there}
 use Rattle.wb_policy.specs.Law.{IsMappedAt}
-use Rattle.wb_link.specs.World.{Shared, removed}
-use Rattle.wb_orders.specs.Orders.{Orders, without_order}
-use Rattle.wb_desk.specs.Entries.{Removes, is_replacement}
-use Rattle.wb_space.specs.declared.block.Block.TheVariants.{Quarantined}
 use Rattle.wb_runs.proofs.Owning.{Owned}
 use Rattle.wb_simulation.specs.Carried.{IsOrderFor}
-use Rattle.wb_simulation.specs.Migrating.{EndsOrder}
-use Rattle.wb_simulation.specs.Worlds.{Turn, Stays, TurnedTo}
-use Rattle.wb_headline.specs.Desks.{block_there}
 use Rattle.wb_headline.proofs.Leaving.{keeps_so, leaves_from, left, none_waits, of_order, past, stands_so}
-use Rattle.wb_headline.proofs.Owned.{at_there, live_at}
+use Rattle.wb_headline.proofs.Owned.{at_there, live_at, for_block, only_held}
 use Rattle.wb_headline.proofs.Carried.{own, looks_seal, looks_number}
 use Rattle.wb_headline.proofs.Carrying.{cells, read_done, read_fails, write_done, write_fails, map_refused, answers, carried_notes}
 use Rattle.wb_headline.proofs.Desking.{desk_maps, desk_releases, desk_unmaps}
 use Rattle.wb_headline.proofs.Following.{size, most, Followed, Goes}
-use Rattle.wb_headline.proofs.Owned.{for_block, only_held}
 use Rattle.wb_headline.proofs.Finding.{only_of}
 use Rattle.wb_runs.proofs.Located.{stands_alone, unmapped_there}
 use Rattle.wb_headline.proofs.Seeing.{named, orders_set, seal_tells_order, slot_within}
