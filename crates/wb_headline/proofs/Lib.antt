@@ -15,12 +15,11 @@ mod Opens
 mod Targets
 mod Requests
 mod Flushes
-mod Asked
+mod Doings
 mod Starts
 mod Stands
 mod Whole
 mod Begin
-mod Latest
 mod Given
 mod Promise
 mod Carrying

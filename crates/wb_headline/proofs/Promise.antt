@@ -40,7 +40,7 @@ use Rattle.wb_headline.proofs.Following.{opening_at, AtStage, IsOver}
 use Rattle.wb_headline.proofs.Opened.{shows}
 use Rattle.wb_headline.proofs.Given.{given_latest}
 use Rattle.wb_headline.proofs.Showing.{crash_consistent}
-use Rattle.wb_headline.proofs.Latest.{AllLatest, IsFault, what_latest}
+use Rattle.wb_headline.proofs.Doings.{AllLatest, IsFault, what_latest}
 use Rattle.wb_headline.proofs.Keeping.{Keeping}
 use Rattle.wb_headline.proofs.Whole.{Whole, MigrationsGo, whole_after, whole_always}
 use Rattle.wb_headline.proofs.Begin.{whole_start}

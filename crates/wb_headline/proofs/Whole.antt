@@ -47,7 +47,7 @@ use Rattle.wb_runs.proofs.Linking.{Linked, TaskHere, InPhase}
 use Rattle.wb_runs.proofs.LinkedRuns.{Base, links_what}
 use Rattle.wb_runs.proofs.InsideRuns.{Inside, inside_what, want_inside}
 use Rattle.wb_simulation.specs.Laws.{IsBesideOrders}
-use Rattle.wb_headline.proofs.Asked.{AllAsked, what_asked}
+use Rattle.wb_headline.proofs.Doings.{AllAsked, what_asked}
 use Rattle.wb_headline.proofs.Following.{Goes}
 use Rattle.wb_headline.specs.Desks.{live_orders}
 use Rattle.wb_headline.proofs.Placed.{AllPlaced, TaskPlaced, WritePlaced, holds_it, placed_what, written_there}
