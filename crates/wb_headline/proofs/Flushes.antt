@@ -80,7 +80,7 @@ use Rattle.wb_headline.proofs.Desking.{desk_stays, desk_begins, desk_ends, desk_
 use Rattle.wb_headline.proofs.Following.{size, most, Followed, Goes}
 use Rattle.wb_headline.proofs.Rooted.{same_one}
 use Rattle.wb_headline.proofs.Seeing.{orders_set, slot_there, slot_within}
-use Rattle.wb_headline.proofs.Finding.{found_of, none_dropped}
+use Rattle.wb_headline.proofs.Orders.{found_of, none_dropped}
 use Rattle.wb_headline.proofs.Targets.{standing, actor_is, beside, failing_same, metadata_same, noted_within, leads_on, stays_on}
 
 -- ---- the commit, by itself

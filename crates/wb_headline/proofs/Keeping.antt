@@ -79,9 +79,7 @@ use Rattle.wb_headline.proofs.Following.{size, most, Followed}
 use Rattle.wb_simulation.specs.Carried.{IsOrderFor}
 use Rattle.wb_simulation.specs.Migrating.{EndsOrder}
 use Rattle.wb_simulation.specs.Worlds.{GivesUp}
-use Rattle.wb_headline.proofs.Leaving.{leaves_from, left, of_order, owned_then, stands_so}
-use Rattle.wb_headline.proofs.Owned.{at_there, live_at, AreParted, for_block, one_of_block, only_held, over}
-use Rattle.wb_headline.proofs.Finding.{found_of, only_of, replacing_is, true_not}
+use Rattle.wb_headline.proofs.Orders.{leaves_from, left, of_order, owned_then, stands_so, at_there, live_at, AreParted, for_block, one_of_block, only_held, over, found_of, only_of, replacing_is, true_not}
 use Rattle.wb_runs.proofs.Located.{stands_alone, unmapped_there}
 use Rattle.wb_headline.proofs.Targets.{standing, beside}
 use Rattle.wb_headline.proofs.Telling.{IsSealed, SealsRight, RightWhere, lets_go_right, on_words, owned_alone}

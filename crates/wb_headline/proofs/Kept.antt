@@ -45,7 +45,7 @@ use Rattle.wb_runs.proofs.Metadata.{MetadataKept}
 use Rattle.wb_runs.proofs.Lists.{first_or}
 use Rattle.wb_runs.proofs.Ordering.{held_of}
 use Rattle.wb_runs.proofs.Owning.{Owned, owned_given, owned_none, owned_same}
-use Rattle.wb_headline.proofs.Owned.{AreParted}
+use Rattle.wb_headline.proofs.Orders.{AreParted}
 use Rattle.wb_headline.proofs.Following.{Followed}
 use Rattle.wb_headline.proofs.Keeping.{KeepingAt, Keeping, HasNone, NoOrders, TaskRight, plainly, own, cell_keeps, device_keeps, answer_keeps, desk_plain, map_keeps, map_refused_keeps, unmap_keeps, release_keeps, flush_release_keeps, ready}
 use Rattle.wb_headline.proofs.Targets.{standing}

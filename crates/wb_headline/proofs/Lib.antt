@@ -20,14 +20,9 @@ mod Starts
 mod Stands
 mod Whole
 mod Begin
-mod Given
 mod Promise
-mod Carrying
-mod Owned
 mod Migrations
 mod Migrating
-mod Finding
-mod Leaving
 mod Seeing
 mod Carried
 mod Placed
@@ -35,3 +30,4 @@ mod Telling
 mod Keeping
 mod Kept
 mod Made
+mod Orders

@@ -38,7 +38,7 @@ use Rattle.wb_link.specs.Openings.{Stage, Settling, Caching, Basing, Looking, Ro
 use Rattle.wb_runs.specs.Sealed.{SealsTell}
 use Rattle.wb_headline.proofs.Following.{opening_at, AtStage, IsOver}
 use Rattle.wb_headline.proofs.Opened.{shows}
-use Rattle.wb_headline.proofs.Given.{given_latest}
+use Rattle.wb_headline.proofs.Requests.{given_latest}
 use Rattle.wb_headline.proofs.Showing.{crash_consistent}
 use Rattle.wb_headline.proofs.Doings.{AllLatest, IsFault, what_latest}
 use Rattle.wb_headline.proofs.Keeping.{Keeping}
