@@ -72,7 +72,7 @@ use Rattle.wb_simulation.specs.Steps.{AreOfBlock}
 use Rattle.wb_simulation.proofs.Followed.{begins_by, doing_of}
 use Rattle.wb_simulation.proofs.Migrations.{migrations_followed}
 use Rattle.wb_headline.specs.Desks.{live_orders}
-use Rattle.wb_headline.proofs.Allowed.{there}
+use Rattle.wb_headline.proofs.Showing.{there}
 use Rattle.wb_headline.proofs.Carried.{carried}
 use Rattle.wb_headline.proofs.Desking.{located_entered, located_left}
 use Rattle.wb_headline.proofs.Following.{size, most, Followed}

@@ -1,5 +1,4 @@
 mod Events
-mod Allowed
 mod Unclean
 mod Following
 mod Quiet
@@ -11,7 +10,6 @@ mod Answering
 mod Desking
 mod Showing
 mod Opened
-mod Opens
 mod Targets
 mod Requests
 mod Flushes
@@ -29,5 +27,4 @@ mod Placed
 mod Telling
 mod Keeping
 mod Kept
-mod Made
 mod Orders

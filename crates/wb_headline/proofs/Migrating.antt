@@ -52,7 +52,7 @@ use Rattle.wb_simulation.proofs.Noted.{notes_followed}
 use Rattle.wb_simulation.proofs.Opening.{images_followed}
 use Rattle.wb_headline.specs.Desks.{live_orders, block_there, DeskAgrees}
 use Rattle.wb_simulation.proofs.Orders.{cache_there}
-use Rattle.wb_headline.proofs.Allowed.{there}
+use Rattle.wb_headline.proofs.Showing.{there}
 use Rattle.wb_headline.proofs.Desking.{desk_stays, desk_reserves}
 use Rattle.wb_headline.proofs.Following.{size, most, Followed, Goes}
 use Rattle.wb_headline.proofs.Migrations.{any_step, any_fault}

@@ -60,7 +60,7 @@ use Rattle.wb_runs.specs.Headline.{IsLatest}
 use Rattle.wb_headline.specs.Desks.{live_orders}
 use Rattle.wb_headline.proofs.Following.{size, most, Followed, Goes, many}
 use Rattle.wb_headline.proofs.Targets.{standing, actor_is, beside, metadata_same, noted_within, stays_on}
-use Rattle.wb_headline.proofs.Allowed.{there}
+use Rattle.wb_headline.proofs.Showing.{there}
 use Rattle.wb_headline.proofs.Events.{records_happen, is_right}
 
 module _ (P A : Type 0) (shape : Shape) (images : Images) (t : Target P) (commit : Option RunningCommit) (devices : Devices (List History)) (actors : List Actor) (n : Notes) (known : MetadataKept {P = P} {A = A} shape.geometry images (Stands t) commit devices.metadata)
