@@ -241,6 +241,15 @@ set_placed size actors a y here all b z e = elim (set_cases actors a b y z e) [
 pub rest_placed : (size : ℕ) (actors : List Actor) → AllPlaced size (all_resting actors)
 rest_placed size actors a x e = subst (λ (t : Option (Job × Plan)). TaskPlaced size x.card t) (sym (rests actors a x e).0) tt
 
+-- whoever takes a step is there, and at something
+pub with_task : (o : Option Actor) (Has : Actor → Job × Plan → Type 0) (Then : Option Actor → Type 0) → OfSome o (λ x. OfSome x.task (λ task. Has x task)) → ((x : Actor) (task : Job × Plan) → o ≡ Some x → x.task ≡ Some task → Has x task → Then (Some x)) → Then o
+with_task None Has Then h on = absurd h
+with_task (Some x) Has Then h on = by x.task refl h
+  where
+    by : (t : Option (Job × Plan)) → x.task ≡ t → OfSome t (λ task. Has x task) → Then (Some x)
+    by None xt h = absurd h
+    by (Some task) xt h = on x task refl xt h
+
 module _ (P A : Type 0) (shape : Shape) where
   some : 0 < block_size shape
   some = omega (arith, shape.geometry.within.block_from)
@@ -310,21 +319,13 @@ module _ (P A : Type 0) (shape : Shape) where
 
     steps : (a : ℕ) (next : Want) (got : Got) (read : List Bytes) (chosen : Chosen P A) (o : Option Actor) → slice_get w.actors a ≡ o → OfSome o (λ x. OfSome x.task (λ doing. (next ≡ want doing.1) × Gives shape w x doing.0 next got read chosen)) →
         Placed (with_actor w o (λ x. stepped shape w a x next got chosen (λ step. device_done (job_of x.task) x.buffer step chosen)))
-    steps a next got read chosen None e h = absurd h
-    steps a next got read chosen (Some x) e h = by_task x.task refl h
-      where
-        by_task : (t : Option (Job × Plan)) → x.task ≡ t → OfSome t (λ doing. (next ≡ want doing.1) × Gives shape w x doing.0 next got read chosen) → Placed (stepped shape w a x next got chosen (λ step. device_done (job_of x.task) x.buffer step chosen))
-        by_task None xt h = absurd h
-        by_task (Some task) xt h = goes a x task next got chosen (λ step. device_done (job_of x.task) x.buffer step chosen) xt (job_on w a x e all task.1 (suited a x task e xt) task.0 xt next got read chosen h.0 h.1)
+    steps a next got read chosen o e h = with_task o (λ x doing. (next ≡ want doing.1) × Gives shape w x doing.0 next got read chosen) (λ o. Placed (with_actor w o (λ x. stepped shape w a x next got chosen (λ step. device_done (job_of x.task) x.buffer step chosen)))) h
+        (λ x task is xt h. goes a x task next got chosen (λ step. device_done (job_of x.task) x.buffer step chosen) xt (job_on w a x (e ∙ is) all task.1 (suited a x task (e ∙ is) xt) task.0 xt next got read chosen h.0 h.1))
 
     faults : (a : ℕ) (choice : Choice) (next : Want) (chosen : Chosen P A) (o : Option Actor) → slice_get w.actors a ≡ o → OfSome o (λ x. OfSome x.task (λ doing. (next ≡ want doing.1) × MayFailAt w.devices choice next × Falters w choice next chosen)) →
         Placed (with_actor w o (λ x. stepped shape w a x next Fault chosen (λ step. device_failed (lands (device_of step) choice) (job_of x.task) x.buffer step chosen)))
-    faults a choice next chosen None e h = absurd h
-    faults a choice next chosen (Some x) e h = by_task x.task refl h
-      where
-        by_task : (t : Option (Job × Plan)) → x.task ≡ t → OfSome t (λ doing. (next ≡ want doing.1) × MayFailAt w.devices choice next × Falters w choice next chosen) → Placed (stepped shape w a x next Fault chosen (λ step. device_failed (lands (device_of step) choice) (job_of x.task) x.buffer step chosen))
-        by_task None xt h = absurd h
-        by_task (Some task) xt h = goes a x task next Fault chosen (λ step. device_failed (lands (device_of step) choice) (job_of x.task) x.buffer step chosen) xt (job_fault w a x e all task.1 (suited a x task e xt) task.0 xt choice next h.0 h.1)
+    faults a choice next chosen o e h = with_task o (λ x doing. (next ≡ want doing.1) × MayFailAt w.devices choice next × Falters w choice next chosen) (λ o. Placed (with_actor w o (λ x. stepped shape w a x next Fault chosen (λ step. device_failed (lands (device_of step) choice) (job_of x.task) x.buffer step chosen)))) h
+        (λ x task is xt h. goes a x task next Fault chosen (λ step. device_failed (lands (device_of step) choice) (job_of x.task) x.buffer step chosen) xt (job_fault w a x (e ∙ is) all task.1 (suited a x task (e ∙ is) xt) task.0 xt choice next h.0 h.1))
 
     -- who starts has its table
     table_placed : (job : Job) (x : Actor) (chosen : Chosen P A) → TaskPlaced (block_size shape) x.card (Some (begun_as job, table (task_job shape x.awaiting job (cut_of chosen))))

@@ -42,7 +42,8 @@ use Rattle.wb_headline.proofs.Requests.{given_latest}
 use Rattle.wb_headline.proofs.Showing.{crash_consistent}
 use Rattle.wb_headline.proofs.Doings.{AllLatest, IsFault, what_latest}
 use Rattle.wb_headline.proofs.Keeping.{Keeping}
-use Rattle.wb_headline.proofs.Whole.{Whole, MigrationsGo, whole_after, whole_always}
+use Rattle.wb_headline.proofs.Placed.{with_task}
+use Rattle.wb_headline.proofs.Whole.{Whole, MigrationsGo, whole_after, whole_always, noted_for}
 use Rattle.wb_headline.proofs.Begin.{whole_start}
 
 module _ (P A : Type 0) (shape : Shape) where
@@ -86,19 +87,12 @@ module _ (P A : Type 0) (shape : Shape) where
       by_at (inr over) = absurd (over.refused (let same : End Finished ≡ End plan.answer = next ∙ ap (λ (ws : List Want). first_step ws plan.answer) over.nothing in let is : Finished ≡ plan.answer = cc in sym is))
 
   module _ (w : State P A) (n : Notes) (b : Whole P A shape w n) (a : ℕ) where
-    noted_for : (x : Actor) (job : Job) (plan : Plan) → slice_get w.actors a ≡ Some x → x.task ≡ Some (job, plan) → Noted shape job plan (slice_get n.doings a)
-    noted_for x job plan e xt = noted_of shape job plan (slice_get n.doings a) (subst (λ (t : Option (Job × Plan)). TaskClaim shape t (slice_get n.doings a)) xt (b.linked.claims a x e))
-
     read_rightly : (device : Dev) (ext : Extent) (read : List Bytes) (chosen : Chosen P A) (o : Option Actor) → slice_get w.actors a ≡ o → OfSome o (λ x. OfSome x.task (λ doing. (Device (ReadExtent device ext) ≡ want doing.1) × Gives shape w x doing.0 (Device (ReadExtent device ext)) Done read chosen)) → IsGiven shape n (slice_get n.doings a) ext read
-    read_rightly device ext read chosen None e h = absurd h
-    read_rightly device ext read chosen (Some x) e h = by_task x.task refl h
-      where
-        by_task : (t : Option (Job × Plan)) → x.task ≡ t → OfSome t (λ doing. (Device (ReadExtent device ext) ≡ want doing.1) × Gives shape w x doing.0 (Device (ReadExtent device ext)) Done read chosen) → IsGiven shape n (slice_get n.doings a) ext read
-        by_task None xt h = absurd h
-        by_task (Some task) xt h =
-            let d = noted_for x task.0 task.1 e xt in
+    read_rightly device ext read chosen o e h = with_task o (λ x doing. (Device (ReadExtent device ext) ≡ want doing.1) × Gives shape w x doing.0 (Device (ReadExtent device ext)) Done read chosen) (λ o. IsGiven shape n (slice_get n.doings a) ext read) h
+        (λ x task is xt h.
+            let d = noted_for P A shape w n b a x task.0 task.1 (e ∙ is) xt in
             subst (λ (v : Option (Option Doing)). IsGiven shape n v ext read) (sym d.is) (subst (λ (j : Job). GivesLatest shape n j ext read) (sym d.job_is)
-            (read_by_phase w.devices w.commit w.phase w.actors n b a x task.0 task.1 e xt d device ext read chosen h.0 h.1))
+            (read_by_phase w.devices w.commit w.phase w.actors n b a x task.0 task.1 (e ∙ is) xt d device ext read chosen h.0 h.1)))
 
     -- ---- what an opening shows
 
@@ -111,7 +105,7 @@ module _ (P A : Type 0) (shape : Shape) where
             ShowsRightly n (shown shape (stepped shape w a x (End Finished) got chosen (λ step. device_done (job_of x.task) x.buffer step chosen))) (slice_get n.doings a)
         by_task None xt h = absurd h
         by_task (Some task) xt h =
-            let d = noted_for x task.0 task.1 e xt in
+            let d = noted_for P A shape w n b a x task.0 task.1 e xt in
             subst (λ (v : Option (Option Doing)). ShowsRightly n (shown_in shape w.devices (phase_then shape w.phase (End Finished) got chosen)) v) (sym d.is) (subst (λ (j : Job). ShownBy n (shown_in shape w.devices (phase_then shape w.phase (End Finished) got chosen)) j) (sym d.job_is)
             (by_job task.0 task.1 xt h.0 h.1))
           where

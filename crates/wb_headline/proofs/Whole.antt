@@ -50,7 +50,7 @@ use Rattle.wb_simulation.specs.Laws.{IsBesideOrders}
 use Rattle.wb_headline.proofs.Doings.{AllAsked, what_asked}
 use Rattle.wb_headline.proofs.Following.{Goes}
 use Rattle.wb_headline.specs.Desks.{live_orders}
-use Rattle.wb_headline.proofs.Placed.{AllPlaced, TaskPlaced, WritePlaced, holds_it, placed_what, written_there}
+use Rattle.wb_headline.proofs.Placed.{with_task, AllPlaced, TaskPlaced, WritePlaced, holds_it, placed_what, written_there}
 use Rattle.wb_headline.proofs.Seeing.{beside_orders, named}
 use Rattle.wb_runs.proofs.Ruling.{card_at}
 use Rattle.wb_headline.proofs.Keeping.{Keeping, sealing_owns}
@@ -78,6 +78,10 @@ module _ (P A : Type 0) (shape : Shape) where
 
   pub base_of : (w : State P A) (n : Notes) → Whole w n → Base P A shape w n
   base_of w n b = record { known = known_of w n b; used = b.used; linked = b.linked }
+
+  -- what is noted of an actor's task
+  pub noted_for : (w : State P A) (n : Notes) → Whole w n → (a : ℕ) (x : Actor) (job : Job) (plan : Plan) → slice_get w.actors a ≡ Some x → x.task ≡ Some (job, plan) → Noted shape job plan (slice_get n.doings a)
+  noted_for w n b a x job plan e xt = noted_of shape job plan (slice_get n.doings a) (subst (λ (t : Option (Job × Plan)). TaskClaim shape t (slice_get n.doings a)) xt (b.linked.claims a x e))
 
   -- ---- one step of one actor
 
@@ -211,36 +215,25 @@ module _ (P A : Type 0) (shape : Shape) where
         by_job job xt d h = absurd h
 
     module _ (w : State P A) (n : Notes) (b : Whole w n) (a : ℕ) where
-      noted_for : (x : Actor) (job : Job) (plan : Plan) → slice_get w.actors a ≡ Some x → x.task ≡ Some (job, plan) → Noted shape job plan (slice_get n.doings a)
-      noted_for x job plan e xt = noted_of shape job plan (slice_get n.doings a) (subst (λ (t : Option (Job × Plan)). TaskClaim shape t (slice_get n.doings a)) xt (b.linked.claims a x e))
-
       step_goes : (next : Want) (got : Got) (read : List Bytes) (chosen : Chosen P A) (o : Option Actor) → slice_get w.actors a ≡ o → OfSome o (λ x. OfSome x.task (λ doing. (next ≡ want doing.1) × Gives shape w x doing.0 next got read chosen)) →
           Goes P A shape (with_actor w o (λ x. stepped shape w a x next got chosen (λ step. device_done (job_of x.task) x.buffer step chosen)))
           (noted_step shape (shown shape (with_actor w o (λ x. stepped shape w a x next got chosen (λ step. device_done (job_of x.task) x.buffer step chosen)))) n a (slice_get n.doings a) next got read)
-      step_goes next got read chosen None e h = absurd h
-      step_goes next got read chosen (Some x) e h = by_task x.task refl h
-        where
-          by_task : (t : Option (Job × Plan)) → x.task ≡ t → OfSome t (λ doing. (next ≡ want doing.1) × Gives shape w x doing.0 next got read chosen) →
-              Goes P A shape (stepped shape w a x next got chosen (λ step. device_done (job_of x.task) x.buffer step chosen)) (noted_step shape (shown shape (stepped shape w a x next got chosen (λ step. device_done (job_of x.task) x.buffer step chosen))) n a (slice_get n.doings a) next got read)
-          by_task None xt h = absurd h
-          by_task (Some task) xt h =
-              let d = noted_for x task.0 task.1 e xt in
+      step_goes next got read chosen o e h = with_task o (λ x doing. (next ≡ want doing.1) × Gives shape w x doing.0 next got read chosen)
+          (λ o. Goes P A shape (with_actor w o (λ x. stepped shape w a x next got chosen (λ step. device_done (job_of x.task) x.buffer step chosen))) (noted_step shape (shown shape (with_actor w o (λ x. stepped shape w a x next got chosen (λ step. device_done (job_of x.task) x.buffer step chosen)))) n a (slice_get n.doings a) next got read)) h
+          (λ x task is xt h.
+              let d = noted_for w n b a x task.0 task.1 (e ∙ is) xt in
               subst (λ (v : Option (Option Doing)). Goes P A shape (stepped shape w a x next got chosen (λ step. device_done (job_of x.task) x.buffer step chosen)) (noted_step shape (shown shape (stepped shape w a x next got chosen (λ step. device_done (job_of x.task) x.buffer step chosen))) n a v next got read)) (sym d.is)
-              (subst (λ (j : Job). Stepped_to w n a x j next got read chosen d.doing) (sym (ap job_of xt)) (by_phase w.devices w.commit w.phase w.actors n b a x task.0 task.1 e xt d next got read chosen h.0 h.1))
+              (subst (λ (j : Job). Stepped_to w n a x j next got read chosen d.doing) (sym (ap job_of xt)) (by_phase w.devices w.commit w.phase w.actors n b a x task.0 task.1 (e ∙ is) xt d next got read chosen h.0 h.1)))
 
       fault_goes : (choice : Choice) (next : Want) (read : List Bytes) (chosen : Chosen P A) (o : Option Actor) → slice_get w.actors a ≡ o → OfSome o (λ x. OfSome x.task (λ doing. (next ≡ want doing.1) × MayFailAt w.devices choice next × Falters w choice next chosen)) →
           Goes P A shape (with_actor w o (λ x. stepped shape w a x next Fault chosen (λ step. device_failed (lands (device_of step) choice) (job_of x.task) x.buffer step chosen)))
           (noted_step shape (shown shape (with_actor w o (λ x. stepped shape w a x next Fault chosen (λ step. device_failed (lands (device_of step) choice) (job_of x.task) x.buffer step chosen)))) n a (slice_get n.doings a) next Fault read)
-      fault_goes choice next read chosen None e h = absurd h
-      fault_goes choice next read chosen (Some x) e h = by_task x.task refl h
-        where
-          by_task : (t : Option (Job × Plan)) → x.task ≡ t → OfSome t (λ doing. (next ≡ want doing.1) × MayFailAt w.devices choice next × Falters w choice next chosen) →
-              Goes P A shape (stepped shape w a x next Fault chosen (λ step. device_failed (lands (device_of step) choice) (job_of x.task) x.buffer step chosen)) (noted_step shape (shown shape (stepped shape w a x next Fault chosen (λ step. device_failed (lands (device_of step) choice) (job_of x.task) x.buffer step chosen))) n a (slice_get n.doings a) next Fault read)
-          by_task None xt h = absurd h
-          by_task (Some task) xt h =
-              let d = noted_for x task.0 task.1 e xt in
+      fault_goes choice next read chosen o e h = with_task o (λ x doing. (next ≡ want doing.1) × MayFailAt w.devices choice next × Falters w choice next chosen)
+          (λ o. Goes P A shape (with_actor w o (λ x. stepped shape w a x next Fault chosen (λ step. device_failed (lands (device_of step) choice) (job_of x.task) x.buffer step chosen))) (noted_step shape (shown shape (with_actor w o (λ x. stepped shape w a x next Fault chosen (λ step. device_failed (lands (device_of step) choice) (job_of x.task) x.buffer step chosen)))) n a (slice_get n.doings a) next Fault read)) h
+          (λ x task is xt h.
+              let d = noted_for w n b a x task.0 task.1 (e ∙ is) xt in
               subst (λ (v : Option (Option Doing)). Goes P A shape (stepped shape w a x next Fault chosen (λ step. device_failed (lands (device_of step) choice) (job_of x.task) x.buffer step chosen)) (noted_step shape (shown shape (stepped shape w a x next Fault chosen (λ step. device_failed (lands (device_of step) choice) (job_of x.task) x.buffer step chosen))) n a v next Fault read)) (sym d.is)
-              (subst (λ (j : Job). Faulted_to w n a x choice j next read chosen d.doing) (sym (ap job_of xt)) (fault_by_phase w.devices w.commit w.phase w.actors n b a x task.0 task.1 e xt d choice next read chosen h.0 h.1 h.2))
+              (subst (λ (j : Job). Faulted_to w n a x choice j next read chosen d.doing) (sym (ap job_of xt)) (fault_by_phase w.devices w.commit w.phase w.actors n b a x task.0 task.1 (e ∙ is) xt d choice next read chosen h.0 h.1 h.2)))
 
     -- ---- starts
 
@@ -316,21 +309,13 @@ module _ (P A : Type 0) (shape : Shape) where
 
     keep_steps : (w : State P A) (n : Notes) → Whole w n → (a : ℕ) (next : Want) (got : Got) (read : List Bytes) (chosen : Chosen P A) (o : Option Actor) → slice_get w.actors a ≡ o → OfSome o (λ x. OfSome x.task (λ doing. (next ≡ want doing.1) × Gives shape w x doing.0 next got read chosen)) →
         Keeps (with_actor w o (λ x. stepped shape w a x next got chosen (λ step. device_done (job_of x.task) x.buffer step chosen)))
-    keep_steps w n b a next got read chosen None e h = absurd h
-    keep_steps w n b a next got read chosen (Some x) e h = by x.task refl h
-      where
-        by : (t : Option (Job × Plan)) → x.task ≡ t → OfSome t (λ doing. (next ≡ want doing.1) × Gives shape w x doing.0 next got read chosen) → Keeping (phase_then shape w.phase next got chosen) (slice_set w.actors a (actor_then shape w.phase w.devices x next got))
-        by None xt h = absurd h
-        by (Some task) xt h = keep_by_phase w.devices w.commit w.phase w.actors n b a x task.0 task.1 e xt next got read chosen h.0 h.1
+    keep_steps w n b a next got read chosen o e h = with_task o (λ x doing. (next ≡ want doing.1) × Gives shape w x doing.0 next got read chosen) (λ o. Keeps (with_actor w o (λ x. stepped shape w a x next got chosen (λ step. device_done (job_of x.task) x.buffer step chosen)))) h
+        (λ x task is xt h. keep_by_phase w.devices w.commit w.phase w.actors n b a x task.0 task.1 (e ∙ is) xt next got read chosen h.0 h.1)
 
     keep_faults : (w : State P A) (n : Notes) → Whole w n → (a : ℕ) (choice : Choice) (next : Want) (chosen : Chosen P A) (o : Option Actor) → slice_get w.actors a ≡ o → OfSome o (λ x. OfSome x.task (λ doing. (next ≡ want doing.1) × MayFailAt w.devices choice next × Falters w choice next chosen)) →
         Keeps (with_actor w o (λ x. stepped shape w a x next Fault chosen (λ step. device_failed (lands (device_of step) choice) (job_of x.task) x.buffer step chosen)))
-    keep_faults w n b a choice next chosen None e h = absurd h
-    keep_faults w n b a choice next chosen (Some x) e h = by x.task refl h
-      where
-        by : (t : Option (Job × Plan)) → x.task ≡ t → OfSome t (λ doing. (next ≡ want doing.1) × MayFailAt w.devices choice next × Falters w choice next chosen) → Keeping (phase_then shape w.phase next Fault chosen) (slice_set w.actors a (actor_then shape w.phase w.devices x next Fault))
-        by None xt h = absurd h
-        by (Some task) xt h = keep_fault w.devices w.commit w.phase w.actors n b a x task.0 task.1 e xt choice next chosen h.0 h.1
+    keep_faults w n b a choice next chosen o e h = with_task o (λ x doing. (next ≡ want doing.1) × MayFailAt w.devices choice next × Falters w choice next chosen) (λ o. Keeps (with_actor w o (λ x. stepped shape w a x next Fault chosen (λ step. device_failed (lands (device_of step) choice) (job_of x.task) x.buffer step chosen)))) h
+        (λ x task is xt h. keep_fault w.devices w.commit w.phase w.actors n b a x task.0 task.1 (e ∙ is) xt choice next chosen h.0 h.1)
 
     keep_opening : (w : State P A) (a : ℕ) (x : Actor) (mode : Mode) (chosen : Chosen P A) → slice_get w.actors a ≡ Some x → Keeps (started shape w a (Open mode) chosen)
     keep_opening w a x mode chosen ex =
