@@ -241,34 +241,27 @@ module _ (P A : Type 0) (shape : Shape) where
     abbrev Begun_to : State P A → Notes → ℕ → Job → Chosen P A → Type 0
     Begun_to w n a job chosen = Goes P A shape (started shape w a job chosen) (put (starting n job) a (Some (begun n (begun_as job))))
 
+    -- whoever is there is given it
+    put_there : (w : State P A) (n' : Notes) (a : ℕ) (x : Actor) (job : Job) (chosen : Chosen P A) → slice_get w.actors a ≡ Some x → Goes P A shape (record w { phase = phase_given w.phase job chosen; actors = slice_set w.actors a (given shape x job chosen) }) n' →
+        Goes P A shape (with_actor w (slice_get w.actors a) (λ y. record w { phase = phase_given w.phase job chosen; actors = slice_set w.actors a (given shape y job chosen) })) n'
+    put_there w n' a x job chosen ex g = subst (λ (o : Option Actor). Goes P A shape (with_actor w o (λ y. record w { phase = phase_given w.phase job chosen; actors = slice_set w.actors a (given shape y job chosen) })) n') (sym ex) g
+
     start_opening : (w : State P A) (n : Notes) → Whole w n → (a : ℕ) (x : Actor) (mode : Mode) (chosen : Chosen P A) → slice_get w.actors a ≡ Some x → (¬ Rattle.wb_runs.specs.Happenings.IsOutOfPlace w.phase (Open mode)) → Begun_to w n a (Open mode) chosen
-    start_opening w n b a x mode chosen ex place =
-        let c = cleared w (Open mode) in
-        subst (λ (o : Option Actor). Goes P A shape (with_actor c o (λ y. record c { phase = phase_given c.phase (Open mode) chosen; actors = slice_set c.actors a (given shape y (Open mode) chosen) })) (put (starting n (Open mode)) a (Some (begun n (Open mode))))) (sym (there_rests w.actors a x ex))
+    start_opening w n b a x mode chosen ex place = put_there (cleared w (Open mode)) (put (starting n (Open mode)) a (Some (begun n (Open mode)))) a Rattle.wb_runs.specs.States.resting (Open mode) chosen (there_rests w.actors a x ex)
         (opening_starts P A shape b.goes.images w n b.goes.known b.goes.followed a mode x (given shape Rattle.wb_runs.specs.States.resting (Open mode) chosen) (λ o. place (inl o)) (λ o. place (inr o)) refl)
 
     start_at_target : (t : Target P) (commit : Option RunningCommit) (devices : Devices (List History)) (actors : List Actor) (n : Notes) → Whole (at_target t commit devices actors) n → (a : ℕ) (x : Actor) (job : Job) (chosen : Chosen P A) → slice_get actors a ≡ Some x → x.task ≡ None → (¬ Rattle.wb_runs.specs.Happenings.IsOutOfPlace {P = P} {A = A} (Stands t) job) →
         StartGives shape (Stands t) (Some x) job Started chosen → Begun_to (at_target t commit devices actors) n a job chosen
     start_at_target t commit devices actors n b a x (Open mode) chosen ex xt place g = start_opening (at_target t commit devices actors) n b a x mode chosen ex place
-    start_at_target t commit devices actors n b a x (Read extent) (Cut cut) ex xt place g =
-        let w = at_target t commit devices actors in
-        subst (λ (o : Option Actor). Goes P A shape (with_actor w o (λ y. record w { phase = phase_given w.phase (Read extent) (Cut cut); actors = slice_set w.actors a (given {P = P} {A = A} shape y (Read extent) (Cut cut)) })) (put n a (Some (begun n (Read extent))))) (sym ex)
+    start_at_target t commit devices actors n b a x (Read extent) (Cut cut) ex xt place g = put_there (at_target t commit devices actors) (put n a (Some (begun n (Read extent)))) a x (Read extent) (Cut cut) ex
         (read_starts P A shape b.goes.images t commit devices actors n b.goes.known b.goes.followed a x ex xt extent cut (subst (λ (o : Option (Job × Plan)). TaskSuits shape.geometry.origin_blocks x.card o) xt (b.used.suited a x ex)) g.0 g.1)
-    start_at_target t commit devices actors n b a x (Write extent content) (Cut cut) ex xt place g =
-        let w = at_target t commit devices actors in
-        subst (λ (o : Option Actor). Goes P A shape (with_actor w o (λ y. record w { phase = phase_given w.phase (Write extent content) (Cut cut); actors = slice_set w.actors a (given {P = P} {A = A} shape y (Write extent content) (Cut cut)) })) (put n a (Some (begun n (Write extent content))))) (sym ex)
+    start_at_target t commit devices actors n b a x (Write extent content) (Cut cut) ex xt place g = put_there (at_target t commit devices actors) (put n a (Some (begun n (Write extent content)))) a x (Write extent content) (Cut cut) ex
         (write_starts P A shape b.goes.images t commit devices actors n b.goes.known b.goes.followed a x ex xt extent content cut (subst (λ (o : Option (Job × Plan)). TaskSuits shape.geometry.origin_blocks x.card o) xt (b.used.suited a x ex)) g.0 g.1)
-    start_at_target t commit devices actors n b a x Flush chosen ex xt place g =
-        let w = at_target t commit devices actors in
-        subst (λ (o : Option Actor). Goes P A shape (with_actor w o (λ y. record w { phase = phase_given w.phase Flush chosen; actors = slice_set w.actors a (given {P = P} {A = A} shape y Flush chosen) })) (put n a (Some (begun n Flush)))) (sym ex)
+    start_at_target t commit devices actors n b a x Flush chosen ex xt place g = put_there (at_target t commit devices actors) (put n a (Some (begun n Flush))) a x Flush chosen ex
         (flush_starts P A shape b.goes.images t commit devices actors n b.goes.known b.goes.followed a x ex xt [])
-    start_at_target t commit devices actors n b a x (Migrate migration block) chosen ex xt place g =
-        let w = at_target t commit devices actors in
-        subst (λ (o : Option Actor). Goes P A shape (with_actor w o (λ y. record w { phase = phase_given w.phase (Migrate migration block) chosen; actors = slice_set w.actors a (given {P = P} {A = A} shape y (Migrate migration block) chosen) })) (put n a (Some (begun n (Migrate migration block))))) (sym ex)
+    start_at_target t commit devices actors n b a x (Migrate migration block) chosen ex xt place g = put_there (at_target t commit devices actors) (put n a (Some (begun n (Migrate migration block)))) a x (Migrate migration block) chosen ex
         (migrations.starts t commit devices actors n b a x migration block chosen ex xt g)
-    start_at_target t commit devices actors n b a x (Replace old new) chosen ex xt place g =
-        let w = at_target t commit devices actors in
-        subst (λ (o : Option Actor). Goes P A shape (with_actor w o (λ y. record w { phase = phase_given w.phase (Replace old new) chosen; actors = slice_set w.actors a (given {P = P} {A = A} shape y (Replace old new) chosen) })) (put n a (Some (begun n (begun_as (Replace old new)))))) (sym ex)
+    start_at_target t commit devices actors n b a x (Replace old new) chosen ex xt place g = put_there (at_target t commit devices actors) (put n a (Some (begun n (begun_as (Replace old new))))) a x (Replace old new) chosen ex
         (migrations.replaces t commit devices actors n b a x old new chosen ex xt g)
     start_at_target t commit devices actors n b a x job chosen ex xt place g = absurd g
 
