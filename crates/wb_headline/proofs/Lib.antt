@@ -1,9 +1,7 @@
 mod Events
 mod Unclean
 mod Following
-mod Quiet
 mod Arriving
-mod Crashing
 mod Rooted
 mod Opening
 mod Answering

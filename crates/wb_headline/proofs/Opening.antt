@@ -44,8 +44,7 @@ use Rattle.wb_simulation.specs.Opened.{located}
 use Rattle.wb_simulation.specs.Sites.{ImagesAgree, DevicesAgree, LeadsTo, locations}
 use Rattle.wb_simulation.proofs.Opening.{openings_followed}
 use Rattle.wb_headline.proofs.Following.{opening_at, HasLearnt, HasRoot, HasReadAt, AtStage, IsOver, size, Followed, Goes}
-use Rattle.wb_headline.proofs.Arriving.{SameSectors, sized_so, Arrived, arrives, rests, opens}
-use Rattle.wb_headline.proofs.Crashing.{one_fit}
+use Rattle.wb_headline.proofs.Arriving.{SameSectors, sized_so, Arrived, arrives, rests, opens, one_fit}
 use Rattle.wb_headline.proofs.Rooted.{same_one, rooted_on, leads_so, two_read, two_left, both_left, nowhere}
 
 -- of a step of an opening on a device nothing of the sectors is noted

@@ -58,7 +58,7 @@ use Rattle.wb_headline.proofs.Kept.{fault_keeps, none_goes, none_rest, none_set,
 use Rattle.wb_headline.proofs.Opened.{opening_keeps, opening_steps, opening_faults}
 use Rattle.wb_headline.proofs.Targets.{never_replaces}
 use Rattle.wb_headline.proofs.Telling.{owned_alone}
-use Rattle.wb_headline.proofs.Crashing.{crash_goes}
+use Rattle.wb_headline.proofs.Arriving.{crash_goes}
 use Rattle.wb_headline.proofs.Starts.{read_starts, write_starts, flush_starts, opening_starts}
 use Rattle.wb_headline.proofs.Stands.{read_steps, read_faults, write_steps, write_faults, flush_steps, flush_faults}
 
