@@ -31,7 +31,7 @@ use Rattle.wb_runs.specs.Clerk.{Notes, Doing, formatted}
 use Rattle.wb_runs.specs.Headline.{shown, shown_in, note_happening, noted, ShowsAllowed, ShownBy, ShowsRightly, OpensRightly, AllOpenRightly, IsRightAnswer, DoingRightly, AnswersRightly, AllRight, IsCovered, DoingCovers, AnswerCovers, AllCover, RefusedBy, RefusedRightly, RefusesByCause, AllRefuseByCause, CrashConsistent, Headline}
 use Rattle.wb_runs.specs.Latest.{IsGiven, GivesLatest, ReadsRightly, AllReadRightly}
 use Rattle.wb_runs.specs.Holding.{TaskSuits}
-use Rattle.wb_runs.proofs.Claims.{Noted, TaskClaim, noted_of}
+use Rattle.wb_runs.proofs.Claims.{Noted}
 use Rattle.wb_runs.proofs.Linking.{TaskHere, InPhase}
 use Rattle.wb_runs.proofs.LinkedRuns.{run_refuses, run_covers, all_skip}
 use Rattle.wb_link.specs.Openings.{Stage, Settling, Caching, Basing, Looking, Rooting, Renewing, Answering}
@@ -90,9 +90,9 @@ module _ (P A : Type 0) (shape : Shape) where
     read_rightly : (device : Dev) (ext : Extent) (read : List Bytes) (chosen : Chosen P A) (o : Option Actor) → slice_get w.actors a ≡ o → OfSome o (λ x. OfSome x.task (λ doing. (Device (ReadExtent device ext) ≡ want doing.1) × Gives shape w x doing.0 (Device (ReadExtent device ext)) Done read chosen)) → IsGiven shape n (slice_get n.doings a) ext read
     read_rightly device ext read chosen o e h = with_task o (λ x doing. (Device (ReadExtent device ext) ≡ want doing.1) × Gives shape w x doing.0 (Device (ReadExtent device ext)) Done read chosen) (λ o. IsGiven shape n (slice_get n.doings a) ext read) h
         (λ x task is xt h.
-            let d = noted_for P A shape w n b a x task.0 task.1 (e ∙ is) xt in
-            subst (λ (v : Option (Option Doing)). IsGiven shape n v ext read) (sym d.is) (subst (λ (j : Job). GivesLatest shape n j ext read) (sym d.job_is)
-            (read_by_phase w.devices w.commit w.phase w.actors n b a x task.0 task.1 (e ∙ is) xt d device ext read chosen h.0 h.1)))
+        let d = noted_for P A shape w n b a x task.0 task.1 (e ∙ is) xt in
+        subst (λ (v : Option (Option Doing)). IsGiven shape n v ext read) (sym d.is) (subst (λ (j : Job). GivesLatest shape n j ext read) (sym d.job_is)
+        (read_by_phase w.devices w.commit w.phase w.actors n b a x task.0 task.1 (e ∙ is) xt d device ext read chosen h.0 h.1)))
 
     -- ---- what an opening shows
 

@@ -221,9 +221,9 @@ module _ (P A : Type 0) (shape : Shape) where
       step_goes next got read chosen o e h = with_task o (λ x doing. (next ≡ want doing.1) × Gives shape w x doing.0 next got read chosen)
           (λ o. Goes P A shape (with_actor w o (λ x. stepped shape w a x next got chosen (λ step. device_done (job_of x.task) x.buffer step chosen))) (noted_step shape (shown shape (with_actor w o (λ x. stepped shape w a x next got chosen (λ step. device_done (job_of x.task) x.buffer step chosen)))) n a (slice_get n.doings a) next got read)) h
           (λ x task is xt h.
-              let d = noted_for w n b a x task.0 task.1 (e ∙ is) xt in
-              subst (λ (v : Option (Option Doing)). Goes P A shape (stepped shape w a x next got chosen (λ step. device_done (job_of x.task) x.buffer step chosen)) (noted_step shape (shown shape (stepped shape w a x next got chosen (λ step. device_done (job_of x.task) x.buffer step chosen))) n a v next got read)) (sym d.is)
-              (subst (λ (j : Job). Stepped_to w n a x j next got read chosen d.doing) (sym (ap job_of xt)) (by_phase w.devices w.commit w.phase w.actors n b a x task.0 task.1 (e ∙ is) xt d next got read chosen h.0 h.1)))
+          let d = noted_for w n b a x task.0 task.1 (e ∙ is) xt in
+          subst (λ (v : Option (Option Doing)). Goes P A shape (stepped shape w a x next got chosen (λ step. device_done (job_of x.task) x.buffer step chosen)) (noted_step shape (shown shape (stepped shape w a x next got chosen (λ step. device_done (job_of x.task) x.buffer step chosen))) n a v next got read)) (sym d.is)
+          (subst (λ (j : Job). Stepped_to w n a x j next got read chosen d.doing) (sym (ap job_of xt)) (by_phase w.devices w.commit w.phase w.actors n b a x task.0 task.1 (e ∙ is) xt d next got read chosen h.0 h.1)))
 
       fault_goes : (choice : Choice) (next : Want) (read : List Bytes) (chosen : Chosen P A) (o : Option Actor) → slice_get w.actors a ≡ o → OfSome o (λ x. OfSome x.task (λ doing. (next ≡ want doing.1) × MayFailAt w.devices choice next × Falters w choice next chosen)) →
           Goes P A shape (with_actor w o (λ x. stepped shape w a x next Fault chosen (λ step. device_failed (lands (device_of step) choice) (job_of x.task) x.buffer step chosen)))
@@ -231,9 +231,9 @@ module _ (P A : Type 0) (shape : Shape) where
       fault_goes choice next read chosen o e h = with_task o (λ x doing. (next ≡ want doing.1) × MayFailAt w.devices choice next × Falters w choice next chosen)
           (λ o. Goes P A shape (with_actor w o (λ x. stepped shape w a x next Fault chosen (λ step. device_failed (lands (device_of step) choice) (job_of x.task) x.buffer step chosen))) (noted_step shape (shown shape (with_actor w o (λ x. stepped shape w a x next Fault chosen (λ step. device_failed (lands (device_of step) choice) (job_of x.task) x.buffer step chosen)))) n a (slice_get n.doings a) next Fault read)) h
           (λ x task is xt h.
-              let d = noted_for w n b a x task.0 task.1 (e ∙ is) xt in
-              subst (λ (v : Option (Option Doing)). Goes P A shape (stepped shape w a x next Fault chosen (λ step. device_failed (lands (device_of step) choice) (job_of x.task) x.buffer step chosen)) (noted_step shape (shown shape (stepped shape w a x next Fault chosen (λ step. device_failed (lands (device_of step) choice) (job_of x.task) x.buffer step chosen))) n a v next Fault read)) (sym d.is)
-              (subst (λ (j : Job). Faulted_to w n a x choice j next read chosen d.doing) (sym (ap job_of xt)) (fault_by_phase w.devices w.commit w.phase w.actors n b a x task.0 task.1 (e ∙ is) xt d choice next read chosen h.0 h.1 h.2)))
+          let d = noted_for w n b a x task.0 task.1 (e ∙ is) xt in
+          subst (λ (v : Option (Option Doing)). Goes P A shape (stepped shape w a x next Fault chosen (λ step. device_failed (lands (device_of step) choice) (job_of x.task) x.buffer step chosen)) (noted_step shape (shown shape (stepped shape w a x next Fault chosen (λ step. device_failed (lands (device_of step) choice) (job_of x.task) x.buffer step chosen))) n a v next Fault read)) (sym d.is)
+          (subst (λ (j : Job). Faulted_to w n a x choice j next read chosen d.doing) (sym (ap job_of xt)) (fault_by_phase w.devices w.commit w.phase w.actors n b a x task.0 task.1 (e ∙ is) xt d choice next read chosen h.0 h.1 h.2)))
 
     -- ---- starts
 
