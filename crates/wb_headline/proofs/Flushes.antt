@@ -143,9 +143,6 @@ module _ (P A : Type 0) (shape : Shape) (images : Images) (t : Target P) (commit
       let r : IsFlushAt (size P A shape) (most P A shape) t.words plan b.0 = doing_of (size P A shape) (most P A shape) t.words x b.0 Flush plan (f.phase.agrees.each a x b.0 ex b.1) xt in
       (r.serves, r.job)
 
-  asks : (next : Want) → next ≡ want plan → want plan ≡ next
-  asks next e = sym e
-
   abbrev s : Shared
   s = f.site.world.shared
 
@@ -192,10 +189,10 @@ module _ (P A : Type 0) (shape : Shape) (images : Images) (t : Target P) (commit
         (images_followed.stay shape.geometry images.committed (later_of images) devices.metadata (with_device device devices list).metadata s s' f.phase.images_agree g.turned readable.read) (λ state e. g.turned.1 ∙ f.phase.running state e)
 
     pub syncs : Goes P A shape (then_is t commit (with_device device devices (synced (device_in device devices))) (Device (Sync device)) Done) (noted_step shape shown n a (Some (Some doing)) (Device (Sync device)) Done contents)
-    syncs = synced_so Done (synced (device_in device devices)) (flush_steps_followed.syncs (size P A shape) (most P A shape) device t.words t.desk.space.committing slots devices actors a x plan f.site.world holds ex xt (asks _ next) f.phase.agrees)
+    syncs = synced_so Done (synced (device_in device devices)) (flush_steps_followed.syncs (size P A shape) (most P A shape) device t.words t.desk.space.committing slots devices actors a x plan f.site.world holds ex xt (sym next) f.phase.agrees)
 
     pub sync_fails : (lands : ℕ → Bool) → Goes P A shape (then_is t commit (with_device device devices (synced_where lands (device_in device devices))) (Device (Sync device)) Fault) (noted_step shape shown n a (Some (Some doing)) (Device (Sync device)) Fault contents)
-    sync_fails lands = synced_so Fault (synced_where lands (device_in device devices)) (flush_steps_followed.sync_fails (size P A shape) (most P A shape) device lands t.words t.desk.space.committing slots devices actors a x plan f.site.world holds ex xt (asks _ next) f.phase.agrees)
+    sync_fails lands = synced_so Fault (synced_where lands (device_in device devices)) (flush_steps_followed.sync_fails (size P A shape) (most P A shape) device lands t.words t.desk.space.committing slots devices actors a x plan f.site.world holds ex xt (sym next) f.phase.agrees)
 
   -- ---- steps of the commit on the metadata
 
@@ -270,39 +267,39 @@ module _ (P A : Type 0) (shape : Shape) (images : Images) (t : Target P) (commit
     pub node_done : (number : ℕ) → Device (WriteNode number) ≡ want plan → is_coming c.image c.steps (WriteNode number) ≡ true → DoesStep c.image c.steps devices.metadata new →
         Goes P A shape (then_is t (Some next_commit) put_devices (Device (WriteNode number)) Done) (noted_step shape shown n a (Some (Some doing)) (Device (WriteNode number)) Done contents)
     node_done number next coming does =
-        let g = flush_steps_followed.on_metadata (size P A shape) (most P A shape) (WriteNode number) new t.words t.desk.space.committing slots devices actors a x plan f.site.world refl ex xt (asks _ next) f.phase.agrees in
+        let g = flush_steps_followed.on_metadata (size P A shape) (most P A shape) (WriteNode number) new t.words t.desk.space.committing slots devices actors a x plan f.site.world refl ex xt (sym next) f.phase.agrees in
         done_on (WriteNode number) refl next contents c runs coming new Stays refl g g.desk.0 g.desk.1 g.turned.0 g.turned.1
         (λ w. g.turned.2 ∙ written_now (WriteNode number) refl next contents c runs coming new (written_before c.image c.steps (WriteNode number) coming (λ e. absurd (cc)) w)) does
 
     pub sync_done : Device (Sync Metadata) ≡ want plan → is_coming c.image c.steps (Sync Metadata) ≡ true → DoesStep c.image c.steps devices.metadata new →
         Goes P A shape (then_is t (Some next_commit) put_devices (Device (Sync Metadata)) Done) (noted_step shape shown n a (Some (Some doing)) (Device (Sync Metadata)) Done contents)
     sync_done next coming does =
-        let g = flush_steps_followed.on_metadata (size P A shape) (most P A shape) (Sync Metadata) new t.words t.desk.space.committing slots devices actors a x plan f.site.world refl ex xt (asks _ next) f.phase.agrees in
+        let g = flush_steps_followed.on_metadata (size P A shape) (most P A shape) (Sync Metadata) new t.words t.desk.space.committing slots devices actors a x plan f.site.world refl ex xt (sym next) f.phase.agrees in
         done_on (Sync Metadata) refl next contents c runs coming new Stays refl g g.desk.0 g.desk.1 g.turned.0 g.turned.1
         (λ w. g.turned.2 ∙ written_now (Sync Metadata) refl next contents c runs coming new (written_before c.image c.steps (Sync Metadata) coming (λ e. absurd (cc)) w)) does
 
     pub root_done : Device WriteRoot ≡ want plan → is_coming c.image c.steps WriteRoot ≡ true → DoesStep c.image c.steps devices.metadata new →
         Goes P A shape (then_is t (Some next_commit) put_devices (Device WriteRoot) Done) (noted_step shape shown n a (Some (Some doing)) (Device WriteRoot) Done contents)
     root_done next coming does =
-        let g = flush_steps_followed.on_metadata (size P A shape) (most P A shape) WriteRoot new t.words t.desk.space.committing slots devices actors a x plan f.site.world refl ex xt (asks _ next) f.phase.agrees in
+        let g = flush_steps_followed.on_metadata (size P A shape) (most P A shape) WriteRoot new t.words t.desk.space.committing slots devices actors a x plan f.site.world refl ex xt (sym next) f.phase.agrees in
         done_on WriteRoot refl next contents c runs coming new (Puts true) refl g g.desk.0 g.desk.1 g.turned.0 g.turned.1 (λ w. g.turned.2) does
 
     pub node_fails : (number : ℕ) → Device (WriteNode number) ≡ want plan → is_coming c.image c.steps (WriteNode number) ≡ true → FailsStep c.image c.steps devices.metadata new →
         Goes P A shape (then_is t None put_devices (Device (WriteNode number)) Fault) (noted_step shape shown n a (Some (Some doing)) (Device (WriteNode number)) Fault contents)
     node_fails number next coming bad =
-        let g = flush_steps_followed.metadata_fails (size P A shape) (most P A shape) (WriteNode number) new t.words t.desk.space.committing slots devices actors a x plan f.site.world refl ex xt (asks _ next) f.phase.agrees in
+        let g = flush_steps_followed.metadata_fails (size P A shape) (most P A shape) (WriteNode number) new t.words t.desk.space.committing slots devices actors a x plan f.site.world refl ex xt (sym next) f.phase.agrees in
         failed_on (WriteNode number) refl next contents c runs coming new g.0 refl g.1 g.2 bad
 
     pub metadata_sync_fails : Device (Sync Metadata) ≡ want plan → is_coming c.image c.steps (Sync Metadata) ≡ true → FailsStep c.image c.steps devices.metadata new →
         Goes P A shape (then_is t None put_devices (Device (Sync Metadata)) Fault) (noted_step shape shown n a (Some (Some doing)) (Device (Sync Metadata)) Fault contents)
     metadata_sync_fails next coming bad =
-        let g = flush_steps_followed.metadata_fails (size P A shape) (most P A shape) (Sync Metadata) new t.words t.desk.space.committing slots devices actors a x plan f.site.world refl ex xt (asks _ next) f.phase.agrees in
+        let g = flush_steps_followed.metadata_fails (size P A shape) (most P A shape) (Sync Metadata) new t.words t.desk.space.committing slots devices actors a x plan f.site.world refl ex xt (sym next) f.phase.agrees in
         failed_on (Sync Metadata) refl next contents c runs coming new g.0 refl g.1 g.2 bad
 
     pub root_fails : Device WriteRoot ≡ want plan → is_coming c.image c.steps WriteRoot ≡ true → FailsStep c.image c.steps devices.metadata new →
         Goes P A shape (then_is t None put_devices (Device WriteRoot) Fault) (noted_step shape shown n a (Some (Some doing)) (Device WriteRoot) Fault contents)
     root_fails next coming bad =
-        let g = flush_steps_followed.metadata_fails (size P A shape) (most P A shape) WriteRoot new t.words t.desk.space.committing slots devices actors a x plan f.site.world refl ex xt (asks _ next) f.phase.agrees in
+        let g = flush_steps_followed.metadata_fails (size P A shape) (most P A shape) WriteRoot new t.words t.desk.space.committing slots devices actors a x plan f.site.world refl ex xt (sym next) f.phase.agrees in
         failed_on WriteRoot refl next contents c runs coming new g.0 refl g.1 g.2 bad
 
   -- ---- the desk
@@ -325,7 +322,7 @@ module _ (P A : Type 0) (shape : Shape) (images : Images) (t : Target P) (commit
       quiet q k =
           let b = begins_over P shape.geometry images t.desk devices.metadata c tree k.is q steps begun in
           let agrees = subst (λ (v : Bool). Agrees (size P A shape) (most P A shape) t.words v slots devices actors f.site.world) idle f.phase.agrees in
-          let g = flush_steps_followed.begins (size P A shape) (most P A shape) nodes allowed clean t.words slots devices actors a x plan f.site.world ex xt (asks _ next) agrees in
+          let g = flush_steps_followed.begins (size P A shape) (most P A shape) nodes allowed clean t.words slots devices actors a x plan f.site.world ex xt (sym next) agrees in
           let s' = (after_all f.site.world g.records).shared in
           let t' : Target P = record { words = t.words; desk = commit_begun t.desk tree } in
           let y = after_step Flush plan (Began nodes) x in
@@ -347,7 +344,7 @@ module _ (P A : Type 0) (shape : Shape) (images : Images) (t : Target P) (commit
   -- or none begins
   pub begin_refused : (refusal : Refusal) (allowed : ℕ) (clean : Bool) → Desk (BeginCommit clean allowed) ≡ want plan → IsBeginRefused t.desk refusal → Goes P A shape (then_is t commit devices (Desk (BeginCommit clean allowed)) (GotRefused refusal)) n
   begin_refused refusal allowed clean next r =
-      let g = flush_steps_followed.is_refused (size P A shape) (most P A shape) allowed clean refusal t.words t.desk.space.committing slots devices actors a x plan f.site.world (no_begin refusal r) ex xt (asks _ next) f.phase.agrees in
+      let g = flush_steps_followed.is_refused (size P A shape) (most P A shape) allowed clean refusal t.words t.desk.space.committing slots devices actors a x plan f.site.world (no_begin refusal r) ex xt (sym next) f.phase.agrees in
       let y = after_step Flush plan (GotRefused refusal) x in
       subst (λ (y : Actor). Goes P A shape (record { devices = devices; commit = commit; phase = Stands t; actors = slice_set actors a y }) n) (sym (actor_is P A shape (Stands t) devices x Flush plan (Desk (BeginCommit clean allowed)) (GotRefused refusal) xt))
       (stays_on P A shape images t commit devices actors n known f a x ex Quietly t.words devices y n g tt (quiet_notes Stays t.words t.desk.space.committing slots devices (after_step Flush plan (GotRefused refusal) x) g) refl refl refl)
@@ -357,7 +354,7 @@ module _ (P A : Type 0) (shape : Shape) (images : Images) (t : Target P) (commit
   ends c runs next done =
       let k = subst (λ (m : Option RunningCommit). AtDesk shape.geometry images t.desk m devices.metadata) runs known in
       let e = ends_over P shape.geometry images t.desk devices.metadata c k done in
-      let g = flush_steps_followed.ends (size P A shape) (most P A shape) t.words t.desk.space.committing slots devices actors a x plan f.site.world ex xt (asks _ next) f.phase.agrees in
+      let g = flush_steps_followed.ends (size P A shape) (most P A shape) t.words t.desk.space.committing slots devices actors a x plan f.site.world ex xt (sym next) f.phase.agrees in
       let s' = (after_all f.site.world g.records).shared in
       let y = after_step Flush plan Done x in
       let after = commit_ended t.desk in
@@ -385,10 +382,10 @@ module _ (P A : Type 0) (shape : Shape) (images : Images) (t : Target P) (commit
   pub on_words : (step : CellStep) → (step ≡ Look Fail) ⊎ (step ≡ SetFailed) → Cell step ≡ want plan → Goes P A shape (then_is (record { words = words_after t.words step; desk = t.desk }) commit devices (Cell step) (got_of (result_of t.words step))) n
   on_words step (inl is) next = subst (λ (v : CellStep). Goes P A shape (then_is (record { words = words_after t.words v; desk = t.desk }) commit devices (Cell v) (got_of (result_of t.words v))) n) (sym is)
       (told_so (Look Fail) (ap (λ (v : CellStep). Cell v) (sym is) ∙ next)
-      (flush_steps_followed.looks (size P A shape) (most P A shape) t.words t.desk.space.committing slots devices actors a x plan f.site.world ex xt (asks _ (ap (λ (v : CellStep). Cell v) (sym is) ∙ next)) f.phase.agrees))
+      (flush_steps_followed.looks (size P A shape) (most P A shape) t.words t.desk.space.committing slots devices actors a x plan f.site.world ex xt (sym (ap (λ (v : CellStep). Cell v) (sym is) ∙ next)) f.phase.agrees))
   on_words step (inr is) next = subst (λ (v : CellStep). Goes P A shape (then_is (record { words = words_after t.words v; desk = t.desk }) commit devices (Cell v) (got_of (result_of t.words v))) n) (sym is)
       (told_so SetFailed (ap (λ (v : CellStep). Cell v) (sym is) ∙ next)
-      (flush_steps_followed.fails (size P A shape) (most P A shape) _ _ t.words t.desk.space.committing slots devices actors a x plan f.site.world rule.logs.fail ex xt (asks _ (ap (λ (v : CellStep). Cell v) (sym is) ∙ next)) f.phase.agrees))
+      (flush_steps_followed.fails (size P A shape) (most P A shape) _ _ t.words t.desk.space.committing slots devices actors a x plan f.site.world rule.logs.fail ex xt (sym (ap (λ (v : CellStep). Cell v) (sym is) ∙ next)) f.phase.agrees))
 
   pub answers : (answer : Answer) (contents : List Bytes) → End answer ≡ want plan → length doing.then_finished ≡ length n.floors → Goes P A shape (then_is t commit devices (End answer) Done) (noted_step shape shown n a (Some (Some doing)) (End answer) Done contents)
   answers answer contents next asked = by_answer answer next
@@ -398,7 +395,7 @@ module _ (P A : Type 0) (shape : Shape) (images : Images) (t : Target P) (commit
 
       given : (v : Answer) (orders' awaiting' : List Order) → ((o : Order) → Contains (held_of x) o → Contains (orders' ++ awaiting') o) → End v ≡ want plan →
           Follows (Answers (FlushingFor None) v) (size P A shape) (most P A shape) a f.site.world t.words t.desk.space.committing slots devices (slice_set actors a (record x { task = None; orders = orders'; awaiting = awaiting' }))
-      given v orders' awaiting' on e = flush_steps_followed.answers (size P A shape) (most P A shape) v t.words t.desk.space.committing slots devices actors a x plan orders' awaiting' f.site.world ex xt (asks _ e) on f.phase.agrees
+      given v orders' awaiting' on e = flush_steps_followed.answers (size P A shape) (most P A shape) v t.words t.desk.space.committing slots devices actors a x plan orders' awaiting' f.site.world ex xt (sym e) on f.phase.agrees
 
       finish : (v : Answer) (y : Actor) → record { task = None; card = x.card; orders = orders_then x.orders x.awaiting Flush (End v) Done; awaiting = awaiting_then x.orders x.awaiting Flush (End v) Done; buffer = x.buffer } ≡ y →
           (n' : Notes) (g : Follows (Answers (FlushingFor None) v) (size P A shape) (most P A shape) a f.site.world t.words t.desk.space.committing slots devices (slice_set actors a y)) →

@@ -10,7 +10,6 @@ use Rattle.wb_types.specs.declared.mode.Dev.{Dev}
 use Rattle.wb_disk.specs.Device.{Content as Bytes, History, grown, added, newest}
 use Rattle.wb_disk.specs.Extents.{GivesEach, written_each, written_where}
 use Rattle.wb_words.specs.Rule.{LockRule}
-use Rattle.wb_words.specs.declared.card.Card.{Card}
 use Rattle.wb_policy.specs.declared.order.Order.{Order}
 use Rattle.wb_words.specs.SharedWords.{Words}
 use Rattle.wb_words.specs.Effects.{result_of, words_after}
@@ -40,7 +39,7 @@ use Rattle.wb_runs.proofs.Images.{Images}
 use Rattle.wb_runs.proofs.Metadata.{MetadataKept}
 use Rattle.wb_runs.proofs.Extents.{may_start, some_sectors}
 use Rattle.wb_runs.proofs.Claims.{JobClaim}
-use Rattle.wb_link.specs.World.{World, after_all}
+use Rattle.wb_link.specs.World.{after_all}
 use Rattle.wb_refines.specs.Translation.{job_for}
 use Rattle.wb_simulation.specs.Noting.{NotesAgree}
 use Rattle.wb_simulation.specs.Noted.{told, AreNewest}
@@ -69,9 +68,6 @@ module _ (P A : Type 0) (shape : Shape) (images : Images) (t : Target P) (commit
   abbrev slots : List (Option Order)
   slots = live_orders t.desk
 
-  task_there : IsRequestJob job → x.task ≡ Some (job, plan)
-  task_there q = xt
-
   -- the state after a step that leaves words, desk and metadata
   abbrev after_it : Words → Devices (List History) → Actor → State P A
   after_it words' devices' y = record { devices = devices'; commit = commit; phase = Stands (record { words = words'; desk = t.desk }); actors = slice_set actors a y }
@@ -89,12 +85,8 @@ module _ (P A : Type 0) (shape : Shape) (images : Images) (t : Target P) (commit
   pub on_words : (step : CellStep) → IsRequestJob job → Cell step ≡ want plan → Goes P A shape (after_it (words_after t.words step) devices (actor_then {P = P} {A = A} shape (Stands t) devices x (Cell step) (got_of (result_of t.words step)))) n
   on_words step q e = subst (λ (y : Actor). Goes P A shape (after_it (words_after t.words step) devices y) n) (sym (actor_is P A shape (Stands t) devices x job plan (Cell step) (got_of (result_of t.words step)) xt))
       (quietly (words_after t.words step) devices (went t.words job plan step x)
-      (cell_steps_followed (size P A shape) (most P A shape) shape.geometry.origin_blocks t.words t.desk.space.committing slots devices actors a x job plan step f.site.world q (subst (λ (cs : List Card). LockRule shape.geometry.origin_blocks t.words cs) refl rule)
-      ex (task_there q) suits (sym e) f.phase.agrees) refl)
-
-  -- what failed of it is noted, and what it has read
-  redone : (s : World) (m : _) (doing' : Doing) → NotesAgree (size P A shape) n s m → doing'.entered ≡ doing.entered → doing'.then_finished ≡ doing.then_finished → NotesAgree (size P A shape) (put n a (Some doing')) s m
-  redone s m doing' g e th = notes_followed.redone (size P A shape) n s m a doing doing' g noted e th
+      (cell_steps_followed (size P A shape) (most P A shape) shape.geometry.origin_blocks t.words t.desk.space.committing slots devices actors a x job plan step f.site.world q rule
+      ex xt suits (sym e) f.phase.agrees) refl)
 
 -- a read or write that is answered leaves its actor the orders that it has
 orders_still : (orders awaiting : List Order) (job : Job) (answer : Answer) → IsRequestJob job → orders_then orders awaiting job (End answer) Done ≡ orders
