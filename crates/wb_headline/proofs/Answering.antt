@@ -25,7 +25,7 @@ use Rattle.wb_simulation.specs.Opened.{located}
 use Rattle.wb_simulation.specs.Worlds.{zeros}
 use Rattle.wb_simulation.proofs.Opened.{found_at}
 use Rattle.wb_headline.specs.Desks.{block_there, orders_of}
-use Rattle.wb_headline.proofs.Allowed.{there}
+use Rattle.wb_headline.proofs.Showing.{there}
 
 -- no order lives at a desk that was just opened
 pub no_orders_live : (count : ℕ) → orders_of (replicate count None) ≡ replicate count None
@@ -38,12 +38,10 @@ opened_state tree k = state (map opened_block (map is_some tree)) k
 
 -- it is mapped where it has an entry, or else free
 opened_at : (tree : List (Option Entry)) (k : ℕ) → (opened_state tree k ≡ Mapped) ⊎ ((opened_state tree k ≡ Free) × (slice_index_or tree k None ≡ None))
-opened_at [] zero = inr (refl, refl)
-opened_at [] (suc k) = inr (refl, refl)
-opened_at (None ∷ tree) zero = inr (refl, refl)
 opened_at (Some entry ∷ tree) zero = inl refl
 opened_at (None ∷ tree) (suc k) = opened_at tree k
 opened_at (Some entry ∷ tree) (suc k) = opened_at tree k
+opened_at tree k = inr (refl, refl)
 
 pub free_or_mapped : (tree : List (Option Entry)) (k : ℕ) → (block_there (opened_state tree k) ≡ MappedThere) ⊎ ((block_there (opened_state tree k) ≡ FreeThere) × IsUnnamed (located tree) k)
 free_or_mapped tree k = elim (opened_at tree k) [
@@ -134,10 +132,8 @@ module _ (shape : Shape) (devices : Devices (List History)) (cache_size : length
     where
       -- an element of a list of one content each
       only_at : (xs : List Bytes) (at : ℕ) → slice_get (map only xs) at ≡ Rattle.std.specs.Prelude.option_map only (slice_get xs at)
-      only_at [] zero = refl
-      only_at [] (suc at) = refl
-      only_at (x ∷ xs) zero = refl
       only_at (x ∷ xs) (suc at) = only_at xs at
+      only_at xs at = refl
 
       shown_of : ℕ → Bytes
       shown_of at = unwrap_or (content_of shape (place_of tree (at / block_size shape)) (map newest devices.cache) (map newest devices.origin) at) []

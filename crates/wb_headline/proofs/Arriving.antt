@@ -1,6 +1,14 @@
--- Where no target stands after it, an event of the abstract world leads to a site that agrees.
-use Rattle.std.proofs.Common.{◌≡◌, ◌≢◌, ◌∙◌, ◌⊎◌, ℕ, Bool, true, false, if◌then◌else◌, List, Option, Some, None, sym, ap, subst, length, slice_get}
+-- Where no target stands after it, an event of the abstract world tells its clerk nothing and leads to a site that agrees; so a crash is followed.
+use Rattle.std.proofs.Common.{◌≡◌, ◌≢◌, ◌∙◌, ℕ, Option, Some, None, refl, sym, ap, subst, length, slice_get, ◌⊎◌, Bool, true, false, if◌then◌else◌, List, inl, inr}
+use Rattle.std.proofs.lemmas.List.{length-replicate, length-map}
 use Rattle.wb_types.specs.declared.mode.Mode.{Mode}
+use Rattle.wb_link.specs.Tables.{Script}
+use Rattle.wb_link.specs.World.{World, Shared, Actor as AbstractActor, resting as resting_there}
+use Rattle.wb_link.specs.Clerk.{Notes as AbstractNotes}
+use Rattle.wb_link.specs.Openings.{Site, Stage, Answering, Outcome, Shown, Event, On, Stopped, Begins, Advances, after_event, note_event, MayHappen, Yields, advance, advanced, next_phase, emptied, Phase as PhaseThere, Stands as StandsThere, Gone as GoneThere}
+use Rattle.wb_link.proofs.Lists.{replicated}
+use Rattle.wb_runs.specs.Clerk.{Notes, Doing, nobody}
+use Rattle.wb_simulation.specs.Noting.{NotesAgree, IsNotedSo}
 use Rattle.wb_types.specs.declared.mode.Mode.TheVariants.{Writeback}
 use Rattle.wb_disk.specs.Device.{History}
 use Rattle.wb_meta.specs.Representing.{Stored}
@@ -9,19 +17,62 @@ use Rattle.wb_tasks.specs.Plan.{Plan}
 use Rattle.wb_devices.specs.declared.devices.Devices.{Devices}
 use Rattle.wb_devices.specs.declared.running.RunningCommit.{RunningCommit}
 use Rattle.wb_runs.specs.declared.job.Job.{Job}
-use Rattle.wb_runs.specs.States.{Shape, State, Actor, Phase, Stands, Gone, Opens}
-use Rattle.wb_runs.specs.Clerk.{Notes}
-use Rattle.wb_runs.proofs.Images.{Images, later_of, IsFitToo}
+use Rattle.wb_runs.specs.States.{Shape, State, Actor, Phase, Stands, Gone, Opens, resting}
+use Rattle.wb_runs.proofs.Images.{Images, later_of, IsFitToo, one_image, IsFit}
 use Rattle.wb_runs.proofs.Metadata.{MetadataKept, kept_readable}
-use Rattle.wb_link.specs.World.{World, Actor as AbstractActor}
-use Rattle.wb_link.specs.Clerk.{Notes as AbstractNotes}
-use Rattle.wb_link.specs.Openings.{Site, Phase as PhaseThere, Stands as StandsThere, after_event}
-use Rattle.wb_simulation.specs.Noting.{NotesAgree}
 use Rattle.wb_simulation.specs.Sites.{DevicesAgree, LeadsTo}
+use Rattle.wb_types.specs.declared.mode.Dev.TheVariants.{Metadata, Cache, Origin}
+use Rattle.wb_disk.specs.Crash.{Choice}
+use Rattle.wb_disk.proofs.Crashes.{Crashed-crashed_from}
+use Rattle.wb_runs.specs.Effects.{all_crashed, after_crash, all_resting}
+use Rattle.wb_simulation.proofs.Opening.{openings_followed}
+use Rattle.wb_headline.proofs.Unclean.{IsNoRecord, NeverClean, event_on}
 use Rattle.wb_headline.proofs.Events.{Reached, event_reaches}
-use Rattle.wb_headline.proofs.Unclean.{NeverClean, event_on}
-use Rattle.wb_headline.proofs.Quiet.{quietens, rests_there, emptied_many, notes_at_rest}
 use Rattle.wb_headline.proofs.Following.{AtStage, IsOver, many, size, Sized, DevicesFollow, PhaseFollows, Followed, Goes}
+
+-- it leaves nobody at anything, and nothing is noted of it
+pub record Quietens (v : Site) (e : Event) (m : AbstractNotes) : Type 0 where
+  pub plain : IsNoRecord e
+  pub shared : Shared
+  pub world_is : (after_event v e).world ≡ emptied v.world shared
+  pub notes_are : note_event m e ≡ m
+
+-- so it is of every event after which no target stands
+pub quietens : (size : ℕ) (v : Site) (e : Event) (m : AbstractNotes) → MayHappen size v e → (after_event v e).phase ≢ StandsThere → Quietens v e m
+quietens size v (On r) m may down = absurd (down may.0)
+quietens size v (Stopped r) m may down = record { plain = tt; shared = _; world_is = refl; notes_are = refl }
+quietens size v (Begins mode) m may down = record { plain = tt; shared = _; world_is = refl; notes_are = refl }
+quietens size v (Advances outcome) m may down = by_outcome outcome may.3 (λ e. down (ap (λ (p : PhaseThere). (advance v.world p outcome).phase) may.2 ∙ e))
+  where
+    world : (o : Outcome) → (advance v.world v.phase o).world ≡ emptied v.world (advanced v.world.shared may.0 may.1 o)
+    world o = ap (λ (p : PhaseThere). (advance v.world p o).world) may.2
+
+    no_showing : (stage : Stage) (mode : Mode) (s : Shared) (o : Outcome) → Yields s mode stage o → next_phase mode stage o ≢ StandsThere → note_event m (Advances o) ≡ m
+    no_showing (Answering i) mode s (Shown blocks view) y d = absurd (d refl)
+    no_showing stage mode s (Shown blocks view) y d = absurd y
+    no_showing stage mode s o y d = refl
+
+    by_outcome : (o : Outcome) → Yields v.world.shared may.0 may.1 o → next_phase may.0 may.1 o ≢ StandsThere → Quietens v (Advances o) m
+    by_outcome o y d = record { plain = tt; shared = advanced v.world.shared may.0 may.1 o; world_is = world o; notes_are = no_showing may.1 may.0 v.world.shared o y d }
+
+-- who has nothing to do there has no task
+pub rests_there : (w : World) (s : Shared) (a : ℕ) (y : AbstractActor) → slice_get (emptied w s).actors a ≡ Some y → y.task ≡ None
+rests_there w s a y e = ap (λ (v : AbstractActor). v.task) (sym (replicated (length w.actors) a resting_there y e))
+
+pub emptied_many : (w : World) (s : Shared) → length (emptied w s).actors ≡ length w.actors
+emptied_many w s = length-replicate (length w.actors) resting_there
+
+-- Notes of the same sectors agree with a world in which nobody is at anything.
+pub notes_at_rest : (size : ℕ) (n n' : Notes) (s s' : World) (m : AbstractNotes) → NotesAgree size n s m → n'.histories ≡ n.histories → n'.finished ≡ n.finished → n'.floors ≡ n.floors → length n'.doings ≡ length n.doings →
+    ((a : ℕ) (y : AbstractActor) → slice_get s'.actors a ≡ Some y → y.task ≡ None) → NotesAgree size n' s' m
+notes_at_rest size n n' s s' m g h f l d rest = record {
+  histories = g.histories ∙ ap (λ x. Rattle.wb_contents.specs.Devices.by_block size Rattle.wb_simulation.specs.Worlds.zeros x) (sym h);
+  finished = g.finished ∙ ap (λ x. Rattle.wb_simulation.specs.Noting.counts_by_block size x) (sym f);
+  floors = g.floors ∙ ap (λ x. Rattle.wb_simulation.specs.Noting.counts_by_block size x) (sym l);
+  as_many = ap length f ∙ g.as_many ∙ ap length (sym h);
+  floors_as_many = ap length l ∙ g.floors_as_many ∙ ap length (sym h);
+  each = λ a y less e. subst (λ (t : Option Script). IsNotedSo size (length n'.histories) t (slice_get n'.doings a) a m) (sym (rest a y e)) tt;
+}
 
 -- the notes have the same of every sector, and as many actors
 pub record SameSectors (n n' : Notes) : Type 0 where
@@ -136,3 +187,22 @@ module _ (P A : Type 0) (shape : Shape) where
   }
   agreeing images Gone commit devices actors v known p = record { later = p.later; fit = p.devices_follow.fit; agree = p.devices_follow.agree }
   agreeing images (Opens mode reading) commit devices actors v known p = record { later = p.later; fit = p.devices_follow.fit; agree = p.devices_follow.agree }
+
+-- one of the two states is fit, whichever it is
+pub one_fit : (images : Images) (later : Option Stored) (state : Stored) → IsFit images.committed → IsFitToo later → (state ≡ images.committed) ⊎ (later ≡ Some state) → IsFit state
+one_fit images later state f g (inl e) = subst IsFit (sym e) f
+one_fit images later state f g (inr e) = subst (λ (o : Option Stored). IsFitToo o) e g
+
+-- nobody is at anything
+pub ended_same : (n : Notes) → SameSectors n (record n { doings = nobody n.doings })
+ended_same n = record { histories = refl; finished = refl; floors = refl; doings = length-map n.doings (λ (d : Option Doing). None) }
+
+module _ (P A : Type 0) (shape : Shape) (images : Images) (w : State P A) (n : Notes) (known : MetadataKept shape.geometry images w.phase w.commit w.devices.metadata) (f : Followed P A shape images w n) where
+  pub crash_goes : (choice : Choice) → Goes P A shape (after_crash w choice) (record n { doings = nobody n.doings })
+  crash_goes choice =
+      let d = agreeing P A shape images w.phase w.commit w.devices w.actors f.site known f.phase in
+      let r = kept_readable shape.geometry images w.devices.metadata P A w.phase w.commit known in
+      let l = openings_followed.crashes shape.geometry (size P A shape) images.committed d.later f.site w.devices (all_crashed choice w.devices) d.agree (Crashed-crashed_from Metadata choice 0 w.devices.metadata) (Crashed-crashed_from Cache choice 0 w.devices.cache) (Crashed-crashed_from Origin choice 0 w.devices.origin) in
+      let v = arrives P A shape images w n (record n { doings = nobody n.doings }) f (ended_same n) l.state None GoneThere (all_crashed choice w.devices) l.leads (λ e. absurd (cc)) in
+      gone P A shape (one_image l.state) None GoneThere (all_crashed choice w.devices) (record n { doings = nobody n.doings }) v tt (λ e. absurd (cc)) (all_resting w.actors) (sized_so P A shape w.actors (all_resting w.actors) n (record n { doings = nobody n.doings }) (ended_same n) (length-map w.actors (λ (x : Actor). resting)) f.sized) None
+      (record { read = l.leads.agrees.images.read; fit = one_fit images d.later l.state r.fit d.fit l.one_of; fit_later = tt })

@@ -10,7 +10,7 @@ use Rattle.wb_words.specs.declared.card.Hold.TheVariants.{Held}
 use Rattle.wb_words.specs.declared.step.CellStep.TheVariants.{Look}
 use Rattle.wb_policy.specs.declared.order.Order.{Order}
 use Rattle.wb_tasks.specs.Tables.{BlockRange, Migrating, OnBlock, TaskJob}
-use Rattle.wb_tasks.specs.Plan.{Plan, want}
+use Rattle.wb_tasks.specs.Plan.{Plan, want, table}
 use Rattle.wb_tasks.specs.Ready.{Has, Suits, SuitsJob, IsOwnStep}
 use Rattle.wb_tasks.proofs.Readiness.{is_own_step}
 use Rattle.wb_tasks.specs.declared.step.Answer.{Answer}
@@ -21,11 +21,10 @@ use Rattle.wb_devices.specs.declared.devices.Devices.{Devices}
 use Rattle.wb_link.specs.World.{World}
 use Rattle.wb_runs.specs.declared.job.Job.TheVariants.{Migrate}
 use Rattle.wb_runs.specs.States.{Actor}
-use Rattle.wb_tasks.specs.Plan.{table}
 use Rattle.wb_simulation.specs.Steps.{AreOfBlock, IsOutside}
 use Rattle.wb_simulation.specs.Worlds.{Agrees}
 use Rattle.wb_simulation.proofs.Followed.{begins_by}
-use Rattle.wb_headline.proofs.Allowed.{there}
+use Rattle.wb_headline.proofs.Showing.{there}
 
 module _ (size most blocks : ℕ) (words : Words) (committing : Bool) (orders : List (Option Order)) (devices : Devices (List History)) (actors : List Actor) (s : World) (g : Agrees size most words committing orders devices actors s)
     (a : ℕ) (x : Actor) (migration : Migration) (block : OBlock) (plan : Plan) (ex : slice_get actors a ≡ Some x) (xt : x.task ≡ Some (Migrate migration block, plan)) (suits : Suits blocks plan x.card) where

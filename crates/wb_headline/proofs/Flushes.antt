@@ -6,7 +6,7 @@ use Rattle.wb_types.specs.declared.number.OBlock.{OBlock}
 use Rattle.wb_types.specs.declared.geometry.Geometry.{Geometry}
 use Rattle.wb_types.specs.declared.number.Place.{Place}
 use Rattle.wb_types.specs.declared.mode.Dev.{Dev}
-use Rattle.wb_types.specs.declared.mode.Dev.TheVariants.{Metadata, Cache, Origin}
+use Rattle.wb_types.specs.declared.mode.Dev.TheVariants.{Metadata}
 use Rattle.wb_types.specs.declared.refusal.Refusal.{Refusal}
 use Rattle.wb_types.specs.declared.refusal.Refusal.TheVariants.{Busy, Memory, GenerationEnd}
 use Rattle.wb_disk.specs.Device.{Content as Bytes, History, synced}
@@ -36,7 +36,7 @@ use Rattle.wb_tasks.specs.Ready.{HoldsBlocks}
 use Rattle.wb_tasks.specs.declared.step.Answer.{Answer}
 use Rattle.wb_tasks.specs.declared.step.Answer.TheVariants.{Done as Finished, Refused as Refuses}
 use Rattle.wb_tasks.specs.declared.step.DeviceStep.{DeviceStep}
-use Rattle.wb_tasks.specs.declared.step.DeviceStep.TheVariants.{Read as ReadExtent, Write as WriteExtent, Sync, ReadMetadata, WriteNode, WriteRoot}
+use Rattle.wb_tasks.specs.declared.step.DeviceStep.TheVariants.{Sync, WriteNode, WriteRoot}
 use Rattle.wb_tasks.specs.declared.step.DeskStep.TheVariants.{BeginCommit, EndCommit, ReleaseOrder}
 use Rattle.wb_tasks.specs.declared.step.Want.{Want}
 use Rattle.wb_tasks.specs.declared.step.Want.TheVariants.{Cell, Device, Desk, End}
@@ -61,7 +61,7 @@ use Rattle.wb_runs.proofs.Ordering.{held_of}
 use Rattle.wb_runs.proofs.Images.{Images, later_of, one_image}
 use Rattle.wb_runs.proofs.Underway.{Underway, Readable, images_of, is_written, led_on}
 use Rattle.wb_runs.proofs.Metadata.{MetadataKept, AtDesk, Leading, Quiet, begins_over, ends_over, kept_readable}
-use Rattle.wb_link.specs.Tables.{Script, Flushing as FlushingFor}
+use Rattle.wb_link.specs.Tables.{Flushing as FlushingFor}
 use Rattle.wb_link.specs.World.{World, Shared, after_all}
 use Rattle.wb_refines.specs.Flushes.{IsNoBegin, IsWrittenAfter}
 use Rattle.wb_simulation.specs.Actors.{IsFlushAt}
@@ -69,7 +69,7 @@ use Rattle.wb_simulation.proofs.Followed.{doing_of}
 use Rattle.wb_simulation.specs.Noting.{NotesAgree}
 use Rattle.wb_simulation.specs.Noted.{told}
 use Rattle.wb_simulation.specs.Sites.{ImagesAgree, IsRunning, locations}
-use Rattle.wb_simulation.specs.Telling.{AreUnnoted, Quietly, Releases, Answers}
+use Rattle.wb_simulation.specs.Telling.{Quietly, Releases, Answers}
 use Rattle.wb_simulation.specs.Worlds.{Agrees, Turn, Stays, Begins, Puts, Ends, GivesUp, FollowsBy, Follows}
 use Rattle.wb_simulation.specs.Laws.{went, after_step}
 use Rattle.wb_simulation.proofs.Flushes.{flush_steps_followed}
@@ -77,11 +77,11 @@ use Rattle.wb_simulation.proofs.Noted.{notes_followed}
 use Rattle.wb_simulation.proofs.Opening.{images_followed}
 use Rattle.wb_headline.specs.Desks.{DeskAgrees, live_orders}
 use Rattle.wb_headline.proofs.Desking.{desk_stays, desk_begins, desk_ends, desk_releases}
-use Rattle.wb_headline.proofs.Following.{size, most, Sized, Followed, Goes}
+use Rattle.wb_headline.proofs.Following.{size, most, Followed, Goes}
 use Rattle.wb_headline.proofs.Rooted.{same_one}
 use Rattle.wb_headline.proofs.Seeing.{orders_set, slot_there, slot_within}
-use Rattle.wb_headline.proofs.Finding.{found_of, none_dropped}
-use Rattle.wb_headline.proofs.Targets.{standing, actor_is, beside, noted_within, leads_on, stays_on}
+use Rattle.wb_headline.proofs.Orders.{found_of, none_dropped}
+use Rattle.wb_headline.proofs.Targets.{standing, actor_is, beside, failing_same, metadata_same, noted_within, leads_on, stays_on}
 
 -- ---- the commit, by itself
 
@@ -97,10 +97,6 @@ written_before image NodesSynced step e n w = absurd (cc)
 written_before image RootWritten step e n w = refl
 written_before image Committed step e n w = refl
 
-and_left : (a b : Bool) → (a && b) ≡ true → a ≡ true
-and_left true b e = refl
-and_left false b e = absurd (cc)
-
 -- whether the root may have been written once a step failed
 abbrev failed_written : CommitSteps → Bool
 failed_written (NodesWritten count) = false
@@ -108,20 +104,9 @@ failed_written steps = true
 
 -- so it is there
 written_there : (image : Image) (steps : CommitSteps) (step : DeviceStep) (before after : Bool) → is_coming image steps step ≡ true → (is_written steps ≡ true → before ≡ true) → IsWrittenAfter step before after → failed_written steps ≡ true → after ≡ true
-written_there image (NodesWritten count) step before after e b w f = absurd (cc)
 written_there image NodesSynced WriteRoot before after e b w f = w
-written_there image NodesSynced (Sync device) before after e b w f = absurd (cc)
-written_there image NodesSynced (ReadExtent d x) before after e b w f = absurd (cc)
-written_there image NodesSynced (WriteExtent d x) before after e b w f = absurd (cc)
-written_there image NodesSynced (ReadMetadata left) before after e b w f = absurd (cc)
-written_there image NodesSynced (WriteNode number) before after e b w f = absurd (cc)
 written_there image RootWritten (Sync device) before after e b w f = w (b refl)
-written_there image RootWritten (ReadExtent d x) before after e b w f = absurd (cc)
-written_there image RootWritten (WriteExtent d x) before after e b w f = absurd (cc)
-written_there image RootWritten (ReadMetadata left) before after e b w f = absurd (cc)
-written_there image RootWritten (WriteNode number) before after e b w f = absurd (cc)
-written_there image RootWritten WriteRoot before after e b w f = absurd (cc)
-written_there image Committed step before after e b w f = absurd (cc)
+written_there image steps step before after e b w f = absurd (cc)
 
 module _ (g : Geometry) (images : Images) (commit : RunningCommit) (of : Commit) (old new : List History) (u : Underway g images commit of old) where
   -- what is read once a step failed
@@ -142,16 +127,8 @@ runs_there : (of : Commit) (written : Bool) (s : Shared) → (written ≡ true �
 runs_there of true s w r = (w refl, r)
 runs_there of false s w r = tt
 
-unnoted_none : (task : Option Script) → AreUnnoted task []
-unnoted_none None = tt
-unnoted_none (Some script) = tt
-
 some_is : {X : Type 0} (a b : X) → ◌≡◌ {A = Option X} (Some a) (Some b) → a ≡ b
 some_is a b e = ap (λ o. Rattle.std.proofs.Common.unwrap_or o a) e
-
-failing_entered : (doing : Doing) (step : DeviceStep) (got : Got) → ((failing doing step got).entered ≡ doing.entered) × ((failing doing step got).then_finished ≡ doing.then_finished)
-failing_entered doing step Fault = (refl, refl)
-failing_entered doing step got = (refl, refl)
 
 module _ (P A : Type 0) (shape : Shape) (images : Images) (t : Target P) (commit : Option RunningCommit) (devices : Devices (List History)) (actors : List Actor) (n : Notes) (known : MetadataKept {P = P} {A = A} shape.geometry images (Stands t) commit devices.metadata)
     (f : Followed P A shape images (standing P A shape images t commit devices actors n) n) (rule : LockRule shape.geometry.origin_blocks t.words (cards_of actors)) (a : ℕ) (x : Actor) (ex : slice_get actors a ≡ Some x) (plan : Plan) (xt : x.task ≡ Some (Flush, plan))
@@ -166,9 +143,6 @@ module _ (P A : Type 0) (shape : Shape) (images : Images) (t : Target P) (commit
       let r : IsFlushAt (size P A shape) (most P A shape) t.words plan b.0 = doing_of (size P A shape) (most P A shape) t.words x b.0 Flush plan (f.phase.agrees.each a x b.0 ex b.1) xt in
       (r.serves, r.job)
 
-  asks : (next : Want) → next ≡ want plan → want plan ≡ next
-  asks next e = sym e
-
   abbrev s : Shared
   s = f.site.world.shared
 
@@ -179,12 +153,6 @@ module _ (P A : Type 0) (shape : Shape) (images : Images) (t : Target P) (commit
   -- what is noted of a step on a device, and of any other
   abbrev device_n : DeviceStep → Got → Notes
   device_n step got = put n a (Some (failing doing step got))
-
-  sized_device : (step : DeviceStep) (got : Got) (y : Actor) → Sized P A shape (slice_set actors a y) (device_n step got)
-  sized_device step got y = record { actors_many = length-set actors a y ∙ f.sized.actors_many; doings_many = length-set n.doings a (Some (failing doing step got)) ∙ f.sized.doings_many; sectors = f.sized.sectors }
-
-  sized_plain : (y : Actor) → Sized P A shape (slice_set actors a y) n
-  sized_plain y = record { actors_many = length-set actors a y ∙ f.sized.actors_many; doings_many = f.sized.doings_many; sectors = f.sized.sectors }
 
   noted_less : Rattle.std.proofs.Common.◌<◌ a (length n.doings)
   noted_less = noted_within P A shape images t commit devices actors n known f a x ex
@@ -200,39 +168,31 @@ module _ (P A : Type 0) (shape : Shape) (images : Images) (t : Target P) (commit
   module _ (turn : Turn) (step : DeviceStep) (got : Got) (contents : List Bytes) (t' : Target P) (commit' : Option RunningCommit) (devices' : Devices (List History)) (images' : Images) (plain : Rattle.wb_runs.specs.Effects.buffer_then devices x.buffer (Device step) got Flush ≡ x.buffer) (next : Device step ≡ want plan)
       (g : FollowsBy turn Quietly (size P A shape) (most P A shape) a f.site.world t'.words t'.desk.space.committing (live_orders t'.desk) devices' (slice_set actors a (after_step Flush plan got x))) where
     device_notes : NotesAgree (size P A shape) (device_n step got) (after_all f.site.world g.records) (told f.notes g.records)
-    device_notes = let e = failing_entered doing step got in notes_followed.redone (size P A shape) n (after_all f.site.world g.records) (told f.notes g.records) a doing (failing doing step got) (quiet_notes turn t'.words t'.desk.space.committing (live_orders t'.desk) devices' (after_step Flush plan got x) g) noted e.0 e.1
+    device_notes = let e = failing_same doing step got in notes_followed.redone (size P A shape) n (after_all f.site.world g.records) (told f.notes g.records) a doing (failing doing step got) (quiet_notes turn t'.words t'.desk.space.committing (live_orders t'.desk) devices' (after_step Flush plan got x) g) noted e.0 e.1
 
     on_device : AtDesk shape.geometry images' t'.desk commit' devices'.metadata → DeskAgrees t'.desk (after_all f.site.world g.records).shared → ImagesAgree shape.geometry images'.committed (later_of images') devices'.metadata (after_all f.site.world g.records).shared →
         ((state : Stored) → images'.running ≡ Some state → (after_all f.site.world g.records).shared.running ≡ locations state) → Goes P A shape (then_is t' commit' devices' (Device step) got) (noted_step shape shown n a (Some (Some doing)) (Device step) got contents)
     on_device known' desk images_agree running =
         subst (λ (q : Job). Goes P A shape (then_is t' commit' devices' (Device step) got) (device_note shape (device_n step got) a (failing doing step got) q step got contents)) (sym job_is)
         (subst (λ (y : Actor). Goes P A shape (record { devices = devices'; commit = commit'; phase = Stands t'; actors = slice_set actors a y }) (device_n step got)) (sym (actor_is P A shape (Stands t) devices x Flush plan (Device step) got xt ∙ (λ i. record (after_step Flush plan got x) { buffer = plain i })))
-        (leads_on P A shape images t commit devices actors n known f a x ex turn Quietly t' commit' devices' (slice_set actors a (after_step Flush plan got x)) (device_n step got) images' (live_orders t'.desk) g tt device_notes (sized_device step got (after_step Flush plan got x)) known' refl desk images_agree running))
+        (leads_on P A shape images t commit devices actors n known f a x ex turn Quietly t' commit' devices' (after_step Flush plan got x) (device_n step got) images' (live_orders t'.desk) g tt device_notes (length-set n.doings a (Some (failing doing step got))) refl known' refl desk images_agree running))
 
   -- cache and origin are synced, or fail to be
   module _ (device : Dev) (holds : HoldsBlocks device) (next : Device (Sync device) ≡ want plan) (contents : List Bytes) where
-    metadata_same : (list : List History) → (with_device device devices list).metadata ≡ devices.metadata
-    metadata_same list = by device holds
-      where
-        by : (d : Dev) → HoldsBlocks d → (with_device d devices list).metadata ≡ devices.metadata
-        by Cache h = refl
-        by Origin h = refl
-        by Metadata h = absurd h
-
     synced_so : (got : Got) → (list : List History) → Follows Quietly (size P A shape) (most P A shape) a f.site.world t.words t.desk.space.committing slots (with_device device devices list) (slice_set actors a (after_step Flush plan got x)) →
         Goes P A shape (then_is t commit (with_device device devices list) (Device (Sync device)) got) (noted_step shape shown n a (Some (Some doing)) (Device (Sync device)) got contents)
     synced_so got list g =
-        let known' = subst (λ (m : List History). AtDesk shape.geometry images t.desk commit m) (sym (metadata_same list)) known in
+        let known' = subst (λ (m : List History). AtDesk shape.geometry images t.desk commit m) (sym (metadata_same device devices list holds)) known in
         let s' = (after_all f.site.world g.records).shared in
         let readable = kept_readable shape.geometry images (with_device device devices list).metadata P A (Stands t) commit known' in
         on_device Stays (Sync device) got contents t commit (with_device device devices list) images refl next g known' (desk_stays P t.desk s s' f.phase.desk t.desk refl refl g.desk.0 g.desk.1)
         (images_followed.stay shape.geometry images.committed (later_of images) devices.metadata (with_device device devices list).metadata s s' f.phase.images_agree g.turned readable.read) (λ state e. g.turned.1 ∙ f.phase.running state e)
 
     pub syncs : Goes P A shape (then_is t commit (with_device device devices (synced (device_in device devices))) (Device (Sync device)) Done) (noted_step shape shown n a (Some (Some doing)) (Device (Sync device)) Done contents)
-    syncs = synced_so Done (synced (device_in device devices)) (flush_steps_followed.syncs (size P A shape) (most P A shape) device t.words t.desk.space.committing slots devices actors a x plan f.site.world holds ex xt (asks _ next) f.phase.agrees)
+    syncs = synced_so Done (synced (device_in device devices)) (flush_steps_followed.syncs (size P A shape) (most P A shape) device t.words t.desk.space.committing slots devices actors a x plan f.site.world holds ex xt (sym next) f.phase.agrees)
 
     pub sync_fails : (lands : ℕ → Bool) → Goes P A shape (then_is t commit (with_device device devices (synced_where lands (device_in device devices))) (Device (Sync device)) Fault) (noted_step shape shown n a (Some (Some doing)) (Device (Sync device)) Fault contents)
-    sync_fails lands = synced_so Fault (synced_where lands (device_in device devices)) (flush_steps_followed.sync_fails (size P A shape) (most P A shape) device lands t.words t.desk.space.committing slots devices actors a x plan f.site.world holds ex xt (asks _ next) f.phase.agrees)
+    sync_fails lands = synced_so Fault (synced_where lands (device_in device devices)) (flush_steps_followed.sync_fails (size P A shape) (most P A shape) device lands t.words t.desk.space.committing slots devices actors a x plan f.site.world holds ex xt (sym next) f.phase.agrees)
 
   -- ---- steps of the commit on the metadata
 
@@ -307,39 +267,39 @@ module _ (P A : Type 0) (shape : Shape) (images : Images) (t : Target P) (commit
     pub node_done : (number : ℕ) → Device (WriteNode number) ≡ want plan → is_coming c.image c.steps (WriteNode number) ≡ true → DoesStep c.image c.steps devices.metadata new →
         Goes P A shape (then_is t (Some next_commit) put_devices (Device (WriteNode number)) Done) (noted_step shape shown n a (Some (Some doing)) (Device (WriteNode number)) Done contents)
     node_done number next coming does =
-        let g = flush_steps_followed.on_metadata (size P A shape) (most P A shape) (WriteNode number) new t.words t.desk.space.committing slots devices actors a x plan f.site.world refl ex xt (asks _ next) f.phase.agrees in
+        let g = flush_steps_followed.on_metadata (size P A shape) (most P A shape) (WriteNode number) new t.words t.desk.space.committing slots devices actors a x plan f.site.world refl ex xt (sym next) f.phase.agrees in
         done_on (WriteNode number) refl next contents c runs coming new Stays refl g g.desk.0 g.desk.1 g.turned.0 g.turned.1
         (λ w. g.turned.2 ∙ written_now (WriteNode number) refl next contents c runs coming new (written_before c.image c.steps (WriteNode number) coming (λ e. absurd (cc)) w)) does
 
     pub sync_done : Device (Sync Metadata) ≡ want plan → is_coming c.image c.steps (Sync Metadata) ≡ true → DoesStep c.image c.steps devices.metadata new →
         Goes P A shape (then_is t (Some next_commit) put_devices (Device (Sync Metadata)) Done) (noted_step shape shown n a (Some (Some doing)) (Device (Sync Metadata)) Done contents)
     sync_done next coming does =
-        let g = flush_steps_followed.on_metadata (size P A shape) (most P A shape) (Sync Metadata) new t.words t.desk.space.committing slots devices actors a x plan f.site.world refl ex xt (asks _ next) f.phase.agrees in
+        let g = flush_steps_followed.on_metadata (size P A shape) (most P A shape) (Sync Metadata) new t.words t.desk.space.committing slots devices actors a x plan f.site.world refl ex xt (sym next) f.phase.agrees in
         done_on (Sync Metadata) refl next contents c runs coming new Stays refl g g.desk.0 g.desk.1 g.turned.0 g.turned.1
         (λ w. g.turned.2 ∙ written_now (Sync Metadata) refl next contents c runs coming new (written_before c.image c.steps (Sync Metadata) coming (λ e. absurd (cc)) w)) does
 
     pub root_done : Device WriteRoot ≡ want plan → is_coming c.image c.steps WriteRoot ≡ true → DoesStep c.image c.steps devices.metadata new →
         Goes P A shape (then_is t (Some next_commit) put_devices (Device WriteRoot) Done) (noted_step shape shown n a (Some (Some doing)) (Device WriteRoot) Done contents)
     root_done next coming does =
-        let g = flush_steps_followed.on_metadata (size P A shape) (most P A shape) WriteRoot new t.words t.desk.space.committing slots devices actors a x plan f.site.world refl ex xt (asks _ next) f.phase.agrees in
+        let g = flush_steps_followed.on_metadata (size P A shape) (most P A shape) WriteRoot new t.words t.desk.space.committing slots devices actors a x plan f.site.world refl ex xt (sym next) f.phase.agrees in
         done_on WriteRoot refl next contents c runs coming new (Puts true) refl g g.desk.0 g.desk.1 g.turned.0 g.turned.1 (λ w. g.turned.2) does
 
     pub node_fails : (number : ℕ) → Device (WriteNode number) ≡ want plan → is_coming c.image c.steps (WriteNode number) ≡ true → FailsStep c.image c.steps devices.metadata new →
         Goes P A shape (then_is t None put_devices (Device (WriteNode number)) Fault) (noted_step shape shown n a (Some (Some doing)) (Device (WriteNode number)) Fault contents)
     node_fails number next coming bad =
-        let g = flush_steps_followed.metadata_fails (size P A shape) (most P A shape) (WriteNode number) new t.words t.desk.space.committing slots devices actors a x plan f.site.world refl ex xt (asks _ next) f.phase.agrees in
+        let g = flush_steps_followed.metadata_fails (size P A shape) (most P A shape) (WriteNode number) new t.words t.desk.space.committing slots devices actors a x plan f.site.world refl ex xt (sym next) f.phase.agrees in
         failed_on (WriteNode number) refl next contents c runs coming new g.0 refl g.1 g.2 bad
 
     pub metadata_sync_fails : Device (Sync Metadata) ≡ want plan → is_coming c.image c.steps (Sync Metadata) ≡ true → FailsStep c.image c.steps devices.metadata new →
         Goes P A shape (then_is t None put_devices (Device (Sync Metadata)) Fault) (noted_step shape shown n a (Some (Some doing)) (Device (Sync Metadata)) Fault contents)
     metadata_sync_fails next coming bad =
-        let g = flush_steps_followed.metadata_fails (size P A shape) (most P A shape) (Sync Metadata) new t.words t.desk.space.committing slots devices actors a x plan f.site.world refl ex xt (asks _ next) f.phase.agrees in
+        let g = flush_steps_followed.metadata_fails (size P A shape) (most P A shape) (Sync Metadata) new t.words t.desk.space.committing slots devices actors a x plan f.site.world refl ex xt (sym next) f.phase.agrees in
         failed_on (Sync Metadata) refl next contents c runs coming new g.0 refl g.1 g.2 bad
 
     pub root_fails : Device WriteRoot ≡ want plan → is_coming c.image c.steps WriteRoot ≡ true → FailsStep c.image c.steps devices.metadata new →
         Goes P A shape (then_is t None put_devices (Device WriteRoot) Fault) (noted_step shape shown n a (Some (Some doing)) (Device WriteRoot) Fault contents)
     root_fails next coming bad =
-        let g = flush_steps_followed.metadata_fails (size P A shape) (most P A shape) WriteRoot new t.words t.desk.space.committing slots devices actors a x plan f.site.world refl ex xt (asks _ next) f.phase.agrees in
+        let g = flush_steps_followed.metadata_fails (size P A shape) (most P A shape) WriteRoot new t.words t.desk.space.committing slots devices actors a x plan f.site.world refl ex xt (sym next) f.phase.agrees in
         failed_on WriteRoot refl next contents c runs coming new g.0 refl g.1 g.2 bad
 
   -- ---- the desk
@@ -362,7 +322,7 @@ module _ (P A : Type 0) (shape : Shape) (images : Images) (t : Target P) (commit
       quiet q k =
           let b = begins_over P shape.geometry images t.desk devices.metadata c tree k.is q steps begun in
           let agrees = subst (λ (v : Bool). Agrees (size P A shape) (most P A shape) t.words v slots devices actors f.site.world) idle f.phase.agrees in
-          let g = flush_steps_followed.begins (size P A shape) (most P A shape) nodes allowed clean t.words slots devices actors a x plan f.site.world ex xt (asks _ next) agrees in
+          let g = flush_steps_followed.begins (size P A shape) (most P A shape) nodes allowed clean t.words slots devices actors a x plan f.site.world ex xt (sym next) agrees in
           let s' = (after_all f.site.world g.records).shared in
           let t' : Target P = record { words = t.words; desk = commit_begun t.desk tree } in
           let y = after_step Flush plan (Began nodes) x in
@@ -373,7 +333,7 @@ module _ (P A : Type 0) (shape : Shape) (images : Images) (t : Target P) (commit
           let same : b.now.committed ≡ images.committed = same_one b.turn images b.now (ap (λ (i : Images). i.running) q.are) b.turned in
           let later : later_of b.now ≡ None = ap later_of l.under.are ∙ ap (λ (v : CommitSteps). if is_written v then Some l.of.new else None) steps in
           subst (λ (y : Actor). Goes P A shape (record { devices = devices; commit = Some c; phase = Stands t'; actors = slice_set actors a y }) n) (sym (actor_is P A shape (Stands t) devices x Flush plan (Desk (BeginCommit clean allowed)) (Began nodes) xt))
-          (leads_on P A shape images t commit devices actors n known f a x ex Begins Quietly t' (Some c) devices (slice_set actors a y) n b.now (live_orders t'.desk) g tt (quiet_notes Begins t.words true slots devices (after_step Flush plan (Began nodes) x) g) (sized_plain y) b.kept.0 refl (desk_begins P t.desk s s' f.phase.desk tree begun.image_is.same_entries g.desk.0 g.desk.1) (subst (λ (o : Option Stored). ImagesAgree shape.geometry b.now.committed o devices.metadata s') (sym later) (subst (λ (v : Stored). ImagesAgree shape.geometry v None devices.metadata s') (sym same) begun_there.0)) (λ state e. begun_there.1 ∙ f.phase.desk.mapping ∙ ap (λ es. Rattle.wb_simulation.specs.Opened.located es) (sym b.kept.1.2) ∙ ap locations (some_is b.kept.1.0 state (sym b.kept.1.1 ∙ e))))
+          (leads_on P A shape images t commit devices actors n known f a x ex Begins Quietly t' (Some c) devices y n b.now (live_orders t'.desk) g tt (quiet_notes Begins t.words true slots devices (after_step Flush plan (Began nodes) x) g) refl refl b.kept.0 refl (desk_begins P t.desk s s' f.phase.desk tree begun.image_is.same_entries g.desk.0 g.desk.1) (subst (λ (o : Option Stored). ImagesAgree shape.geometry b.now.committed o devices.metadata s') (sym later) (subst (λ (v : Stored). ImagesAgree shape.geometry v None devices.metadata s') (sym same) begun_there.0)) (λ state e. begun_there.1 ∙ f.phase.desk.mapping ∙ ap (λ es. Rattle.wb_simulation.specs.Opened.located es) (sym b.kept.1.2) ∙ ap locations (some_is b.kept.1.0 state (sym b.kept.1.1 ∙ e))))
 
       by_commit : (o : Option RunningCommit) → commit ≡ o → AtDesk shape.geometry images t.desk commit devices.metadata → Goes P A shape (then_is (record { words = t.words; desk = commit_begun t.desk tree }) (Some c) devices (Desk (BeginCommit clean allowed)) (Began nodes)) n
       by_commit (Some d) e k = absurd (let k' = subst (λ (m : Option RunningCommit). AtDesk shape.geometry images t.desk m devices.metadata) e k in let busy = k'.stands.busy in let bad : false ≡ true = sym idle ∙ busy in cc)
@@ -384,17 +344,17 @@ module _ (P A : Type 0) (shape : Shape) (images : Images) (t : Target P) (commit
   -- or none begins
   pub begin_refused : (refusal : Refusal) (allowed : ℕ) (clean : Bool) → Desk (BeginCommit clean allowed) ≡ want plan → IsBeginRefused t.desk refusal → Goes P A shape (then_is t commit devices (Desk (BeginCommit clean allowed)) (GotRefused refusal)) n
   begin_refused refusal allowed clean next r =
-      let g = flush_steps_followed.is_refused (size P A shape) (most P A shape) allowed clean refusal t.words t.desk.space.committing slots devices actors a x plan f.site.world (no_begin refusal r) ex xt (asks _ next) f.phase.agrees in
+      let g = flush_steps_followed.is_refused (size P A shape) (most P A shape) allowed clean refusal t.words t.desk.space.committing slots devices actors a x plan f.site.world (no_begin refusal r) ex xt (sym next) f.phase.agrees in
       let y = after_step Flush plan (GotRefused refusal) x in
       subst (λ (y : Actor). Goes P A shape (record { devices = devices; commit = commit; phase = Stands t; actors = slice_set actors a y }) n) (sym (actor_is P A shape (Stands t) devices x Flush plan (Desk (BeginCommit clean allowed)) (GotRefused refusal) xt))
-      (stays_on P A shape images t commit devices actors n known f a x ex Quietly t.words devices y n g tt (quiet_notes Stays t.words t.desk.space.committing slots devices (after_step Flush plan (GotRefused refusal) x) g) (sized_plain y) refl)
+      (stays_on P A shape images t commit devices actors n known f a x ex Quietly t.words devices y n g tt (quiet_notes Stays t.words t.desk.space.committing slots devices (after_step Flush plan (GotRefused refusal) x) g) refl refl refl)
 
   -- the commit ends
   pub ends : (c : RunningCommit) → commit ≡ Some c → Desk EndCommit ≡ want plan → is_committed c.steps ≡ true → Goes P A shape (then_is (record { words = t.words; desk = ended t.desk }) None devices (Desk EndCommit) Done) n
   ends c runs next done =
       let k = subst (λ (m : Option RunningCommit). AtDesk shape.geometry images t.desk m devices.metadata) runs known in
       let e = ends_over P shape.geometry images t.desk devices.metadata c k done in
-      let g = flush_steps_followed.ends (size P A shape) (most P A shape) t.words t.desk.space.committing slots devices actors a x plan f.site.world ex xt (asks _ next) f.phase.agrees in
+      let g = flush_steps_followed.ends (size P A shape) (most P A shape) t.words t.desk.space.committing slots devices actors a x plan f.site.world ex xt (sym next) f.phase.agrees in
       let s' = (after_all f.site.world g.records).shared in
       let y = after_step Flush plan Done x in
       let after = commit_ended t.desk in
@@ -407,7 +367,7 @@ module _ (P A : Type 0) (shape : Shape) (images : Images) (t : Target P) (commit
       let agree = images_followed.end shape.geometry e.kept.1.0 devices.metadata s s' g.turned (f.phase.running e.kept.1.0 e.kept.1.1) read in
       subst (λ (d : DeskState P). Goes P A shape (then_is (record { words = t.words; desk = d }) None devices (Desk EndCommit) Done) n) (sym is)
       (subst (λ (y : Actor). Goes P A shape (record { devices = devices; commit = None; phase = Stands t'; actors = slice_set actors a y }) n) (sym (actor_is P A shape (Stands t) devices x Flush plan (Desk EndCommit) Done xt))
-      (leads_on P A shape images t commit devices actors n known f a x ex Ends Quietly t' None devices (slice_set actors a y) n e.now (live_orders t'.desk) g tt (quiet_notes Ends t.words false slots devices (after_step Flush plan Done x) g) (sized_plain y) known' refl (desk_ends P t.desk s s' f.phase.desk g.desk.0 g.desk.1) (subst (λ (i : Images). ImagesAgree shape.geometry i.committed (later_of i) devices.metadata s') (sym one) agree) (λ state r. absurd (let bad : None ≡ Some state = sym (ap (λ (i : Images). i.running) one) ∙ r in cc))))
+      (leads_on P A shape images t commit devices actors n known f a x ex Ends Quietly t' None devices y n e.now (live_orders t'.desk) g tt (quiet_notes Ends t.words false slots devices (after_step Flush plan Done x) g) refl refl known' refl (desk_ends P t.desk s s' f.phase.desk g.desk.0 g.desk.1) (subst (λ (i : Images). ImagesAgree shape.geometry i.committed (later_of i) devices.metadata s') (sym one) agree) (λ state r. absurd (let bad : None ≡ Some state = sym (ap (λ (i : Images). i.running) one) ∙ r in cc))))
 
   -- ---- the shared words, and the answer
 
@@ -417,15 +377,15 @@ module _ (P A : Type 0) (shape : Shape) (images : Images) (t : Target P) (commit
       let y = went t.words Flush plan step x in
       subst (λ (y : Actor). Goes P A shape (record { devices = devices; commit = commit; phase = Stands (record { words = words_after t.words step; desk = t.desk }); actors = slice_set actors a y }) n) (sym (actor_is P A shape (Stands t) devices x Flush plan (Cell step) (got_of (result_of t.words step)) xt))
       (stays_on P A shape images t commit devices actors n known f a x ex Quietly (words_after t.words step) devices y n g tt
-      (quiet_notes Stays (words_after t.words step) t.desk.space.committing slots devices (went t.words Flush plan step x) g) (sized_plain y) refl)
+      (quiet_notes Stays (words_after t.words step) t.desk.space.committing slots devices (went t.words Flush plan step x) g) refl refl refl)
 
   pub on_words : (step : CellStep) → (step ≡ Look Fail) ⊎ (step ≡ SetFailed) → Cell step ≡ want plan → Goes P A shape (then_is (record { words = words_after t.words step; desk = t.desk }) commit devices (Cell step) (got_of (result_of t.words step))) n
   on_words step (inl is) next = subst (λ (v : CellStep). Goes P A shape (then_is (record { words = words_after t.words v; desk = t.desk }) commit devices (Cell v) (got_of (result_of t.words v))) n) (sym is)
       (told_so (Look Fail) (ap (λ (v : CellStep). Cell v) (sym is) ∙ next)
-      (flush_steps_followed.looks (size P A shape) (most P A shape) t.words t.desk.space.committing slots devices actors a x plan f.site.world ex xt (asks _ (ap (λ (v : CellStep). Cell v) (sym is) ∙ next)) f.phase.agrees))
+      (flush_steps_followed.looks (size P A shape) (most P A shape) t.words t.desk.space.committing slots devices actors a x plan f.site.world ex xt (sym (ap (λ (v : CellStep). Cell v) (sym is) ∙ next)) f.phase.agrees))
   on_words step (inr is) next = subst (λ (v : CellStep). Goes P A shape (then_is (record { words = words_after t.words v; desk = t.desk }) commit devices (Cell v) (got_of (result_of t.words v))) n) (sym is)
       (told_so SetFailed (ap (λ (v : CellStep). Cell v) (sym is) ∙ next)
-      (flush_steps_followed.fails (size P A shape) (most P A shape) _ _ t.words t.desk.space.committing slots devices actors a x plan f.site.world rule.logs.fail ex xt (asks _ (ap (λ (v : CellStep). Cell v) (sym is) ∙ next)) f.phase.agrees))
+      (flush_steps_followed.fails (size P A shape) (most P A shape) _ _ t.words t.desk.space.committing slots devices actors a x plan f.site.world rule.logs.fail ex xt (sym (ap (λ (v : CellStep). Cell v) (sym is) ∙ next)) f.phase.agrees))
 
   pub answers : (answer : Answer) (contents : List Bytes) → End answer ≡ want plan → length doing.then_finished ≡ length n.floors → Goes P A shape (then_is t commit devices (End answer) Done) (noted_step shape shown n a (Some (Some doing)) (End answer) Done contents)
   answers answer contents next asked = by_answer answer next
@@ -435,15 +395,14 @@ module _ (P A : Type 0) (shape : Shape) (images : Images) (t : Target P) (commit
 
       given : (v : Answer) (orders' awaiting' : List Order) → ((o : Order) → Contains (held_of x) o → Contains (orders' ++ awaiting') o) → End v ≡ want plan →
           Follows (Answers (FlushingFor None) v) (size P A shape) (most P A shape) a f.site.world t.words t.desk.space.committing slots devices (slice_set actors a (record x { task = None; orders = orders'; awaiting = awaiting' }))
-      given v orders' awaiting' on e = flush_steps_followed.answers (size P A shape) (most P A shape) v t.words t.desk.space.committing slots devices actors a x plan orders' awaiting' f.site.world ex xt (asks _ e) on f.phase.agrees
+      given v orders' awaiting' on e = flush_steps_followed.answers (size P A shape) (most P A shape) v t.words t.desk.space.committing slots devices actors a x plan orders' awaiting' f.site.world ex xt (sym e) on f.phase.agrees
 
       finish : (v : Answer) (y : Actor) → record { task = None; card = x.card; orders = orders_then x.orders x.awaiting Flush (End v) Done; awaiting = awaiting_then x.orders x.awaiting Flush (End v) Done; buffer = x.buffer } ≡ y →
           (n' : Notes) (g : Follows (Answers (FlushingFor None) v) (size P A shape) (most P A shape) a f.site.world t.words t.desk.space.committing slots devices (slice_set actors a y)) →
           NotesAgree (size P A shape) n' (after_all f.site.world g.records) (told f.notes g.records) → length n'.doings ≡ length n.doings → length n'.histories ≡ length n.histories → Goes P A shape (then_is t commit devices (End v) Done) n'
       finish v y same n' g notes d h =
           subst (λ (y : Actor). Goes P A shape (record { devices = devices; commit = commit; phase = Stands t; actors = slice_set actors a y }) n') (sym (actor_is P A shape (Stands t) devices x Flush plan (End v) Done xt ∙ same))
-          (stays_on P A shape images t commit devices actors n known f a x ex (Answers (FlushingFor None) v) t.words devices y n' g tt notes
-          (record { actors_many = length-set actors a y ∙ f.sized.actors_many; doings_many = d ∙ f.sized.doings_many; sectors = h ∙ f.sized.sectors }) refl)
+          (stays_on P A shape images t commit devices actors n known f a x ex (Answers (FlushingFor None) v) t.words devices y n' g tt notes d h refl)
 
       served : (o : Order) → Contains (held_of x) o → Contains ((x.awaiting ++ x.orders) ++ []) o
       served o h = Contains-append_left (x.awaiting ++ x.orders) [] o (elim (Contains-append_cases x.orders x.awaiting o h) [ inl i ↦ Contains-append_right x.awaiting x.orders o i | inr i ↦ Contains-append_left x.awaiting x.orders o i ])
@@ -475,7 +434,7 @@ module _ (P A : Type 0) (shape : Shape) (images : Images) (t : Target P) (commit
       by_order None e d =
           let g = flush_steps_followed.releases (size P A shape) (most P A shape) block t.words t.desk.space.committing slots devices actors a x plan f.site.world ex xt (sym next) f.phase.agrees in
           subst To (sym d) (subst (λ (os : List Order). Goes P A shape (record { devices = devices; commit = commit; phase = Stands t; actors = slice_set actors a (record x { task = Some (Flush, after plan Done); awaiting = os }) }) n) (sym (none_dropped block x.awaiting e))
-          (stays_on P A shape images t commit devices actors n known f a x ex Quietly t.words devices (after_step Flush plan Done x) n g tt (quiet_notes Stays t.words t.desk.space.committing slots devices (after_step Flush plan Done x) g) (sized_plain (after_step Flush plan Done x)) refl))
+          (stays_on P A shape images t commit devices actors n known f a x ex Quietly t.words devices (after_step Flush plan Done x) n g tt (quiet_notes Stays t.words t.desk.space.committing slots devices (after_step Flush plan Done x) g) refl refl refl))
       by_order (Some order) e d =
           let y : Actor = record x { task = Some (Flush, after plan Done); awaiting = dropped block x.awaiting } in
           let mine = found_of block x.awaiting order e in
@@ -491,8 +450,8 @@ module _ (P A : Type 0) (shape : Shape) (images : Images) (t : Target P) (commit
           (λ c z ez h. owned.one c a z x order ez ex h had) f.phase.agrees in
           let s' = (after_all f.site.world g.records).shared in
           let readable = kept_readable shape.geometry images devices.metadata P A (Stands t) commit known in
-          subst To (sym is) (leads_on P A shape images t commit devices actors n known f a x ex (GivesUp l.cache.0) Releases (record { words = t.words; desk = released t.desk l.cache }) commit devices (slice_set actors a y) n images (slice_set (live_orders t.desk) l.cache.0 None) g tt
+          subst To (sym is) (leads_on P A shape images t commit devices actors n known f a x ex (GivesUp l.cache.0) Releases (record { words = t.words; desk = released t.desk l.cache }) commit devices y n images (slice_set (live_orders t.desk) l.cache.0 None) g tt
           (notes_followed.released (GivesUp l.cache.0) (size P A shape) (most P A shape) a f.site.world t.words t.desk.space.committing (slice_set (live_orders t.desk) l.cache.0 None) devices (slice_set actors a y) g b.0 n f.notes b.1 noted_less f.notes_agree)
-          (sized_plain y) (subst (λ (v : DeskState P). AtDesk shape.geometry images v commit devices.metadata) is (given_up_stands P shape.geometry images t.desk commit devices.metadata new order known d))
+          refl refl (subst (λ (v : DeskState P). AtDesk shape.geometry images v commit devices.metadata) is (given_up_stands P shape.geometry images t.desk commit devices.metadata new order known d))
           (sym (orders_set t.desk.orders.slots l.cache.0 None)) (desk_releases P t.desk s s' f.phase.desk l.cache (omega (arith, inside, many_slots, many_blocks)) g.desk.0 g.desk.1)
           (images_followed.stay shape.geometry images.committed (later_of images) devices.metadata devices.metadata s s' f.phase.images_agree g.turned readable.read) (λ state e. g.turned.1 ∙ f.phase.running state e))

@@ -18,7 +18,7 @@ use Rattle.wb_words.specs.declared.card.Hold.{Hold}
 use Rattle.wb_words.specs.declared.card.Hold.TheVariants.{Nothing, Held}
 use Rattle.wb_words.specs.declared.card.Card.{Card}
 use Rattle.wb_words.specs.declared.step.CellStep.{CellStep}
-use Rattle.wb_words.specs.declared.step.CellStep.TheVariants.{Look, Take, Release, Seal, Finish, Count, SetFailed, SetSuspended}
+use Rattle.wb_words.specs.declared.step.CellStep.TheVariants.{Look, Take, Seal, Count, SetFailed}
 use Rattle.wb_words.specs.declared.word.Kind.TheVariants.{ReadHit, ReadMiss, WriteHit, WriteMiss}
 use Rattle.wb_words.specs.SharedWords.{Words, word_at, place_in, seal_word}
 use Rattle.wb_words.specs.Cards.{failing_at}
@@ -27,11 +27,11 @@ use Rattle.wb_words.specs.Rule.{LockRule}
 use Rattle.wb_tree.specs.Edits.{IsChangedAt}
 use Rattle.wb_policy.specs.Law.{IsMappedAt}
 use Rattle.wb_policy.specs.declared.order.Order.{Order}
-use Rattle.wb_policy.specs.declared.order.Order.TheVariants.{Demote as DemoteOrder}
+use Rattle.wb_policy.specs.declared.order.Order.TheVariants.{Demote as DemoteOrder, Replace as ReplaceOrder}
 use Rattle.wb_orders.specs.Orders.{AreOrders}
 use Rattle.wb_desk.specs.Desks.{DeskState, IsLive, holdings}
 use Rattle.wb_desk.specs.Calls.{released}
-use Rattle.wb_desk.specs.Entries.{entry_of, mapped, MayMap}
+use Rattle.wb_desk.specs.Entries.{entry_of, mapped, MayMap, Removes, is_replacement, unmapped}
 use Rattle.wb_desk.proofs.Entering.{entrance, named_inside}
 use Rattle.wb_desk.proofs.Leaving.{mapped_within}
 use Rattle.wb_stage.specs.Asking.{DidRelease, DidUnmap, IsGivenUp, is_of, order_of as order_found}
@@ -72,19 +72,14 @@ use Rattle.wb_simulation.specs.Steps.{AreOfBlock}
 use Rattle.wb_simulation.proofs.Followed.{begins_by, doing_of}
 use Rattle.wb_simulation.proofs.Migrations.{migrations_followed}
 use Rattle.wb_headline.specs.Desks.{live_orders}
-use Rattle.wb_headline.proofs.Allowed.{there}
+use Rattle.wb_headline.proofs.Showing.{there}
 use Rattle.wb_headline.proofs.Carried.{carried}
 use Rattle.wb_headline.proofs.Desking.{located_entered, located_left}
 use Rattle.wb_headline.proofs.Following.{size, most, Followed}
-use Rattle.wb_desk.specs.Entries.{Removes, is_replacement, unmapped}
-use Rattle.wb_policy.specs.declared.order.Order.TheVariants.{Replace as ReplaceOrder}
 use Rattle.wb_simulation.specs.Carried.{IsOrderFor}
 use Rattle.wb_simulation.specs.Migrating.{EndsOrder}
 use Rattle.wb_simulation.specs.Worlds.{GivesUp}
-use Rattle.wb_headline.proofs.Leaving.{leaves_from, left, of_order, owned_then, stands_so}
-use Rattle.wb_headline.proofs.Owned.{at_there, live_at}
-use Rattle.wb_headline.proofs.Owned.{AreParted, for_block, one_of_block, only_held, over}
-use Rattle.wb_headline.proofs.Finding.{found_of, only_of, replacing_is, true_not}
+use Rattle.wb_headline.proofs.Orders.{leaves_from, left, of_order, owned_then, stands_so, at_there, live_at, AreParted, for_block, one_of_block, only_held, over, found_of, only_of, replacing_is, true_not}
 use Rattle.wb_runs.proofs.Located.{stands_alone, unmapped_there}
 use Rattle.wb_headline.proofs.Targets.{standing, beside}
 use Rattle.wb_headline.proofs.Telling.{IsSealed, SealsRight, RightWhere, lets_go_right, on_words, owned_alone}
@@ -139,35 +134,21 @@ same_right old new card (Some doing) same r = λ access b h. subst (λ (o : Opti
 -- the next step seals so
 sealed_next : (b : OBlock) (place : Option CBlock) (ws : List Want) (answer : Answer) → IsSealed b place ws → (dirty : Bool) × (first_step ws answer ≡ Cell (Seal b place dirty))
 sealed_next b place (Cell (Seal o at dirty) ∷ ws) answer i = (dirty, ap (λ (v : OBlock). Cell (Seal v at dirty)) i.0 ∙ ap (λ (v : Option CBlock). Cell (Seal b v dirty)) i.1)
-sealed_next b place [] answer i = absurd i
-sealed_next b place (Cell (Look w) ∷ ws) answer i = absurd i
-sealed_next b place (Cell (Take access o seen) ∷ ws) answer i = absurd i
-sealed_next b place (Cell (Release access o) ∷ ws) answer i = absurd i
-sealed_next b place (Cell (Finish o) ∷ ws) answer i = absurd i
-sealed_next b place (Cell (Count kind) ∷ ws) answer i = absurd i
-sealed_next b place (Cell SetFailed ∷ ws) answer i = absurd i
-sealed_next b place (Cell SetSuspended ∷ ws) answer i = absurd i
-sealed_next b place (Device step ∷ ws) answer i = absurd i
-sealed_next b place (Desk step ∷ ws) answer i = absurd i
-sealed_next b place (End a ∷ ws) answer i = absurd i
+sealed_next b place ws answer i = absurd i
 
 -- seals after a step that seals nothing
 seals_same : (words : Words) (step : CellStep) → ((b : OBlock) (place : Option CBlock) (dirty : Bool) → step ≢ Seal b place dirty) → (words_after words step).seals ≡ words.seals
-seals_same words (Look word) n = refl
 seals_same words (Take access block seen) n = by_test (word_at words.cells block == seen)
   where
     by_test : (t : Bool) → (if t then Rattle.wb_words.specs.SharedWords.with_cell words block (Rattle.wb_words.specs.SharedWords.taken access seen) else words).seals ≡ words.seals
     by_test true = refl
     by_test false = refl
-seals_same words (Release access block) n = refl
 seals_same words (Seal block place dirty) n = absurd (n block place dirty refl)
-seals_same words (Finish block) n = refl
 seals_same words (Count ReadHit) n = refl
 seals_same words (Count ReadMiss) n = refl
 seals_same words (Count WriteHit) n = refl
 seals_same words (Count WriteMiss) n = refl
-seals_same words SetFailed n = refl
-seals_same words SetSuspended n = refl
+seals_same words step n = refl
 
 module _ (P A : Type 0) (shape : Shape) (images : Images) (t : Target P) (commit : Option RunningCommit) (devices : Devices (List History)) (actors : List Actor) (n : Notes) (known : MetadataKept {P = P} {A = A} shape.geometry images (Stands t) commit devices.metadata)
     (f : Followed P A shape images (standing P A shape images t commit devices actors n) n) (rule : LockRule shape.geometry.origin_blocks t.words (cards_of actors)) (all_suited : AllSuited shape.geometry.origin_blocks actors) (k : KeepingAt t actors) (a : ℕ) (x : Actor) (ex : slice_get actors a ≡ Some x) where
@@ -350,13 +331,7 @@ module _ (P A : Type 0) (shape : Shape) (images : Images) (t : Target P) (commit
         where
           by : (s : CellStep) → step ≡ s → Told s
           by (Seal o place dirty) is = by_seal o place dirty is
-          by (Look w) is = subst Told is (not_by (λ o p d q. absurd (let bad : Look w ≡ Seal o p d = sym is ∙ q in cc)))
-          by (Take access o seen) is = subst Told is (not_by (λ b p d q. absurd (let bad : Take access o seen ≡ Seal b p d = sym is ∙ q in cc)))
-          by (Release access o) is = subst Told is (not_by (λ b p d q. absurd (let bad : Release access o ≡ Seal b p d = sym is ∙ q in cc)))
-          by (Finish o) is = subst Told is (not_by (λ b p d q. absurd (let bad : Finish o ≡ Seal b p d = sym is ∙ q in cc)))
-          by (Count kind) is = subst Told is (not_by (λ b p d q. absurd (let bad : Count kind ≡ Seal b p d = sym is ∙ q in cc)))
-          by SetFailed is = subst Told is (not_by (λ b p d q. absurd (let bad : SetFailed ≡ Seal b p d = sym is ∙ q in cc)))
-          by SetSuspended is = subst Told is (not_by (λ b p d q. absurd (let bad : SetSuspended ≡ Seal b p d = sym is ∙ q in cc)))
+          by s is = subst Told is (not_by (λ b p d q. absurd (let bad : s ≡ Seal b p d = sym is ∙ q in cc)))
 
       pub cell_keeps : KeepingAt (record { words = words_after t.words step; desk = t.desk }) (slice_set actors a (y (Cell step) (got_of (result_of t.words step))))
       cell_keeps =
@@ -389,8 +364,7 @@ module _ (P A : Type 0) (shape : Shape) (images : Images) (t : Target P) (commit
 
           by : (q : TaskJob) → plan.job ≡ q → RightWhere (place_of t.desk.tree.entries) x.card (after plan got).steps
           by (OnBlock j) is = of_block j is (gave j is)
-          by (Flushing serves m) is = holds_none x.card (after plan got).steps (place_of t.desk.tree.entries) (subst (λ (q : TaskJob). SuitsJob shape.geometry.origin_blocks q x.card plan.steps) is suits).0
-          by (Opening left) is = holds_none x.card (after plan got).steps (place_of t.desk.tree.entries) (subst (λ (q : TaskJob). SuitsJob shape.geometry.origin_blocks q x.card plan.steps) is suits).0
+          by q is = holds_none x.card (after plan got).steps (place_of t.desk.tree.entries) (subst (λ (q : TaskJob). SuitsJob shape.geometry.origin_blocks q x.card plan.steps) is suits).0
 
       pub device_keeps : KeepingAt t (slice_set actors a (y (Device step) got))
       device_keeps = plainly t (y (Device step) got) refl (λ b. refl) (not_sealing (Device step) e (λ b p d q. absurd (cc))) (owned_same P t.desk actors a x (y (Device step) got) ex k.owned t.desk refl refl) (y_parted (Device step) got)
@@ -527,8 +501,7 @@ module _ (P A : Type 0) (shape : Shape) (images : Images) (t : Target P) (commit
           where
             by : (q : TaskJob) → plan.job ≡ q → SealsRight (place_of t.desk.tree.entries o.0) (lets_go plan.job)
             by (OnBlock j) is = subst (λ (q : TaskJob). SealsRight (place_of t.desk.tree.entries o.0) (lets_go q)) (sym is) (lets_go_right (place_of t.desk.tree.entries o.0) j (access_of j) (range_of j).block)
-            by (Flushing serves n) is = absurd (let none = (subst (λ (q : TaskJob). SuitsJob shape.geometry.origin_blocks q x.card plan.steps) is its).0 in let bad : Nothing ≡ Held access o = sym none ∙ h in cc)
-            by (Opening left) is = absurd (let none = (subst (λ (q : TaskJob). SuitsJob shape.geometry.origin_blocks q x.card plan.steps) is its).0 in let bad : Nothing ≡ Held access o = sym none ∙ h in cc)
+            by q is = absurd (let none = (subst (λ (q : TaskJob). SuitsJob shape.geometry.origin_blocks q x.card plan.steps) is its).0 in let bad : Nothing ≡ Held access o = sym none ∙ h in cc)
 
   -- a flush gives up an order that waits for it
   module _ (plan : Plan) (xt : x.task ≡ Some (Flush, plan)) where

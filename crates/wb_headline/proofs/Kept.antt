@@ -31,7 +31,7 @@ use Rattle.wb_tasks.specs.declared.step.Got.TheVariants.{Done, Fault, Began, Ref
 use Rattle.wb_devices.specs.declared.devices.Devices.{Devices}
 use Rattle.wb_devices.specs.declared.running.RunningCommit.{RunningCommit}
 use Rattle.wb_runs.specs.declared.job.Job.{Job}
-use Rattle.wb_runs.specs.declared.job.Job.TheVariants.{Read, Write, Flush, Open, Migrate, Replace}
+use Rattle.wb_runs.specs.declared.job.Job.TheVariants.{Read, Write, Flush, Migrate, Replace}
 use Rattle.wb_runs.specs.declared.event.What.TheVariants.{Started}
 use Rattle.wb_runs.specs.States.{Shape, State, Actor, Target, Phase, Stands, resting}
 use Rattle.wb_runs.specs.Happenings.{Chosen, Plain, Cut, Orders, Asks, Commits, Gives, DoesBegin, DoesMap, DoesUnmap, DoesRelease, StartGives, order_for}
@@ -45,7 +45,7 @@ use Rattle.wb_runs.proofs.Metadata.{MetadataKept}
 use Rattle.wb_runs.proofs.Lists.{first_or}
 use Rattle.wb_runs.proofs.Ordering.{held_of}
 use Rattle.wb_runs.proofs.Owning.{Owned, owned_given, owned_none, owned_same}
-use Rattle.wb_headline.proofs.Owned.{AreParted}
+use Rattle.wb_headline.proofs.Orders.{AreParted}
 use Rattle.wb_headline.proofs.Following.{Followed}
 use Rattle.wb_headline.proofs.Keeping.{KeepingAt, Keeping, HasNone, NoOrders, TaskRight, plainly, own, cell_keeps, device_keeps, answer_keeps, desk_plain, map_keeps, map_refused_keeps, unmap_keeps, release_keeps, flush_release_keeps, ready}
 use Rattle.wb_headline.proofs.Targets.{standing}
@@ -107,17 +107,11 @@ ended_same P X of desk same = by desk.space.committing
 -- a read or write of an extent that does not fail is done
 gives_done : (P A : Type 0) (shape : Shape) (w : State P A) (x : Actor) (job : Job) (j : BlockJob) (step : DeviceStep) (got : Got) (read : List Bytes) (chosen : Chosen P A) → IsJobs j step → Gives shape w x job (Device step) got read chosen → got ≡ Done
 gives_done P A shape w x (Read extent) j (ReadExtent d e) got read chosen i g = g.2
-gives_done P A shape w x (Read extent) j (WriteExtent d e) got read chosen i g = absurd g
-gives_done P A shape w x (Write extent content) j (ReadExtent d e) got read chosen i g = absurd g
 gives_done P A shape w x (Write extent content) j (WriteExtent d e) got read chosen i g = g.2
-gives_done P A shape w x Flush j (ReadExtent d e) got read chosen i g = absurd g
-gives_done P A shape w x Flush j (WriteExtent d e) got read chosen i g = absurd g
-gives_done P A shape w x (Open mode) j (ReadExtent d e) got read chosen i g = absurd g
-gives_done P A shape w x (Open mode) j (WriteExtent d e) got read chosen i g = absurd g
 gives_done P A shape w x (Migrate m block) j (ReadExtent d e) got read chosen i g = g.2
 gives_done P A shape w x (Migrate m block) j (WriteExtent d e) got read chosen i g = g.2
-gives_done P A shape w x (Replace old new) j (ReadExtent d e) got read chosen i g = absurd g
-gives_done P A shape w x (Replace old new) j (WriteExtent d e) got read chosen i g = absurd g
+gives_done P A shape w x job j (ReadExtent d e) got read chosen i g = absurd g
+gives_done P A shape w x job j (WriteExtent d e) got read chosen i g = absurd g
 gives_done P A shape w x job (Reading part) step got read chosen i g = absurd i
 gives_done P A shape w x job (Writing part) step got read chosen i g = absurd i
 gives_done P A shape w x job (Migrating m part) step got read chosen i g = absurd i
@@ -151,10 +145,6 @@ module _ (P A : Type 0) (shape : Shape) (images : Images) (t : Target P) (commit
       parted_with order c may o h w = first_or order o x.orders ⊥ h (λ same. fresh order c may (subst (λ (p : Order). Contains x.awaiting p) same w)) (λ later. k.parted a x ex o later w)
 
       by_job : (job : Job) (chosen : Chosen P A) → StartGives shape (Stands t) (Some x) job Started chosen → Keeping (phase_given {P = P} {A = A} (Stands t) job chosen) (slice_set actors a (given shape x job chosen))
-      by_job (Read extent) chosen h = plain (Read extent) (given shape x (Read extent) chosen) _ refl refl refl (k.parted a x ex)
-      by_job (Write extent content) chosen h = plain (Write extent content) (given shape x (Write extent content) chosen) _ refl refl refl (k.parted a x ex)
-      by_job Flush chosen h = plain Flush (given shape x Flush chosen) _ refl refl refl (k.parted a x ex)
-      by_job (Open mode) chosen h = plain (Open mode) (given shape x (Open mode) chosen) _ refl refl refl (k.parted a x ex)
       by_job (Migrate m b) (Cut cut) h = plain (Migrate m b) (given {P = P} {A = A} shape x (Migrate m b) (Cut cut)) _ refl refl refl (k.parted a x ex)
       by_job (Migrate m b) (Orders cut c) h =
           let y : Actor = given {P = P} {A = A} shape x (Migrate m b) (Orders cut c) in
@@ -165,6 +155,7 @@ module _ (P A : Type 0) (shape : Shape) (images : Images) (t : Target P) (commit
           let y : Actor = given {P = P} {A = A} shape x (Replace old new) (Orders cut c) in
           kept (record { words = t.words; desk = Rattle.wb_desk.specs.Calls.reserved t.desk c (ReplaceOrder old new c) false }) y (Migrate Demote old) _ refl refl refl (λ i. refl) (owned_given P t.desk actors a x y ex k.owned c (ReplaceOrder old new c) known.is.orders h.1 refl) (parted_with (ReplaceOrder old new c) c h.1)
       by_job (Replace old new) chosen h = absurd h
+      by_job job chosen h = plain job (given shape x job chosen) _ refl refl refl (k.parted a x ex)
 
   module _ (job : Job) (plan : Plan) (xt : x.task ≡ Some (job, plan)) where
     abbrev After : Want → Got → Chosen P A → Type 0
@@ -193,11 +184,7 @@ module _ (P A : Type 0) (shape : Shape) (images : Images) (t : Target P) (commit
       where
         given_word : (j : Job) → Gives shape (standing P A shape images t commit devices actors n) x j (Cell step) got read chosen → got ≡ got_of (result_of t.words step)
         given_word (Read extent) g = g.1
-        given_word (Write extent content) g = g.1
-        given_word Flush g = g.1
-        given_word (Open mode) g = g.1
-        given_word (Migrate m b) g = g.1
-        given_word (Replace old new) g = g.1
+        given_word j g = g.1
 
         by : got ≡ got_of (result_of t.words step) → After (Cell step) got chosen
         by is = subst (λ (v : Got). After (Cell step) v chosen) (sym is) (cell_keeps P A shape images t commit devices actors n known f rule all_suited k a x ex job plan xt step e)
@@ -209,11 +196,7 @@ module _ (P A : Type 0) (shape : Shape) (images : Images) (t : Target P) (commit
       where
         given_begin : (j : Job) → Gives shape (standing P A shape images t commit devices actors n) x j (Desk (BeginCommit clean most)) got read chosen → DoesBegin most t.desk got chosen
         given_begin (Read extent) g = g.2
-        given_begin (Write extent content) g = g.2
-        given_begin Flush g = g.2
-        given_begin (Open mode) g = g.2
-        given_begin (Migrate m b) g = g.2
-        given_begin (Replace old new) g = g.2
+        given_begin j g = g.2
     step_keeps (Desk (Map bl c)) got read chosen e g = by job xt g
       where
         by : (j : Job) → x.task ≡ Some (j, plan) → Gives shape (standing P A shape images t commit devices actors n) x j (Desk (Map bl c)) got read chosen → After (Desk (Map bl c)) got chosen
@@ -223,11 +206,7 @@ module _ (P A : Type 0) (shape : Shape) (images : Images) (t : Target P) (commit
             by_got Done (Asks new) d = map_keeps P A shape images t commit devices actors n known f rule all_suited k a x ex m b plan jt bl c new e d.0 d.1 d.2
             by_got (GotRefused refusal) Plain d = map_refused_keeps P A shape images t commit devices actors n known f rule all_suited k a x ex m b plan jt bl c refusal e
             by_got got chosen d = absurd d
-        by (Read extent) jt g = absurd g
-        by (Write extent content) jt g = absurd g
-        by Flush jt g = absurd g
-        by (Open mode) jt g = absurd g
-        by (Replace old new) jt g = absurd g
+        by j jt g = absurd g
     step_keeps (Desk (Unmap bl)) got read chosen e g = by job xt g
       where
         by : (j : Job) → x.task ≡ Some (j, plan) → Gives shape (standing P A shape images t commit devices actors n) x j (Desk (Unmap bl)) got read chosen → After (Desk (Unmap bl)) got chosen
@@ -236,11 +215,7 @@ module _ (P A : Type 0) (shape : Shape) (images : Images) (t : Target P) (commit
             by_chosen : (chosen : Chosen P A) → DoesUnmap bl t.desk chosen → After (Desk (Unmap bl)) Done chosen
             by_chosen (Asks new) d = unmap_keeps P A shape images t commit devices actors n known f rule all_suited k a x ex m b plan jt bl new e d
             by_chosen chosen d = absurd d
-        by (Read extent) jt g = absurd g
-        by (Write extent content) jt g = absurd g
-        by Flush jt g = absurd g
-        by (Open mode) jt g = absurd g
-        by (Replace old new) jt g = absurd g
+        by j jt g = absurd g
     step_keeps (Desk (ReleaseOrder bl)) got read chosen e g = by job xt g
       where
         by : (j : Job) → x.task ≡ Some (j, plan) → Gives shape (standing P A shape images t commit devices actors n) x j (Desk (ReleaseOrder bl)) got read chosen → After (Desk (ReleaseOrder bl)) got chosen
@@ -254,10 +229,7 @@ module _ (P A : Type 0) (shape : Shape) (images : Images) (t : Target P) (commit
             by_chosen : (chosen : Chosen P A) → DoesRelease x.awaiting bl t.desk chosen → After (Desk (ReleaseOrder bl)) Done chosen
             by_chosen (Asks new) d = flush_release_keeps P A shape images t commit devices actors n known f rule all_suited k a x ex plan jt bl new e d
             by_chosen chosen d = absurd d
-        by (Read extent) jt g = absurd g
-        by (Write extent content) jt g = absurd g
-        by (Open mode) jt g = absurd g
-        by (Replace old new) jt g = absurd g
+        by j jt g = absurd g
 
     -- a step on a device that fails
     pub fault_keeps : (step : DeviceStep) (chosen : Chosen P A) → Device step ≡ want plan → After (Device step) Fault chosen

@@ -38,13 +38,11 @@ use Rattle.wb_runs.specs.Clerk.{Notes, put, begun}
 use Rattle.wb_runs.proofs.Desks.{reserved_stands}
 use Rattle.wb_runs.proofs.Images.{later_of}
 use Rattle.wb_runs.proofs.Metadata.{unknowing, kept_readable}
-use Rattle.wb_link.specs.World.{Shared, after_all, Mapped as MappedThere}
+use Rattle.wb_link.specs.World.{Shared, after_all, Mapped as MappedThere, Names as NamesThere}
 use Rattle.wb_contents.specs.Volume.{Locations}
-use Rattle.wb_link.specs.World.{Names as NamesThere}
 use Rattle.std.proofs.lemmas.Bool.{eq-eqb}
 use Rattle.wb_simulation.specs.Carried.{is_at, order_there, replacement_there, IsOrderFor}
-use Rattle.wb_simulation.specs.Migrating.{order_of}
-use Rattle.wb_simulation.specs.Migrating.{IsUngiven, MayBeGiven, MayBeKept, given_by, migrates}
+use Rattle.wb_simulation.specs.Migrating.{order_of, IsUngiven, MayBeGiven, MayBeKept, given_by, migrates}
 use Rattle.wb_simulation.specs.Noted.{told}
 use Rattle.wb_simulation.specs.Noting.{NotesAgree}
 use Rattle.wb_simulation.specs.Telling.{Resumes}
@@ -54,9 +52,9 @@ use Rattle.wb_simulation.proofs.Noted.{notes_followed}
 use Rattle.wb_simulation.proofs.Opening.{images_followed}
 use Rattle.wb_headline.specs.Desks.{live_orders, block_there, DeskAgrees}
 use Rattle.wb_simulation.proofs.Orders.{cache_there}
-use Rattle.wb_headline.proofs.Allowed.{there}
+use Rattle.wb_headline.proofs.Showing.{there}
 use Rattle.wb_headline.proofs.Desking.{desk_stays, desk_reserves}
-use Rattle.wb_headline.proofs.Following.{size, most, Sized, Followed, Goes}
+use Rattle.wb_headline.proofs.Following.{size, most, Followed, Goes}
 use Rattle.wb_headline.proofs.Migrations.{any_step, any_fault}
 use Rattle.wb_runs.proofs.Located.{stands_there, unmapped_there}
 use Rattle.wb_headline.proofs.Seeing.{live_here, named, orders_set, slot_there, slot_within, vacant_there}
@@ -67,8 +65,6 @@ use Rattle.wb_headline.proofs.Whole.{Whole, at_target, MigrationsGo}
 
 -- what an order names there it names at the desk
 named_there : (m : Locations) (k : ℕ) (o : Order) (v : ℕ) → NamesThere (order_there m k o) v → IsNamed o v
-named_there m k (PromoteOrder x c) v (inl e) = inl e
-named_there m k (PromoteOrder x c) v (inr e) = absurd (let bad : None ≡ Some v = e in cc)
 named_there m k (ReplaceOrder old x c) v n = by (is_at (m old.0) k) n
   where
     by : (t : Bool) → NamesThere (replacement_there t old.0 x.0 k) v → IsNamed (ReplaceOrder old x c) v
@@ -76,10 +72,8 @@ named_there m k (ReplaceOrder old x c) v n = by (is_at (m old.0) k) n
     by true (inr e) = inr (let both : Some x.0 ≡ Some v = e in cc)
     by false (inl e) = inr e
     by false (inr e) = absurd (let bad : None ≡ Some v = e in cc)
-named_there m k (DemoteOrder x) v (inl e) = inl e
-named_there m k (DemoteOrder x) v (inr e) = absurd (let bad : None ≡ Some v = e in cc)
-named_there m k (CleanOrder x) v (inl e) = inl e
-named_there m k (CleanOrder x) v (inr e) = absurd (let bad : None ≡ Some v = e in cc)
+named_there m k o v (inl e) = inl e
+named_there m k o v (inr e) = absurd (let bad : None ≡ Some v = e in cc)
 
 -- a migration's own order is of its block alone
 plain_named : (m : Migration) (block : OBlock) (c : CBlock) (v : ℕ) → NamesThere (order_of block c None) v → IsNamed (order_for m block) v
@@ -170,9 +164,6 @@ module _ (P A : Type 0) (shape : Shape) (t : Target P) (commit : Option RunningC
     small : (c : ℕ) → c < length t.desk.orders.slots → c < 2 ^ 32
     small c l = let many = kept.slots in let limit = t.desk.geometry.within.cache_to in omega (arith, l, many, limit)
 
-    sized : (y : Actor) → Sized P A shape (slice_set actors a y) n'
-    sized y = record { actors_many = length-set actors a y ∙ g.sized.actors_many; doings_many = length-set n.doings a (Some (begun n begun_job)) ∙ g.sized.doings_many; sectors = g.sized.sectors }
-
     -- it is noted to be at its job, while nobody is told of it there
     notes_then : (turn : Turn) (orders' : List (Option Order)) (y : Actor) (h : FollowsBy turn Resumes (size P A shape) (most P A shape) a g.site.world t.words t.desk.space.committing orders' devices (slice_set actors a y)) → y.task ≡ Some (begun_job, begun_plan) →
         NotesAgree (size P A shape) n' (after_all g.site.world h.records) (told g.notes h.records)
@@ -195,8 +186,8 @@ module _ (P A : Type 0) (shape : Shape) (t : Target P) (commit : Option RunningC
         let s' = (after_all g.site.world h.records).shared in
         let turned = images_stay migration c.0 s s' h.turned in
         let readable = kept_readable shape.geometry b.goes.images devices.metadata P A (Stands t) commit b.goes.known in
-        leads_on P A shape b.goes.images t commit devices actors n b.goes.known g a x ex (given_by migration c.0) Resumes (record { words = t.words; desk = desk' }) commit devices (slice_set actors a y) n' b.goes.images (slice_set slots c.0 (Some o)) h tt
-        (notes_then (given_by migration c.0) (slice_set slots c.0 (Some o)) y h refl) (sized y) (reserved_stands P shape.geometry b.goes.images t.desk commit devices.metadata c o b.goes.known may)
+        leads_on P A shape b.goes.images t commit devices actors n b.goes.known g a x ex (given_by migration c.0) Resumes (record { words = t.words; desk = desk' }) commit devices y n' b.goes.images (slice_set slots c.0 (Some o)) h tt
+        (notes_then (given_by migration c.0) (slice_set slots c.0 (Some o)) y h refl) (length-set n.doings a (Some (begun n begun_job))) refl (reserved_stands P shape.geometry b.goes.images t.desk commit devices.metadata c o b.goes.known may)
         (sym (orders_set t.desk.orders.slots c.0 (Some (record { order = o; sectors = sectors_asked t.desk.geometry o; threshold = t.desk.threshold; number = t.desk.orders.given; waits = false })))) (desk_then s' h.desk)
         (images_followed.stay shape.geometry b.goes.images.committed (later_of b.goes.images) devices.metadata devices.metadata s s' g.phase.images_agree turned readable.read)
         (λ state e. turned.1 ∙ g.phase.running state e)
@@ -212,7 +203,7 @@ module _ (P A : Type 0) (shape : Shape) (t : Target P) (commit : Option RunningC
         let k = kept_there l.cache here in
         let h = migrations_followed.again (size P A shape) (most P A shape) t.words t.desk.space.committing slots devices actors a x migration block l.cache next o cut g.site.world ex xt holds some (small l.cache.0 (slot_within t.desk.orders.slots l.cache.0 l.live l.there)) cuts here of k.0 has
         (λ d z ez i. b.keeping.owned.one d a z x o ez ex i had) k.1 g.phase.agrees in
-        stays_on P A shape b.goes.images t commit devices actors n b.goes.known g a x ex Resumes t.words devices y n' h tt (notes_then Stays slots y h refl) (sized y) refl
+        stays_on P A shape b.goes.images t commit devices actors n b.goes.known g a x ex Resumes t.words devices y n' h tt (notes_then Stays slots y h refl) (length-set n.doings a (Some (begun n begun_job))) refl refl
 
   -- ---- any start
 

@@ -1,98 +1,197 @@
--- Whatever comes of a promotion, a demotion or a write-back is followed.
-use Rattle.std.proofs.Common.{◌≡◌, ◌≢◌, ◌∙◌, ◌≤◌, ◌+◌, if◌then◌else◌, false, inl, inr, ℕ, Bool, true, List, [], ◌∷◌, ◌++◌, Option, Some, None, refl, sym, ap, subst, arith, length, slice_get, slice_set, Contains}
-use Rattle.std.proofs.lemmas.List.Elements.{Contains-append_left}
-use Rattle.std.proofs.lemmas.Option.{slice_get_within}
+-- Whatever comes of a promotion, a demotion or a write-back is followed: on the words, on a device, at the desk, and its answer.
+use Rattle.std.proofs.Common.{◌≡◌, ◌∙◌, ◌<◌, ◌≤◌, ◌+◌, ℕ, Bool, List, [], Option, Some, None, refl, sym, subst, length, slice_get, slice_set, ◌≢◌, if◌then◌else◌, false, inl, inr, true, ◌∷◌, ◌++◌, ap, arith, Contains}
+use Rattle.std.proofs.lemmas.List.{length-set}
 use Rattle.wb_types.specs.declared.extent.Extent.{Extent}
 use Rattle.wb_types.specs.declared.mode.Dev.{Dev}
-use Rattle.wb_types.specs.declared.mode.Dev.TheVariants.{Metadata, Cache, Origin}
 use Rattle.wb_types.specs.declared.number.OBlock.{OBlock}
 use Rattle.wb_types.specs.declared.number.CBlock.{CBlock}
+use Rattle.wb_types.specs.declared.refusal.Refusal.{Refusal}
 use Rattle.wb_disk.specs.Device.{Content as Bytes, History}
-use Rattle.wb_disk.specs.Crash.{Choice}
-use Rattle.wb_disk.specs.Failing.{lands}
-use Rattle.wb_contents.specs.Volume.{changed}
-use Rattle.wb_words.specs.SharedWords.{word_at, place_in}
-use Rattle.wb_words.specs.declared.word.Access.TheVariants.{Owned as Own}
-use Rattle.wb_words.specs.declared.word.Word.TheVariants.{Cell as LockWord, Seal as SealWord, Number, Count as CountWord, Fail}
-use Rattle.wb_words.specs.declared.card.Hold.TheVariants.{Held}
+use Rattle.wb_disk.specs.Extents.{written_each, written_where}
+use Rattle.wb_words.specs.Rule.{LockRule}
+use Rattle.wb_words.specs.SharedWords.{Words, word_at, place_in}
+use Rattle.wb_words.specs.Effects.{result_of, words_after}
 use Rattle.wb_words.specs.declared.step.CellStep.{CellStep}
-use Rattle.wb_words.specs.declared.step.CellStep.TheVariants.{Look, Take, Release, Seal, Finish, Count, SetFailed, SetSuspended}
 use Rattle.wb_policy.specs.declared.order.Order.{Order}
-use Rattle.wb_policy.specs.declared.order.Order.TheVariants.{Replace as ReplaceOrder, Demote as DemoteOrder}
-use Rattle.wb_space.specs.declared.block.Block.TheVariants.{Mapped, Reserved}
-use Rattle.wb_tree.specs.Mapping.{Mapping}
-use Rattle.wb_tree.specs.Edits.{IsChangedAt}
-use Rattle.wb_orders.specs.Orders.{AreOrders}
-use Rattle.wb_desk.specs.Desks.{DeskState, DeskInvariant, holdings}
-use Rattle.wb_desk.specs.Calls.{released}
-use Rattle.wb_desk.specs.Entries.{MayMap, mapped, unmapped, entry_of}
-use Rattle.wb_desk.proofs.Entering.{entrance}
-use Rattle.wb_desk.proofs.Leaving.{mapped_state}
-use Rattle.wb_stage.specs.Asking.{DidRelease, DidUnmap, IsGivenUp, is_of, order_of as order_found}
-use Rattle.wb_tasks.specs.Tables.{BlockRange, Migrating, OnBlock}
-use Rattle.wb_tasks.specs.Plan.{Plan, want, table}
+use Rattle.wb_tasks.specs.Plan.{Plan, want, after, got_of, table}
 use Rattle.wb_tasks.specs.Ready.{Suits, HoldsBlocks, IsOwnStep}
 use Rattle.wb_tasks.specs.declared.step.Answer.{Answer}
-use Rattle.wb_tasks.specs.declared.step.DeviceStep.TheVariants.{Read as ReadExtent, Write as WriteExtent, Sync, ReadMetadata, WriteNode, WriteRoot}
-use Rattle.wb_tasks.specs.declared.step.DeskStep.TheVariants.{Map, Unmap, ReleaseOrder, BeginCommit, EndCommit}
+use Rattle.wb_tasks.specs.declared.step.Answer.TheVariants.{Done as Finished, Refused as Refuses}
+use Rattle.wb_tasks.specs.declared.step.DeviceStep.{DeviceStep}
+use Rattle.wb_tasks.specs.declared.step.DeviceStep.TheVariants.{Read as ReadExtent, Write as WriteExtent}
+use Rattle.wb_tasks.specs.declared.step.DeskStep.TheVariants.{Map, Unmap, ReleaseOrder}
 use Rattle.wb_tasks.specs.declared.step.Migration.{Migration}
-use Rattle.wb_tasks.specs.declared.step.Migration.TheVariants.{Demote}
-use Rattle.wb_tasks.specs.declared.step.Want.{Want}
 use Rattle.wb_tasks.specs.declared.step.Want.TheVariants.{Cell, Device, Desk, End}
 use Rattle.wb_tasks.specs.declared.step.Got.{Got}
 use Rattle.wb_tasks.specs.declared.step.Got.TheVariants.{Done, Fault, Refused as GotRefused}
 use Rattle.wb_devices.specs.declared.devices.Devices.{Devices}
 use Rattle.wb_devices.specs.declared.running.RunningCommit.{RunningCommit}
-use Rattle.wb_refines.specs.Translation.{number_of}
+use Rattle.wb_devices.specs.Moving.{device_in}
 use Rattle.wb_runs.specs.declared.job.Job.{Job}
 use Rattle.wb_runs.specs.declared.job.Job.TheVariants.{Migrate}
-use Rattle.wb_runs.specs.States.{Shape, State, Actor, Target, Stands}
-use Rattle.wb_runs.specs.Happenings.{Chosen, Plain, Asks, Gives, Falters, MayFailAt, DoesMap, DoesUnmap, DoesRelease}
-use Rattle.wb_runs.specs.Effects.{actor_then, dropped, replacing}
-use Rattle.wb_runs.specs.Headline.{place_of}
-use Rattle.wb_runs.specs.Holding.{TaskSuits}
-use Rattle.wb_runs.specs.Inside.{StepInside}
-use Rattle.wb_runs.specs.Clerk.{Notes, Doing, noted_step}
-use Rattle.wb_runs.proofs.Desks.{mapped_stands, unmapped_stands, released_for}
-use Rattle.wb_runs.proofs.Images.{later_of}
-use Rattle.wb_runs.proofs.InsideRuns.{PlanInside, want_inside}
-use Rattle.wb_runs.proofs.Metadata.{AtDesk, unknowing, kept_readable}
-use Rattle.wb_link.specs.World.{after_all}
-use Rattle.wb_simulation.specs.Migrating.{SeesWhere}
-use Rattle.wb_simulation.specs.Steps.{IsOutside}
-use Rattle.wb_simulation.specs.Telling.{Carries}
-use Rattle.wb_simulation.specs.Worlds.{Agrees, Maps, Unmaps, GivesUp, FollowsBy}
+use Rattle.wb_runs.specs.States.{Shape, Actor, Target, Stands, with_device, State}
+use Rattle.wb_runs.specs.Effects.{actor_then, awaiting_then, contents_at, orders_then, dropped, replacing}
+use Rattle.wb_runs.specs.Holding.{cards_of, AllSuited, TaskSuits}
+use Rattle.wb_runs.specs.Clerk.{Notes, Doing, noted_step, device_note, finished_note, failing, put}
+use Rattle.wb_runs.proofs.Images.{Images, later_of}
+use Rattle.wb_runs.proofs.Metadata.{MetadataKept, AtDesk, unknowing, kept_readable}
+use Rattle.wb_link.specs.World.{after_all, Shared, removed}
+use Rattle.wb_simulation.specs.Noting.{NotesAgree}
+use Rattle.wb_simulation.specs.Noted.{told}
+use Rattle.wb_simulation.specs.Telling.{Carries, Rests}
+use Rattle.wb_simulation.specs.Worlds.{Turn, Stays, FollowsBy, Follows, Agrees, Maps, Unmaps, GivesUp, TurnedTo}
+use Rattle.wb_simulation.specs.Laws.{went, after_step}
+use Rattle.wb_simulation.specs.Migrating.{SeesWhere, EndsOrder}
+use Rattle.wb_simulation.proofs.Noted.{notes_followed}
 use Rattle.wb_simulation.proofs.Migrations.{migrations_followed}
+use Rattle.std.proofs.lemmas.List.Elements.{Contains-append_left}
+use Rattle.std.proofs.lemmas.Option.{slice_get_within}
+use Rattle.wb_types.specs.declared.mode.Dev.TheVariants.{Metadata, Cache, Origin}
+use Rattle.wb_disk.specs.Crash.{Choice}
+use Rattle.wb_disk.specs.Failing.{lands}
+use Rattle.wb_contents.specs.Volume.{changed, Locations}
+use Rattle.wb_words.specs.declared.word.Access.TheVariants.{Owned as Own}
+use Rattle.wb_words.specs.declared.word.Word.TheVariants.{Seal as SealWord, Number}
+use Rattle.wb_words.specs.declared.card.Hold.TheVariants.{Held}
+use Rattle.wb_words.specs.declared.step.CellStep.TheVariants.{Look, Seal}
+use Rattle.wb_policy.specs.declared.order.Order.TheVariants.{Replace as ReplaceOrder, Demote as DemoteOrder}
+use Rattle.wb_space.specs.declared.block.Block.TheVariants.{Mapped, Reserved, Quarantined}
+use Rattle.wb_tree.specs.Mapping.{Mapping}
+use Rattle.wb_tree.specs.Edits.{IsChangedAt}
+use Rattle.wb_orders.specs.Orders.{AreOrders, Orders, without_order}
+use Rattle.wb_desk.specs.Desks.{DeskState, DeskInvariant, holdings}
+use Rattle.wb_desk.specs.Calls.{released}
+use Rattle.wb_desk.specs.Entries.{MayMap, mapped, unmapped, entry_of, Removes, is_replacement}
+use Rattle.wb_desk.proofs.Entering.{entrance}
+use Rattle.wb_desk.proofs.Leaving.{mapped_state}
+use Rattle.wb_stage.specs.Asking.{DidRelease, DidUnmap, IsGivenUp, is_of, order_of as order_found}
+use Rattle.wb_tasks.specs.Tables.{BlockRange, Migrating, OnBlock}
+use Rattle.wb_tasks.specs.declared.step.Migration.TheVariants.{Demote}
+use Rattle.wb_tasks.specs.declared.step.Want.{Want}
+use Rattle.wb_refines.specs.Translation.{number_of}
+use Rattle.wb_runs.specs.Happenings.{Chosen, Plain, Asks, Gives, Falters, MayFailAt, DoesMap, DoesUnmap, DoesRelease}
+use Rattle.wb_runs.specs.Headline.{place_of}
+use Rattle.wb_runs.specs.Inside.{StepInside}
+use Rattle.wb_runs.proofs.Desks.{mapped_stands, unmapped_stands, released_for}
+use Rattle.wb_runs.proofs.InsideRuns.{PlanInside, want_inside}
+use Rattle.wb_simulation.specs.Steps.{IsOutside}
+use Rattle.wb_simulation.proofs.Moving.{same_device}
 use Rattle.wb_simulation.proofs.Opening.{images_followed}
-use Rattle.wb_headline.specs.Desks.{orders_of, live_orders, DeskAgrees}
-use Rattle.wb_contents.specs.Volume.{Locations}
 use Rattle.wb_policy.specs.Law.{IsMappedAt}
-use Rattle.wb_link.specs.World.{Shared, removed}
-use Rattle.wb_orders.specs.Orders.{Orders, without_order}
-use Rattle.wb_desk.specs.Entries.{Removes, is_replacement}
-use Rattle.wb_space.specs.declared.block.Block.TheVariants.{Quarantined}
 use Rattle.wb_runs.proofs.Owning.{Owned}
 use Rattle.wb_simulation.specs.Carried.{IsOrderFor}
-use Rattle.wb_simulation.specs.Migrating.{EndsOrder}
-use Rattle.wb_simulation.specs.Worlds.{Turn, Stays, TurnedTo}
-use Rattle.wb_headline.specs.Desks.{block_there}
-use Rattle.wb_headline.proofs.Leaving.{keeps_so, leaves_from, left, none_waits, of_order, past, stands_so}
-use Rattle.wb_headline.proofs.Owned.{at_there, live_at}
-use Rattle.wb_headline.proofs.Carried.{own, looks_seal, looks_number}
-use Rattle.wb_headline.proofs.Carrying.{cells, read_done, read_fails, write_done, write_fails, map_refused, answers, carried_notes, sized_plain}
-use Rattle.wb_headline.proofs.Desking.{desk_maps, desk_releases, desk_unmaps}
-use Rattle.wb_headline.proofs.Following.{size, most, Followed, Goes}
-use Rattle.wb_headline.proofs.Owned.{for_block, only_held}
-use Rattle.wb_headline.proofs.Finding.{only_of}
 use Rattle.wb_runs.proofs.Located.{stands_alone, unmapped_there}
+use Rattle.wb_headline.specs.Desks.{live_orders, orders_of, DeskAgrees, block_there}
+use Rattle.wb_headline.proofs.Following.{size, most, Followed, Goes}
+use Rattle.wb_headline.proofs.Targets.{standing, actor_is, beside, failing_same, metadata_same, noted_within, stays_on, leads_on}
+use Rattle.wb_headline.proofs.Orders.{keeps_so, leaves_from, left, none_waits, of_order, past, stands_so, at_there, live_at, for_block, only_held, only_of}
+use Rattle.wb_headline.proofs.Carried.{own, looks_seal, looks_number}
+use Rattle.wb_headline.proofs.Desking.{desk_maps, desk_releases, desk_unmaps}
 use Rattle.wb_headline.proofs.Seeing.{named, orders_set, seal_tells_order, slot_within}
-use Rattle.wb_headline.proofs.Targets.{standing, actor_is, leads_on}
 use Rattle.wb_headline.proofs.Whole.{Whole, Stepped_to, Faulted_to, at_target, held_tells}
 
-same_device : (device : Dev) (devices : Devices (List History)) → HoldsBlocks device → Rattle.wb_runs.specs.States.with_device device devices (Rattle.wb_devices.specs.Moving.device_in device devices) ≡ devices
-same_device Cache devices h = refl
-same_device Origin devices h = refl
-same_device Metadata devices h = absurd h
+-- a migration that is answered leaves its actor the orders that it has
+answered_still : (orders awaiting : List Order) (migration : Migration) (block : OBlock) (answer : Answer) → (orders_then orders awaiting (Migrate migration block) (End answer) Done ≡ orders) × (awaiting_then orders awaiting (Migrate migration block) (End answer) Done ≡ awaiting)
+answered_still orders awaiting migration block Finished = (refl, refl)
+answered_still orders awaiting migration block (Refuses refusal) = (refl, refl)
+
+module _ (P A : Type 0) (shape : Shape) (images : Images) (t : Target P) (commit : Option RunningCommit) (devices : Devices (List History)) (actors : List Actor) (n : Notes) (known : MetadataKept {P = P} {A = A} shape.geometry images (Stands t) commit devices.metadata)
+    (f : Followed P A shape images (standing P A shape images t commit devices actors n) n) (a : ℕ) (x : Actor) (ex : slice_get actors a ≡ Some x) where
+  abbrev live_now : List (Option Order)
+  live_now = live_orders t.desk
+
+  noted_less : a < length n.doings
+  noted_less = noted_within P A shape images t commit devices actors n known f a x ex
+
+  -- a migration's steps are not noted
+  pub carried_notes : (turn : Turn) (words' : Words) (committing' : Bool) (orders' : List (Option Order)) (devices' : Devices (List History)) (actors' : List Actor) (g : FollowsBy turn Carries (size P A shape) (most P A shape) a f.site.world words' committing' orders' devices' actors') →
+      NotesAgree (size P A shape) n (after_all f.site.world g.records) (told f.notes g.records)
+  carried_notes turn words' committing' orders' devices' actors' g =
+      let b = beside P A shape images t commit devices actors n known f a x ex in
+      notes_followed.carries turn (size P A shape) (most P A shape) a f.site.world words' committing' orders' devices' actors' g b.0 n f.notes b.1 noted_less f.notes_agree
+
+  module _ (migration : Migration) (block : OBlock) (plan : Plan) (xt : x.task ≡ Some (Migrate migration block, plan)) (suits : Suits shape.geometry.origin_blocks plan x.card) (doing : Doing) (noted : slice_get n.doings a ≡ Some (Some doing)) (job_is : doing.job ≡ Migrate migration block) where
+    abbrev migrating_job : Job
+    migrating_job = Migrate migration block
+
+    -- on the shared words
+    pub cells : LockRule shape.geometry.origin_blocks t.words (cards_of actors) → (step : CellStep) → Cell step ≡ want plan → SeesWhere t.words live_now f.site.world.shared.mapping migration block step →
+        Goes P A shape (record { devices = devices; commit = commit; phase = Stands (record { words = words_after t.words step; desk = t.desk }); actors = slice_set actors a (actor_then {P = P} {A = A} shape (Stands t) devices x (Cell step) (got_of (result_of t.words step))) }) n
+    cells rule step next sees =
+        let y = went t.words migrating_job plan step x in
+        let g = migrations_followed.cells (size P A shape) (most P A shape) shape.geometry.origin_blocks t.words t.desk.space.committing live_now devices actors a x migration block plan step f.site.world rule ex xt suits (sym next) sees f.phase.agrees in
+        subst (λ (y : Actor). Goes P A shape (record { devices = devices; commit = commit; phase = Stands (record { words = words_after t.words step; desk = t.desk }); actors = slice_set actors a y }) n) (sym (actor_is P A shape (Stands t) devices x migrating_job plan (Cell step) (got_of (result_of t.words step)) xt))
+        (stays_on P A shape images t commit devices actors n known f a x ex Carries (words_after t.words step) devices y n g tt
+        (carried_notes Stays (words_after t.words step) t.desk.space.committing live_now devices (slice_set actors a (went t.words migrating_job plan step x)) g) refl refl refl)
+
+    -- on a device
+    module _ (step : DeviceStep) (got : Got) (contents : List Bytes) (devices' : Devices (List History)) (y : Actor) (is : actor_then {P = P} {A = A} shape (Stands t) devices x (Device step) got ≡ y)
+        (g : Follows Carries (size P A shape) (most P A shape) a f.site.world t.words t.desk.space.committing live_now devices' (slice_set actors a y)) where
+      on_device : devices'.metadata ≡ devices.metadata → Goes P A shape (record { devices = devices'; commit = commit; phase = Stands t; actors = slice_set actors a (actor_then {P = P} {A = A} shape (Stands t) devices x (Device step) got) }) (noted_step shape [] n a (Some (Some doing)) (Device step) got contents)
+      on_device same =
+          let mid = failing doing step got in
+          let e = failing_same doing step got in
+          let notes = notes_followed.redone (size P A shape) n (after_all f.site.world g.records) (told f.notes g.records) a doing mid (carried_notes Stays t.words t.desk.space.committing live_now devices' (slice_set actors a y) g) noted e.0 e.1 in
+          subst (λ (q : Job). Goes P A shape (record { devices = devices'; commit = commit; phase = Stands t; actors = slice_set actors a (actor_then {P = P} {A = A} shape (Stands t) devices x (Device step) got) }) (device_note shape (put n a (Some mid)) a mid q step got contents)) (sym job_is)
+          (subst (λ (v : Actor). Goes P A shape (record { devices = devices'; commit = commit; phase = Stands t; actors = slice_set actors a v }) (put n a (Some mid))) (sym is)
+          (stays_on P A shape images t commit devices actors n known f a x ex Carries t.words devices' y (put n a (Some mid)) g tt notes (length-set n.doings a (Some mid)) refl same))
+
+    pub read_done : (device : Dev) (e : Extent) (contents : List Bytes) → Device (ReadExtent device e) ≡ want plan → e.first + e.count ≤ length (device_in device devices) →
+        Goes P A shape (record { devices = devices; commit = commit; phase = Stands t; actors = slice_set actors a (actor_then {P = P} {A = A} shape (Stands t) devices x (Device (ReadExtent device e)) Done) }) (noted_step shape [] n a (Some (Some doing)) (Device (ReadExtent device e)) Done contents)
+    read_done device e contents next inside =
+        let y : Actor = record x { task = Some (migrating_job, after plan Done); buffer = contents_at (device_in device devices) e } in
+        on_device (ReadExtent device e) Done contents devices y (actor_is P A shape (Stands t) devices x migrating_job plan (Device (ReadExtent device e)) Done xt)
+        (migrations_followed.read_done (size P A shape) (most P A shape) shape.geometry.origin_blocks t.words t.desk.space.committing live_now devices actors a x migration block plan device e f.site.world ex xt suits (sym next) inside f.phase.agrees) refl
+
+    pub read_fails : (device : Dev) (e : Extent) (contents : List Bytes) → Device (ReadExtent device e) ≡ want plan →
+        Goes P A shape (record { devices = devices; commit = commit; phase = Stands t; actors = slice_set actors a (actor_then {P = P} {A = A} shape (Stands t) devices x (Device (ReadExtent device e)) Fault) }) (noted_step shape [] n a (Some (Some doing)) (Device (ReadExtent device e)) Fault contents)
+    read_fails device e contents next =
+        on_device (ReadExtent device e) Fault contents devices (after_step migrating_job plan Fault x) (actor_is P A shape (Stands t) devices x migrating_job plan (Device (ReadExtent device e)) Fault xt)
+        (migrations_followed.read_fails (size P A shape) (most P A shape) shape.geometry.origin_blocks t.words t.desk.space.committing live_now devices actors a x migration block plan device e f.site.world ex xt suits (sym next) f.phase.agrees) refl
+
+    pub write_done : LockRule shape.geometry.origin_blocks t.words (cards_of actors) → AllSuited shape.geometry.origin_blocks actors → (device : Dev) (e : Extent) (contents : List Bytes) → HoldsBlocks device → Device (WriteExtent device e) ≡ want plan → e.first + e.count ≤ length (device_in device devices) →
+        Goes P A shape (record { devices = with_device device devices (written_each (device_in device devices) e.first x.buffer); commit = commit; phase = Stands t; actors = slice_set actors a (actor_then {P = P} {A = A} shape (Stands t) devices x (Device (WriteExtent device e)) Done) }) (noted_step shape [] n a (Some (Some doing)) (Device (WriteExtent device e)) Done contents)
+    write_done rule all_suited device e contents holds next inside =
+        on_device (WriteExtent device e) Done contents (with_device device devices (written_each (device_in device devices) e.first x.buffer)) (after_step migrating_job plan Done x) (actor_is P A shape (Stands t) devices x migrating_job plan (Device (WriteExtent device e)) Done xt)
+        (migrations_followed.write_done (size P A shape) (most P A shape) shape.geometry.origin_blocks t.words t.desk.space.committing live_now devices actors a x migration block plan device e f.site.world rule all_suited ex xt suits (sym next) inside f.phase.agrees)
+        (metadata_same device devices (written_each (device_in device devices) e.first x.buffer) holds)
+
+    pub write_fails : LockRule shape.geometry.origin_blocks t.words (cards_of actors) → AllSuited shape.geometry.origin_blocks actors → (device : Dev) (e : Extent) (contents : List Bytes) (lands : ℕ → Bool) → HoldsBlocks device → Device (WriteExtent device e) ≡ want plan → e.first + e.count ≤ length (device_in device devices) →
+        Goes P A shape (record { devices = with_device device devices (written_where lands (device_in device devices) e.first x.buffer); commit = commit; phase = Stands t; actors = slice_set actors a (actor_then {P = P} {A = A} shape (Stands t) devices x (Device (WriteExtent device e)) Fault) }) (noted_step shape [] n a (Some (Some doing)) (Device (WriteExtent device e)) Fault contents)
+    write_fails rule all_suited device e contents lands holds next inside =
+        on_device (WriteExtent device e) Fault contents (with_device device devices (written_where lands (device_in device devices) e.first x.buffer)) (after_step migrating_job plan Fault x) (actor_is P A shape (Stands t) devices x migrating_job plan (Device (WriteExtent device e)) Fault xt)
+        (migrations_followed.write_fails (size P A shape) (most P A shape) shape.geometry.origin_blocks t.words t.desk.space.committing live_now devices actors a x migration block plan device e lands f.site.world rule all_suited ex xt suits (sym next) inside f.phase.agrees)
+        (metadata_same device devices (written_where lands (device_in device devices) e.first x.buffer) holds)
+
+    -- the desk has no memory for its entry
+    pub map_refused : (b : OBlock) (c : CBlock) (refusal : Refusal) → Desk (Map b c) ≡ want plan →
+        Goes P A shape (record { devices = devices; commit = commit; phase = Stands t; actors = slice_set actors a (actor_then {P = P} {A = A} shape (Stands t) devices x (Desk (Map b c)) (GotRefused refusal)) }) n
+    map_refused b c refusal next =
+        let y = after_step migrating_job plan (GotRefused refusal) x in
+        let g = migrations_followed.is_refused (size P A shape) (most P A shape) shape.geometry.origin_blocks t.words t.desk.space.committing live_now devices actors a x migration block b c plan refusal f.site.world ex xt suits (sym next) f.phase.agrees in
+        subst (λ (y : Actor). Goes P A shape (record { devices = devices; commit = commit; phase = Stands t; actors = slice_set actors a y }) n) (sym (actor_is P A shape (Stands t) devices x migrating_job plan (Desk (Map b c)) (GotRefused refusal) xt))
+        (stays_on P A shape images t commit devices actors n known f a x ex Carries t.words devices y n g tt
+        (carried_notes Stays t.words t.desk.space.committing live_now devices (slice_set actors a (after_step migrating_job plan (GotRefused refusal) x)) g) refl refl refl)
+
+    -- it is answered
+    pub answers : (answer : Answer) (shown contents : List Bytes) → End answer ≡ want plan →
+        Goes P A shape (record { devices = devices; commit = commit; phase = Stands t; actors = slice_set actors a (actor_then {P = P} {A = A} shape (Stands t) devices x (End answer) Done) }) (noted_step shape shown n a (Some (Some doing)) (End answer) Done contents)
+    answers answer shown contents next = by_answer answer next
+      where
+        y : Actor
+        y = record x { task = None }
+
+        rested : (v : Answer) → End v ≡ want plan → Goes P A shape (record { devices = devices; commit = commit; phase = Stands t; actors = slice_set actors a (actor_then {P = P} {A = A} shape (Stands t) devices x (End v) Done) }) (put n a None)
+        rested v e =
+            let g = migrations_followed.answers (size P A shape) (most P A shape) shape.geometry.origin_blocks t.words t.desk.space.committing live_now devices actors a x migration block plan v f.site.world ex xt suits (sym e) f.phase.agrees in
+            let b = beside P A shape images t commit devices actors n known f a x ex in
+            subst (λ (v' : Actor). Goes P A shape (record { devices = devices; commit = commit; phase = Stands t; actors = slice_set actors a v' }) (put n a None)) (sym (actor_is P A shape (Stands t) devices x migrating_job plan (End v) Done xt ∙ (λ i. record { task = None; card = x.card; orders = (answered_still x.orders x.awaiting migration block v).0 i; awaiting = (answered_still x.orders x.awaiting migration block v).1 i; buffer = x.buffer })))
+            (stays_on P A shape images t commit devices actors n known f a x ex Rests t.words devices (record x { task = None }) (put n a None) g tt
+            (notes_followed.rests Stays (size P A shape) (most P A shape) a f.site.world t.words t.desk.space.committing live_now devices (slice_set actors a (record x { task = None })) g b.0 n f.notes b.1 noted_less f.notes_agree) (length-set n.doings a None) refl refl)
+
+        by_answer : (v : Answer) → End v ≡ want plan → Goes P A shape (record { devices = devices; commit = commit; phase = Stands t; actors = slice_set actors a (actor_then {P = P} {A = A} shape (Stands t) devices x (End v) Done) }) (noted_step shape shown n a (Some (Some doing)) (End v) Done contents)
+        by_answer (Refuses refusal) e = rested (Refuses refusal) e
+        by_answer Finished e = subst (λ (q : Job). Goes P A shape (record { devices = devices; commit = commit; phase = Stands t; actors = slice_set actors a (actor_then {P = P} {A = A} shape (Stands t) devices x (End Finished) Done) }) (finished_note n a doing q shown)) (sym job_is) (rested Finished e)
 
 module _ (P A : Type 0) (shape : Shape) (t : Target P) (commit : Option RunningCommit) (devices : Devices (List History)) (actors : List Actor) (n : Notes) (b : Whole P A shape (at_target P A shape t commit devices actors) n) (a : ℕ) (x : Actor) (migration : Migration) (block : OBlock) (plan : Plan) (doing : Doing) (ex : slice_get actors a ≡ Some x) (xt : x.task ≡ Some (Migrate migration block, plan))
     (noted : slice_get n.doings a ≡ Some (Some doing)) (job_is : doing.job ≡ Migrate migration block) where
@@ -128,16 +227,7 @@ module _ (P A : Type 0) (shape : Shape) (t : Target P) (commit : Option RunningC
   sees : (step : CellStep) → Cell step ≡ want plan → SeesWhere t.words slots f.site.world.shared.mapping migration block step
   sees (Look (SealWord o)) e = seal_tells_order P t.desk kept slots (named P t.desk kept) t.words f.site.world.shared.mapping migration block (place_told (looks_seal (size P A shape) (most P A shape) shape.geometry.origin_blocks t.words t.desk.space.committing slots devices actors f.site.world agrees a x migration block plan ex xt suits o e) (λ place dirty q. absurd (let bad : Cell (Look (SealWord o)) ≡ Cell (Seal block place dirty) = e ∙ q in cc))) f.phase.desk.mapping
   sees (Look (Number o)) e = seal_tells_order P t.desk kept slots (named P t.desk kept) t.words f.site.world.shared.mapping migration block (place_told (looks_number (size P A shape) (most P A shape) shape.geometry.origin_blocks t.words t.desk.space.committing slots devices actors f.site.world agrees a x migration block plan ex xt suits o e) (λ place dirty q. absurd (let bad : Cell (Look (Number o)) ≡ Cell (Seal block place dirty) = e ∙ q in cc))) f.phase.desk.mapping
-  sees (Look Fail) e = tt
-  sees (Look (LockWord o)) e = tt
-  sees (Look (CountWord kind)) e = tt
-  sees (Take access o word) e = tt
-  sees (Release access o) e = tt
-  sees (Seal o place dirty) e = tt
-  sees (Finish o) e = tt
-  sees (Count kind) e = tt
-  sees SetFailed e = tt
-  sees SetSuspended e = tt
+  sees step e = tt
 
   inside : (next : Want) → next ≡ want plan → StepInside shape next
   inside next e = subst (λ (v : Want). StepInside shape v) (sym e) (want_inside shape plan (subst (λ (o : Option (Job × Plan)). PlanInside shape o) xt (b.inside.tasks a x ex)).1)
@@ -169,9 +259,8 @@ module _ (P A : Type 0) (shape : Shape) (t : Target P) (commit : Option RunningC
       let turned = stays g.turned in
       let readable = kept_readable shape.geometry b.goes.images devices.metadata P A (Stands t) commit b.goes.known in
       subst (λ (v : Actor). Goes P A shape (record { devices = devices; commit = commit; phase = Stands (record { words = t.words; desk = desk' }); actors = slice_set actors a v }) n) (sym is)
-      (leads_on P A shape b.goes.images t commit devices actors n b.goes.known f a x ex turn Carries (record { words = t.words; desk = desk' }) commit devices (slice_set actors a y) n b.goes.images orders' g tt
-      (carried_notes P A shape b.goes.images t commit devices actors n b.goes.known f a x ex turn t.words desk'.space.committing orders' devices (slice_set actors a y) g)
-      (sized_plain P A shape b.goes.images t commit devices actors n b.goes.known f a x ex y) known' same desk
+      (leads_on P A shape b.goes.images t commit devices actors n b.goes.known f a x ex turn Carries (record { words = t.words; desk = desk' }) commit devices y n b.goes.images orders' g tt
+      (carried_notes P A shape b.goes.images t commit devices actors n b.goes.known f a x ex turn t.words desk'.space.committing orders' devices (slice_set actors a y) g) refl refl known' same desk
       (images_followed.stay shape.geometry b.goes.images.committed (later_of b.goes.images) devices.metadata devices.metadata s s' f.phase.images_agree turned readable.read)
       (λ state e. turned.1 ∙ f.phase.running state e))
 
@@ -280,13 +369,8 @@ module _ (P A : Type 0) (shape : Shape) (t : Target P) (commit : Option RunningC
   any_step (Desk (ReleaseOrder bl)) got read chosen e g = subst (λ (v : Got). To (Desk (ReleaseOrder bl)) v read chosen) (sym g.1) (by_release bl read chosen e g.2)
   any_step (End answer) got read chosen e g = subst (λ (v : Got). To (End answer) v read chosen) (sym g.1) (subst (λ (c : Chosen P A). To (End answer) Done read c) (sym g.0.1)
       (answers P A shape b.goes.images t commit devices actors n b.goes.known f a x ex migration block plan xt suits doing noted job_is answer _ read e))
-  any_step (Device (Sync d)) got read chosen e g = absurd ((own_step (Device (Sync d)) e (λ v q. absurd (cc)) (λ ws o. o)).2)
-  any_step (Device (ReadMetadata k)) got read chosen e g = absurd ((own_step (Device (ReadMetadata k)) e (λ v q. absurd (cc)) (λ ws o. o)).2)
-  any_step (Device (WriteNode k)) got read chosen e g = absurd ((own_step (Device (WriteNode k)) e (λ v q. absurd (cc)) (λ ws o. o)).2)
-  any_step (Device WriteRoot) got read chosen e g = absurd ((own_step (Device WriteRoot) e (λ v q. absurd (cc)) (λ ws o. o)).2)
   any_step (Desk (Unmap bl)) got read chosen e g = subst (λ (v : Got). To (Desk (Unmap bl)) v read chosen) (sym g.1) (by_unmap bl read chosen e g.2)
-  any_step (Desk (BeginCommit clean m)) got read chosen e g = absurd ((own_step (Desk (BeginCommit clean m)) e (λ v q. absurd (cc)) (λ ws o. o)).2)
-  any_step (Desk EndCommit) got read chosen e g = absurd ((own_step (Desk EndCommit) e (λ v q. absurd (cc)) (λ ws o. o)).2)
+  any_step next got read chosen e g = absurd ((own_step next e (λ v q. absurd (cc)) (λ ws o. o)).2)
 
   room : (d : Dev) (ext : Extent) → HoldsBlocks d → StepInside shape (Device (WriteExtent d ext)) → ext.first + ext.count ≤ length (Rattle.wb_devices.specs.Moving.device_in d devices)
   room Cache ext h i = subst (λ (k : ℕ). ext.first + ext.count ≤ k) (sym b.inside.cache) i
@@ -303,10 +387,5 @@ module _ (P A : Type 0) (shape : Shape) (t : Target P) (commit : Option RunningC
       (read_fails P A shape b.goes.images t commit devices actors n b.goes.known f a x ex migration block plan xt suits doing noted job_is d ext read e))
   any_fault choice (Device (WriteExtent d ext)) read chosen e m g = subst (λ (c : Chosen P A). Fails choice (Device (WriteExtent d ext)) read c) (sym g.0)
       (write_fails P A shape b.goes.images t commit devices actors n b.goes.known f a x ex migration block plan xt suits doing noted job_is b.used.here b.used.suited d ext read (lands d choice) g.1 e (room d ext g.1 (inside (Device (WriteExtent d ext)) e)))
-  any_fault choice (Device (Sync d)) read chosen e m g = absurd ((own_step (Device (Sync d)) e (λ v q. absurd (cc)) (λ ws o. o)).2)
-  any_fault choice (Device (ReadMetadata k)) read chosen e m g = absurd ((own_step (Device (ReadMetadata k)) e (λ v q. absurd (cc)) (λ ws o. o)).2)
-  any_fault choice (Device (WriteNode k)) read chosen e m g = absurd ((own_step (Device (WriteNode k)) e (λ v q. absurd (cc)) (λ ws o. o)).2)
-  any_fault choice (Device WriteRoot) read chosen e m g = absurd ((own_step (Device WriteRoot) e (λ v q. absurd (cc)) (λ ws o. o)).2)
-  any_fault choice (Cell step) read chosen e m g = absurd m
-  any_fault choice (Desk step) read chosen e m g = absurd m
-  any_fault choice (End answer) read chosen e m g = absurd m
+  any_fault choice (Device step) read chosen e m g = absurd ((own_step (Device step) e (λ v q. absurd (cc)) (λ ws o. o)).2)
+  any_fault choice next read chosen e m g = absurd m

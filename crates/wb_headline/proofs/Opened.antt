@@ -1,5 +1,6 @@
--- An opening that is answered is followed.
-use Rattle.std.proofs.Common.{◌≡◌, ◌∙◌, ◌≤◌, ◌^◌, inl, inr, ℕ, true, false, List, Option, Some, None, refl, sym, ap, subst, arith, length, map, replicate, slice_get, slice_set, Contains}
+-- Whatever step an opening takes, done or failing, it is followed, and its answer; a target that it makes has seals that tell where it has each
+-- block, and no orders.
+use Rattle.std.proofs.Common.{◌≡◌, ◌∙◌, ◌≤◌, ◌^◌, inl, inr, ℕ, true, false, List, Option, Some, None, refl, sym, ap, subst, arith, length, map, replicate, slice_get, slice_set, Contains, ◌⊎◌, Bool, []}
 use Rattle.std.proofs.lemmas.List.{length-replicate, length-set, length-map}
 use Rattle.wb_types.proofs.Lists.{set_cases}
 use Rattle.wb_types.specs.declared.entry.Entry.{Entry}
@@ -7,7 +8,7 @@ use Rattle.wb_types.specs.declared.mode.Mode.{Mode}
 use Rattle.wb_types.specs.declared.number.OBlock.{OBlock}
 use Rattle.wb_types.specs.declared.mode.Mode.TheVariants.{Writeback}
 use Rattle.wb_types.specs.declared.refusal.Refusal.{Refusal}
-use Rattle.wb_disk.specs.Device.{Content as Bytes, History, newest, only, entries}
+use Rattle.wb_disk.specs.Device.{Content as Bytes, History, newest, only, entries, synced}
 use Rattle.wb_disk.proofs.Leaving.{read-left}
 use Rattle.wb_words.specs.SharedWords.{word_at, place_in}
 use Rattle.wb_contents.specs.Devices.{by_block}
@@ -18,40 +19,58 @@ use Rattle.wb_meta.specs.declared.read_steps.ReadSteps.{ReadSteps}
 use Rattle.wb_meta.specs.declared.read_steps.ReadSteps.TheVariants.{Done as AllRead}
 use Rattle.wb_meta.specs.declared.read_steps.State.{State as StoredThere}
 use Rattle.wb_policy.specs.declared.order.Order.{Order}
-use Rattle.wb_tasks.specs.Plan.{Plan}
+use Rattle.wb_tasks.specs.Plan.{Plan, want, first_step, device_of}
 use Rattle.wb_tasks.specs.declared.step.Answer.TheVariants.{Done as Finished, Refused as Refuses}
-use Rattle.wb_tasks.specs.declared.step.Want.TheVariants.{End}
+use Rattle.wb_tasks.specs.declared.step.Want.TheVariants.{End, Device}
 use Rattle.wb_tasks.specs.declared.step.Got.{Got}
 use Rattle.wb_devices.specs.declared.devices.Devices.{Devices}
 use Rattle.wb_devices.specs.declared.running.RunningCommit.{RunningCommit}
 use Rattle.wb_devices.specs.Committing.{is_committed}
 use Rattle.wb_stage.specs.Stages.{is_all_done}
-use Rattle.wb_refines.specs.Translation.{number_of}
+use Rattle.wb_refines.specs.Translation.{number_of as number_there}
 use Rattle.wb_runs.specs.declared.job.Job.{Job}
 use Rattle.wb_runs.specs.declared.job.Job.TheVariants.{Open}
-use Rattle.wb_runs.specs.States.{Shape, State, Actor, Stands, Gone, Opens, sector_count, cache_sector_count, block_size}
-use Rattle.wb_runs.specs.Effects.{actor_then, task_then, target_over}
-use Rattle.wb_runs.specs.Clerk.{Notes, begins, put}
-use Rattle.wb_runs.specs.Headline.{place_of, shown_by, ShowsAllowed}
+use Rattle.wb_runs.specs.States.{Shape, State, Actor, Stands, Gone, Opens, sector_count, cache_sector_count, block_size, OfReading, Phase}
+use Rattle.wb_runs.specs.Effects.{actor_then, task_then, target_over, device_done, device_failed, stepped, phase_opened, phase_then}
+use Rattle.wb_runs.specs.Clerk.{Notes, begins, put, Doing, noted_step}
+use Rattle.wb_runs.specs.Headline.{place_of, shown_by, ShowsAllowed, shown, shown_in}
 use Rattle.wb_runs.proofs.Images.{Images, later_of}
 use Rattle.wb_runs.proofs.Metadata.{MetadataKept, AtDesk, AtOpening, Quiet, Rooting as RootingKept, kept_readable, target_stands}
 use Rattle.wb_runs.proofs.Linking.{IsTask, AtPhase}
 use Rattle.wb_link.specs.World.{World, Shared, Actor as AbstractActor, resting as idle}
 use Rattle.wb_link.specs.Clerk.{opened as opened_notes}
-use Rattle.wb_link.specs.Openings.{Site, Gone as GoneThere, Opens as OpensThere, Learnt, Answering, opened_on}
+use Rattle.wb_link.specs.Openings.{Site, Gone as GoneThere, Opens as OpensThere, Learnt, Answering, opened_on, Stage, Settling, Caching, Basing, Looking, Rooting, Renewing}
 use Rattle.wb_simulation.specs.Opened.{located}
 use Rattle.wb_simulation.specs.Sites.{DevicesAgree, IsRunning}
 use Rattle.wb_simulation.specs.Worlds.{zeros, Agrees}
 use Rattle.wb_simulation.proofs.Noted.{notes_followed}
 use Rattle.wb_simulation.proofs.Opened.{opened_followed}
+use Rattle.wb_types.specs.declared.mode.Dev.TheVariants.{Metadata, Cache, Origin}
+use Rattle.wb_disk.specs.Crash.{Choice}
+use Rattle.wb_disk.specs.Failing.{lands, synced_where}
+use Rattle.wb_meta.specs.Steps.{DoesStep, coming_step}
+use Rattle.wb_tasks.specs.declared.step.Answer.{Answer}
+use Rattle.wb_tasks.specs.declared.step.DeviceStep.TheVariants.{Sync, ReadMetadata, WriteRoot}
+use Rattle.wb_tasks.specs.declared.step.Want.{Want}
+use Rattle.wb_tasks.specs.declared.step.Got.TheVariants.{Done, Fault}
+use Rattle.wb_runs.specs.Happenings.{Chosen, Plain, Cut, Orders, Begins, Reaches, Puts, Commits, Asks, Opened, Gives, Falters, MayFailAt, IsNextOf, DoesPut, DoesSync, FailsSync, FailsPut, LandedOr, sector_put, DoesOpen}
+use Rattle.wb_runs.proofs.Underway.{sync_does, sync_fails, put_fails}
+use Rattle.wb_types.specs.declared.number.CBlock.{CBlock}
+use Rattle.wb_runs.specs.Sealed.{number_of}
 use Rattle.wb_headline.specs.Desks.{block_there, live_orders}
 use Rattle.wb_headline.proofs.Events.{Reached, event_reaches}
 use Rattle.wb_headline.proofs.Unclean.{NeverClean, event_on}
-use Rattle.wb_headline.proofs.Following.{HasReadAt, IsOver, many, size, most, Followed, Goes}
+use Rattle.wb_headline.proofs.Following.{HasReadAt, IsOver, many, size, most, Followed, Goes, opening_at, AtStage}
 use Rattle.wb_headline.proofs.Arriving.{SameSectors, sized_so, rests, gone}
-use Rattle.wb_headline.proofs.Allowed.{shows_allowed, length-rising}
-use Rattle.wb_headline.proofs.Showing.{state_allowed}
+use Rattle.wb_headline.proofs.Showing.{shows_allowed, length-rising, state_allowed}
 use Rattle.wb_headline.proofs.Answering.{no_orders_live, opened_state, view_of, answer_of, answer_may, opened_site, answer_leads, shown_view}
+use Rattle.wb_headline.proofs.Opening.{settle_done, settle_fails, cache_done, cache_fails, origin_done, origin_fails, looks, look_fails, root_done, root_fails, renew_done, renew_fails}
+use Rattle.wb_headline.proofs.Keeping.{NoOrders, Keeping}
+use Rattle.wb_headline.proofs.Kept.{made_keeps, none_goes}
+
+same_number : (place : Option CBlock) → number_there place ≡ number_of place
+same_number None = refl
+same_number (Some c) = refl
 
 module _ (P A : Type 0) (shape : Shape) (images : Images) (devices : Devices (List History)) (commit : Option RunningCommit) (mode : Mode) (reading : Option (ReadSteps A)) (actors : List Actor) (n : Notes) where
   abbrev w : State P A
@@ -149,7 +168,7 @@ module _ (P A : Type 0) (shape : Shape) (images : Images) (devices : Devices (Li
           (opened_followed (size P A shape) (most P A shape) shape.geometry.origin_blocks shape.geometry.cache_blocks stored.root.clean tree i blocks_now f.site.world.shared devices (slice_set actors a y) mapping few rd.0.bare rd.0.same rd.0.unclean d.origin d.cache at_rest))
 
       -- the seals tell where the tree has each block
-      pub opened_tells : (block : OBlock) → number_of (place_in (word_at (target_over shape mode policy stored).words.seals block)) ≡ place_of tree block.0
+      pub opened_tells : (block : OBlock) → number_there (place_in (word_at (target_over shape mode policy stored).words.seals block)) ≡ place_of tree block.0
       opened_tells block = sym (agrees_now.words_agree.seals block).location ∙ ap (λ (l : ℕ → Option ℕ). l block.0) rd.0.same
 
       pub opened_goes : Goes P A shape stands_now (begins (length n.doings) shown_now)
@@ -186,3 +205,139 @@ module _ (P A : Type 0) (shape : Shape) (images : Images) (devices : Devices (Li
               };
             };
           }
+
+  module _ (known : MetadataKept {P = P} {A = A} shape.geometry images (Opens mode reading) commit devices.metadata) (f : Followed P A shape images w n) (alone : AtPhase {P = P} {A = A} (Opens mode reading) actors) (none : NoOrders actors) (a : ℕ) (x : Actor) (ex : slice_get actors a ≡ Some x) (opened_in : Mode) (doing : Doing) (job_is : doing.job ≡ Open opened_in)
+      (cache_size : length devices.cache ≡ cache_sector_count shape) (origin_size : length devices.origin ≡ sector_count shape) where
+    -- what a step leads to, and what it shows
+    abbrev Done_by : Job → List Bytes → Want → Got → List Bytes → Chosen P A → Type 0
+    Done_by job buffer next got read chosen = Goes P A shape (stepped shape w a x next got chosen (λ step. device_done job buffer step chosen))
+        (noted_step shape (shown shape (stepped shape w a x next got chosen (λ step. device_done job buffer step chosen))) n a (Some (Some doing)) next got read)
+
+    abbrev Failed_by : Choice → Job → List Bytes → Want → List Bytes → Chosen P A → Type 0
+    Failed_by choice job buffer next read chosen = Goes P A shape (stepped shape w a x next Fault chosen (λ step. device_failed (lands (device_of step) choice) job buffer step chosen))
+        (noted_step shape (shown shape (stepped shape w a x next Fault chosen (λ step. device_failed (lands (device_of step) choice) job buffer step chosen))) n a (Some (Some doing)) next Fault read)
+
+    module _ (total left : ℕ) (job : Job) (buffer : List Bytes) (got : Got) (read : List Bytes) (chosen : Chosen P A) where
+      by_stage : (stage : Stage) → f.site.phase ≡ OpensThere Writeback stage → HasReadAt stage reading commit f.phase.later → x.task ≡ Some (Open opened_in, opening_at total left stage) → Gives shape w x (Open opened_in) (want (opening_at total left stage)) got read chosen → Done_by job buffer (want (opening_at total left stage)) got read chosen
+      by_stage Settling ph rd xt g = subst (λ (v : Got). Done_by job buffer (Device (Sync Metadata)) v read chosen) (sym g.1)
+          (settle_done P A shape images devices commit mode reading actors n known f alone a x ex opened_in [] doing job_is total left ph rd xt read chosen g.2)
+      by_stage Caching ph rd xt g = subst (λ (v : Got). Done_by job buffer (Device (Sync Cache)) v read chosen) (sym g.1)
+          (cache_done P A shape images devices commit mode reading actors n known f alone a x ex opened_in [] doing job_is total left ph rd xt read chosen)
+      by_stage Basing ph rd xt g = subst (λ (v : Got). Done_by job buffer (Device (Sync Origin)) v read chosen) (sym g.1)
+          (origin_done P A shape images devices commit mode reading actors n known f alone a x ex opened_in [] doing job_is total left ph rd xt read chosen)
+      by_stage Looking ph rd xt g = by_chosen chosen (subst (λ (c : Option RunningCommit). Rattle.wb_runs.specs.Happenings.DoesRead shape.geometry left rd.0.0 devices.metadata c got chosen) rd.1
+          (subst (λ (r : Option (ReadSteps A)). OfReading {P = P} {A = A} (Opens mode r) (λ mode was. Rattle.wb_runs.specs.Happenings.DoesRead shape.geometry left was devices.metadata commit got chosen)) rd.0.1 g.2))
+        where
+          by_chosen : (c : Chosen P A) → Rattle.wb_runs.specs.Happenings.DoesRead shape.geometry left rd.0.0 devices.metadata None got c → Done_by job buffer (Device (ReadMetadata left)) got read c
+          by_chosen (Reaches r c) d = looks P A shape images devices commit mode reading actors n known f alone a x ex opened_in [] doing job_is total left ph rd xt got read (Reaches r c) d
+          by_chosen c d = absurd d
+      by_stage (Rooting i) ph rd xt g = subst (λ (v : Got). Done_by job buffer (Device WriteRoot) v read chosen) (sym g.1) (by_chosen chosen (subst (λ (c : Option RunningCommit). DoesPut c WriteRoot devices.metadata chosen) rd.0.commit_is g.2))
+        where
+          by_chosen : (c : Chosen P A) → DoesPut (Some rd.0.running) WriteRoot devices.metadata c → Done_by job buffer (Device WriteRoot) Done read c
+          by_chosen (Puts new) d = root_done P A shape images devices commit mode reading actors n known f alone a x ex opened_in [] doing job_is total left i ph rd xt new read d.1
+          by_chosen c d = absurd d
+      by_stage (Renewing i) ph rd xt g =
+          let s = subst (λ (c : Option RunningCommit). DoesSync {P = P} {A = A} (Opens mode reading) c devices.metadata chosen) rd.0.commit_is g.2 in
+          subst (λ (v : Got). Done_by job buffer (Device (Sync Metadata)) v read chosen) (sym g.1) (subst (λ (c : Chosen P A). Done_by job buffer (Device (Sync Metadata)) Done read c) (sym s.1)
+          (renew_done P A shape images devices commit mode reading actors n known f alone a x ex opened_in [] doing job_is total left i ph rd xt (synced devices.metadata) read (sync_does rd.0.running.image rd.0.running.steps devices.metadata s.0)))
+      by_stage (Answering i) ph rd xt g = by_chosen chosen g.2
+        where
+          over_reading : (policy : P) → is_all_done commit ≡ true → Done_by job buffer (End Finished) got read (Opened policy)
+          over_reading policy done =
+              let o = opened_goes known f alone a x ex opened_in (opening_at total left (Answering i)) xt got i ph rd policy done cache_size origin_size in
+              let Then : Option (ReadSteps A) → Job → Type 0 = λ r j. Goes P A shape (record { devices = devices; commit = None; phase = phase_opened shape mode r (Opened policy); actors = slice_set actors a (actor_then {P = P} {A = A} shape (Opens mode reading) devices x (End Finished) got) })
+              (Rattle.wb_runs.specs.Clerk.finished_note n a doing j (shown_in shape devices (phase_opened shape mode r (Opened policy)))) in
+              subst (λ (j : Job). Then reading j) (sym job_is) (subst (λ (r : Option (ReadSteps A)). Then r (Open opened_in)) (sym rd.0.reading_is) o)
+
+          by_chosen : (c : Chosen P A) → Rattle.wb_runs.specs.Happenings.DoesOpen (Opens mode reading) commit c → Done_by job buffer (End Finished) got read c
+          by_chosen (Opened policy) d = over_reading policy d.1
+          by_chosen c d = absurd d
+
+    -- a step that fails
+    failing : (c : RunningCommit) (old new : List History) (choice : Choice) → LandedOr (lands Metadata choice (sector_put (coming_step c.image c.steps))) (DoesStep c.image c.steps old new) (new ≡ old) → DoesStep c.image c.steps old new ⊎ (new ≡ old)
+    failing c old new choice h = by (lands Metadata choice (sector_put (coming_step c.image c.steps))) h
+      where
+        by : (t : Bool) → LandedOr t (DoesStep c.image c.steps old new) (new ≡ old) → DoesStep c.image c.steps old new ⊎ (new ≡ old)
+        by true h = inl h
+        by false h = inr h
+
+    module _ (total left : ℕ) (choice : Choice) (job : Job) (buffer : List Bytes) (read : List Bytes) (chosen : Chosen P A) where
+      fails_at : (stage : Stage) → f.site.phase ≡ OpensThere Writeback stage → HasReadAt stage reading commit f.phase.later → x.task ≡ Some (Open opened_in, opening_at total left stage) → Falters w choice (want (opening_at total left stage)) chosen → Failed_by choice job buffer (want (opening_at total left stage)) read chosen
+      fails_at Settling ph rd xt g = settle_fails P A shape images devices commit mode reading actors n known f alone a x ex opened_in [] doing job_is total left ph rd xt read chosen (lands Metadata choice)
+      fails_at Caching ph rd xt g = cache_fails P A shape images devices commit mode reading actors n known f alone a x ex opened_in [] doing job_is total left ph rd xt read chosen (lands Cache choice)
+      fails_at Basing ph rd xt g = origin_fails P A shape images devices commit mode reading actors n known f alone a x ex opened_in [] doing job_is total left ph rd xt read chosen (lands Origin choice)
+      fails_at Looking ph rd xt g = subst (λ (c : Chosen P A). Failed_by choice job buffer (Device (ReadMetadata left)) read c) (sym g.0)
+          (look_fails P A shape images devices commit mode reading actors n known f alone a x ex opened_in [] doing job_is total left ph rd xt read)
+      fails_at (Rooting i) ph rd xt g = by_chosen chosen (subst (λ (c : Option RunningCommit). FailsPut c choice WriteRoot devices.metadata chosen) rd.0.commit_is g)
+        where
+          by_chosen : (c : Chosen P A) → FailsPut (Some rd.0.running) choice WriteRoot devices.metadata c → Failed_by choice job buffer (Device WriteRoot) read c
+          by_chosen (Puts new) d = root_fails P A shape images devices commit mode reading actors n known f alone a x ex opened_in [] doing job_is total left i ph rd xt new read
+              (put_fails rd.0.running.image rd.0.running.steps WriteRoot devices.metadata new tt d.0 (failing rd.0.running devices.metadata new choice d.1))
+          by_chosen c d = absurd d
+      fails_at (Renewing i) ph rd xt g =
+          let s = subst (λ (c : Option RunningCommit). FailsSync {P = P} {A = A} (Opens mode reading) c devices.metadata) rd.0.commit_is g.1 in
+          subst (λ (c : Chosen P A). Failed_by choice job buffer (Device (Sync Metadata)) read c) (sym g.0)
+          (renew_fails P A shape images devices commit mode reading actors n known f alone a x ex opened_in [] doing job_is total left i ph rd xt (synced_where (lands Metadata choice) devices.metadata) read
+          (sync_fails rd.0.running.image rd.0.running.steps (lands Metadata choice) devices.metadata s.0))
+      fails_at (Answering i) ph rd xt g = absurd g
+
+    -- ---- whatever it is at
+
+    module _ (plan : Plan) (xt : x.task ≡ Some (Open opened_in, plan)) (job : Job) (buffer : List Bytes) where
+      pub opening_steps : (next : Want) (got : Got) (read : List Bytes) (chosen : Chosen P A) → next ≡ want plan → Gives shape w x (Open opened_in) next got read chosen → Done_by job buffer next got read chosen
+      opening_steps next got read chosen e g = by_at (f.phase.each a x (Open opened_in) plan ex xt)
+        where
+          -- it has only to answer, refused
+          answers : IsOver plan f.site.phase → (answer : Answer) → plan.answer ≡ answer → next ≡ End answer → Done_by job buffer next got read chosen
+          answers over Finished ea en = absurd (over.refused ea)
+          answers over (Refuses refusal) ea en =
+              let g' = subst (λ (v : Want). Gives shape w x (Open opened_in) v got read chosen) en g in
+              subst (λ (v : Want). Done_by job buffer v got read chosen) (sym en) (subst (λ (c : Chosen P A). Done_by job buffer (End (Refuses refusal)) got read c) (sym g'.0.1)
+              (refused_goes known f alone a x ex opened_in plan xt got refusal over))
+
+          by_at : AtStage reading commit f.phase.later plan f.site.phase ⊎ IsOver plan f.site.phase → Done_by job buffer next got read chosen
+          by_at (inl s) =
+              let en : next ≡ want (opening_at s.total s.left s.stage) = e ∙ ap want s.is in
+              subst (λ (v : Want). Done_by job buffer v got read chosen) (sym en) (by_stage s.total s.left job buffer got read chosen s.stage s.phase_is s.read (xt ∙ ap (λ (p : Plan). Some (Open opened_in, p)) s.is)
+              (subst (λ (v : Want). Gives shape w x (Open opened_in) v got read chosen) en g))
+          by_at (inr over) = answers over plan.answer refl (e ∙ ap (λ (ws : List Want). first_step ws plan.answer) over.nothing)
+
+      pub opening_faults : (choice : Choice) (next : Want) (read : List Bytes) (chosen : Chosen P A) → next ≡ want plan → Falters w choice next chosen → Failed_by choice job buffer next read chosen
+      opening_faults choice next read chosen e g = by_at (f.phase.each a x (Open opened_in) plan ex xt)
+        where
+          by_at : AtStage reading commit f.phase.later plan f.site.phase ⊎ IsOver plan f.site.phase → Failed_by choice job buffer next read chosen
+          by_at (inl s) =
+              let en : next ≡ want (opening_at s.total s.left s.stage) = e ∙ ap want s.is in
+              subst (λ (v : Want). Failed_by choice job buffer v read chosen) (sym en) (fails_at s.total s.left choice job buffer read chosen s.stage s.phase_is s.read (xt ∙ ap (λ (p : Plan). Some (Open opened_in, p)) s.is)
+              (subst (λ (v : Want). Falters w choice v chosen) en g))
+          by_at (inr over) = absurd (subst (λ (v : Want). Falters w choice v chosen) (e ∙ ap (λ (ws : List Want). first_step ws plan.answer) over.nothing) g)
+
+  module _ (known : MetadataKept {P = P} {A = A} shape.geometry images (Opens mode reading) commit devices.metadata) (f : Followed P A shape images w n) (alone : AtPhase {P = P} {A = A} (Opens mode reading) actors) (none : NoOrders actors) (a : ℕ) (x : Actor) (ex : slice_get actors a ≡ Some x) (opened_in : Mode) (plan : Plan) (xt : x.task ≡ Some (Open opened_in, plan))
+      (cache_size : length devices.cache ≡ cache_sector_count shape) (origin_size : length devices.origin ≡ sector_count shape) (got : Got) (read : List Bytes) where
+    abbrev Then : Answer → Phase P A → Type 0
+    Then answer phase = Keeping phase (slice_set actors a (actor_then {P = P} {A = A} shape (Opens mode reading) devices x (End answer) got))
+
+    no_orders : (answer : Answer) → NoOrders (slice_set actors a (actor_then {P = P} {A = A} shape (Opens mode reading) devices x (End answer) got))
+    no_orders answer = none_goes P A shape (Opens mode reading) devices actors a x (End answer) got ex none
+
+    finished : (chosen : Chosen P A) → End Finished ≡ want plan → DoesOpen (Opens mode reading) commit chosen → Then Finished (phase_opened shape mode reading chosen)
+    finished chosen next d = by_at (f.phase.each a x (Open opened_in) plan ex xt)
+      where
+        by_stage : (total left : ℕ) (stage : Stage) → f.site.phase ≡ OpensThere Writeback stage → HasReadAt stage reading commit f.phase.later → End Finished ≡ want (opening_at total left stage) → Then Finished (phase_opened shape mode reading chosen)
+        by_stage total left (Answering i) ph rd e = by_chosen chosen d
+          where
+            by_chosen : (c : Chosen P A) → DoesOpen (Opens mode reading) commit c → Then Finished (phase_opened shape mode reading c)
+            by_chosen (Opened policy) d = subst (λ (r : Option (ReadSteps A)). Then Finished (phase_opened shape mode r (Opened policy))) (sym rd.0.reading_is)
+                (made_keeps P (target_over shape mode policy rd.0.stored) (slice_set actors a (actor_then {P = P} {A = A} shape (Opens mode reading) devices x (End Finished) got)) (no_orders Finished)
+                (at_rest known f alone a x ex opened_in plan xt got i ph rd policy d.1 cache_size origin_size)
+                (λ block. sym (same_number (place_in (word_at (target_over shape mode policy rd.0.stored).words.seals block))) ∙ opened_tells known f alone a x ex opened_in plan xt got i ph rd policy d.1 cache_size origin_size block))
+            by_chosen c d = absurd d
+        by_stage total left stage ph rd e = absurd (cc)
+
+        by_at : AtStage reading commit f.phase.later plan f.site.phase ⊎ IsOver plan f.site.phase → Then Finished (phase_opened shape mode reading chosen)
+        by_at (inl s) = by_stage s.total s.left s.stage s.phase_is s.read (next ∙ ap want s.is)
+        by_at (inr over) = absurd (over.refused (let same : End Finished ≡ End plan.answer = next ∙ ap (λ (ws : List Want). first_step ws plan.answer) over.nothing in let is : Finished ≡ plan.answer = cc in sym is))
+
+    pub opening_keeps : (answer : Answer) (chosen : Chosen P A) → End answer ≡ want plan → Gives shape w x (Open opened_in) (End answer) got read chosen → Then answer (phase_then {P = P} {A = A} shape (Opens mode reading) (End answer) got chosen)
+    opening_keeps Finished chosen next g = finished chosen next g.2
+    opening_keeps (Refuses refusal) chosen next g = subst (λ (c : Chosen P A). Then (Refuses refusal) (phase_opened shape mode reading c)) (sym g.0.1) (no_orders (Refuses refusal))

@@ -15,7 +15,7 @@ use Rattle.wb_meta.specs.Representing.{Stored}
 use Rattle.wb_meta.specs.Steps.{DoesStep, FailsStep}
 use Rattle.wb_meta.specs.Reads.{sectors_read}
 use Rattle.wb_meta.specs.declared.read_steps.ReadSteps.{ReadSteps}
-use Rattle.wb_meta.specs.declared.read_steps.ReadSteps.TheVariants.{Begun, FirstSlotRead, RootFound, Done as AllRead}
+use Rattle.wb_meta.specs.declared.read_steps.ReadSteps.TheVariants.{Begun, Done as AllRead}
 use Rattle.wb_tasks.specs.Tables.{Opening}
 use Rattle.wb_tasks.specs.Plan.{Plan, after}
 use Rattle.wb_tasks.specs.declared.step.Answer.TheVariants.{Done as Finished}
@@ -44,8 +44,7 @@ use Rattle.wb_simulation.specs.Opened.{located}
 use Rattle.wb_simulation.specs.Sites.{ImagesAgree, DevicesAgree, LeadsTo, locations}
 use Rattle.wb_simulation.proofs.Opening.{openings_followed}
 use Rattle.wb_headline.proofs.Following.{opening_at, HasLearnt, HasRoot, HasReadAt, AtStage, IsOver, size, Followed, Goes}
-use Rattle.wb_headline.proofs.Arriving.{SameSectors, sized_so, Arrived, arrives, rests, opens}
-use Rattle.wb_headline.proofs.Crashing.{one_fit}
+use Rattle.wb_headline.proofs.Arriving.{SameSectors, sized_so, Arrived, arrives, rests, opens, one_fit}
 use Rattle.wb_headline.proofs.Rooted.{same_one, rooted_on, leads_so, two_read, two_left, both_left, nowhere}
 
 -- of a step of an opening on a device nothing of the sectors is noted
@@ -133,9 +132,7 @@ module _ (P A : Type 0) (shape : Shape) (images : Images) (devices : Devices (Li
 
         reached_at : (now : ReadSteps A) (i : Images) (m : List History) → sectors_read now ≡ 0 → Found shape.geometry i m → HasReached shape.geometry i now m
         reached_at (Begun alloc global) i m e found = record { found = found; come = tt; on = tt }
-        reached_at (FirstSlotRead alloc global first) i m e found = absurd (omega (arith, e))
-        reached_at (RootFound global root loader) i m e found = absurd (omega (arith, e))
-        reached_at (AllRead state) i m e found = absurd (omega (arith, e))
+        reached_at now i m e found = absurd (omega (arith, e))
 
         pub settle_done : (read : List Bytes) (chosen : Chosen P A) → DoesSync (Opens mode reading) commit device chosen → Goes P A shape (after_it (Sync Metadata) Done chosen (record devices { metadata = synced device })) (n' (Sync Metadata) Done read)
         settle_done read chosen s =
@@ -270,9 +267,7 @@ module _ (P A : Type 0) (shape : Shape) (images : Images) (devices : Devices (Li
 
             all_read : (now : ReadSteps A) → HasReached shape.geometry images now device → (next : Rattle.wb_devices.specs.Opened.HasNextRoot now commit') → after' ≡ Some now → Goes P A shape (after_it (ReadMetadata left) Done (Reaches after' commit') devices) (n' (ReadMetadata left) Done read)
             all_read (AllRead stored) k next e = look_done stored next.next read (Reaches after' commit') k (subst (λ (c : Option RunningCommit). Rattle.wb_devices.specs.Opened.HasNextRoot (AllRead stored) c) next.commit_is next) e next.commit_is
-            all_read (Begun alloc global) k next e = absurd next.is_done
-            all_read (FirstSlotRead alloc global first) k next e = absurd next.is_done
-            all_read (RootFound global root loader) k next e = absurd next.is_done
+            all_read now k next e = absurd next.is_done
 
             by_got : (got : Got) → (got ≢ Fault) → HasCome shape.geometry left more.0 None got after' commit' → Goes P A shape (after_it (ReadMetadata left) got (Reaches after' commit') devices) (n' (ReadMetadata left) got read)
             by_got More z h = look_on more.0 read (Reaches after' commit') reached h.1 h.3

@@ -16,7 +16,7 @@ use Rattle.wb_words.specs.declared.word.Access.TheVariants.{Owned}
 use Rattle.wb_words.specs.declared.word.Word.{Word as WordName}
 use Rattle.wb_words.specs.declared.word.Word.TheVariants.{Cell as LockWord, Seal as SealWord, Number, Count as CountWord, Fail}
 use Rattle.wb_words.specs.declared.card.Hold.{Hold}
-use Rattle.wb_words.specs.declared.card.Hold.TheVariants.{Nothing, Held}
+use Rattle.wb_words.specs.declared.card.Hold.TheVariants.{Held}
 use Rattle.wb_words.specs.declared.card.Card.{Card}
 use Rattle.wb_words.specs.declared.step.CellResult.TheVariants.{Done as Won, Lost as NotWon}
 use Rattle.wb_words.specs.declared.step.CellStep.{CellStep}
@@ -29,19 +29,19 @@ use Rattle.wb_tasks.specs.Plan.{Plan, want, after, after_fault, after_fault_of, 
 use Rattle.wb_tasks.specs.Ready.{Has, Suits, SuitsJob, IsOwnStep}
 use Rattle.wb_tasks.proofs.Readiness.{is_own_step, job_stays}
 use Rattle.wb_tasks.specs.declared.step.DeviceStep.{DeviceStep}
-use Rattle.wb_tasks.specs.declared.step.DeviceStep.TheVariants.{Read as ReadExtent, Write as WriteExtent, Sync, ReadMetadata, WriteNode, WriteRoot}
+use Rattle.wb_tasks.specs.declared.step.DeviceStep.TheVariants.{Write as WriteExtent}
 use Rattle.wb_tasks.specs.declared.step.Answer.{Answer}
 use Rattle.wb_tasks.specs.declared.step.Want.{Want}
-use Rattle.wb_tasks.specs.declared.step.Want.TheVariants.{Cell, Device, Desk, End}
+use Rattle.wb_tasks.specs.declared.step.Want.TheVariants.{Cell, Device, End}
 use Rattle.wb_tasks.specs.declared.step.Got.{Got}
 use Rattle.wb_tasks.specs.declared.step.Got.TheVariants.{Done, Fault}
 use Rattle.wb_refines.specs.Translation.{location_at, number_of}
 use Rattle.wb_runs.specs.declared.job.Job.{Job}
-use Rattle.wb_runs.specs.declared.job.Job.TheVariants.{Read, Write, Flush, Open, Migrate, Replace}
+use Rattle.wb_runs.specs.declared.job.Job.TheVariants.{Write, Open}
 use Rattle.wb_runs.specs.declared.event.Event.{Event}
 use Rattle.wb_runs.specs.declared.event.Event.TheVariants.{Start, Step, FaultStep, Stop}
 use Rattle.wb_runs.specs.declared.event.What.{What}
-use Rattle.wb_runs.specs.declared.event.What.TheVariants.{Skipped, Refused, Started, Stepped, Stopped}
+use Rattle.wb_runs.specs.declared.event.What.TheVariants.{Started, Stepped, Stopped}
 use Rattle.wb_runs.specs.States.{Shape, State, Actor, Phase, Stands, Gone, Opens, OfTarget, block_size}
 use Rattle.wb_runs.specs.Happenings.{Chosen, OfSome, Gives, Falters, MayFailAt, MayBe, begun_as, block_range, task_job}
 use Rattle.wb_runs.specs.Effects.{actor_then, task_then, card_then, stepped, with_actor, cleared, given, phase_given, started, job_of, cut_of, device_done, device_failed, all_resting, after_what}
@@ -100,12 +100,8 @@ looked_same : (word : WordName) (x : ℕ) (card : Card) → is_own_seal card.hol
 looked_same word x card e = ap (λ (t : Bool). cond t (Some x) card.seal) e
 
 not_seal : (hold : Hold) (word : WordName) → ((b : OBlock) → word ≡ SealWord b → ⊥) → is_own_seal hold word ≡ false
-not_seal Nothing word n = refl
-not_seal (Held access b) (LockWord a) n = refl
 not_seal (Held access b) (SealWord a) n = absurd (n a refl)
-not_seal (Held access b) (Number a) n = refl
-not_seal (Held access b) (CountWord kind) n = refl
-not_seal (Held access b) Fail n = refl
+not_seal hold word n = refl
 
 own_seal : (hold : Hold) (b : OBlock) → hold ≡ Held Owned b → is_own_seal hold (SealWord b) ≡ true
 own_seal hold b e = ap (λ (h : Hold). is_own_seal h (SealWord b)) e ∙ eq-eqb b.0 b.0 refl
@@ -155,13 +151,11 @@ module _ (size : ℕ) (part : BlockRange) (some : 0 < size) (sized : part.block_
       by_test : (t : Bool) → IsPlaced size (card_after words (Take access b seen) card) (after (of (Cell (Take access b seen) ∷ ws)) (got_of (if t then Won else NotWon))).steps
       by_test true = inl (no_more ws (Cell (Take access b seen)) (λ n. n) (λ place w. w) p)
       by_test false = inl tt
-  on_words (Release access b) ws h p = inl (no_more ws (Cell (Release access b)) (λ n. n) (λ place w. w) p)
-  on_words SetFailed ws h p = inl (no_more ws (Cell SetFailed) (λ n. n) (λ place w. w) p)
-  on_words SetSuspended ws h p = inl (no_more ws (Cell SetSuspended) (λ n. n) (λ place w. w) p)
   on_words (Seal b place dirty) ws h (inl n) = absurd n
   on_words (Seal b place dirty) ws h (inr w) = inr (seal_word place dirty, refl, subst (λ (o : Option CBlock). WritesThere size o ws) (sym w.2.0) w.2.1)
   on_words (Finish b) ws h p = onward ws (card_after words (Finish b) card) (Cell (Finish b)) (λ n. n) (λ place w. w) refl p
   on_words (Count kind) ws h p = onward ws (card_after words (Count kind) card) (Cell (Count kind)) (λ n. n) (λ place w. w) refl p
+  on_words step ws h p = inl (no_more ws (Cell step) (λ n. n) (λ place w. w) p)
 
 -- ---- a write
 
@@ -247,6 +241,15 @@ set_placed size actors a y here all b z e = elim (set_cases actors a b y z e) [
 pub rest_placed : (size : ℕ) (actors : List Actor) → AllPlaced size (all_resting actors)
 rest_placed size actors a x e = subst (λ (t : Option (Job × Plan)). TaskPlaced size x.card t) (sym (rests actors a x e).0) tt
 
+-- whoever takes a step is there, and at something
+pub with_task : (o : Option Actor) (Has : Actor → Job × Plan → Type 0) (Then : Option Actor → Type 0) → OfSome o (λ x. OfSome x.task (λ task. Has x task)) → ((x : Actor) (task : Job × Plan) → o ≡ Some x → x.task ≡ Some task → Has x task → Then (Some x)) → Then o
+with_task None Has Then h on = absurd h
+with_task (Some x) Has Then h on = by x.task refl h
+  where
+    by : (t : Option (Job × Plan)) → x.task ≡ t → OfSome t (λ task. Has x task) → Then (Some x)
+    by None xt h = absurd h
+    by (Some task) xt h = on x task refl xt h
+
 module _ (P A : Type 0) (shape : Shape) where
   some : 0 < block_size shape
   some = omega (arith, shape.geometry.within.block_from)
@@ -254,17 +257,11 @@ module _ (P A : Type 0) (shape : Shape) where
   -- a task that is no write is left so
   other_job : (job : Job) (plan : Plan) (card : Card) → ((extent : Extent) (content : Bytes) → job ≡ Write extent content → ⊥) → JobPlaced (block_size shape) job plan card
   other_job (Write extent content) plan card n = absurd (n extent content refl)
-  other_job (Read extent) plan card n = tt
-  other_job Flush plan card n = tt
-  other_job (Open mode) plan card n = tt
-  other_job (Migrate migration block) plan card n = tt
-  other_job (Replace old new) plan card n = tt
+  other_job job plan card n = tt
 
   no_write : (job : Job) (plan : Plan) (card : Card) (next : Want) (got : Got) → ((extent : Extent) (content : Bytes) → job ≡ Write extent content → ⊥) → TaskPlaced (block_size shape) card (task_then (Some (job, plan)) next got)
   no_write job plan card (End answer) got n = tt
-  no_write job plan card (Cell step) got n = other_job job (after plan got) card n
-  no_write job plan card (Device step) got n = other_job job (after plan got) card n
-  no_write job plan card (Desk step) got n = other_job job (after plan got) card n
+  no_write job plan card next got n = other_job job (after plan got) card n
 
   module _ (w : State P A) (a : ℕ) (x : Actor) (ex : slice_get w.actors a ≡ Some x) (all : AllPlaced (block_size shape) w.actors) (plan : Plan) (suits : Suits shape.geometry.origin_blocks plan x.card) where
     abbrev At : Job → Want → Got → Type 0
@@ -280,8 +277,7 @@ module _ (P A : Type 0) (shape : Shape) where
 
       on_cell : (phase : Phase P A) (step : CellStep) (got : Got) → Cell step ≡ want plan → OfTarget phase (λ t. got ≡ got_of (result_of t.words step)) → WritePlaced (block_size shape) (after plan got) (card_then shape phase x.card (Cell step))
       on_cell (Stands t) step got e g = subst (λ (v : Got). WritePlaced (block_size shape) (after plan v) (card_after t.words step x.card)) (sym g) (cell_on (block_size shape) some plan x.card is shape.geometry.origin_blocks t.words step suits e)
-      on_cell Gone step got e g = absurd g
-      on_cell (Opens mode reading) step got e g = absurd g
+      on_cell phase step got e g = absurd g
 
       same_card : (phase : Phase P A) (step : DeviceStep) → card_then shape phase x.card (Device step) ≡ x.card
       same_card (Stands t) step = refl
@@ -294,39 +290,20 @@ module _ (P A : Type 0) (shape : Shape) where
       write_on (Device (WriteExtent d ext)) got read chosen e g =
           subst (λ (v : Got). WritePlaced (block_size shape) (after plan v) (card_then shape w.phase x.card (Device (WriteExtent d ext)))) (sym g.2)
           (subst (λ (c : Card). WritePlaced (block_size shape) (after plan Done) c) (sym (same_card w.phase (WriteExtent d ext))) (extent_on (block_size shape) some plan x.card is d ext e))
-      write_on (Device (ReadExtent d ext)) got read chosen e g = absurd (own (Device (ReadExtent d ext)) e)
-      write_on (Device (Sync d)) got read chosen e g = absurd (own (Device (Sync d)) e)
-      write_on (Device (ReadMetadata k)) got read chosen e g = absurd (own (Device (ReadMetadata k)) e)
-      write_on (Device (WriteNode k)) got read chosen e g = absurd (own (Device (WriteNode k)) e)
-      write_on (Device WriteRoot) got read chosen e g = absurd (own (Device WriteRoot) e)
-      write_on (Desk step) got read chosen e g = absurd (own (Desk step) e)
+      write_on next got read chosen e g = absurd (own next e)
 
       write_fault : (choice : Choice) (next : Want) → next ≡ want plan → MayFailAt w.devices choice next → At (Write extent content) next Fault
       write_fault choice (Device (WriteExtent d ext)) e m = subst (λ (c : Card). WritePlaced (block_size shape) (after plan Fault) c) (sym (same_card w.phase (WriteExtent d ext))) (fault_on (block_size shape) some plan x.card is d ext e)
-      write_fault choice (Device (ReadExtent d ext)) e m = absurd (own (Device (ReadExtent d ext)) e)
-      write_fault choice (Device (Sync d)) e m = absurd (own (Device (Sync d)) e)
-      write_fault choice (Device (ReadMetadata k)) e m = absurd (own (Device (ReadMetadata k)) e)
-      write_fault choice (Device (WriteNode k)) e m = absurd (own (Device (WriteNode k)) e)
-      write_fault choice (Device WriteRoot) e m = absurd (own (Device WriteRoot) e)
-      write_fault choice (Cell step) e m = absurd m
-      write_fault choice (Desk step) e m = absurd m
-      write_fault choice (End answer) e m = absurd m
+      write_fault choice (Device step) e m = absurd (own (Device step) e)
+      write_fault choice next e m = absurd m
 
     job_on : (job : Job) → x.task ≡ Some (job, plan) → (next : Want) (got : Got) (read : List Bytes) (chosen : Chosen P A) → next ≡ want plan → Gives shape w x job next got read chosen → At job next got
     job_on (Write extent content) xt next got read chosen e g = write_on extent content xt next got read chosen e g
-    job_on (Read extent) xt next got read chosen e g = no_write (Read extent) plan (card_then shape w.phase x.card next) next got (λ ex c s. absurd (cc))
-    job_on Flush xt next got read chosen e g = no_write Flush plan (card_then shape w.phase x.card next) next got (λ ex c s. absurd (cc))
-    job_on (Open mode) xt next got read chosen e g = no_write (Open mode) plan (card_then shape w.phase x.card next) next got (λ ex c s. absurd (cc))
-    job_on (Migrate migration block) xt next got read chosen e g = no_write (Migrate migration block) plan (card_then shape w.phase x.card next) next got (λ ex c s. absurd (cc))
-    job_on (Replace old new) xt next got read chosen e g = no_write (Replace old new) plan (card_then shape w.phase x.card next) next got (λ ex c s. absurd (cc))
+    job_on job xt next got read chosen e g = no_write job plan (card_then shape w.phase x.card next) next got (λ ex c s. absurd (cc))
 
     job_fault : (job : Job) → x.task ≡ Some (job, plan) → (choice : Choice) (next : Want) → next ≡ want plan → MayFailAt w.devices choice next → At job next Fault
     job_fault (Write extent content) xt choice next e m = write_fault extent content xt choice next e m
-    job_fault (Read extent) xt choice next e m = no_write (Read extent) plan (card_then shape w.phase x.card next) next Fault (λ ex c s. absurd (cc))
-    job_fault Flush xt choice next e m = no_write Flush plan (card_then shape w.phase x.card next) next Fault (λ ex c s. absurd (cc))
-    job_fault (Open mode) xt choice next e m = no_write (Open mode) plan (card_then shape w.phase x.card next) next Fault (λ ex c s. absurd (cc))
-    job_fault (Migrate migration block) xt choice next e m = no_write (Migrate migration block) plan (card_then shape w.phase x.card next) next Fault (λ ex c s. absurd (cc))
-    job_fault (Replace old new) xt choice next e m = no_write (Replace old new) plan (card_then shape w.phase x.card next) next Fault (λ ex c s. absurd (cc))
+    job_fault job xt choice next e m = no_write job plan (card_then shape w.phase x.card next) next Fault (λ ex c s. absurd (cc))
 
   abbrev Placed : State P A → Type 0
   Placed w = AllPlaced (block_size shape) w.actors
@@ -342,38 +319,22 @@ module _ (P A : Type 0) (shape : Shape) where
 
     steps : (a : ℕ) (next : Want) (got : Got) (read : List Bytes) (chosen : Chosen P A) (o : Option Actor) → slice_get w.actors a ≡ o → OfSome o (λ x. OfSome x.task (λ doing. (next ≡ want doing.1) × Gives shape w x doing.0 next got read chosen)) →
         Placed (with_actor w o (λ x. stepped shape w a x next got chosen (λ step. device_done (job_of x.task) x.buffer step chosen)))
-    steps a next got read chosen None e h = absurd h
-    steps a next got read chosen (Some x) e h = by_task x.task refl h
-      where
-        by_task : (t : Option (Job × Plan)) → x.task ≡ t → OfSome t (λ doing. (next ≡ want doing.1) × Gives shape w x doing.0 next got read chosen) → Placed (stepped shape w a x next got chosen (λ step. device_done (job_of x.task) x.buffer step chosen))
-        by_task None xt h = absurd h
-        by_task (Some task) xt h = goes a x task next got chosen (λ step. device_done (job_of x.task) x.buffer step chosen) xt (job_on w a x e all task.1 (suited a x task e xt) task.0 xt next got read chosen h.0 h.1)
+    steps a next got read chosen o e h = with_task o (λ x doing. (next ≡ want doing.1) × Gives shape w x doing.0 next got read chosen) (λ o. Placed (with_actor w o (λ x. stepped shape w a x next got chosen (λ step. device_done (job_of x.task) x.buffer step chosen)))) h
+        (λ x task is xt h. goes a x task next got chosen (λ step. device_done (job_of x.task) x.buffer step chosen) xt (job_on w a x (e ∙ is) all task.1 (suited a x task (e ∙ is) xt) task.0 xt next got read chosen h.0 h.1))
 
     faults : (a : ℕ) (choice : Choice) (next : Want) (chosen : Chosen P A) (o : Option Actor) → slice_get w.actors a ≡ o → OfSome o (λ x. OfSome x.task (λ doing. (next ≡ want doing.1) × MayFailAt w.devices choice next × Falters w choice next chosen)) →
         Placed (with_actor w o (λ x. stepped shape w a x next Fault chosen (λ step. device_failed (lands (device_of step) choice) (job_of x.task) x.buffer step chosen)))
-    faults a choice next chosen None e h = absurd h
-    faults a choice next chosen (Some x) e h = by_task x.task refl h
-      where
-        by_task : (t : Option (Job × Plan)) → x.task ≡ t → OfSome t (λ doing. (next ≡ want doing.1) × MayFailAt w.devices choice next × Falters w choice next chosen) → Placed (stepped shape w a x next Fault chosen (λ step. device_failed (lands (device_of step) choice) (job_of x.task) x.buffer step chosen))
-        by_task None xt h = absurd h
-        by_task (Some task) xt h = goes a x task next Fault chosen (λ step. device_failed (lands (device_of step) choice) (job_of x.task) x.buffer step chosen) xt (job_fault w a x e all task.1 (suited a x task e xt) task.0 xt choice next h.0 h.1)
+    faults a choice next chosen o e h = with_task o (λ x doing. (next ≡ want doing.1) × MayFailAt w.devices choice next × Falters w choice next chosen) (λ o. Placed (with_actor w o (λ x. stepped shape w a x next Fault chosen (λ step. device_failed (lands (device_of step) choice) (job_of x.task) x.buffer step chosen)))) h
+        (λ x task is xt h. goes a x task next Fault chosen (λ step. device_failed (lands (device_of step) choice) (job_of x.task) x.buffer step chosen) xt (job_fault w a x (e ∙ is) all task.1 (suited a x task (e ∙ is) xt) task.0 xt choice next h.0 h.1))
 
     -- who starts has its table
     table_placed : (job : Job) (x : Actor) (chosen : Chosen P A) → TaskPlaced (block_size shape) x.card (Some (begun_as job, table (task_job shape x.awaiting job (cut_of chosen))))
     table_placed (Write extent content) x chosen = record { part = block_range shape extent (cut_of chosen); job = refl; sized = refl; at = inl tt }
-    table_placed (Read extent) x chosen = tt
-    table_placed Flush x chosen = tt
-    table_placed (Open mode) x chosen = tt
-    table_placed (Migrate migration block) x chosen = tt
-    table_placed (Replace old new) x chosen = tt
+    table_placed job x chosen = tt
 
     clear : (job : Job) → Placed (cleared w job)
     clear (Open mode) = rest_placed (block_size shape) w.actors
-    clear (Read extent) = all
-    clear (Write extent content) = all
-    clear Flush = all
-    clear (Migrate migration block) = all
-    clear (Replace old new) = all
+    clear job = all
 
     starts : (a : ℕ) (job : Job) (chosen : Chosen P A) → Placed (started shape w a job chosen)
     starts a job chosen = by_actor (slice_get (cleared w job).actors a)
@@ -387,19 +348,4 @@ module _ (P A : Type 0) (shape : Shape) where
     placed_what (Step a) (Stepped next got) read chosen h = steps a next got read chosen (slice_get w.actors a) refl h
     placed_what (FaultStep a choice) (Stepped next got) read chosen h = subst (λ (g : Got). Placed (after_what shape w (FaultStep a choice) (Stepped next g) chosen)) (sym h.1) (faults a choice next chosen (slice_get w.actors a) refl h.2)
     placed_what (Stop choice) Stopped read chosen h = rest_placed (block_size shape) w.actors
-    placed_what (Start a job) Skipped read chosen h = all
-    placed_what (Start a job) (Refused refusal) read chosen h = all
-    placed_what (Start a job) (Stepped next got) read chosen h = all
-    placed_what (Start a job) Stopped read chosen h = all
-    placed_what (Step a) Skipped read chosen h = all
-    placed_what (Step a) (Refused refusal) read chosen h = all
-    placed_what (Step a) Started read chosen h = all
-    placed_what (Step a) Stopped read chosen h = all
-    placed_what (FaultStep a choice) Skipped read chosen h = all
-    placed_what (FaultStep a choice) (Refused refusal) read chosen h = all
-    placed_what (FaultStep a choice) Started read chosen h = all
-    placed_what (FaultStep a choice) Stopped read chosen h = all
-    placed_what (Stop choice) Skipped read chosen h = all
-    placed_what (Stop choice) (Refused refusal) read chosen h = all
-    placed_what (Stop choice) Started read chosen h = all
-    placed_what (Stop choice) (Stepped next got) read chosen h = all
+    placed_what event what read chosen h = all

@@ -13,17 +13,17 @@ use Rattle.wb_tasks.specs.declared.step.Answer.{Answer}
 use Rattle.wb_tasks.specs.declared.step.Answer.TheVariants.{Done as Finished, Refused as Refuses}
 use Rattle.wb_tasks.specs.declared.step.DeviceStep.TheVariants.{Read as ReadExtent}
 use Rattle.wb_tasks.specs.declared.step.Want.{Want}
-use Rattle.wb_tasks.specs.declared.step.Want.TheVariants.{Cell, Device, Desk, End}
+use Rattle.wb_tasks.specs.declared.step.Want.TheVariants.{Device, End}
 use Rattle.wb_tasks.specs.declared.step.Got.{Got}
 use Rattle.wb_tasks.specs.declared.step.Got.TheVariants.{Done}
 use Rattle.wb_devices.specs.declared.devices.Devices.{Devices}
 use Rattle.wb_devices.specs.declared.running.RunningCommit.{RunningCommit}
 use Rattle.wb_runs.specs.declared.job.Job.{Job}
-use Rattle.wb_runs.specs.declared.job.Job.TheVariants.{Read, Write, Flush, Open, Migrate, Replace}
+use Rattle.wb_runs.specs.declared.job.Job.TheVariants.{Read, Write, Open, Migrate}
 use Rattle.wb_runs.specs.declared.event.Event.{Event}
-use Rattle.wb_runs.specs.declared.event.Event.TheVariants.{Start, Step, FaultStep, Stop}
+use Rattle.wb_runs.specs.declared.event.Event.TheVariants.{Step, FaultStep}
 use Rattle.wb_runs.specs.declared.event.What.{What}
-use Rattle.wb_runs.specs.declared.event.What.TheVariants.{Skipped, Refused, Started, Stepped, Stopped}
+use Rattle.wb_runs.specs.declared.event.What.TheVariants.{Stepped}
 use Rattle.wb_runs.specs.States.{Shape, State, Actor, Phase, Stands, Gone, Opens, start}
 use Rattle.wb_runs.specs.Happenings.{Chosen, Opened, Happening, OfSome, Gives, DoesOpen, MayBe}
 use Rattle.wb_runs.specs.Effects.{stepped, with_actor, device_done, job_of, phase_then, phase_opened, after_what, after_happening, after_all, IsRun}
@@ -31,18 +31,19 @@ use Rattle.wb_runs.specs.Clerk.{Notes, Doing, formatted}
 use Rattle.wb_runs.specs.Headline.{shown, shown_in, note_happening, noted, ShowsAllowed, ShownBy, ShowsRightly, OpensRightly, AllOpenRightly, IsRightAnswer, DoingRightly, AnswersRightly, AllRight, IsCovered, DoingCovers, AnswerCovers, AllCover, RefusedBy, RefusedRightly, RefusesByCause, AllRefuseByCause, CrashConsistent, Headline}
 use Rattle.wb_runs.specs.Latest.{IsGiven, GivesLatest, ReadsRightly, AllReadRightly}
 use Rattle.wb_runs.specs.Holding.{TaskSuits}
-use Rattle.wb_runs.proofs.Claims.{Noted, TaskClaim, noted_of}
+use Rattle.wb_runs.proofs.Claims.{Noted}
 use Rattle.wb_runs.proofs.Linking.{TaskHere, InPhase}
 use Rattle.wb_runs.proofs.LinkedRuns.{run_refuses, run_covers, all_skip}
 use Rattle.wb_link.specs.Openings.{Stage, Settling, Caching, Basing, Looking, Rooting, Renewing, Answering}
 use Rattle.wb_runs.specs.Sealed.{SealsTell}
 use Rattle.wb_headline.proofs.Following.{opening_at, AtStage, IsOver}
 use Rattle.wb_headline.proofs.Opened.{shows}
-use Rattle.wb_headline.proofs.Given.{given_latest}
+use Rattle.wb_headline.proofs.Requests.{given_latest}
 use Rattle.wb_headline.proofs.Showing.{crash_consistent}
-use Rattle.wb_headline.proofs.Latest.{AllLatest, IsFault, what_latest}
+use Rattle.wb_headline.proofs.Doings.{AllLatest, IsFault, what_latest}
 use Rattle.wb_headline.proofs.Keeping.{Keeping}
-use Rattle.wb_headline.proofs.Whole.{Whole, MigrationsGo, whole_after, whole_always}
+use Rattle.wb_headline.proofs.Placed.{with_task}
+use Rattle.wb_headline.proofs.Whole.{Whole, MigrationsGo, whole_after, whole_always, noted_for}
 use Rattle.wb_headline.proofs.Begin.{whole_start}
 
 module _ (P A : Type 0) (shape : Shape) where
@@ -53,20 +54,13 @@ module _ (P A : Type 0) (shape : Shape) where
   read_by_phase devices commit (Stands t) actors n b a x (Read extent) plan ex xt d device e read chosen next g =
       given_latest P A shape b.goes.images t commit devices actors n b.goes.known b.goes.followed b.used.here b.used.suited a x ex plan (subst (λ (o : Option (Job × Plan)). TaskSuits shape.geometry.origin_blocks x.card o) xt (b.used.suited a x ex)) d.doing d.is extent xt d.job_is d.claim device e next g.0 read g.3 g.4
   read_by_phase devices commit (Stands t) actors n b a x (Migrate migration block) plan ex xt d device e read chosen next g = g.1.0
-  read_by_phase devices commit (Stands t) actors n b a x (Write extent content) plan ex xt d device e read chosen next g = absurd g
-  read_by_phase devices commit (Stands t) actors n b a x Flush plan ex xt d device e read chosen next g = absurd g
-  read_by_phase devices commit (Stands t) actors n b a x (Open mode) plan ex xt d device e read chosen next g = absurd g
-  read_by_phase devices commit (Stands t) actors n b a x (Replace old new) plan ex xt d device e read chosen next g = absurd g
   read_by_phase devices commit Gone actors n b a x job plan ex xt d device e read chosen next g = absurd (subst (λ (o : Option (Job × Plan)). TaskHere {P = P} {A = A} Gone o) xt (b.linked.here a x ex))
   read_by_phase devices commit (Opens mode reading) actors n b a x job plan ex xt d device e read chosen next g = by_job job (subst (λ (o : Option (Job × Plan)). TaskHere {P = P} {A = A} (Opens mode reading) o) xt (b.linked.here a x ex)) g
     where
       by_job : (job : Job) → InPhase {P = P} {A = A} (Opens mode reading) job → Gives shape (record { devices = devices; commit = commit; phase = Opens mode reading; actors = actors }) x job (Device (ReadExtent device e)) Done read chosen → GivesLatest shape n job e read
       by_job (Open m) h g = absurd g
-      by_job (Read extent) h g = absurd h
-      by_job (Write extent content) h g = absurd h
-      by_job Flush h g = absurd h
-      by_job (Migrate migration block) h g = absurd h
-      by_job (Replace old new) h g = absurd h
+      by_job job h g = absurd h
+  read_by_phase devices commit (Stands t) actors n b a x job plan ex xt d device e read chosen next g = absurd g
 
   -- ---- what an opening shows
 
@@ -86,31 +80,19 @@ module _ (P A : Type 0) (shape : Shape) where
           by_chosen (Opened policy) d = subst (λ (r : Option (ReadSteps A)). ShowsAllowed n (shown_in shape devices (phase_opened shape mode r (Opened policy)))) (sym rd.0.reading_is)
               (shows P A shape b.goes.images devices commit mode reading actors n b.goes.known f b.linked.alone a x ex opened_in plan xt got i ph rd policy d.1 b.inside.cache b.inside.origin)
           by_chosen c d = absurd d
-      by_stage later total left Settling ph rd is e l = absurd (cc)
-      by_stage later total left Caching ph rd is e l = absurd (cc)
-      by_stage later total left Basing ph rd is e l = absurd (cc)
-      by_stage later total left Looking ph rd is e l = absurd (cc)
-      by_stage later total left (Rooting i) ph rd is e l = absurd (cc)
-      by_stage later total left (Renewing i) ph rd is e l = absurd (cc)
+      by_stage later total left stage ph rd is e l = absurd (cc)
 
       by_at : AtStage reading commit f.phase.later plan f.site.phase ⊎ IsOver plan f.site.phase → ShowsAllowed n (shown_in shape devices (phase_opened shape mode reading chosen))
       by_at (inl s) = by_stage f.phase.later s.total s.left s.stage s.phase_is s.read s.is (next ∙ ap want s.is) refl
       by_at (inr over) = absurd (over.refused (let same : End Finished ≡ End plan.answer = next ∙ ap (λ (ws : List Want). first_step ws plan.answer) over.nothing in let is : Finished ≡ plan.answer = cc in sym is))
 
   module _ (w : State P A) (n : Notes) (b : Whole P A shape w n) (a : ℕ) where
-    noted_for : (x : Actor) (job : Job) (plan : Plan) → slice_get w.actors a ≡ Some x → x.task ≡ Some (job, plan) → Noted shape job plan (slice_get n.doings a)
-    noted_for x job plan e xt = noted_of shape job plan (slice_get n.doings a) (subst (λ (t : Option (Job × Plan)). TaskClaim shape t (slice_get n.doings a)) xt (b.linked.claims a x e))
-
     read_rightly : (device : Dev) (ext : Extent) (read : List Bytes) (chosen : Chosen P A) (o : Option Actor) → slice_get w.actors a ≡ o → OfSome o (λ x. OfSome x.task (λ doing. (Device (ReadExtent device ext) ≡ want doing.1) × Gives shape w x doing.0 (Device (ReadExtent device ext)) Done read chosen)) → IsGiven shape n (slice_get n.doings a) ext read
-    read_rightly device ext read chosen None e h = absurd h
-    read_rightly device ext read chosen (Some x) e h = by_task x.task refl h
-      where
-        by_task : (t : Option (Job × Plan)) → x.task ≡ t → OfSome t (λ doing. (Device (ReadExtent device ext) ≡ want doing.1) × Gives shape w x doing.0 (Device (ReadExtent device ext)) Done read chosen) → IsGiven shape n (slice_get n.doings a) ext read
-        by_task None xt h = absurd h
-        by_task (Some task) xt h =
-            let d = noted_for x task.0 task.1 e xt in
-            subst (λ (v : Option (Option Doing)). IsGiven shape n v ext read) (sym d.is) (subst (λ (j : Job). GivesLatest shape n j ext read) (sym d.job_is)
-            (read_by_phase w.devices w.commit w.phase w.actors n b a x task.0 task.1 e xt d device ext read chosen h.0 h.1))
+    read_rightly device ext read chosen o e h = with_task o (λ x doing. (Device (ReadExtent device ext) ≡ want doing.1) × Gives shape w x doing.0 (Device (ReadExtent device ext)) Done read chosen) (λ o. IsGiven shape n (slice_get n.doings a) ext read) h
+        (λ x task is xt h.
+        let d = noted_for P A shape w n b a x task.0 task.1 (e ∙ is) xt in
+        subst (λ (v : Option (Option Doing)). IsGiven shape n v ext read) (sym d.is) (subst (λ (j : Job). GivesLatest shape n j ext read) (sym d.job_is)
+        (read_by_phase w.devices w.commit w.phase w.actors n b a x task.0 task.1 (e ∙ is) xt d device ext read chosen h.0 h.1)))
 
     -- ---- what an opening shows
 
@@ -123,58 +105,27 @@ module _ (P A : Type 0) (shape : Shape) where
             ShowsRightly n (shown shape (stepped shape w a x (End Finished) got chosen (λ step. device_done (job_of x.task) x.buffer step chosen))) (slice_get n.doings a)
         by_task None xt h = absurd h
         by_task (Some task) xt h =
-            let d = noted_for x task.0 task.1 e xt in
+            let d = noted_for P A shape w n b a x task.0 task.1 e xt in
             subst (λ (v : Option (Option Doing)). ShowsRightly n (shown_in shape w.devices (phase_then shape w.phase (End Finished) got chosen)) v) (sym d.is) (subst (λ (j : Job). ShownBy n (shown_in shape w.devices (phase_then shape w.phase (End Finished) got chosen)) j) (sym d.job_is)
             (by_job task.0 task.1 xt h.0 h.1))
           where
             by_job : (job : Job) (plan : Plan) → x.task ≡ Some (job, plan) → End Finished ≡ want plan → Gives shape w x job (End Finished) got read chosen → ShownBy n (shown_in shape w.devices (phase_then shape w.phase (End Finished) got chosen)) job
             by_job (Open m) plan xt next g = shows_by_phase w.devices w.commit w.phase w.actors n b a x m plan e xt got read chosen next g
-            by_job (Read extent) plan xt next g = tt
-            by_job (Write extent content) plan xt next g = tt
-            by_job Flush plan xt next g = tt
-            by_job (Migrate migration block) plan xt next g = tt
-            by_job (Replace old new) plan xt next g = tt
+            by_job job plan xt next g = tt
 
   -- ---- one happening
 
   reads_rightly : (w : State P A) (n : Notes) → Whole P A shape w n → (event : Event) (what : What) (read : List Bytes) (chosen : Chosen P A) → MayBe shape w event what read chosen → ReadsRightly shape n event what read
   reads_rightly w n b (Step a) (Stepped (Device (ReadExtent device e)) Done) read chosen h = read_rightly w n b a device e read chosen (slice_get w.actors a) refl h
-  reads_rightly w n b (Step a) (Stepped (Device (ReadExtent device e)) got) read chosen h = tt
-  reads_rightly w n b (Step a) (Stepped (Device step) got) read chosen h = tt
-  reads_rightly w n b (Step a) (Stepped (Cell step) got) read chosen h = tt
-  reads_rightly w n b (Step a) (Stepped (Desk step) got) read chosen h = tt
-  reads_rightly w n b (Step a) (Stepped (End answer) got) read chosen h = tt
-  reads_rightly w n b (Step a) Skipped read chosen h = tt
-  reads_rightly w n b (Step a) (Refused refusal) read chosen h = tt
-  reads_rightly w n b (Step a) Started read chosen h = tt
-  reads_rightly w n b (Step a) Stopped read chosen h = tt
-  reads_rightly w n b (Start a job) what read chosen h = tt
-  reads_rightly w n b (FaultStep a choice) what read chosen h = tt
-  reads_rightly w n b (Stop choice) what read chosen h = tt
+  reads_rightly w n b event what read chosen h = tt
 
   opens_rightly : (w : State P A) (n : Notes) → Whole P A shape w n → (event : Event) (what : What) (read : List Bytes) (chosen : Chosen P A) → MayBe shape w event what read chosen → OpensRightly (shown shape (after_what shape w event what chosen)) n event what
   opens_rightly w n b (Step a) (Stepped (End Finished) got) read chosen h = open_rightly w n b a got read chosen (slice_get w.actors a) refl h
-  opens_rightly w n b (Step a) (Stepped (End (Refuses refusal)) got) read chosen h = tt
-  opens_rightly w n b (Step a) (Stepped (Device step) got) read chosen h = tt
-  opens_rightly w n b (Step a) (Stepped (Cell step) got) read chosen h = tt
-  opens_rightly w n b (Step a) (Stepped (Desk step) got) read chosen h = tt
-  opens_rightly w n b (Step a) Skipped read chosen h = tt
-  opens_rightly w n b (Step a) (Refused refusal) read chosen h = tt
-  opens_rightly w n b (Step a) Started read chosen h = tt
-  opens_rightly w n b (Step a) Stopped read chosen h = tt
-  opens_rightly w n b (Start a job) what read chosen h = tt
-  opens_rightly w n b (FaultStep a choice) what read chosen h = tt
-  opens_rightly w n b (Stop choice) what read chosen h = tt
+  opens_rightly w n b event what read chosen h = tt
 
   fault_is : (w : State P A) (event : Event) (what : What) (read : List Bytes) (chosen : Chosen P A) → MayBe shape w event what read chosen → IsFault event what
   fault_is w (FaultStep a choice) (Stepped next got) read chosen h = h.1
-  fault_is w (FaultStep a choice) Skipped read chosen h = tt
-  fault_is w (FaultStep a choice) (Refused refusal) read chosen h = tt
-  fault_is w (FaultStep a choice) Started read chosen h = tt
-  fault_is w (FaultStep a choice) Stopped read chosen h = tt
-  fault_is w (Step a) what read chosen h = tt
-  fault_is w (Start a job) what read chosen h = tt
-  fault_is w (Stop choice) what read chosen h = tt
+  fault_is w event what read chosen h = tt
 
   -- an answer is right, by what it covers, why it refuses, what it has read and what it shows
   right_doing : (n : Notes) (shown_now : List Bytes) (o : Option (Option Doing)) (answer : Answer) → ((d : Doing) → o ≡ Some (Some d) → All Rattle.wb_runs.specs.Headline.IsLatest d.readings) → DoingCovers o answer → ((refusal : Refusal) → answer ≡ Refuses refusal → RefusedRightly o refusal) → (answer ≡ Finished → ShowsRightly n shown_now o) → DoingRightly n shown_now o answer
@@ -185,11 +136,7 @@ module _ (P A : Type 0) (shape : Shape) where
       by_job (Write extent content) Finished c r s = c
       by_job (Open mode) Finished c r s = s refl
       by_job (Open mode) (Refuses refusal) c r s = r refusal refl
-      by_job (Read extent) (Refuses refusal) c r s = tt
-      by_job (Write extent content) (Refuses refusal) c r s = tt
-      by_job Flush answer c r s = tt
-      by_job (Migrate migration block) answer c r s = tt
-      by_job (Replace old new) answer c r s = tt
+      by_job job answer c r s = tt
   right_doing n shown_now (Some None) answer latest covers refuses _ = absurd covers
   right_doing n shown_now None answer latest covers refuses _ = absurd covers
 
@@ -201,16 +148,7 @@ module _ (P A : Type 0) (shape : Shape) where
       refusal_in : Refusal → Answer → Refusal
       refusal_in d (Refuses r) = r
       refusal_in d Finished = d
-  right_answer shown_now n (Step a) (Stepped (Device step) got) l c r o = tt
-  right_answer shown_now n (Step a) (Stepped (Cell step) got) l c r o = tt
-  right_answer shown_now n (Step a) (Stepped (Desk step) got) l c r o = tt
-  right_answer shown_now n (Step a) Skipped l c r o = tt
-  right_answer shown_now n (Step a) (Refused refusal) l c r o = tt
-  right_answer shown_now n (Step a) Started l c r o = tt
-  right_answer shown_now n (Step a) Stopped l c r o = tt
-  right_answer shown_now n (Start a job) what l c r o = tt
-  right_answer shown_now n (FaultStep a choice) what l c r o = tt
-  right_answer shown_now n (Stop choice) what l c r o = tt
+  right_answer shown_now n event what l c r o = tt
 
   -- ---- runs
 

@@ -1,26 +1,24 @@
--- Each step of a read or a write, done or failing, and its answer, is followed.
-use Rattle.std.proofs.Common.{◌≡◌, ◌∙◌, ◌<◌, ◌≤◌, ◌+◌, ◌*◌, ◌/◌, ◌%◌, ◌⊎◌, inl, inr, ℕ, Bool, true, false, List, [], ◌∷◌, ◌++◌, Option, Some, None, refl, sym, ap, subst, arith, length, replicate, slice_get, slice_set, mul_comm, Contains}
+-- Each step of a read or a write, done or failing, and its answer, is followed; what a step of a read is given is the last entry of each of its
+-- sectors' histories.
+use Rattle.std.proofs.Common.{◌≡◌, ◌∙◌, ◌<◌, ◌≤◌, ◌+◌, ◌*◌, ◌/◌, ◌%◌, ◌⊎◌, inl, inr, ℕ, Bool, true, false, List, [], ◌∷◌, ◌++◌, Option, Some, None, refl, sym, ap, subst, arith, length, replicate, slice_get, slice_set, mul_comm, Contains, suc, All}
 use Rattle.std.proofs.Math.Nat.{mul-le-mul_right}
 use Rattle.std.proofs.lemmas.List.{length-set}
 use Rattle.std.proofs.lemmas.Nat.{div_below}
 use Rattle.wb_types.specs.Extents.{rising}
 use Rattle.wb_types.specs.declared.extent.Extent.{Extent}
 use Rattle.wb_types.specs.declared.mode.Dev.{Dev}
-use Rattle.wb_types.specs.declared.mode.Dev.TheVariants.{Metadata, Cache, Origin}
-use Rattle.wb_disk.specs.Device.{Content as Bytes, History, grown, added}
+use Rattle.wb_disk.specs.Device.{Content as Bytes, History, grown, added, newest}
 use Rattle.wb_disk.specs.Extents.{GivesEach, written_each, written_where}
 use Rattle.wb_words.specs.Rule.{LockRule}
-use Rattle.wb_words.specs.declared.card.Card.{Card}
 use Rattle.wb_policy.specs.declared.order.Order.{Order}
 use Rattle.wb_words.specs.SharedWords.{Words}
 use Rattle.wb_words.specs.Effects.{result_of, words_after}
 use Rattle.wb_words.specs.declared.step.CellStep.{CellStep}
 use Rattle.wb_tasks.specs.Tables.{BlockRange, Reading as ReadingPart, Writing as WritingPart, OnBlock, TaskJob}
-use Rattle.wb_tasks.specs.Plan.{Plan, want, got_of, first_step}
+use Rattle.wb_tasks.specs.Plan.{Plan, want, got_of}
 use Rattle.wb_tasks.specs.Ready.{Suits, HoldsBlocks}
 use Rattle.wb_tasks.specs.declared.step.Answer.{Answer}
 use Rattle.wb_tasks.specs.declared.step.Answer.TheVariants.{Done as Finished, Refused as Refuses}
-use Rattle.wb_tasks.specs.declared.step.DeviceStep.{DeviceStep}
 use Rattle.wb_tasks.specs.declared.step.DeviceStep.TheVariants.{Read as ReadExtent, Write as WriteExtent}
 use Rattle.wb_tasks.specs.declared.step.Want.{Want}
 use Rattle.wb_tasks.specs.declared.step.Want.TheVariants.{Cell, Device, End}
@@ -41,23 +39,28 @@ use Rattle.wb_runs.proofs.Images.{Images}
 use Rattle.wb_runs.proofs.Metadata.{MetadataKept}
 use Rattle.wb_runs.proofs.Extents.{may_start, some_sectors}
 use Rattle.wb_runs.proofs.Claims.{JobClaim}
-use Rattle.wb_link.specs.World.{World, after_all}
+use Rattle.wb_link.specs.World.{after_all}
 use Rattle.wb_refines.specs.Translation.{job_for}
 use Rattle.wb_simulation.specs.Noting.{NotesAgree}
-use Rattle.wb_simulation.specs.Noted.{told}
+use Rattle.wb_simulation.specs.Noted.{told, AreNewest}
 use Rattle.wb_simulation.specs.Actors.{IsRequestAt}
 use Rattle.wb_simulation.specs.Steps.{AreOfBlock}
 use Rattle.wb_simulation.specs.Telling.{Quietly, Reads, Writes, Answers}
-use Rattle.wb_simulation.specs.Worlds.{Stays, Follows}
+use Rattle.wb_simulation.specs.Worlds.{Stays, Follows, zeros}
 use Rattle.wb_simulation.specs.Laws.{IsRequestJob, went, after_step, content_of, IsBesideOrders}
-use Rattle.wb_simulation.proofs.Followed.{cell_steps_followed, doing_of}
+use Rattle.wb_simulation.proofs.Followed.{begins_by, cell_steps_followed, doing_of}
 use Rattle.wb_simulation.proofs.Moving.{extent_steps_followed}
 use Rattle.wb_simulation.proofs.Ending.{answers_followed}
 use Rattle.wb_simulation.proofs.Noted.{notes_followed}
+use Rattle.std.proofs.lemmas.List.Elements.{All-cons}
+use Rattle.wb_contents.specs.Devices.{by_block}
+use Rattle.wb_contents.proofs.Devices.{is_there}
+use Rattle.wb_runs.specs.Headline.{IsLatest}
 use Rattle.wb_headline.specs.Desks.{live_orders}
-use Rattle.wb_headline.proofs.Following.{size, most, Sized, Followed, Goes}
-use Rattle.wb_headline.proofs.Arriving.{SameSectors, sized_so}
-use Rattle.wb_headline.proofs.Targets.{standing, actor_is, beside, noted_within, stays_on}
+use Rattle.wb_headline.proofs.Following.{size, most, Followed, Goes, many}
+use Rattle.wb_headline.proofs.Targets.{standing, actor_is, beside, metadata_same, noted_within, stays_on}
+use Rattle.wb_headline.proofs.Showing.{there}
+use Rattle.wb_headline.proofs.Events.{records_happen, is_right}
 
 module _ (P A : Type 0) (shape : Shape) (images : Images) (t : Target P) (commit : Option RunningCommit) (devices : Devices (List History)) (actors : List Actor) (n : Notes) (known : MetadataKept {P = P} {A = A} shape.geometry images (Stands t) commit devices.metadata)
     (f : Followed P A shape images (standing P A shape images t commit devices actors n) n) (rule : LockRule shape.geometry.origin_blocks t.words (cards_of actors)) (all_suited : AllSuited shape.geometry.origin_blocks actors) (a : ℕ) (x : Actor) (ex : slice_get actors a ≡ Some x) (job : Job) (plan : Plan) (xt : x.task ≡ Some (job, plan)) (suits : Suits shape.geometry.origin_blocks plan x.card)
@@ -65,21 +68,9 @@ module _ (P A : Type 0) (shape : Shape) (images : Images) (t : Target P) (commit
   abbrev slots : List (Option Order)
   slots = live_orders t.desk
 
-  task_there : IsRequestJob job → x.task ≡ Some (job, plan)
-  task_there q = xt
-
   -- the state after a step that leaves words, desk and metadata
   abbrev after_it : Words → Devices (List History) → Actor → State P A
   after_it words' devices' y = record { devices = devices'; commit = commit; phase = Stands (record { words = words'; desk = t.desk }); actors = slice_set actors a y }
-
-  sized_then : (y : Actor) (n' : Notes) → SameSectors n n' → Sized P A shape (slice_set actors a y) n'
-  sized_then y n' same = sized_so P A shape actors (slice_set actors a y) n n' same (length-set actors a y) f.sized
-
-  same_n : SameSectors n n
-  same_n = record { histories = refl; finished = refl; floors = refl; doings = refl }
-
-  put_same : (d : Option Doing) → SameSectors n (put n a d)
-  put_same d = record { histories = refl; finished = refl; floors = refl; doings = length-set n.doings a d }
 
   -- nothing is noted
   quietly : (words' : Words) (devices' : Devices (List History)) (y : Actor) →
@@ -88,23 +79,14 @@ module _ (P A : Type 0) (shape : Shape) (images : Images) (t : Target P) (commit
       let b = beside P A shape images t commit devices actors n known f a x ex in
       stays_on P A shape images t commit devices actors n known f a x ex Quietly words' devices' y n g tt
       (notes_followed.quiet Stays (size P A shape) (most P A shape) a f.site.world words' t.desk.space.committing slots devices' (slice_set actors a y) g b.0 n f.notes b.1 (noted_within P A shape images t commit devices actors n known f a x ex) f.notes_agree)
-      (sized_then y n same_n) same
+      refl refl same
 
   -- a step on the shared words
   pub on_words : (step : CellStep) → IsRequestJob job → Cell step ≡ want plan → Goes P A shape (after_it (words_after t.words step) devices (actor_then {P = P} {A = A} shape (Stands t) devices x (Cell step) (got_of (result_of t.words step)))) n
   on_words step q e = subst (λ (y : Actor). Goes P A shape (after_it (words_after t.words step) devices y) n) (sym (actor_is P A shape (Stands t) devices x job plan (Cell step) (got_of (result_of t.words step)) xt))
       (quietly (words_after t.words step) devices (went t.words job plan step x)
-      (cell_steps_followed (size P A shape) (most P A shape) shape.geometry.origin_blocks t.words t.desk.space.committing slots devices actors a x job plan step f.site.world q (subst (λ (cs : List Card). LockRule shape.geometry.origin_blocks t.words cs) refl rule)
-      ex (task_there q) suits (sym e) f.phase.agrees) refl)
-
-  -- what failed of it is noted, and what it has read
-  redone : (s : World) (m : _) (doing' : Doing) → NotesAgree (size P A shape) n s m → doing'.entered ≡ doing.entered → doing'.then_finished ≡ doing.then_finished → NotesAgree (size P A shape) (put n a (Some doing')) s m
-  redone s m doing' g e th = notes_followed.redone (size P A shape) n s m a doing doing' g noted e th
-
--- notes of as many sectors and actors
-record SameSized (n n' : Notes) : Type 0 where
-  pub histories : length n'.histories ≡ length n.histories
-  pub doings : length n'.doings ≡ length n.doings
+      (cell_steps_followed (size P A shape) (most P A shape) shape.geometry.origin_blocks t.words t.desk.space.committing slots devices actors a x job plan step f.site.world q rule
+      ex xt suits (sym e) f.phase.agrees) refl)
 
 -- a read or write that is answered leaves its actor the orders that it has
 orders_still : (orders awaiting : List Order) (job : Job) (answer : Answer) → IsRequestJob job → orders_then orders awaiting job (End answer) Done ≡ orders
@@ -119,24 +101,10 @@ awaiting_still orders awaiting (Write extent content) Finished q = refl
 awaiting_still orders awaiting job (Refuses refusal) q = refl
 awaiting_still orders awaiting job answer q = absurd q
 
--- the step is the first of what is left
-begins_by : (plan : Plan) (step : DeviceStep) → want plan ≡ Device step → (ws : List Want) × (plan.steps ≡ Device step ∷ ws)
-begins_by plan step e = by_steps plan.steps refl
-  where
-    by_steps : (steps : List Want) → plan.steps ≡ steps → (ws : List Want) × (plan.steps ≡ Device step ∷ ws)
-    by_steps [] k = absurd (let bad : End plan.answer ≡ Device step = sym (ap (λ (us : List Want). first_step us plan.answer) k) ∙ e in cc)
-    by_steps (v ∷ ws) k = (ws, k ∙ ap (λ (u : Want). u ∷ ws) (sym (ap (λ (us : List Want). first_step us plan.answer) k) ∙ e))
-
 module _ (P A : Type 0) (shape : Shape) (images : Images) (t : Target P) (commit : Option RunningCommit) (devices : Devices (List History)) (actors : List Actor) (n : Notes) (known : MetadataKept {P = P} {A = A} shape.geometry images (Stands t) commit devices.metadata)
     (f : Followed P A shape images (standing P A shape images t commit devices actors n) n) (rule : LockRule shape.geometry.origin_blocks t.words (cards_of actors)) (all_suited : AllSuited shape.geometry.origin_blocks actors) (a : ℕ) (x : Actor) (ex : slice_get actors a ≡ Some x) (shown : List Bytes) (doing : Doing) (noted : slice_get n.doings a ≡ Some (Some doing)) where
   abbrev slots_now : List (Option Order)
   slots_now = live_orders t.desk
-
-  -- a data device with another list leaves the metadata
-  metadata_same : (device : Dev) (list : List History) → HoldsBlocks device → (with_device device devices list).metadata ≡ devices.metadata
-  metadata_same Cache list h = refl
-  metadata_same Origin list h = refl
-  metadata_same Metadata list h = absurd h
 
   noted_less : Rattle.std.proofs.Common.◌<◌ a (length n.doings)
   noted_less = noted_within P A shape images t commit devices actors n known f a x ex
@@ -151,10 +119,6 @@ module _ (P A : Type 0) (shape : Shape) (images : Images) (t : Target P) (commit
     pub read_follows : (contents : List Bytes) → length contents ≡ e.count → GivesEach (device_in device devices) e.first contents →
         Follows (Reads part.block.0 (e.first % size P A shape) contents) (size P A shape) (most P A shape) a f.site.world t.words t.desk.space.committing slots_now devices (slice_set actors a (after_step (Read extent) plan Done x))
     read_follows contents many gives = extent_steps_followed.read_done (size P A shape) (most P A shape) shape.geometry.origin_blocks t.words t.desk.space.committing slots_now devices actors a x extent part plan device e contents f.site.world ex xt claim.is_job suits (sym next) holds many gives f.phase.agrees
-
-    -- the notes then
-    read_n : (contents : List Bytes) → Notes
-    read_n contents = device_note shape (put n a (Some doing)) a doing (Read extent) (ReadExtent device e) Done contents
 
     pub reads : (contents : List Bytes) → length contents ≡ e.count → GivesEach (device_in device devices) e.first contents →
         Goes P A shape (record { devices = devices; commit = commit; phase = Stands (record { words = t.words; desk = t.desk }); actors = slice_set actors a (actor_then {P = P} {A = A} shape (Stands t) devices x (Device (ReadExtent device e)) Done) })
@@ -172,8 +136,7 @@ module _ (P A : Type 0) (shape : Shape) (images : Images) (t : Target P) (commit
         let n2 = put (put n a (Some doing)) a (Some doing2) in
         subst (λ (q : Job). Goes P A shape (record { devices = devices; commit = commit; phase = Stands (record { words = t.words; desk = t.desk }); actors = slice_set actors a (actor_then {P = P} {A = A} shape (Stands t) devices x (Device (ReadExtent device e)) Done) }) (device_note shape (put n a (Some doing)) a doing q (ReadExtent device e) Done contents)) (sym job_is)
         (subst (λ (y : Actor). Goes P A shape (record { devices = devices; commit = commit; phase = Stands (record { words = t.words; desk = t.desk }); actors = slice_set actors a y }) n2) (sym (actor_is P A shape (Stands t) devices x (Read extent) plan (Device (ReadExtent device e)) Done xt))
-        (stays_on P A shape images t commit devices actors n known f a x ex (Reads part.block.0 (e.first % size P A shape) contents) t.words devices y n2 g tt second
-        (sized_so P A shape actors (slice_set actors a y) n n2 (record { histories = refl; finished = refl; floors = refl; doings = length-set (put n a (Some doing)).doings a (Some doing2) ∙ length-set n.doings a (Some doing) }) (length-set actors a y) f.sized) refl))
+        (stays_on P A shape images t commit devices actors n known f a x ex (Reads part.block.0 (e.first % size P A shape) contents) t.words devices y n2 g tt second (length-set (put n a (Some doing)).doings a (Some doing2) ∙ length-set n.doings a (Some doing)) refl refl))
 
     pub read_fails : (contents : List Bytes) →
         Goes P A shape (record { devices = devices; commit = commit; phase = Stands (record { words = t.words; desk = t.desk }); actors = slice_set actors a (actor_then {P = P} {A = A} shape (Stands t) devices x (Device (ReadExtent device e)) Fault) })
@@ -189,8 +152,7 @@ module _ (P A : Type 0) (shape : Shape) (images : Images) (t : Target P) (commit
         let y = after_step (Read extent) plan Fault x in
         subst (λ (q : Job). Goes P A shape (record { devices = devices; commit = commit; phase = Stands (record { words = t.words; desk = t.desk }); actors = slice_set actors a (actor_then {P = P} {A = A} shape (Stands t) devices x (Device (ReadExtent device e)) Fault) }) (device_note shape (put n a (Some mid)) a mid q (ReadExtent device e) Fault contents)) (sym job_is)
         (subst (λ (y : Actor). Goes P A shape (record { devices = devices; commit = commit; phase = Stands (record { words = t.words; desk = t.desk }); actors = slice_set actors a y }) (put n a (Some mid))) (sym (actor_is P A shape (Stands t) devices x (Read extent) plan (Device (ReadExtent device e)) Fault xt))
-        (stays_on P A shape images t commit devices actors n known f a x ex Quietly t.words devices y (put n a (Some mid)) g tt first
-        (sized_so P A shape actors (slice_set actors a y) n (put n a (Some mid)) (record { histories = refl; finished = refl; floors = refl; doings = length-set n.doings a (Some mid) }) (length-set actors a y) f.sized) refl))
+        (stays_on P A shape images t commit devices actors n known f a x ex Quietly t.words devices y (put n a (Some mid)) g tt first (length-set n.doings a (Some mid)) refl refl))
 
   -- ---- a write
 
@@ -203,7 +165,7 @@ module _ (P A : Type 0) (shape : Shape) (images : Images) (t : Target P) (commit
     in_block =
         let b = beside P A shape images t commit devices actors n known f a x ex in
         let r : IsRequestAt (size P A shape) content t.words WritingPart plan x.card b.0 = doing_of (size P A shape) (most P A shape) t.words x b.0 (Write extent content) plan (f.phase.agrees.each a x b.0 ex b.1) xt in
-        let first = begins_by plan (WriteExtent device e) (sym next) in
+        let first = begins_by plan (Device (WriteExtent device e)) (sym next) (λ answer q. absurd (cc)) in
         (subst (λ (ws : List Want). AreOfBlock (size P A shape) r.part.block.0 ws) first.1 r.of_block).0.room
 
     -- and on the origin
@@ -215,24 +177,6 @@ module _ (P A : Type 0) (shape : Shape) (images : Images) (t : Target P) (commit
         let sectors = f.sized.sectors in
         omega (arith, m1, in_block, sectors, mul_comm shape.geometry.block shape.geometry.origin_blocks)
 
-    module _ (got : Got) (mid : Doing) (same_entered : mid.entered ≡ doing.entered) (same_then : mid.then_finished ≡ doing.then_finished) (list : List History)
-        (g : Follows (Writes written_part.block.0 (e.first % size P A shape) e.count content) (size P A shape) (most P A shape) a f.site.world t.words t.desk.space.committing slots_now (with_device device devices list) (slice_set actors a (after_step (Write extent content) plan got x))) where
-      abbrev n1 : Notes
-      n1 = put n a (Some mid)
-
-      abbrev n2 : Notes
-      n2 = write_note n1 a mid (enter_each content (rising (sector_for shape extent e) e.count) (entering n1 mid))
-
-      writes_on : Sized P A shape (slice_set actors a (after_step (Write extent content) plan got x)) n2 →
-          Goes P A shape (record { devices = with_device device devices list; commit = commit; phase = Stands (record { words = t.words; desk = t.desk }); actors = slice_set actors a (after_step (Write extent content) plan got x) }) n2
-      writes_on sized =
-          let b = beside P A shape images t commit devices actors n known f a x ex in
-          let first = notes_followed.redone (size P A shape) n f.site.world f.notes a doing mid f.notes_agree noted same_entered same_then in
-          let less1 = subst (λ (k : ℕ). a < k) (sym (length-set n.doings a (Some mid))) noted_less in
-          let second = notes_followed.write written_part.block.0 (e.first % size P A shape) e.count content Stays (size P A shape) (most P A shape) a f.site.world t.words t.desk.space.committing slots_now (with_device device devices list) (slice_set actors a (after_step (Write extent content) plan got x)) g b.0 n1 f.notes b.1 less1 first mid
-          (set_there n.doings a (Some doing) (Some mid) noted) in_block in_range in
-          stays_on P A shape images t commit devices actors n known f a x ex (Writes written_part.block.0 (e.first % size P A shape) e.count content) t.words (with_device device devices list) (after_step (Write extent content) plan got x) n2 g tt second sized (metadata_same device list holds)
-
     -- histories keep their number
     entered_many : (sectors : List ℕ) (en : Entering) → length (enter_each content sectors en).histories ≡ length en.histories
     entered_many [] en = refl
@@ -242,12 +186,22 @@ module _ (P A : Type 0) (shape : Shape) (images : Images) (t : Target P) (commit
         by None = refl
         by (Some h) = length-set en.histories s (added h content)
 
-    sized_after : (got : Got) (mid : Doing) → Sized P A shape (slice_set actors a (after_step (Write extent content) plan got x)) (write_note (put n a (Some mid)) a mid (enter_each content (rising (sector_for shape extent e) e.count) (entering (put n a (Some mid)) mid)))
-    sized_after got mid = record {
-      actors_many = length-set actors a (after_step (Write extent content) plan got x) ∙ f.sized.actors_many;
-      doings_many = length-set (put n a (Some mid)).doings a _ ∙ length-set n.doings a (Some mid) ∙ f.sized.doings_many;
-      sectors = entered_many (rising (sector_for shape extent e) e.count) (entering (put n a (Some mid)) mid) ∙ f.sized.sectors;
-    }
+    module _ (got : Got) (mid : Doing) (same_entered : mid.entered ≡ doing.entered) (same_then : mid.then_finished ≡ doing.then_finished) (list : List History)
+        (g : Follows (Writes written_part.block.0 (e.first % size P A shape) e.count content) (size P A shape) (most P A shape) a f.site.world t.words t.desk.space.committing slots_now (with_device device devices list) (slice_set actors a (after_step (Write extent content) plan got x))) where
+      abbrev n1 : Notes
+      n1 = put n a (Some mid)
+
+      abbrev n2 : Notes
+      n2 = write_note n1 a mid (enter_each content (rising (sector_for shape extent e) e.count) (entering n1 mid))
+
+      writes_on : Goes P A shape (record { devices = with_device device devices list; commit = commit; phase = Stands (record { words = t.words; desk = t.desk }); actors = slice_set actors a (after_step (Write extent content) plan got x) }) n2
+      writes_on =
+          let b = beside P A shape images t commit devices actors n known f a x ex in
+          let first = notes_followed.redone (size P A shape) n f.site.world f.notes a doing mid f.notes_agree noted same_entered same_then in
+          let less1 = subst (λ (k : ℕ). a < k) (sym (length-set n.doings a (Some mid))) noted_less in
+          let second = notes_followed.write written_part.block.0 (e.first % size P A shape) e.count content Stays (size P A shape) (most P A shape) a f.site.world t.words t.desk.space.committing slots_now (with_device device devices list) (slice_set actors a (after_step (Write extent content) plan got x)) g b.0 n1 f.notes b.1 less1 first mid
+          (set_there n.doings a (Some doing) (Some mid) noted) in_block in_range in
+          stays_on P A shape images t commit devices actors n known f a x ex (Writes written_part.block.0 (e.first % size P A shape) e.count content) t.words (with_device device devices list) (after_step (Write extent content) plan got x) n2 g tt second (length-set n1.doings a _ ∙ length-set n.doings a (Some mid)) (entered_many (rising (sector_for shape extent e) e.count) (entering n1 mid)) (metadata_same device devices list holds)
 
     pub writes : (contents : List Bytes) → e.first + e.count ≤ length (device_in device devices) → IsBesideOrders (size P A shape) slots_now written_part.block device e →
         Goes P A shape (record { devices = with_device device devices (written_each (device_in device devices) e.first (replicate e.count content)); commit = commit; phase = Stands (record { words = t.words; desk = t.desk }); actors = slice_set actors a (actor_then {P = P} {A = A} shape (Stands t) devices x (Device (WriteExtent device e)) Done) })
@@ -257,7 +211,7 @@ module _ (P A : Type 0) (shape : Shape) (images : Images) (t : Target P) (commit
         let g = extent_steps_followed.write_done (size P A shape) (most P A shape) shape.geometry.origin_blocks t.words t.desk.space.committing slots_now devices actors a x extent content written_part plan device e f.site.world rule all_suited ex xt claim.is_job suits (sym next) holds inside beside_them f.phase.agrees in
         subst (λ (q : Job). Goes P A shape (record { devices = with_device device devices list; commit = commit; phase = Stands (record { words = t.words; desk = t.desk }); actors = slice_set actors a (actor_then {P = P} {A = A} shape (Stands t) devices x (Device (WriteExtent device e)) Done) }) (device_note shape (put n a (Some doing)) a doing q (WriteExtent device e) Done contents)) (sym job_is)
         (subst (λ (y : Actor). Goes P A shape (record { devices = with_device device devices list; commit = commit; phase = Stands (record { words = t.words; desk = t.desk }); actors = slice_set actors a y }) (write_note (put n a (Some doing)) a doing (enter_each content (rising (sector_for shape extent e) e.count) (entering (put n a (Some doing)) doing))))
-        (sym (actor_is P A shape (Stands t) devices x (Write extent content) plan (Device (WriteExtent device e)) Done xt)) (writes_on Done doing refl refl list g (sized_after Done doing)))
+        (sym (actor_is P A shape (Stands t) devices x (Write extent content) plan (Device (WriteExtent device e)) Done xt)) (writes_on Done doing refl refl list g))
 
     pub write_fails : (contents : List Bytes) (lands : ℕ → Bool) → e.first + e.count ≤ length (device_in device devices) → IsBesideOrders (size P A shape) slots_now written_part.block device e →
         Goes P A shape (record { devices = with_device device devices (written_where lands (device_in device devices) e.first (replicate e.count content)); commit = commit; phase = Stands (record { words = t.words; desk = t.desk }); actors = slice_set actors a (actor_then {P = P} {A = A} shape (Stands t) devices x (Device (WriteExtent device e)) Fault) })
@@ -268,7 +222,7 @@ module _ (P A : Type 0) (shape : Shape) (images : Images) (t : Target P) (commit
         let g = extent_steps_followed.write_fails (size P A shape) (most P A shape) shape.geometry.origin_blocks t.words t.desk.space.committing slots_now devices actors a x extent content written_part plan device e lands f.site.world rule all_suited ex xt claim.is_job suits (sym next) holds inside beside_them f.phase.agrees in
         subst (λ (q : Job). Goes P A shape (record { devices = with_device device devices list; commit = commit; phase = Stands (record { words = t.words; desk = t.desk }); actors = slice_set actors a (actor_then {P = P} {A = A} shape (Stands t) devices x (Device (WriteExtent device e)) Fault) }) (device_note shape (put n a (Some mid)) a mid q (WriteExtent device e) Fault contents)) (sym job_is)
         (subst (λ (y : Actor). Goes P A shape (record { devices = with_device device devices list; commit = commit; phase = Stands (record { words = t.words; desk = t.desk }); actors = slice_set actors a y }) (write_note (put n a (Some mid)) a mid (enter_each content (rising (sector_for shape extent e) e.count) (entering (put n a (Some mid)) mid))))
-        (sym (actor_is P A shape (Stands t) devices x (Write extent content) plan (Device (WriteExtent device e)) Fault xt)) (writes_on Fault mid refl refl list g (sized_after Fault mid)))
+        (sym (actor_is P A shape (Stands t) devices x (Write extent content) plan (Device (WriteExtent device e)) Fault xt)) (writes_on Fault mid refl refl list g))
 
   -- ---- answers
 
@@ -280,12 +234,11 @@ module _ (P A : Type 0) (shape : Shape) (images : Images) (t : Target P) (commit
     abbrev Answered : Notes → Type 0
     Answered n' = Goes P A shape (record { devices = devices; commit = commit; phase = Stands (record { words = t.words; desk = t.desk }); actors = slice_set actors a (actor_then {P = P} {A = A} shape (Stands t) devices x (End answer) Done) }) n'
 
-    answered_with : (there : Answer) (of : Rattle.wb_link.specs.Tables.Job) (n' : Notes) → SameSized n n' → (g : Follows (Answers of there) (size P A shape) (most P A shape) a f.site.world t.words t.desk.space.committing slots_now devices (slice_set actors a (record x { task = None }))) →
+    answered_with : (there : Answer) (of : Rattle.wb_link.specs.Tables.Job) (n' : Notes) → length n'.doings ≡ length n.doings → length n'.histories ≡ length n.histories → (g : Follows (Answers of there) (size P A shape) (most P A shape) a f.site.world t.words t.desk.space.committing slots_now devices (slice_set actors a (record x { task = None }))) →
         NotesAgree (size P A shape) n' (after_all f.site.world g.records) (told f.notes g.records) → Answered n'
-    answered_with there of n' same g notes =
+    answered_with there of n' d h g notes =
         subst (λ (y : Actor). Goes P A shape (record { devices = devices; commit = commit; phase = Stands (record { words = t.words; desk = t.desk }); actors = slice_set actors a y }) n') (sym (actor_is P A shape (Stands t) devices x job plan (End answer) Done xt ∙ (λ i. record { task = None; card = x.card; orders = orders_still x.orders x.awaiting job answer request i; awaiting = awaiting_still x.orders x.awaiting job answer request i; buffer = x.buffer })))
-        (stays_on P A shape images t commit devices actors n known f a x ex (Answers of there) t.words devices (record x { task = None }) n' g tt notes
-        (record { actors_many = length-set actors a (record x { task = None }) ∙ f.sized.actors_many; doings_many = same.doings ∙ f.sized.doings_many; sectors = same.histories ∙ f.sized.sectors }) refl)
+        (stays_on P A shape images t commit devices actors n known f a x ex (Answers of there) t.words devices (record x { task = None }) n' g tt notes d h refl)
 
   -- by its job
   pub answers : (job : Job) → IsRequestJob job → (plan : Plan) → x.task ≡ Some (job, plan) → Suits shape.geometry.origin_blocks plan x.card → doing.job ≡ job → JobClaim shape job plan doing → (answer : Answer) → End answer ≡ want plan → (contents : List Bytes) →
@@ -293,7 +246,7 @@ module _ (P A : Type 0) (shape : Shape) (images : Images) (t : Target P) (commit
   answers job q plan xt suits job_is claim (Refuses refusal) next contents =
       let g = answer_follows job q plan xt suits job_is (Refuses refusal) next in
       let b = beside P A shape images t commit devices actors n known f a x ex in
-      answered_with job q plan xt suits job_is (Refuses refusal) next (Refuses refusal) _ (put n a None) (record { histories = refl; doings = length-set n.doings a None }) g
+      answered_with job q plan xt suits job_is (Refuses refusal) next (Refuses refusal) _ (put n a None) (length-set n.doings a None) refl g
       (notes_followed.refused (job_for (size P A shape) (content_of job) plan.job) refusal Stays (size P A shape) (most P A shape) a f.site.world t.words t.desk.space.committing slots_now devices (slice_set actors a (record x { task = None })) g b.0 n f.notes b.1 noted_less f.notes_agree)
   answers (Read extent) q plan xt suits job_is claim Finished next contents =
       let part = block_range shape extent claim.cut in
@@ -301,7 +254,7 @@ module _ (P A : Type 0) (shape : Shape) (images : Images) (t : Target P) (commit
       let g = subst (λ (k : TaskJob). Follows (Answers (job_for (size P A shape) [] k) Finished) (size P A shape) (most P A shape) a f.site.world t.words t.desk.space.committing slots_now devices (slice_set actors a (record x { task = None }))) claim.is_job (answer_follows (Read extent) q plan xt suits job_is Finished next) in
       let b = beside P A shape images t commit devices actors n known f a x ex in
       subst (λ (k : Job). Goes P A shape (record { devices = devices; commit = commit; phase = Stands (record { words = t.words; desk = t.desk }); actors = slice_set actors a (actor_then {P = P} {A = A} shape (Stands t) devices x (End Finished) Done) }) (finished_note n a doing k shown)) (sym job_is)
-      (answered_with (Read extent) q plan xt suits job_is Finished next Finished of (put n a None) (record { histories = refl; doings = length-set n.doings a None }) g
+      (answered_with (Read extent) q plan xt suits job_is Finished next Finished of (put n a None) (length-set n.doings a None) refl g
       (notes_followed.read_answered part.block.0 _ Stays (size P A shape) (most P A shape) a f.site.world t.words t.desk.space.committing slots_now devices (slice_set actors a (record x { task = None })) g b.0 n f.notes b.1 noted_less f.notes_agree))
   answers (Write extent content) q plan xt suits job_is claim Finished next contents =
       let part = block_range shape extent claim.cut in
@@ -309,6 +262,40 @@ module _ (P A : Type 0) (shape : Shape) (images : Images) (t : Target P) (commit
       let g = subst (λ (k : TaskJob). Follows (Answers (job_for (size P A shape) content k) Finished) (size P A shape) (most P A shape) a f.site.world t.words t.desk.space.committing slots_now devices (slice_set actors a (record x { task = None }))) claim.is_job (answer_follows (Write extent content) q plan xt suits job_is Finished next) in
       let b = beside P A shape images t commit devices actors n known f a x ex in
       subst (λ (k : Job). Goes P A shape (record { devices = devices; commit = commit; phase = Stands (record { words = t.words; desk = t.desk }); actors = slice_set actors a (actor_then {P = P} {A = A} shape (Stands t) devices x (End Finished) Done) }) (finished_note n a doing k shown)) (sym job_is)
-      (answered_with (Write extent content) q plan xt suits job_is Finished next Finished of (record n { finished = all_raised n.finished doing.entered; doings = slice_set n.doings a None }) (record { histories = refl; doings = length-set n.doings a None }) g
+      (answered_with (Write extent content) q plan xt suits job_is Finished next Finished of (record n { finished = all_raised n.finished doing.entered; doings = slice_set n.doings a None }) (length-set n.doings a None) refl g
       (notes_followed.write_answered part.block.0 _ content Stays (size P A shape) (most P A shape) a f.site.world t.words t.desk.space.committing slots_now devices (slice_set actors a (record x { task = None })) g b.0 n f.notes b.1 noted_less f.notes_agree doing noted))
   answers job q plan xt suits job_is claim Finished next contents = absurd q
+
+-- newest by block and offset is latest by sector
+newest_latest : (sectors : ℕ) (histories : List History) (b o : ℕ) (contents : List Bytes) → o + length contents ≤ sectors → b * sectors + o + length contents ≤ length histories → AreNewest (by_block sectors zeros histories) b o contents → All IsLatest (readings_from histories (b * sectors + o) contents)
+newest_latest sectors histories b o [] room inside all = λ k d l. absurd (omega (arith, l))
+newest_latest sectors histories b o (c ∷ contents) room inside all =
+    All-cons IsLatest _ (readings_from histories (suc (b * sectors + o)) contents) here
+    (subst (λ (k : ℕ). All IsLatest (readings_from histories k contents)) (let e : b * sectors + (o + 1) ≡ suc (b * sectors + o) = omega arith in e)
+    (newest_latest sectors histories b (o + 1) contents (omega (arith, room)) (omega (arith, inside)) all.1))
+  where
+    here : IsLatest (record { sector = b * sectors + o; content = c; latest = Rattle.wb_runs.specs.Clerk.latest_of (slice_get histories (b * sectors + o)) })
+    here =
+        let h = there histories (b * sectors + o) (omega (arith, inside)) in
+        let is : by_block sectors zeros histories b o ≡ h.0 = is_there sectors zeros histories b o h.0 (omega (arith, room)) h.1 in
+        ap Rattle.wb_runs.specs.Clerk.latest_of h.1 ∙ ap (λ (g : History). Some (newest g)) (sym is) ∙ ap (λ (x : Bytes). Some x) (sym all.0)
+
+module _ (P A : Type 0) (shape : Shape) (images : Images) (t : Target P) (commit : Option RunningCommit) (devices : Devices (List History)) (actors : List Actor) (n : Notes) (known : MetadataKept {P = P} {A = A} shape.geometry images (Stands t) commit devices.metadata)
+    (f : Followed P A shape images (standing P A shape images t commit devices actors n) n) (rule : LockRule shape.geometry.origin_blocks t.words (cards_of actors)) (all_suited : AllSuited shape.geometry.origin_blocks actors) (a : ℕ) (x : Actor) (ex : slice_get actors a ≡ Some x) (plan : Plan) (suits : Suits shape.geometry.origin_blocks plan x.card)
+    (doing : Doing) (noted : slice_get n.doings a ≡ Some (Some doing)) (extent : Extent) (xt : x.task ≡ Some (Read extent, plan)) (job_is : doing.job ≡ Read extent) (claim : JobClaim shape (Read extent) plan doing) (device : Dev) (e : Extent) (next : Device (ReadExtent device e) ≡ want plan) (holds : HoldsBlocks device) where
+  pub given_latest : (contents : List Bytes) → length contents ≡ e.count → GivesEach (device_in device devices) e.first contents → All IsLatest (readings_from n.histories (sector_for shape extent e) contents)
+  given_latest contents many_read gives =
+      let g = read_follows P A shape images t commit devices actors n known f rule all_suited a x ex [] doing noted extent plan xt suits job_is claim device e next holds contents many_read gives in
+      let b = beside P A shape images t commit devices actors n known f a x ex in
+      let less = noted_within P A shape images t commit devices actors n known f a x ex in
+      let part = block_range shape extent claim.cut in
+      let right = is_right (size P A shape) (many P A shape) f.site f.notes f.reached _ (records_happen (size P A shape) f.site g.records f.phase.phase_is g.run) in
+      let newest = notes_followed.newest_read Stays (size P A shape) (most P A shape) a part.block.0 (e.first % size P A shape) contents f.site.world t.words t.desk.space.committing (live_orders t.desk) devices _ g b.0 n f.notes b.1 less f.notes_agree right in
+      let r : IsRequestAt (size P A shape) [] t.words ReadingPart plan x.card b.0 = doing_of (size P A shape) (most P A shape) t.words x b.0 (Read extent) plan (f.phase.agrees.each a x b.0 ex b.1) xt in
+      let first = begins_by plan (Device (ReadExtent device e)) (sym next) (λ answer q. absurd (cc)) in
+      let room = (subst (λ (ws : List Want). AreOfBlock (size P A shape) r.part.block.0 ws) first.1 r.of_block).0.room in
+      let m = may_start shape extent claim.inside in
+      let low : part.block.0 < shape.geometry.origin_blocks = div_below extent.first shape.geometry.block shape.geometry.origin_blocks (some_sectors shape extent m) (let i = m.inside in let s = m.some in omega (arith, i, s, mul_comm shape.geometry.block shape.geometry.origin_blocks)) in
+      let m1 : (part.block.0 + 1) * shape.geometry.block ≤ shape.geometry.origin_blocks * shape.geometry.block = mul-le-mul_right shape.geometry.block (omega (arith, low)) in
+      let sectors = f.sized.sectors in
+      newest_latest (size P A shape) n.histories part.block.0 (e.first % size P A shape) contents (omega (arith, room, many_read)) (omega (arith, m1, room, many_read, sectors, mul_comm shape.geometry.block shape.geometry.origin_blocks)) newest

@@ -15,7 +15,7 @@ use Rattle.wb_devices.specs.declared.running.RunningCommit.{RunningCommit}
 use Rattle.wb_roots.specs.Roots.{MayBeReadAs, Commit}
 use Rattle.wb_roots.proofs.Leading.{after_failure}
 use Rattle.wb_runs.specs.Headline.{cached_from, place_of}
-use Rattle.wb_runs.proofs.Images.{Images, Turn, Stays, Begins, Puts, Ends, Settles, Turned, later_of}
+use Rattle.wb_runs.proofs.Images.{Images, Turn, Ends, Settles, Turned, later_of}
 use Rattle.wb_runs.proofs.Underway.{Underway, Readable, images_of, underway_readable, led_on}
 use Rattle.wb_runs.proofs.Metadata.{Rooting as RootingKept}
 
@@ -23,12 +23,9 @@ use Rattle.wb_runs.proofs.Metadata.{Rooting as RootingKept}
 
 -- where one image stood alone
 pub same_one : (turn : Turn) (old now : Images) → old.running ≡ None → Turned turn old now → now.committed ≡ old.committed
-same_one Stays old now e t = ap (λ (i : Images). i.committed) t
-same_one (Begins state) old now e t = ap (λ (i : Images). i.committed) t
-same_one Puts old now e t = ap (λ (i : Images). i.committed) t
 same_one Ends old now e t = absurd (let some = t.1 in let bad : None ≡ Some t.0 = sym e ∙ some in cc)
-same_one (Settles false) old now e t = ap (λ (i : Images). i.committed) t
 same_one (Settles true) old now e t = absurd (let some = t.1 in let bad : None ≡ Some t.0 = sym e ∙ some in cc)
+same_one turn old now e t = ap (λ (i : Images). i.committed) t
 
 -- ---- either of two states
 

@@ -55,10 +55,8 @@ slot_within (s ∷ slots) zero l e = omega arith
 slot_within (s ∷ slots) (suc c) l e = let i = slot_within slots c l e in omega (arith, i)
 
 pub orders_set : (slots : List (Option LiveOrder)) (c : ℕ) (o : Option LiveOrder) → orders_of (slice_set slots c o) ≡ slice_set (orders_of slots) c (order_of o)
-orders_set [] zero o = refl
-orders_set [] (suc c) o = refl
-orders_set (s ∷ slots) zero o = refl
 orders_set (s ∷ slots) (suc c) o = ap (λ (os : List (Option Order)). order_of s ∷ os) (orders_set slots c o)
+orders_set slots c o = refl
 
 pub vacant_there : (slots : List (Option LiveOrder)) (c : ℕ) → slice_get slots c ≡ Some None → slice_get (orders_of slots) c ≡ Some None
 vacant_there [] c e = absurd (cc)
@@ -108,17 +106,13 @@ module _ (P : Type 0) (desk : DeskState P) (kept : DeskInvariant unknowing desk)
           where
             none : (o : Order) → IsReplacing Clean block next o → ⊥
             none (PromoteOrder b k) r = r
-            none (Replace old new k) r = r
-            none (DemoteOrder b) r = r
-            none (CleanOrder b) r = r
+            none o r = r
         by Demote (inl i) n = here (names_as (DemoteOrder block) i.0 n)
         by Demote (inr r) n = stands (follows order r)
           where
             follows : (o : Order) → IsReplacing Demote block next o → next ≢ None
-            follows (PromoteOrder b k) r q = r
             follows (Replace old new k) r q = (let bad : None ≡ Some new.0 = sym q ∙ r.1 in cc)
-            follows (DemoteOrder b) r q = r
-            follows (CleanOrder b) r q = r
+            follows o r q = r
 
     -- What is written where the desk has a block is in no cache block out of which another one is copied.
     pub beside_orders : (size : ℕ) (block : OBlock) (device : Dev) (e : Extent) → ((k : ℕ) → location_at size device e ≡ Some k → place_of desk.tree.entries block.0 ≡ Some k) → IsBesideOrders size slots block device e

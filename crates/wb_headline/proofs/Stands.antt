@@ -1,5 +1,5 @@
 -- Whatever step is taken where a target stands, done or failing, it is followed.
-use Rattle.std.proofs.Common.{◌≡◌, ◌≤◌, ◌+◌, ◌/◌, ◌⊎◌, inl, inr, ℕ, Bool, true, false, ◌&&◌, List, [], Option, Some, None, refl, sym, ap, subst, length, slice_get, slice_set}
+use Rattle.std.proofs.Common.{◌≡◌, ◌≤◌, ◌+◌, ◌/◌, ◌⊎◌, inl, inr, ℕ, Bool, true, false, List, [], Option, Some, None, refl, sym, ap, subst, length, slice_get, slice_set}
 use Rattle.wb_types.specs.declared.extent.Extent.{Extent}
 use Rattle.wb_types.specs.declared.mode.Dev.{Dev}
 use Rattle.wb_types.specs.declared.mode.Dev.TheVariants.{Metadata, Cache, Origin}
@@ -17,7 +17,7 @@ use Rattle.wb_tasks.specs.Ready.{Suits, HoldsBlocks, IsOwnStep}
 use Rattle.wb_tasks.proofs.Readiness.{is_own_step}
 use Rattle.wb_tasks.specs.declared.step.DeviceStep.{DeviceStep}
 use Rattle.wb_tasks.specs.declared.step.DeviceStep.TheVariants.{Read as ReadExtent, Write as WriteExtent, Sync, ReadMetadata, WriteNode, WriteRoot}
-use Rattle.wb_tasks.specs.declared.step.DeskStep.TheVariants.{Map, Unmap, ReleaseOrder, BeginCommit, EndCommit}
+use Rattle.wb_tasks.specs.declared.step.DeskStep.TheVariants.{ReleaseOrder, BeginCommit, EndCommit}
 use Rattle.wb_tasks.specs.declared.step.Want.{Want}
 use Rattle.wb_tasks.specs.declared.step.Want.TheVariants.{Cell, Device, Desk, End}
 use Rattle.wb_tasks.specs.declared.step.Got.{Got}
@@ -41,6 +41,8 @@ use Rattle.wb_runs.proofs.Underway.{sync_does, sync_fails, put_fails}
 use Rattle.wb_runs.proofs.Metadata.{MetadataKept}
 use Rattle.wb_runs.proofs.Claims.{JobClaim}
 use Rattle.wb_simulation.specs.Laws.{IsBesideOrders}
+use Rattle.wb_simulation.proofs.Moving.{same_device}
+use Rattle.wb_types.proofs.Truth.{and_true}
 use Rattle.wb_headline.specs.Desks.{live_orders}
 use Rattle.wb_runs.proofs.Owning.{Owned}
 use Rattle.wb_types.specs.declared.number.OBlock.{OBlock}
@@ -48,15 +50,6 @@ use Rattle.wb_headline.proofs.Following.{size, most, Followed, Goes}
 use Rattle.wb_headline.proofs.Targets.{standing}
 use Rattle.wb_headline.proofs.Requests.{on_words as request_words, reads, read_fails, writes, write_fails, answers as request_answers}
 use Rattle.wb_headline.proofs.Flushes.{syncs, sync_fails as data_sync_fails, node_done, sync_done, root_done, node_fails, metadata_sync_fails, root_fails, begins, begin_refused, ends, on_words as flush_words, answers as flush_answers, gives_up, serving}
-
-same_device : (device : Dev) (devices : Devices (List History)) → HoldsBlocks device → with_device device devices (device_in device devices) ≡ devices
-same_device Cache devices h = refl
-same_device Origin devices h = refl
-same_device Metadata devices h = absurd h
-
-and_left : (a b : Bool) → (a && b) ≡ true → a ≡ true
-and_left true b e = refl
-and_left false b e = absurd (cc)
 
 module _ (P A : Type 0) (shape : Shape) (images : Images) (t : Target P) (commit : Option RunningCommit) (devices : Devices (List History)) (actors : List Actor) (n : Notes) (known : MetadataKept {P = P} {A = A} shape.geometry images (Stands t) commit devices.metadata)
     (f : Followed P A shape images (standing P A shape images t commit devices actors n) n) (rule : LockRule shape.geometry.origin_blocks t.words (cards_of actors)) (all_suited : AllSuited shape.geometry.origin_blocks actors) (a : ℕ) (x : Actor) (ex : slice_get actors a ≡ Some x) (plan : Plan) (suits : Suits shape.geometry.origin_blocks plan x.card)
@@ -91,24 +84,14 @@ module _ (P A : Type 0) (shape : Shape) (images : Images) (t : Target P) (commit
     read_steps (End answer) got read chosen e g = subst (λ (v : Got). Done_by (Read extent) (End answer) v read chosen) (sym g.1) (subst (λ (c : Chosen P A). Done_by (Read extent) (End answer) Done read c) (sym g.0.1)
         (request_answers P A shape images t commit devices actors n known f rule all_suited a x ex _ doing noted (Read extent) tt plan xt suits job_is claim answer e read))
     read_steps (Device (WriteExtent d ex')) got read chosen e g = absurd g
-    read_steps (Device (Sync d)) got read chosen e g = absurd (own of_read (Device (Sync d)) claim.is_job e)
-    read_steps (Device (ReadMetadata k)) got read chosen e g = absurd (own of_read (Device (ReadMetadata k)) claim.is_job e)
-    read_steps (Device (WriteNode k)) got read chosen e g = absurd (own of_read (Device (WriteNode k)) claim.is_job e)
-    read_steps (Device WriteRoot) got read chosen e g = absurd (own of_read (Device WriteRoot) claim.is_job e)
-    read_steps (Desk step) got read chosen e g = absurd (own of_read (Desk step) claim.is_job e)
+    read_steps next got read chosen e g = absurd (own of_read next claim.is_job e)
 
     pub read_faults : (choice : Choice) (next : Want) (read : List Bytes) (chosen : Chosen P A) → next ≡ want plan → MayFailAt devices choice next → Falters w choice next chosen → Failed_by choice (Read extent) next read chosen
     read_faults choice (Device (ReadExtent d ex')) read chosen e m g = subst (λ (c : Chosen P A). Failed_by choice (Read extent) (Device (ReadExtent d ex')) read c) (sym g.0)
         (subst (λ (ds : Devices (List History)). Goes P A shape (record { devices = ds; commit = commit; phase = Stands t; actors = slice_set actors a (actor_then {P = P} {A = A} shape (Stands t) devices x (Device (ReadExtent d ex')) Fault) }) (noted_step shape [] n a (Some (Some doing)) (Device (ReadExtent d ex')) Fault read)) (sym (same_device d devices g.1))
         (read_fails P A shape images t commit devices actors n known f rule all_suited a x ex [] doing noted extent plan xt suits job_is claim d ex' e g.1 read))
-    read_faults choice (Device (WriteExtent d ex')) read chosen e m g = absurd (own of_read (Device (WriteExtent d ex')) claim.is_job e)
-    read_faults choice (Device (Sync d)) read chosen e m g = absurd (own of_read (Device (Sync d)) claim.is_job e)
-    read_faults choice (Device (ReadMetadata k)) read chosen e m g = absurd (own of_read (Device (ReadMetadata k)) claim.is_job e)
-    read_faults choice (Device (WriteNode k)) read chosen e m g = absurd (own of_read (Device (WriteNode k)) claim.is_job e)
-    read_faults choice (Device WriteRoot) read chosen e m g = absurd (own of_read (Device WriteRoot) claim.is_job e)
-    read_faults choice (Cell step) read chosen e m g = absurd m
-    read_faults choice (Desk step) read chosen e m g = absurd m
-    read_faults choice (End answer) read chosen e m g = absurd m
+    read_faults choice (Device step) read chosen e m g = absurd (own of_read (Device step) claim.is_job e)
+    read_faults choice next read chosen e m g = absurd m
 
   -- ---- writes
 
@@ -125,11 +108,7 @@ module _ (P A : Type 0) (shape : Shape) (images : Images) (t : Target P) (commit
     write_steps (End answer) got read chosen e g = subst (λ (v : Got). Done_by (Write extent content) (End answer) v read chosen) (sym g.1) (subst (λ (c : Chosen P A). Done_by (Write extent content) (End answer) Done read c) (sym g.0.1)
         (request_answers P A shape images t commit devices actors n known f rule all_suited a x ex _ doing noted (Write extent content) tt plan xt suits job_is claim answer e read))
     write_steps (Device (ReadExtent d ex')) got read chosen e g = absurd g
-    write_steps (Device (Sync d)) got read chosen e g = absurd (own of_write (Device (Sync d)) claim.is_job e)
-    write_steps (Device (ReadMetadata k)) got read chosen e g = absurd (own of_write (Device (ReadMetadata k)) claim.is_job e)
-    write_steps (Device (WriteNode k)) got read chosen e g = absurd (own of_write (Device (WriteNode k)) claim.is_job e)
-    write_steps (Device WriteRoot) got read chosen e g = absurd (own of_write (Device WriteRoot) claim.is_job e)
-    write_steps (Desk step) got read chosen e g = absurd (own of_write (Desk step) claim.is_job e)
+    write_steps next got read chosen e g = absurd (own of_write next claim.is_job e)
 
     pub write_faults : (choice : Choice) (next : Want) (read : List Bytes) (chosen : Chosen P A) → StepInside shape next → (length devices.cache ≡ Rattle.wb_runs.specs.States.cache_sector_count shape) → (length devices.origin ≡ sector_count shape) → next ≡ want plan → MayFailAt devices choice next → Falters w choice next chosen → Failed_by choice (Write extent content) next read chosen
     write_faults choice (Device (WriteExtent d ex')) read chosen inside cs os e m g = subst (λ (c : Chosen P A). Failed_by choice (Write extent content) (Device (WriteExtent d ex')) read c) (sym g.0)
@@ -139,14 +118,8 @@ module _ (P A : Type 0) (shape : Shape) (images : Images) (t : Target P) (commit
         by Cache h i = subst (λ (k : ℕ). ex'.first + ex'.count ≤ k) (sym cs) i
         by Origin h i = subst (λ (k : ℕ). ex'.first + ex'.count ≤ k) (sym os) i
         by Metadata h i = absurd h
-    write_faults choice (Device (ReadExtent d ex')) read chosen inside cs os e m g = absurd (own of_write (Device (ReadExtent d ex')) claim.is_job e)
-    write_faults choice (Device (Sync d)) read chosen inside cs os e m g = absurd (own of_write (Device (Sync d)) claim.is_job e)
-    write_faults choice (Device (ReadMetadata k)) read chosen inside cs os e m g = absurd (own of_write (Device (ReadMetadata k)) claim.is_job e)
-    write_faults choice (Device (WriteNode k)) read chosen inside cs os e m g = absurd (own of_write (Device (WriteNode k)) claim.is_job e)
-    write_faults choice (Device WriteRoot) read chosen inside cs os e m g = absurd (own of_write (Device WriteRoot) claim.is_job e)
-    write_faults choice (Cell step) read chosen inside cs os e m g = absurd m
-    write_faults choice (Desk step) read chosen inside cs os e m g = absurd m
-    write_faults choice (End answer) read chosen inside cs os e m g = absurd m
+    write_faults choice (Device step) read chosen inside cs os e m g = absurd (own of_write (Device step) claim.is_job e)
+    write_faults choice next read chosen inside cs os e m g = absurd m
 
   -- ---- flushes
 
@@ -164,8 +137,7 @@ module _ (P A : Type 0) (shape : Shape) (images : Images) (t : Target P) (commit
 
     -- a step of the commit that runs
     put_step : (step : DeviceStep) (read : List Bytes) (chosen : Chosen P A) (o : Option RunningCommit) → commit ≡ o → DoesPut o step devices.metadata chosen → (new : List History) × (chosen ≡ Puts new) × (c : RunningCommit) × (commit ≡ Some c) × (is_coming c.image c.steps step ≡ true) × DoesStep c.image c.steps devices.metadata new
-    put_step step read (Puts new) (Some c) e d = (new, refl, c, e, and_left _ _ d.0, d.1)
-    put_step step read (Puts new) None e d = absurd d
+    put_step step read (Puts new) (Some c) e d = (new, refl, c, e, (and_true _ _ d.0).0, d.1)
     put_step step read chosen o e d = absurd d
 
     -- with its commit led on
@@ -176,7 +148,7 @@ module _ (P A : Type 0) (shape : Shape) (images : Images) (t : Target P) (commit
     by_sync : (read : List Bytes) (chosen : Chosen P A) (o : Option RunningCommit) → commit ≡ o → DoesSync {P = P} {A = A} (Stands t) o devices.metadata chosen → Device (Sync Metadata) ≡ want plan → Done_by Flush (Device (Sync Metadata)) Done read chosen
     by_sync read chosen (Some c) runs d e = subst (λ (ch : Chosen P A). Done_by Flush (Device (Sync Metadata)) Done read ch) (sym d.1)
         (leads (Sync Metadata) Done read (synced devices.metadata) (led commit Done) _ (ap (λ (m : Option RunningCommit). led m Done) runs)
-        (sync_done P A shape images t commit devices actors n known f rule a x ex plan xt [] doing noted job_is read c runs (synced devices.metadata) e (and_left _ _ d.0) (sync_does c.image c.steps devices.metadata d.0)))
+        (sync_done P A shape images t commit devices actors n known f rule a x ex plan xt [] doing noted job_is read c runs (synced devices.metadata) e (and_true _ _ d.0).0 (sync_does c.image c.steps devices.metadata d.0)))
     by_sync read chosen None runs d e = absurd d
 
     by_begin : (clean : Bool) (allowed : ℕ) (got : Got) (read : List Bytes) (chosen : Chosen P A) → Desk (BeginCommit clean allowed) ≡ want plan → DoesBegin allowed t.desk got chosen → Done_by Flush (Desk (BeginCommit clean allowed)) got read chosen
@@ -212,12 +184,9 @@ module _ (P A : Type 0) (shape : Shape) (images : Images) (t : Target P) (commit
         subst (λ (v : Got). Done_by Flush (Desk EndCommit) v read chosen) (sym g.1) (ends P A shape images t commit devices actors n known f rule a x ex plan xt [] doing noted job_is c.0 c.1 e c.2)
     flush_steps (End answer) got read chosen asked e g = subst (λ (v : Got). Done_by Flush (End answer) v read chosen) (sym g.1) (subst (λ (c : Chosen P A). Done_by Flush (End answer) Done read c) (sym g.0.1)
         (flush_answers P A shape images t commit devices actors n known f rule a x ex plan xt _ doing noted job_is answer read e asked))
-    flush_steps (Device (ReadExtent d ex')) got read chosen asked e g = absurd g
-    flush_steps (Device (WriteExtent d ex')) got read chosen asked e g = absurd g
     flush_steps (Device (ReadMetadata k)) got read chosen asked e g = absurd (mine (Device (ReadMetadata k)) e)
-    flush_steps (Desk (Map b c)) got read chosen asked e g = absurd g
-    flush_steps (Desk (Unmap b)) got read chosen asked e g = absurd g
     flush_steps (Desk (ReleaseOrder b)) got read chosen asked e g = subst (λ (v : Got). Done_by Flush (Desk (ReleaseOrder b)) v read chosen) (sym g.1) (by_release b read chosen e g.2)
+    flush_steps next got read chosen asked e g = absurd g
 
     -- a step of the commit that fails
     failing : (c : RunningCommit) (new : List History) (choice : Choice) → LandedOr (lands Metadata choice (sector_put (coming_step c.image c.steps))) (DoesStep c.image c.steps devices.metadata new) (new ≡ devices.metadata) → DoesStep c.image c.steps devices.metadata new ⊎ (new ≡ devices.metadata)
@@ -229,19 +198,17 @@ module _ (P A : Type 0) (shape : Shape) (images : Images) (t : Target P) (commit
 
     by_node_fault : (choice : Choice) (k : ℕ) (read : List Bytes) (chosen : Chosen P A) (o : Option RunningCommit) → commit ≡ o → FailsPut o choice (WriteNode k) devices.metadata chosen → Device (WriteNode k) ≡ want plan → Failed_by choice Flush (Device (WriteNode k)) read chosen
     by_node_fault choice k read (Puts new) (Some c) runs d e = leads (WriteNode k) Fault read new (led commit Fault) None (ap (λ (m : Option RunningCommit). led m Fault) runs)
-        (node_fails P A shape images t commit devices actors n known f rule a x ex plan xt [] doing noted job_is read c runs new k e (and_left _ _ d.0) (put_fails c.image c.steps (WriteNode k) devices.metadata new tt d.0 (failing c new choice d.1)))
-    by_node_fault choice k read (Puts new) None runs d e = absurd d
+        (node_fails P A shape images t commit devices actors n known f rule a x ex plan xt [] doing noted job_is read c runs new k e (and_true _ _ d.0).0 (put_fails c.image c.steps (WriteNode k) devices.metadata new tt d.0 (failing c new choice d.1)))
     by_node_fault choice k read chosen o runs d e = absurd d
 
     by_root_fault : (choice : Choice) (read : List Bytes) (chosen : Chosen P A) (o : Option RunningCommit) → commit ≡ o → FailsPut o choice WriteRoot devices.metadata chosen → Device WriteRoot ≡ want plan → Failed_by choice Flush (Device WriteRoot) read chosen
     by_root_fault choice read (Puts new) (Some c) runs d e = leads WriteRoot Fault read new (led commit Fault) None (ap (λ (m : Option RunningCommit). led m Fault) runs)
-        (root_fails P A shape images t commit devices actors n known f rule a x ex plan xt [] doing noted job_is read c runs new e (and_left _ _ d.0) (put_fails c.image c.steps WriteRoot devices.metadata new tt d.0 (failing c new choice d.1)))
-    by_root_fault choice read (Puts new) None runs d e = absurd d
+        (root_fails P A shape images t commit devices actors n known f rule a x ex plan xt [] doing noted job_is read c runs new e (and_true _ _ d.0).0 (put_fails c.image c.steps WriteRoot devices.metadata new tt d.0 (failing c new choice d.1)))
     by_root_fault choice read chosen o runs d e = absurd d
 
     by_sync_fault : (choice : Choice) (read : List Bytes) (o : Option RunningCommit) → commit ≡ o → FailsSync {P = P} {A = A} (Stands t) o devices.metadata → Device (Sync Metadata) ≡ want plan → Failed_by choice Flush (Device (Sync Metadata)) read Plain
     by_sync_fault choice read (Some c) runs d e = leads (Sync Metadata) Fault read (synced_where (lands Metadata choice) devices.metadata) (led commit Fault) None (ap (λ (m : Option RunningCommit). led m Fault) runs)
-        (metadata_sync_fails P A shape images t commit devices actors n known f rule a x ex plan xt [] doing noted job_is read c runs (synced_where (lands Metadata choice) devices.metadata) e (and_left _ _ d.0) (sync_fails c.image c.steps (lands Metadata choice) devices.metadata d.0))
+        (metadata_sync_fails P A shape images t commit devices actors n known f rule a x ex plan xt [] doing noted job_is read c runs (synced_where (lands Metadata choice) devices.metadata) e (and_true _ _ d.0).0 (sync_fails c.image c.steps (lands Metadata choice) devices.metadata d.0))
     by_sync_fault choice read None runs d e = absurd d
 
     pub flush_faults : (choice : Choice) (next : Want) (read : List Bytes) (chosen : Chosen P A) → next ≡ want plan → MayFailAt devices choice next → Falters w choice next chosen → Failed_by choice Flush next read chosen
@@ -250,9 +217,5 @@ module _ (P A : Type 0) (shape : Shape) (images : Images) (t : Target P) (commit
     flush_faults choice (Device (Sync Metadata)) read chosen e m g = subst (λ (c : Chosen P A). Failed_by choice Flush (Device (Sync Metadata)) read c) (sym g.0) (by_sync_fault choice read commit refl g.1 e)
     flush_faults choice (Device (WriteNode k)) read chosen e m g = by_node_fault choice k read chosen commit refl g e
     flush_faults choice (Device WriteRoot) read chosen e m g = by_root_fault choice read chosen commit refl g e
-    flush_faults choice (Device (ReadExtent d ex')) read chosen e m g = absurd (mine (Device (ReadExtent d ex')) e)
-    flush_faults choice (Device (WriteExtent d ex')) read chosen e m g = absurd (mine (Device (WriteExtent d ex')) e)
-    flush_faults choice (Device (ReadMetadata k)) read chosen e m g = absurd (mine (Device (ReadMetadata k)) e)
-    flush_faults choice (Cell step) read chosen e m g = absurd m
-    flush_faults choice (Desk step) read chosen e m g = absurd m
-    flush_faults choice (End answer) read chosen e m g = absurd m
+    flush_faults choice (Device step) read chosen e m g = absurd (mine (Device step) e)
+    flush_faults choice next read chosen e m g = absurd m

@@ -39,7 +39,7 @@ use Rattle.wb_simulation.proofs.Starting.{starts_followed}
 use Rattle.wb_simulation.proofs.Opening.{openings_followed}
 use Rattle.wb_simulation.proofs.Noted.{notes_followed}
 use Rattle.wb_headline.specs.Desks.{live_orders}
-use Rattle.wb_headline.proofs.Allowed.{there as is_there}
+use Rattle.wb_headline.proofs.Showing.{there as there_is}
 use Rattle.wb_headline.proofs.Following.{opening_at, AtStage, IsOver, size, most, Sized, Followed, Goes}
 use Rattle.wb_headline.proofs.Arriving.{SameSectors, sized_so, arrives, opens, agreeing}
 use Rattle.wb_headline.proofs.Targets.{standing, beside, noted_within, stays_on}
@@ -90,9 +90,6 @@ module _ (P A : Type 0) (shape : Shape) (images : Images) (t : Target P) (commit
       n' : Notes
       n' = put n a (Some (begun n job))
 
-      sized : Sized P A shape (slice_set actors a (record x { task = Some (job, plan) })) (put n a (Some (begun n job)))
-      sized = record { actors_many = length-set actors a (record x { task = Some (job, plan) }) ∙ f.sized.actors_many; doings_many = length-set n.doings a (Some (begun n job)) ∙ f.sized.doings_many; sectors = f.sized.sectors }
-
       y : (v : Rattle.wb_link.specs.World.Actor) × (slice_get f.site.world.actors a ≡ Some v)
       y = beside P A shape images t commit devices actors n known f a x ex
 
@@ -100,16 +97,16 @@ module _ (P A : Type 0) (shape : Shape) (images : Images) (t : Target P) (commit
       less = noted_within P A shape images t commit devices actors n known f a x ex
 
       was : (d : Option Doing) × (slice_get n.doings a ≡ Some d)
-      was = is_there n.doings a less
+      was = there_is n.doings a less
 
       by : Begun of (size P A shape) (most P A shape) a f.site.world t.words t.desk.space.committing slots devices (slice_set actors a (record x { task = Some (job, plan) })) →
           Goes P A shape (record { devices = devices; commit = commit; phase = Stands (record { words = t.words; desk = t.desk }); actors = slice_set actors a (record x { task = Some (job, plan) }) }) (put n a (Some (begun n job)))
       by (inl g) = stays_on P A shape images t commit devices actors n known f a x ex (Starts of) t.words devices (record x { task = Some (job, plan) }) (put n a (Some (begun n job))) g plain
-          (notes_followed.starts of job Stays (size P A shape) (most P A shape) a f.site.world t.words t.desk.space.committing slots devices (slice_set actors a (record x { task = Some (job, plan) })) g y.0 n f.notes y.1 less f.notes_agree was.0 was.1) sized refl
+          (notes_followed.starts of job Stays (size P A shape) (most P A shape) a f.site.world t.words t.desk.space.committing slots devices (slice_set actors a (record x { task = Some (job, plan) })) g y.0 n f.notes y.1 less f.notes_agree was.0 was.1) (length-set n.doings a (Some (begun n job))) refl refl
       by (inr g) =
           let none = (subst (λ (q : Option (Job × Plan)). IsBusyAt (size P A shape) (most P A shape) t.words q x.card y.0) xt (f.phase.agrees.each a x y.0 ex y.1).at).0 in
           stays_on P A shape images t commit devices actors n known f a x ex Quietly t.words devices (record x { task = Some (job, plan) }) (put n a (Some (begun n job))) g tt
-          (notes_followed.starts_late job Stays (size P A shape) (most P A shape) a f.site.world t.words t.desk.space.committing slots devices (slice_set actors a (record x { task = Some (job, plan) })) g y.0 n f.notes y.1 less f.notes_agree none) sized refl
+          (notes_followed.starts_late job Stays (size P A shape) (most P A shape) a f.site.world t.words t.desk.space.committing slots devices (slice_set actors a (record x { task = Some (job, plan) })) g y.0 n f.notes y.1 less f.notes_agree none) (length-set n.doings a (Some (begun n job))) refl refl
 
   pub read_starts : (extent : Extent) (cut : List Extent) → x.card.hold ≡ Nothing → extent_refusal shape extent ≡ None → IsCutInto extent cut →
       Goes P A shape (record { devices = devices; commit = commit; phase = Stands (record { words = t.words; desk = t.desk }); actors = slice_set actors a (record x { task = Some (Read extent, table (task_job shape x.awaiting (Read extent) cut)) }) }) (put n a (Some (begun n (Read extent))))

@@ -9,12 +9,17 @@ use Rattle.wb_meta.specs.Representing.{Stored}
 use Rattle.wb_tasks.specs.Plan.{Plan}
 use Rattle.wb_tasks.specs.declared.step.Want.{Want}
 use Rattle.wb_tasks.specs.declared.step.Got.{Got}
+use Rattle.wb_tasks.specs.declared.step.Got.TheVariants.{Fault}
+use Rattle.wb_tasks.specs.declared.step.DeviceStep.{DeviceStep}
+use Rattle.wb_tasks.specs.Ready.{HoldsBlocks}
+use Rattle.wb_types.specs.declared.mode.Dev.{Dev}
+use Rattle.wb_types.specs.declared.mode.Dev.TheVariants.{Metadata, Cache, Origin}
 use Rattle.wb_devices.specs.declared.devices.Devices.{Devices}
 use Rattle.wb_devices.specs.declared.running.RunningCommit.{RunningCommit}
 use Rattle.wb_runs.specs.declared.job.Job.{Job}
-use Rattle.wb_runs.specs.States.{Shape, State, Actor, Target, Phase, Stands}
+use Rattle.wb_runs.specs.States.{Shape, State, Actor, Target, Phase, Stands, with_device}
 use Rattle.wb_runs.specs.Effects.{actor_then, task_then, card_then, orders_then, awaiting_then, buffer_then, job_of}
-use Rattle.wb_runs.specs.Clerk.{Notes}
+use Rattle.wb_runs.specs.Clerk.{Notes, Doing, failing}
 use Rattle.wb_runs.proofs.Images.{Images, later_of}
 use Rattle.wb_runs.proofs.Metadata.{MetadataKept, AtDesk, kept_readable}
 use Rattle.wb_link.specs.Tables.{Flag, table, Script, Order as AbstractOrder, Job as AbstractJob, Promoting, Returning, want}
@@ -26,11 +31,11 @@ use Rattle.wb_simulation.specs.Telling.{Telling, Quietly, Reads, Writes, Answers
 use Rattle.wb_simulation.specs.Worlds.{Agrees, Turn, Stays, FollowsBy, Follows}
 use Rattle.wb_simulation.proofs.Opening.{images_followed}
 use Rattle.wb_headline.specs.Desks.{DeskAgrees, live_orders}
-use Rattle.wb_headline.proofs.Allowed.{there}
+use Rattle.wb_headline.proofs.Showing.{there}
 use Rattle.wb_headline.proofs.Events.{gone_on, records_reach}
 use Rattle.wb_headline.proofs.Unclean.{ArePlainRecords, records_on, steps_plain}
 use Rattle.wb_headline.proofs.Desking.{desk_stays}
-use Rattle.wb_headline.proofs.Following.{many, size, most, Sized, Followed, Goes}
+use Rattle.wb_headline.proofs.Following.{many, size, most, Followed, Goes}
 use Rattle.wb_simulation.proofs.Followed.{doing_of}
 use Rattle.wb_types.specs.declared.number.OBlock.{OBlock}
 use Rattle.wb_runs.specs.declared.job.Job.TheVariants.{Replace}
@@ -79,6 +84,17 @@ actor_is P A shape phase devices x job plan next got xt = λ i. record {
   awaiting = awaiting_then x.orders x.awaiting (job_of (xt i)) next got;
   buffer = buffer_then devices x.buffer next got (job_of (xt i));
 }
+
+-- what failed of an actor's job says of it what it said
+pub failing_same : (doing : Doing) (step : DeviceStep) (got : Got) → ((failing doing step got).entered ≡ doing.entered) × ((failing doing step got).then_finished ≡ doing.then_finished)
+failing_same doing step Fault = (refl, refl)
+failing_same doing step got = (refl, refl)
+
+-- a data device with another list leaves the metadata
+pub metadata_same : (device : Dev) (devices : Devices (List History)) (list : List History) → HoldsBlocks device → (with_device device devices list).metadata ≡ devices.metadata
+metadata_same Cache devices list h = refl
+metadata_same Origin devices list h = refl
+metadata_same Metadata devices list h = absurd h
 
 -- records leave as many actors
 many_stay : (s : World) (r : Record) → length (after_record s r).actors ≡ length s.actors
@@ -131,12 +147,12 @@ module _ (P A : Type 0) (shape : Shape) (images : Images) (t : Target P) (commit
     never_replaces old new plan xt = doing_of (size P A shape) (most P A shape) t.words x beside.0 (Replace old new) plan (f.phase.agrees.each a x beside.0 ex beside.1) xt
 
     -- the state that it leads to
-    pub leads_on : (turn : Turn) (telling : Telling) (t' : Target P) (commit' : Option RunningCommit) (devices' : Devices (List History)) (actors' : List Actor) (n' : Notes) (images' : Images) (orders' : List (Option Order))
-        (g : FollowsBy turn telling (size P A shape) (most P A shape) a f.site.world t'.words t'.desk.space.committing orders' devices' actors') → IsPlainTelling telling → NotesAgree (size P A shape) n' (after_all f.site.world g.records) (told f.notes g.records) → Sized P A shape actors' n' →
+    pub leads_on : (turn : Turn) (telling : Telling) (t' : Target P) (commit' : Option RunningCommit) (devices' : Devices (List History)) (y : Actor) (n' : Notes) (images' : Images) (orders' : List (Option Order))
+        (g : FollowsBy turn telling (size P A shape) (most P A shape) a f.site.world t'.words t'.desk.space.committing orders' devices' (slice_set actors a y)) → IsPlainTelling telling → NotesAgree (size P A shape) n' (after_all f.site.world g.records) (told f.notes g.records) → length n'.doings ≡ length n.doings → length n'.histories ≡ length n.histories →
         AtDesk shape.geometry images' t'.desk commit' devices'.metadata → orders' ≡ live_orders t'.desk →
         DeskAgrees t'.desk (after_all f.site.world g.records).shared → ImagesAgree shape.geometry images'.committed (later_of images') devices'.metadata (after_all f.site.world g.records).shared →
-        ((state : Stored) → images'.running ≡ Some state → (after_all f.site.world g.records).shared.running ≡ locations state) → Goes P A shape (record { devices = devices'; commit = commit'; phase = Stands t'; actors = actors' }) n'
-    leads_on turn telling t' commit' devices' actors' n' images' orders' g plain notes sized known' same desk images_agree running = record {
+        ((state : Stored) → images'.running ≡ Some state → (after_all f.site.world g.records).shared.running ≡ locations state) → Goes P A shape (record { devices = devices'; commit = commit'; phase = Stands t'; actors = slice_set actors a y }) n'
+    leads_on turn telling t' commit' devices' y n' images' orders' g plain notes d h known' same desk images_agree running = record {
       images = images';
       known = known';
       followed = record {
@@ -146,10 +162,10 @@ module _ (P A : Type 0) (shape : Shape) (images : Images) (t : Target P) (commit
         clean = records_on f.site.world g.records (told_plain telling a beside.0.task g.records plain (g.told beside.0 beside.1)) f.clean;
         as_many = all_stay f.site.world g.records ∙ f.as_many;
         notes_agree = notes;
-        sized = sized;
+        sized = record { actors_many = length-set actors a y ∙ f.sized.actors_many; doings_many = d ∙ f.sized.doings_many; sectors = h ∙ f.sized.sectors };
         phase = record {
           phase_is = f.phase.phase_is;
-          agrees = subst (λ (os : List (Option Order)). Agrees (size P A shape) (most P A shape) t'.words t'.desk.space.committing os devices' actors' (after_all f.site.world g.records)) same g.agrees;
+          agrees = subst (λ (os : List (Option Order)). Agrees (size P A shape) (most P A shape) t'.words t'.desk.space.committing os devices' (slice_set actors a y) (after_all f.site.world g.records)) same g.agrees;
           desk = desk;
           images_agree = images_agree;
           running = running;
@@ -160,14 +176,14 @@ module _ (P A : Type 0) (shape : Shape) (images : Images) (t : Target P) (commit
     -- where nothing comes of the desk, the images and the metadata
     pub stays_on : (telling : Telling) (words' : Words) (devices' : Devices (List History)) (y : Actor) (n' : Notes)
         (g : Follows telling (size P A shape) (most P A shape) a f.site.world words' t.desk.space.committing (live_orders t.desk) devices' (slice_set actors a y)) → IsPlainTelling telling →
-        NotesAgree (size P A shape) n' (after_all f.site.world g.records) (told f.notes g.records) → Sized P A shape (slice_set actors a y) n' → devices'.metadata ≡ devices.metadata →
+        NotesAgree (size P A shape) n' (after_all f.site.world g.records) (told f.notes g.records) → length n'.doings ≡ length n.doings → length n'.histories ≡ length n.histories → devices'.metadata ≡ devices.metadata →
         Goes P A shape (record { devices = devices'; commit = commit; phase = Stands (record { words = words'; desk = t.desk }); actors = slice_set actors a y }) n'
-    stays_on telling words' devices' y n' g plain notes sized same =
+    stays_on telling words' devices' y n' g plain notes d h same =
         let s = f.site.world.shared in
         let s' = (after_all f.site.world g.records).shared in
         let known' = subst (λ (m : List History). AtDesk shape.geometry images t.desk commit m) (sym same) known in
         let readable = kept_readable shape.geometry images devices'.metadata P A (Stands t) commit known' in
-        leads_on Stays telling (record { words = words'; desk = t.desk }) commit devices' (slice_set actors a y) n' images (live_orders t.desk) g plain notes sized known' refl
+        leads_on Stays telling (record { words = words'; desk = t.desk }) commit devices' y n' images (live_orders t.desk) g plain notes d h known' refl
         (desk_stays P t.desk s s' f.phase.desk t.desk refl refl g.desk.0 g.desk.1)
         (images_followed.stay shape.geometry images.committed (later_of images) devices.metadata devices'.metadata s s' f.phase.images_agree g.turned readable.read)
         (λ state e. g.turned.1 ∙ f.phase.running state e)

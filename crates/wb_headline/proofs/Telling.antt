@@ -7,13 +7,13 @@ use Rattle.wb_types.specs.declared.number.CBlock.{CBlock}
 use Rattle.wb_types.specs.declared.refusal.Refusal.TheVariants.{Worn}
 use Rattle.wb_words.specs.declared.word.Access.{Access}
 use Rattle.wb_words.specs.declared.word.Access.TheVariants.{Shared, Owned}
-use Rattle.wb_words.specs.declared.word.Word.TheVariants.{Cell as LockWord, Seal as SealWord, Number, Count as CountWord, Fail}
+use Rattle.wb_words.specs.declared.word.Word.TheVariants.{Cell as LockWord, Seal as SealWord, Number, Fail}
 use Rattle.wb_words.specs.declared.card.Hold.{Hold}
 use Rattle.wb_words.specs.declared.card.Hold.TheVariants.{Nothing, Held}
 use Rattle.wb_words.specs.declared.card.Card.{Card}
 use Rattle.wb_words.specs.declared.step.CellResult.TheVariants.{Done as Won, Lost as NotWon}
 use Rattle.wb_words.specs.declared.step.CellStep.{CellStep}
-use Rattle.wb_words.specs.declared.step.CellStep.TheVariants.{Look, Take, Release, Seal, Finish, Count, SetFailed, SetSuspended}
+use Rattle.wb_words.specs.declared.step.CellStep.TheVariants.{Look, Take, Release, Seal, Finish, SetFailed, SetSuspended}
 use Rattle.wb_words.specs.SharedWords.{Words, word_at, place_in, dirty_in}
 use Rattle.wb_words.specs.Cards.{owners, sharers, owns, shares}
 use Rattle.wb_words.specs.Effects.{result_of, card_after}
@@ -84,11 +84,8 @@ module _ (here : Option ℕ) (part : BlockRange) where
   migrating_right : (m : Migration) (place : Option CBlock) (dirty : Bool) → number_of place ≡ here → SealsRight here (work (Migrating m part) place dirty)
   migrating_right (Promote c) place dirty e = copies_right None (Some c) part.extents (ending (Promote c) part.block place) (ending_right (Promote c) place e)
   migrating_right Demote (Some c) true e = copies_right (Some c) None part.extents (ending Demote part.block (Some c)) (ending_right Demote (Some c) e)
-  migrating_right Demote (Some c) false e = ending_right Demote (Some c) e
-  migrating_right Demote None dirty e = ending_right Demote None e
   migrating_right Clean (Some c) true e = copies_right (Some c) None part.extents (ending Clean part.block (Some c)) (ending_right Clean (Some c) e)
-  migrating_right Clean (Some c) false e = ending_right Clean (Some c) e
-  migrating_right Clean None dirty e = ending_right Clean None e
+  migrating_right m place dirty e = ending_right m place e
 
 work_right : (here : Option ℕ) (job : BlockJob) (place : Option CBlock) (dirty : Bool) → number_of place ≡ here → SealsRight here (work job place dirty)
 work_right here (Reading part) place dirty e = reading_right here part place dirty
@@ -129,7 +126,6 @@ module _ (places : ℕ → Option ℕ) (job : BlockJob) (words : Words) (card : 
       by_test : (t : Bool) → SealsRight (places b.0) (if t then refused (of (Cell (Look (Number o)) ∷ ws)) (gives_back (OnBlock job)) Worn else of ws).steps
       by_test true = tt
       by_test false = r access b e
-  on_words (Look (CountWord kind)) ws h sees r access b e = r access b e
   on_words (Take taken o seen) ws h sees r access b e = by_test (word_at words.cells o == seen)
     where
       by_test : (t : Bool) → SealsRight (places b.0) (after (of (Cell (Take taken o seen) ∷ ws)) (got_of (if t then Won else NotWon))).steps
@@ -137,10 +133,9 @@ module _ (places : ℕ → Option ℕ) (job : BlockJob) (words : Words) (card : 
       by_test false = tt
   on_words (Release given o) ws h sees r access b e = absurd (nothing_held Nothing access b refl e)
   on_words (Seal o place dirty) ws h sees r access b e = (r access b e).1
-  on_words (Finish o) ws h sees r access b e = r access b e
-  on_words (Count kind) ws h sees r access b e = r access b e
   on_words SetFailed ws h sees r access b e = subst (λ (us : List Want). SealsRight (places b.0) us) (sym h.1) tt
   on_words SetSuspended ws h sees r access b e = absurd h.1.1
+  on_words step ws h sees r access b e = r access b e
 
 -- ---- who owns a block has it alone
 

@@ -3,9 +3,9 @@ use Rattle.std.proofs.Common.{◌≡◌, inl, inr, ℕ, Bool, true, false, List,
 use Rattle.wb_types.proofs.Lists.{set_cases}
 use Rattle.wb_disk.specs.Device.{Content}
 use Rattle.wb_types.specs.declared.mode.Mode.{Mode}
-use Rattle.wb_link.specs.Tables.{Job, Reading, Writing, Writing_through, Flushing, Suspending, Promoting, Returning, Invalidating, Order, Script, Seal, Want, Begin, Begin_clean, End_running, Read_at, Write_at, Sync_cache_device, Sync_origin_device, End, Got, Done, Lost, Flag, Seen, Gave, Ticket, Served, Broken, Short, Fault, read_each, write_each, copy_each, write_through_each, dirtying, copy_dirty, dropping, read_from, write_work, work, table, want, first_of_steps, later_steps, until_failed, breaking, steps_after_fault, after_fault, letting, release, after}
+use Rattle.wb_link.specs.Tables.{Job, Reading, Writing, Writing_through, Flushing, Suspending, Promoting, Returning, Invalidating, Order, Script, Seal, Want, Begin, Begin_clean, End_running, Read_at, Write_at, Sync_cache_device, Sync_origin_device, End, Got, Done, Flag, Seen, Gave, Ticket, Short, Fault, read_each, write_each, copy_each, write_through_each, dirtying, copy_dirty, dropping, read_from, write_work, work, table, want, first_of_steps, later_steps, until_failed, breaking, steps_after_fault, after_fault, letting, release, after}
 use Rattle.wb_link.specs.World.{World, Shared, Actor, Record, Start, Again, Step, Release, release_order, effect, if_landed, put_sector, task_after, actor_after, step_task, step_actor, start_actor, again_actor, reserved, after_record, after_all, job_alone, given}
-use Rattle.wb_link.specs.Openings.{Site, Phase, Stands, Gone, Opens, Stage, Settling, Caching, Basing, Rooting, Answering, Outcome, Settled, Fine, Learns, Refused, Broke, Shown, Event, On, Stopped, Begins, Advances, after_event, advance, advanced, found_clean, emptied, stopped}
+use Rattle.wb_link.specs.Openings.{Site, Phase, Opens, Stage, Settling, Caching, Basing, Rooting, Answering, Outcome, Settled, Fine, Learns, Refused, Broke, Shown, Event, On, Stopped, Begins, Advances, after_event, advance, advanced, found_clean, emptied, stopped}
 use Rattle.wb_link.proofs.Lists.{replicated}
 use Rattle.wb_refines.specs.Going.{records}
 
@@ -88,14 +88,9 @@ work_plain (Returning true order os) seal = dirty_plain seal.dirty order os _ (t
 work_plain (Returning false order os) seal = dirty_plain seal.dirty order os _ (tt, (tt, (tt, tt)))
 
 table_plain : (job : Job) → job_alone job ≡ false → IsPlainTask (Some (table job))
-table_plain (Reading past b os) j = (j, (tt, (tt, (tt, tt))))
-table_plain (Writing past b os c) j = (j, (tt, (tt, (tt, tt))))
-table_plain (Writing_through b os c) j = (j, (tt, (tt, (tt, tt))))
-table_plain (Invalidating b) j = (j, (tt, (tt, (tt, tt))))
 table_plain (Flushing order) j = (j, (tt, (tt, (tt, (tt, (tt, (tt, (tt, tt))))))))
 table_plain Suspending j = absurd (cc)
-table_plain (Promoting order os) j = (j, (tt, (tt, (tt, tt))))
-table_plain (Returning leaves order os) j = (j, (tt, (tt, (tt, tt))))
+table_plain job j = (j, (tt, (tt, (tt, tt))))
 
 later_plain : (ws : List Want) → ArePlain ws → ArePlain (later_steps ws)
 later_plain [] p = tt
@@ -116,14 +111,9 @@ fault_plain : (job : Job) (more : Bool) (ws : List Want) → ArePlain (steps_aft
 fault_plain (Writing past b os c) true ws = until_plain ws
 fault_plain (Promoting order os) true ws = until_plain ws
 fault_plain (Returning leaves order os) true ws = until_plain ws
-fault_plain (Writing past b os c) false ws = (tt, tt)
-fault_plain (Promoting order os) false ws = (tt, tt)
-fault_plain (Returning leaves order os) false ws = (tt, tt)
-fault_plain (Reading past b os) more ws = (tt, tt)
-fault_plain (Writing_through b os c) more ws = (tt, tt)
-fault_plain (Invalidating b) more ws = (tt, tt)
 fault_plain (Flushing order) more ws = (tt, (tt, tt))
 fault_plain Suspending more ws = (tt, (tt, tt))
+fault_plain job more ws = (tt, tt)
 
 release_plain : (job : Job) → ArePlain (release job)
 release_plain (Flushing order) = tt
@@ -133,21 +123,16 @@ release_plain (Returning leaves order os) = (tt, (tt, tt))
 release_plain job = (tt, tt)
 
 letting_plain : (job : Job) → ArePlain (letting job)
-letting_plain (Flushing None) = tt
 letting_plain (Flushing (Some order)) = (tt, tt)
 letting_plain (Promoting order os) = (tt, (tt, tt))
 letting_plain job = tt
 
 after_plain : (script : Script) (got : Got) → IsPlainTask (Some script) → IsPlainTask (Some (after script got))
 after_plain s Done p = (p.0, later_plain s.steps p.1)
-after_plain s Lost p = (p.0, tt)
-after_plain s (Flag true) p = (p.0, tt)
 after_plain s (Flag false) p = (p.0, later_plain s.steps p.1)
 after_plain s (Seen seal) p = (p.0, work_plain s.job seal)
 after_plain s (Gave c) p = (p.0, later_plain s.steps p.1)
 after_plain s (Ticket k) p = (p.0, (tt, later_plain s.steps p.1))
-after_plain s Served p = (p.0, tt)
-after_plain s Broken p = (p.0, tt)
 after_plain s Short p = (p.0, letting_plain s.job)
 after_plain s (Fault choice) p = by_want (want s)
   where
@@ -155,6 +140,7 @@ after_plain s (Fault choice) p = by_want (want s)
     by_want (Read_at location b o) = (p.0, release_plain s.job)
     by_want (Write_at location b o) = (p.0, fault_plain s.job choice.more (later_steps s.steps))
     by_want w = (p.0, breaking_plain s.job)
+after_plain s got p = (p.0, tt)
 
 task_plain : (script : Script) (w : Want) (got : Got) → IsPlainTask (Some script) → IsPlainTask (task_after script w got)
 task_plain script (End answer) got p = tt
@@ -248,10 +234,8 @@ records_on w (r ∷ rs) p n = records_on (after_record w r) rs p.1 (record_on w 
 
 -- steps alone start nothing
 pub steps_plain : (a : ℕ) (task : Option Script) (results : List Got) → ArePlainRecords (records a task results)
-steps_plain a None [] = tt
-steps_plain a None (got ∷ gots) = tt
-steps_plain a (Some script) [] = tt
 steps_plain a (Some script) (got ∷ gots) = (tt, steps_plain a (task_after script (want script) got) gots)
+steps_plain a task results = tt
 
 -- ---- events
 
@@ -290,5 +274,4 @@ event_on v (Advances outcome) i n = by_phase v.phase
   where
     by_phase : (phase : Phase) → NeverClean (advance v.world phase outcome).world
     by_phase (Opens mode stage) = record { tasks = emptied_plain v.world (advanced v.world.shared mode stage outcome); images = advanced_unclean v.world.shared mode stage outcome n.images }
-    by_phase Stands = n
-    by_phase Gone = n
+    by_phase phase = n

@@ -20,7 +20,7 @@ use Rattle.wb_tasks.specs.declared.step.Migration.{Migration}
 use Rattle.wb_types.specs.declared.number.OBlock.{OBlock}
 use Rattle.wb_tasks.specs.declared.step.Want.{Want}
 use Rattle.wb_tasks.specs.declared.step.DeviceStep.TheVariants.{Write as WriteExtent}
-use Rattle.wb_tasks.specs.declared.step.Want.TheVariants.{Cell, Desk, Device, End}
+use Rattle.wb_tasks.specs.declared.step.Want.TheVariants.{Cell, Device, End}
 use Rattle.wb_refines.specs.Translation.{number_of}
 use Rattle.wb_tasks.specs.declared.step.Got.{Got}
 use Rattle.wb_tasks.specs.declared.step.Got.TheVariants.{Fault}
@@ -31,7 +31,7 @@ use Rattle.wb_runs.specs.declared.job.Job.TheVariants.{Read, Write, Flush, Open,
 use Rattle.wb_runs.specs.declared.event.Event.{Event}
 use Rattle.wb_runs.specs.declared.event.Event.TheVariants.{Start, Step, FaultStep, Stop}
 use Rattle.wb_runs.specs.declared.event.What.{What}
-use Rattle.wb_runs.specs.declared.event.What.TheVariants.{Skipped, Refused, Started, Stepped, Stopped}
+use Rattle.wb_runs.specs.declared.event.What.TheVariants.{Started, Stepped, Stopped}
 use Rattle.wb_runs.specs.States.{Shape, State, Actor, Target, Phase, Stands, Gone, Opens, block_size, start, sector_count}
 use Rattle.wb_runs.specs.Happenings.{Chosen, Cut, Happening, OfSome, DoesNotApply, Gives, Falters, MayFailAt, StartGives, MayBe, begun_as, block_range}
 use Rattle.wb_runs.specs.Effects.{device_done, device_failed, stepped, with_actor, job_of, given, cleared, phase_given, started, after_what, after_happening, after_all, IsRun, phase_then, actor_then}
@@ -47,19 +47,18 @@ use Rattle.wb_runs.proofs.Linking.{Linked, TaskHere, InPhase}
 use Rattle.wb_runs.proofs.LinkedRuns.{Base, links_what}
 use Rattle.wb_runs.proofs.InsideRuns.{Inside, inside_what, want_inside}
 use Rattle.wb_simulation.specs.Laws.{IsBesideOrders}
-use Rattle.wb_headline.proofs.Asked.{AllAsked, what_asked}
+use Rattle.wb_headline.proofs.Doings.{AllAsked, what_asked}
 use Rattle.wb_headline.proofs.Following.{Goes}
 use Rattle.wb_headline.specs.Desks.{live_orders}
-use Rattle.wb_headline.proofs.Placed.{AllPlaced, TaskPlaced, WritePlaced, holds_it, placed_what, written_there}
+use Rattle.wb_headline.proofs.Placed.{with_task, AllPlaced, TaskPlaced, WritePlaced, holds_it, placed_what, written_there}
 use Rattle.wb_headline.proofs.Seeing.{beside_orders, named}
 use Rattle.wb_runs.proofs.Ruling.{card_at}
 use Rattle.wb_headline.proofs.Keeping.{Keeping, sealing_owns}
 use Rattle.wb_headline.proofs.Kept.{fault_keeps, none_goes, none_rest, none_set, start_keeps, step_keeps}
-use Rattle.wb_headline.proofs.Made.{opening_keeps}
+use Rattle.wb_headline.proofs.Opened.{opening_keeps, opening_steps, opening_faults}
 use Rattle.wb_headline.proofs.Targets.{never_replaces}
 use Rattle.wb_headline.proofs.Telling.{owned_alone}
-use Rattle.wb_headline.proofs.Crashing.{crash_goes}
-use Rattle.wb_headline.proofs.Opens.{opening_steps, opening_faults}
+use Rattle.wb_headline.proofs.Arriving.{crash_goes}
 use Rattle.wb_headline.proofs.Starts.{read_starts, write_starts, flush_starts, opening_starts}
 use Rattle.wb_headline.proofs.Stands.{read_steps, read_faults, write_steps, write_faults, flush_steps, flush_faults}
 
@@ -79,6 +78,10 @@ module _ (P A : Type 0) (shape : Shape) where
 
   pub base_of : (w : State P A) (n : Notes) → Whole w n → Base P A shape w n
   base_of w n b = record { known = known_of w n b; used = b.used; linked = b.linked }
+
+  -- what is noted of an actor's task
+  pub noted_for : (w : State P A) (n : Notes) → Whole w n → (a : ℕ) (x : Actor) (job : Job) (plan : Plan) → slice_get w.actors a ≡ Some x → x.task ≡ Some (job, plan) → Noted shape job plan (slice_get n.doings a)
+  noted_for w n b a x job plan e xt = noted_of shape job plan (slice_get n.doings a) (subst (λ (t : Option (Job × Plan)). TaskClaim shape t (slice_get n.doings a)) xt (b.linked.claims a x e))
 
   -- ---- one step of one actor
 
@@ -184,11 +187,7 @@ module _ (P A : Type 0) (shape : Shape) where
         by_job : (job : Job) → x.task ≡ Some (job, plan) → (d : Noted shape job plan (slice_get n.doings a)) → Gives shape (record { devices = devices; commit = commit; phase = Opens mode reading; actors = actors }) x job next got read chosen → InPhase {P = P} {A = A} (Opens mode reading) job →
             Stepped_to (record { devices = devices; commit = commit; phase = Opens mode reading; actors = actors }) n a x job next got read chosen d.doing
         by_job (Open m) xt d g h = opening_steps P A shape b.goes.images devices commit mode reading actors n b.goes.known b.goes.followed b.linked.alone b.keeping a x ex m d.doing d.job_is b.inside.cache b.inside.origin plan xt (Open m) x.buffer next got read chosen e g
-        by_job (Read extent) xt d g h = absurd h
-        by_job (Write extent content) xt d g h = absurd h
-        by_job Flush xt d g h = absurd h
-        by_job (Migrate migration block) xt d g h = absurd h
-        by_job (Replace old new) xt d g h = absurd h
+        by_job job xt d g h = absurd h
 
     fault_by_phase : (devices : Devices (List History)) (commit : Option RunningCommit) (phase : Phase P A) (actors : List Actor) (n : Notes) → Whole (record { devices = devices; commit = commit; phase = phase; actors = actors }) n → (a : ℕ) (x : Actor) (job : Job) (plan : Plan) → slice_get actors a ≡ Some x → x.task ≡ Some (job, plan) →
         (d : Noted shape job plan (slice_get n.doings a)) (choice : Choice) (next : Want) (read : List Bytes) (chosen : Chosen P A) → next ≡ want plan → MayFailAt devices choice next → Falters (record { devices = devices; commit = commit; phase = phase; actors = actors }) choice next chosen →
@@ -213,43 +212,28 @@ module _ (P A : Type 0) (shape : Shape) where
       where
         by_job : (job : Job) → x.task ≡ Some (job, plan) → (d : Noted shape job plan (slice_get n.doings a)) → InPhase {P = P} {A = A} (Opens mode reading) job → Faulted_to (record { devices = devices; commit = commit; phase = Opens mode reading; actors = actors }) n a x choice job next read chosen d.doing
         by_job (Open md) xt d h = opening_faults P A shape b.goes.images devices commit mode reading actors n b.goes.known b.goes.followed b.linked.alone b.keeping a x ex md d.doing d.job_is b.inside.cache b.inside.origin plan xt (Open md) x.buffer choice next read chosen e g
-        by_job (Read extent) xt d h = absurd h
-        by_job (Write extent content) xt d h = absurd h
-        by_job Flush xt d h = absurd h
-        by_job (Migrate migration block) xt d h = absurd h
-        by_job (Replace old new) xt d h = absurd h
+        by_job job xt d h = absurd h
 
     module _ (w : State P A) (n : Notes) (b : Whole w n) (a : ℕ) where
-      noted_for : (x : Actor) (job : Job) (plan : Plan) → slice_get w.actors a ≡ Some x → x.task ≡ Some (job, plan) → Noted shape job plan (slice_get n.doings a)
-      noted_for x job plan e xt = noted_of shape job plan (slice_get n.doings a) (subst (λ (t : Option (Job × Plan)). TaskClaim shape t (slice_get n.doings a)) xt (b.linked.claims a x e))
-
       step_goes : (next : Want) (got : Got) (read : List Bytes) (chosen : Chosen P A) (o : Option Actor) → slice_get w.actors a ≡ o → OfSome o (λ x. OfSome x.task (λ doing. (next ≡ want doing.1) × Gives shape w x doing.0 next got read chosen)) →
           Goes P A shape (with_actor w o (λ x. stepped shape w a x next got chosen (λ step. device_done (job_of x.task) x.buffer step chosen)))
           (noted_step shape (shown shape (with_actor w o (λ x. stepped shape w a x next got chosen (λ step. device_done (job_of x.task) x.buffer step chosen)))) n a (slice_get n.doings a) next got read)
-      step_goes next got read chosen None e h = absurd h
-      step_goes next got read chosen (Some x) e h = by_task x.task refl h
-        where
-          by_task : (t : Option (Job × Plan)) → x.task ≡ t → OfSome t (λ doing. (next ≡ want doing.1) × Gives shape w x doing.0 next got read chosen) →
-              Goes P A shape (stepped shape w a x next got chosen (λ step. device_done (job_of x.task) x.buffer step chosen)) (noted_step shape (shown shape (stepped shape w a x next got chosen (λ step. device_done (job_of x.task) x.buffer step chosen))) n a (slice_get n.doings a) next got read)
-          by_task None xt h = absurd h
-          by_task (Some task) xt h =
-              let d = noted_for x task.0 task.1 e xt in
-              subst (λ (v : Option (Option Doing)). Goes P A shape (stepped shape w a x next got chosen (λ step. device_done (job_of x.task) x.buffer step chosen)) (noted_step shape (shown shape (stepped shape w a x next got chosen (λ step. device_done (job_of x.task) x.buffer step chosen))) n a v next got read)) (sym d.is)
-              (subst (λ (j : Job). Stepped_to w n a x j next got read chosen d.doing) (sym (ap job_of xt)) (by_phase w.devices w.commit w.phase w.actors n b a x task.0 task.1 e xt d next got read chosen h.0 h.1))
+      step_goes next got read chosen o e h = with_task o (λ x doing. (next ≡ want doing.1) × Gives shape w x doing.0 next got read chosen)
+          (λ o. Goes P A shape (with_actor w o (λ x. stepped shape w a x next got chosen (λ step. device_done (job_of x.task) x.buffer step chosen))) (noted_step shape (shown shape (with_actor w o (λ x. stepped shape w a x next got chosen (λ step. device_done (job_of x.task) x.buffer step chosen)))) n a (slice_get n.doings a) next got read)) h
+          (λ x task is xt h.
+          let d = noted_for w n b a x task.0 task.1 (e ∙ is) xt in
+          subst (λ (v : Option (Option Doing)). Goes P A shape (stepped shape w a x next got chosen (λ step. device_done (job_of x.task) x.buffer step chosen)) (noted_step shape (shown shape (stepped shape w a x next got chosen (λ step. device_done (job_of x.task) x.buffer step chosen))) n a v next got read)) (sym d.is)
+          (subst (λ (j : Job). Stepped_to w n a x j next got read chosen d.doing) (sym (ap job_of xt)) (by_phase w.devices w.commit w.phase w.actors n b a x task.0 task.1 (e ∙ is) xt d next got read chosen h.0 h.1)))
 
       fault_goes : (choice : Choice) (next : Want) (read : List Bytes) (chosen : Chosen P A) (o : Option Actor) → slice_get w.actors a ≡ o → OfSome o (λ x. OfSome x.task (λ doing. (next ≡ want doing.1) × MayFailAt w.devices choice next × Falters w choice next chosen)) →
           Goes P A shape (with_actor w o (λ x. stepped shape w a x next Fault chosen (λ step. device_failed (lands (device_of step) choice) (job_of x.task) x.buffer step chosen)))
           (noted_step shape (shown shape (with_actor w o (λ x. stepped shape w a x next Fault chosen (λ step. device_failed (lands (device_of step) choice) (job_of x.task) x.buffer step chosen)))) n a (slice_get n.doings a) next Fault read)
-      fault_goes choice next read chosen None e h = absurd h
-      fault_goes choice next read chosen (Some x) e h = by_task x.task refl h
-        where
-          by_task : (t : Option (Job × Plan)) → x.task ≡ t → OfSome t (λ doing. (next ≡ want doing.1) × MayFailAt w.devices choice next × Falters w choice next chosen) →
-              Goes P A shape (stepped shape w a x next Fault chosen (λ step. device_failed (lands (device_of step) choice) (job_of x.task) x.buffer step chosen)) (noted_step shape (shown shape (stepped shape w a x next Fault chosen (λ step. device_failed (lands (device_of step) choice) (job_of x.task) x.buffer step chosen))) n a (slice_get n.doings a) next Fault read)
-          by_task None xt h = absurd h
-          by_task (Some task) xt h =
-              let d = noted_for x task.0 task.1 e xt in
-              subst (λ (v : Option (Option Doing)). Goes P A shape (stepped shape w a x next Fault chosen (λ step. device_failed (lands (device_of step) choice) (job_of x.task) x.buffer step chosen)) (noted_step shape (shown shape (stepped shape w a x next Fault chosen (λ step. device_failed (lands (device_of step) choice) (job_of x.task) x.buffer step chosen))) n a v next Fault read)) (sym d.is)
-              (subst (λ (j : Job). Faulted_to w n a x choice j next read chosen d.doing) (sym (ap job_of xt)) (fault_by_phase w.devices w.commit w.phase w.actors n b a x task.0 task.1 e xt d choice next read chosen h.0 h.1 h.2))
+      fault_goes choice next read chosen o e h = with_task o (λ x doing. (next ≡ want doing.1) × MayFailAt w.devices choice next × Falters w choice next chosen)
+          (λ o. Goes P A shape (with_actor w o (λ x. stepped shape w a x next Fault chosen (λ step. device_failed (lands (device_of step) choice) (job_of x.task) x.buffer step chosen))) (noted_step shape (shown shape (with_actor w o (λ x. stepped shape w a x next Fault chosen (λ step. device_failed (lands (device_of step) choice) (job_of x.task) x.buffer step chosen)))) n a (slice_get n.doings a) next Fault read)) h
+          (λ x task is xt h.
+          let d = noted_for w n b a x task.0 task.1 (e ∙ is) xt in
+          subst (λ (v : Option (Option Doing)). Goes P A shape (stepped shape w a x next Fault chosen (λ step. device_failed (lands (device_of step) choice) (job_of x.task) x.buffer step chosen)) (noted_step shape (shown shape (stepped shape w a x next Fault chosen (λ step. device_failed (lands (device_of step) choice) (job_of x.task) x.buffer step chosen))) n a v next Fault read)) (sym d.is)
+          (subst (λ (j : Job). Faulted_to w n a x choice j next read chosen d.doing) (sym (ap job_of xt)) (fault_by_phase w.devices w.commit w.phase w.actors n b a x task.0 task.1 (e ∙ is) xt d choice next read chosen h.0 h.1 h.2)))
 
     -- ---- starts
 
@@ -257,37 +241,29 @@ module _ (P A : Type 0) (shape : Shape) where
     abbrev Begun_to : State P A → Notes → ℕ → Job → Chosen P A → Type 0
     Begun_to w n a job chosen = Goes P A shape (started shape w a job chosen) (put (starting n job) a (Some (begun n (begun_as job))))
 
+    -- whoever is there is given it
+    put_there : (w : State P A) (n' : Notes) (a : ℕ) (x : Actor) (job : Job) (chosen : Chosen P A) → slice_get w.actors a ≡ Some x → Goes P A shape (record w { phase = phase_given w.phase job chosen; actors = slice_set w.actors a (given shape x job chosen) }) n' →
+        Goes P A shape (with_actor w (slice_get w.actors a) (λ y. record w { phase = phase_given w.phase job chosen; actors = slice_set w.actors a (given shape y job chosen) })) n'
+    put_there w n' a x job chosen ex g = subst (λ (o : Option Actor). Goes P A shape (with_actor w o (λ y. record w { phase = phase_given w.phase job chosen; actors = slice_set w.actors a (given shape y job chosen) })) n') (sym ex) g
+
     start_opening : (w : State P A) (n : Notes) → Whole w n → (a : ℕ) (x : Actor) (mode : Mode) (chosen : Chosen P A) → slice_get w.actors a ≡ Some x → (¬ Rattle.wb_runs.specs.Happenings.IsOutOfPlace w.phase (Open mode)) → Begun_to w n a (Open mode) chosen
-    start_opening w n b a x mode chosen ex place =
-        let c = cleared w (Open mode) in
-        subst (λ (o : Option Actor). Goes P A shape (with_actor c o (λ y. record c { phase = phase_given c.phase (Open mode) chosen; actors = slice_set c.actors a (given shape y (Open mode) chosen) })) (put (starting n (Open mode)) a (Some (begun n (Open mode))))) (sym (there_rests w.actors a x ex))
+    start_opening w n b a x mode chosen ex place = put_there (cleared w (Open mode)) (put (starting n (Open mode)) a (Some (begun n (Open mode)))) a Rattle.wb_runs.specs.States.resting (Open mode) chosen (there_rests w.actors a x ex)
         (opening_starts P A shape b.goes.images w n b.goes.known b.goes.followed a mode x (given shape Rattle.wb_runs.specs.States.resting (Open mode) chosen) (λ o. place (inl o)) (λ o. place (inr o)) refl)
 
     start_at_target : (t : Target P) (commit : Option RunningCommit) (devices : Devices (List History)) (actors : List Actor) (n : Notes) → Whole (at_target t commit devices actors) n → (a : ℕ) (x : Actor) (job : Job) (chosen : Chosen P A) → slice_get actors a ≡ Some x → x.task ≡ None → (¬ Rattle.wb_runs.specs.Happenings.IsOutOfPlace {P = P} {A = A} (Stands t) job) →
         StartGives shape (Stands t) (Some x) job Started chosen → Begun_to (at_target t commit devices actors) n a job chosen
     start_at_target t commit devices actors n b a x (Open mode) chosen ex xt place g = start_opening (at_target t commit devices actors) n b a x mode chosen ex place
-    start_at_target t commit devices actors n b a x (Read extent) (Cut cut) ex xt place g =
-        let w = at_target t commit devices actors in
-        subst (λ (o : Option Actor). Goes P A shape (with_actor w o (λ y. record w { phase = phase_given w.phase (Read extent) (Cut cut); actors = slice_set w.actors a (given {P = P} {A = A} shape y (Read extent) (Cut cut)) })) (put n a (Some (begun n (Read extent))))) (sym ex)
+    start_at_target t commit devices actors n b a x (Read extent) (Cut cut) ex xt place g = put_there (at_target t commit devices actors) (put n a (Some (begun n (Read extent)))) a x (Read extent) (Cut cut) ex
         (read_starts P A shape b.goes.images t commit devices actors n b.goes.known b.goes.followed a x ex xt extent cut (subst (λ (o : Option (Job × Plan)). TaskSuits shape.geometry.origin_blocks x.card o) xt (b.used.suited a x ex)) g.0 g.1)
-    start_at_target t commit devices actors n b a x (Write extent content) (Cut cut) ex xt place g =
-        let w = at_target t commit devices actors in
-        subst (λ (o : Option Actor). Goes P A shape (with_actor w o (λ y. record w { phase = phase_given w.phase (Write extent content) (Cut cut); actors = slice_set w.actors a (given {P = P} {A = A} shape y (Write extent content) (Cut cut)) })) (put n a (Some (begun n (Write extent content))))) (sym ex)
+    start_at_target t commit devices actors n b a x (Write extent content) (Cut cut) ex xt place g = put_there (at_target t commit devices actors) (put n a (Some (begun n (Write extent content)))) a x (Write extent content) (Cut cut) ex
         (write_starts P A shape b.goes.images t commit devices actors n b.goes.known b.goes.followed a x ex xt extent content cut (subst (λ (o : Option (Job × Plan)). TaskSuits shape.geometry.origin_blocks x.card o) xt (b.used.suited a x ex)) g.0 g.1)
-    start_at_target t commit devices actors n b a x Flush chosen ex xt place g =
-        let w = at_target t commit devices actors in
-        subst (λ (o : Option Actor). Goes P A shape (with_actor w o (λ y. record w { phase = phase_given w.phase Flush chosen; actors = slice_set w.actors a (given {P = P} {A = A} shape y Flush chosen) })) (put n a (Some (begun n Flush)))) (sym ex)
+    start_at_target t commit devices actors n b a x Flush chosen ex xt place g = put_there (at_target t commit devices actors) (put n a (Some (begun n Flush))) a x Flush chosen ex
         (flush_starts P A shape b.goes.images t commit devices actors n b.goes.known b.goes.followed a x ex xt [])
-    start_at_target t commit devices actors n b a x (Migrate migration block) chosen ex xt place g =
-        let w = at_target t commit devices actors in
-        subst (λ (o : Option Actor). Goes P A shape (with_actor w o (λ y. record w { phase = phase_given w.phase (Migrate migration block) chosen; actors = slice_set w.actors a (given {P = P} {A = A} shape y (Migrate migration block) chosen) })) (put n a (Some (begun n (Migrate migration block))))) (sym ex)
+    start_at_target t commit devices actors n b a x (Migrate migration block) chosen ex xt place g = put_there (at_target t commit devices actors) (put n a (Some (begun n (Migrate migration block)))) a x (Migrate migration block) chosen ex
         (migrations.starts t commit devices actors n b a x migration block chosen ex xt g)
-    start_at_target t commit devices actors n b a x (Replace old new) chosen ex xt place g =
-        let w = at_target t commit devices actors in
-        subst (λ (o : Option Actor). Goes P A shape (with_actor w o (λ y. record w { phase = phase_given w.phase (Replace old new) chosen; actors = slice_set w.actors a (given {P = P} {A = A} shape y (Replace old new) chosen) })) (put n a (Some (begun n (begun_as (Replace old new)))))) (sym ex)
+    start_at_target t commit devices actors n b a x (Replace old new) chosen ex xt place g = put_there (at_target t commit devices actors) (put n a (Some (begun n (begun_as (Replace old new))))) a x (Replace old new) chosen ex
         (migrations.replaces t commit devices actors n b a x old new chosen ex xt g)
-    start_at_target t commit devices actors n b a x (Read extent) chosen ex xt place g = absurd g
-    start_at_target t commit devices actors n b a x (Write extent content) chosen ex xt place g = absurd g
+    start_at_target t commit devices actors n b a x job chosen ex xt place g = absurd g
 
     -- where none stands, nothing but an opening is in place
     start_by_phase : (w : State P A) (phase : Phase P A) → w.phase ≡ phase → (n : Notes) → Whole w n → (a : ℕ) (x : Actor) (job : Job) (chosen : Chosen P A) → slice_get w.actors a ≡ Some x → x.task ≡ None → (¬ Rattle.wb_runs.specs.Happenings.IsOutOfPlace phase job) → StartGives shape phase (Some x) job Started chosen → Begun_to w n a job chosen
@@ -295,16 +271,7 @@ module _ (P A : Type 0) (shape : Shape) where
         let is : record { devices = w.devices; commit = w.commit; phase = Stands t; actors = w.actors } ≡ w = λ i. record w { phase = sym e i } in
         subst (λ (v : State P A). Begun_to v n a job chosen) is (start_at_target t w.commit w.devices w.actors n (subst (λ (v : State P A). Whole v n) (sym is) b) a x job chosen ex xt place g)
     start_by_phase w phase e n b a x (Open mode) chosen ex xt place g = start_opening w n b a x mode chosen ex (subst (λ (p : Phase P A). ¬ Rattle.wb_runs.specs.Happenings.IsOutOfPlace p (Open mode)) (sym e) place)
-    start_by_phase w Gone e n b a x (Read extent) chosen ex xt place g = absurd (place (λ z. z))
-    start_by_phase w Gone e n b a x (Write extent content) chosen ex xt place g = absurd (place (λ z. z))
-    start_by_phase w Gone e n b a x Flush chosen ex xt place g = absurd (place (λ z. z))
-    start_by_phase w Gone e n b a x (Migrate migration block) chosen ex xt place g = absurd (place (λ z. z))
-    start_by_phase w Gone e n b a x (Replace old new) chosen ex xt place g = absurd (place (λ z. z))
-    start_by_phase w (Opens mode reading) e n b a x (Read extent) chosen ex xt place g = absurd (place (λ z. z))
-    start_by_phase w (Opens mode reading) e n b a x (Write extent content) chosen ex xt place g = absurd (place (λ z. z))
-    start_by_phase w (Opens mode reading) e n b a x Flush chosen ex xt place g = absurd (place (λ z. z))
-    start_by_phase w (Opens mode reading) e n b a x (Migrate migration block) chosen ex xt place g = absurd (place (λ z. z))
-    start_by_phase w (Opens mode reading) e n b a x (Replace old new) chosen ex xt place g = absurd (place (λ z. z))
+    start_by_phase w phase e n b a x job chosen ex xt place g = absurd (place (λ z. z))
 
     start_goes : (w : State P A) (n : Notes) → Whole w n → (a : ℕ) (job : Job) (chosen : Chosen P A) → (¬ DoesNotApply w (Start a job)) → StartGives shape w.phase (slice_get w.actors a) job Started chosen → Begun_to w n a job chosen
     start_goes w n b a job chosen applies g =
@@ -321,44 +288,27 @@ module _ (P A : Type 0) (shape : Shape) where
       where
         by : (j : Job) → x.task ≡ Some (j, plan) → (v : Want) → v ≡ want plan → Gives shape (record { devices = devices; commit = commit; phase = Opens mode reading; actors = actors }) x j v got read chosen → InPhase {P = P} {A = A} (Opens mode reading) j → Keeping (phase_then {P = P} {A = A} shape (Opens mode reading) v got chosen) (slice_set actors a (actor_then {P = P} {A = A} shape (Opens mode reading) devices x v got))
         by (Open opened_in) jt (End answer) e g h = opening_keeps P A shape b.goes.images devices commit mode reading actors n b.goes.known b.goes.followed b.linked.alone b.keeping a x ex opened_in plan jt b.inside.cache b.inside.origin got read answer chosen e g
-        by (Open opened_in) jt (Cell step) e g h = none_goes P A shape (Opens mode reading) devices actors a x (Cell step) got ex b.keeping
-        by (Open opened_in) jt (Device step) e g h = none_goes P A shape (Opens mode reading) devices actors a x (Device step) got ex b.keeping
-        by (Open opened_in) jt (Desk step) e g h = none_goes P A shape (Opens mode reading) devices actors a x (Desk step) got ex b.keeping
-        by (Read extent) jt v e g h = absurd h
-        by (Write extent content) jt v e g h = absurd h
-        by Flush jt v e g h = absurd h
-        by (Migrate migration block) jt v e g h = absurd h
-        by (Replace old new) jt v e g h = absurd h
+        by (Open opened_in) jt v e g h = none_goes P A shape (Opens mode reading) devices actors a x v got ex b.keeping
+        by j jt v e g h = absurd h
 
     keep_fault : (devices : Devices (List History)) (commit : Option RunningCommit) (phase : Phase P A) (actors : List Actor) (n : Notes) → Whole (record { devices = devices; commit = commit; phase = phase; actors = actors }) n → (a : ℕ) (x : Actor) (job : Job) (plan : Plan) → slice_get actors a ≡ Some x → x.task ≡ Some (job, plan) → (choice : Choice) (next : Want) (chosen : Chosen P A) → next ≡ want plan → MayFailAt devices choice next →
         Keeping (phase_then shape phase next Fault chosen) (slice_set actors a (actor_then shape phase devices x next Fault))
     keep_fault devices commit (Stands t) actors n b a x job plan ex xt choice (Device step) chosen e m = fault_keeps P A shape b.goes.images t commit devices actors n b.goes.known b.goes.followed b.used.here b.used.suited b.keeping a x ex job plan xt step chosen e
-    keep_fault devices commit Gone actors n b a x job plan ex xt choice (Device step) chosen e m = none_goes P A shape Gone devices actors a x (Device step) Fault ex b.keeping
-    keep_fault devices commit (Opens mode reading) actors n b a x job plan ex xt choice (Device step) chosen e m = none_goes P A shape (Opens mode reading) devices actors a x (Device step) Fault ex b.keeping
-    keep_fault devices commit phase actors n b a x job plan ex xt choice (Cell step) chosen e m = absurd m
-    keep_fault devices commit phase actors n b a x job plan ex xt choice (Desk step) chosen e m = absurd m
-    keep_fault devices commit phase actors n b a x job plan ex xt choice (End answer) chosen e m = absurd m
+    keep_fault devices commit phase actors n b a x job plan ex xt choice (Device step) chosen e m = none_goes P A shape phase devices actors a x (Device step) Fault ex b.keeping
+    keep_fault devices commit phase actors n b a x job plan ex xt choice next chosen e m = absurd m
 
     abbrev Keeps : State P A → Type 0
     Keeps w = Keeping w.phase w.actors
 
     keep_steps : (w : State P A) (n : Notes) → Whole w n → (a : ℕ) (next : Want) (got : Got) (read : List Bytes) (chosen : Chosen P A) (o : Option Actor) → slice_get w.actors a ≡ o → OfSome o (λ x. OfSome x.task (λ doing. (next ≡ want doing.1) × Gives shape w x doing.0 next got read chosen)) →
         Keeps (with_actor w o (λ x. stepped shape w a x next got chosen (λ step. device_done (job_of x.task) x.buffer step chosen)))
-    keep_steps w n b a next got read chosen None e h = absurd h
-    keep_steps w n b a next got read chosen (Some x) e h = by x.task refl h
-      where
-        by : (t : Option (Job × Plan)) → x.task ≡ t → OfSome t (λ doing. (next ≡ want doing.1) × Gives shape w x doing.0 next got read chosen) → Keeping (phase_then shape w.phase next got chosen) (slice_set w.actors a (actor_then shape w.phase w.devices x next got))
-        by None xt h = absurd h
-        by (Some task) xt h = keep_by_phase w.devices w.commit w.phase w.actors n b a x task.0 task.1 e xt next got read chosen h.0 h.1
+    keep_steps w n b a next got read chosen o e h = with_task o (λ x doing. (next ≡ want doing.1) × Gives shape w x doing.0 next got read chosen) (λ o. Keeps (with_actor w o (λ x. stepped shape w a x next got chosen (λ step. device_done (job_of x.task) x.buffer step chosen)))) h
+        (λ x task is xt h. keep_by_phase w.devices w.commit w.phase w.actors n b a x task.0 task.1 (e ∙ is) xt next got read chosen h.0 h.1)
 
     keep_faults : (w : State P A) (n : Notes) → Whole w n → (a : ℕ) (choice : Choice) (next : Want) (chosen : Chosen P A) (o : Option Actor) → slice_get w.actors a ≡ o → OfSome o (λ x. OfSome x.task (λ doing. (next ≡ want doing.1) × MayFailAt w.devices choice next × Falters w choice next chosen)) →
         Keeps (with_actor w o (λ x. stepped shape w a x next Fault chosen (λ step. device_failed (lands (device_of step) choice) (job_of x.task) x.buffer step chosen)))
-    keep_faults w n b a choice next chosen None e h = absurd h
-    keep_faults w n b a choice next chosen (Some x) e h = by x.task refl h
-      where
-        by : (t : Option (Job × Plan)) → x.task ≡ t → OfSome t (λ doing. (next ≡ want doing.1) × MayFailAt w.devices choice next × Falters w choice next chosen) → Keeping (phase_then shape w.phase next Fault chosen) (slice_set w.actors a (actor_then shape w.phase w.devices x next Fault))
-        by None xt h = absurd h
-        by (Some task) xt h = keep_fault w.devices w.commit w.phase w.actors n b a x task.0 task.1 e xt choice next chosen h.0 h.1
+    keep_faults w n b a choice next chosen o e h = with_task o (λ x doing. (next ≡ want doing.1) × MayFailAt w.devices choice next × Falters w choice next chosen) (λ o. Keeps (with_actor w o (λ x. stepped shape w a x next Fault chosen (λ step. device_failed (lands (device_of step) choice) (job_of x.task) x.buffer step chosen)))) h
+        (λ x task is xt h. keep_fault w.devices w.commit w.phase w.actors n b a x task.0 task.1 (e ∙ is) xt choice next chosen h.0 h.1)
 
     keep_opening : (w : State P A) (a : ℕ) (x : Actor) (mode : Mode) (chosen : Chosen P A) → slice_get w.actors a ≡ Some x → Keeps (started shape w a (Open mode) chosen)
     keep_opening w a x mode chosen ex =
@@ -376,31 +326,10 @@ module _ (P A : Type 0) (shape : Shape) where
 
     keep_start : (w : State P A) (phase : Phase P A) → w.phase ≡ phase → (n : Notes) → Whole w n → (a : ℕ) (x : Actor) (job : Job) (chosen : Chosen P A) → slice_get w.actors a ≡ Some x → x.task ≡ None → (¬ Rattle.wb_runs.specs.Happenings.IsOutOfPlace phase job) → StartGives shape phase (Some x) job Started chosen → Keeps (started shape w a job chosen)
     keep_start w phase e n b a x (Open mode) chosen ex xt place g = keep_opening w a x mode chosen ex
-    keep_start w (Stands t) e n b a x (Read extent) chosen ex xt place g =
+    keep_start w (Stands t) e n b a x job chosen ex xt place g =
         let is : record { devices = w.devices; commit = w.commit; phase = Stands t; actors = w.actors } ≡ w = λ i. record w { phase = sym e i } in
-        subst (λ (v : State P A). Keeps (started shape v a (Read extent) chosen)) is (keep_at_target t w.commit w.devices w.actors n (subst (λ (v : State P A). Whole v n) (sym is) b) a x (Read extent) chosen ex xt place g refl)
-    keep_start w (Stands t) e n b a x (Write extent content) chosen ex xt place g =
-        let is : record { devices = w.devices; commit = w.commit; phase = Stands t; actors = w.actors } ≡ w = λ i. record w { phase = sym e i } in
-        subst (λ (v : State P A). Keeps (started shape v a (Write extent content) chosen)) is (keep_at_target t w.commit w.devices w.actors n (subst (λ (v : State P A). Whole v n) (sym is) b) a x (Write extent content) chosen ex xt place g refl)
-    keep_start w (Stands t) e n b a x Flush chosen ex xt place g =
-        let is : record { devices = w.devices; commit = w.commit; phase = Stands t; actors = w.actors } ≡ w = λ i. record w { phase = sym e i } in
-        subst (λ (v : State P A). Keeps (started shape v a Flush chosen)) is (keep_at_target t w.commit w.devices w.actors n (subst (λ (v : State P A). Whole v n) (sym is) b) a x Flush chosen ex xt place g refl)
-    keep_start w (Stands t) e n b a x (Migrate m block) chosen ex xt place g =
-        let is : record { devices = w.devices; commit = w.commit; phase = Stands t; actors = w.actors } ≡ w = λ i. record w { phase = sym e i } in
-        subst (λ (v : State P A). Keeps (started shape v a (Migrate m block) chosen)) is (keep_at_target t w.commit w.devices w.actors n (subst (λ (v : State P A). Whole v n) (sym is) b) a x (Migrate m block) chosen ex xt place g refl)
-    keep_start w (Stands t) e n b a x (Replace old new) chosen ex xt place g =
-        let is : record { devices = w.devices; commit = w.commit; phase = Stands t; actors = w.actors } ≡ w = λ i. record w { phase = sym e i } in
-        subst (λ (v : State P A). Keeps (started shape v a (Replace old new) chosen)) is (keep_at_target t w.commit w.devices w.actors n (subst (λ (v : State P A). Whole v n) (sym is) b) a x (Replace old new) chosen ex xt place g refl)
-    keep_start w Gone e n b a x (Read extent) chosen ex xt place g = absurd (place (λ z. z))
-    keep_start w Gone e n b a x (Write extent content) chosen ex xt place g = absurd (place (λ z. z))
-    keep_start w Gone e n b a x Flush chosen ex xt place g = absurd (place (λ z. z))
-    keep_start w Gone e n b a x (Migrate m block) chosen ex xt place g = absurd (place (λ z. z))
-    keep_start w Gone e n b a x (Replace old new) chosen ex xt place g = absurd (place (λ z. z))
-    keep_start w (Opens mode reading) e n b a x (Read extent) chosen ex xt place g = absurd (place (λ z. z))
-    keep_start w (Opens mode reading) e n b a x (Write extent content) chosen ex xt place g = absurd (place (λ z. z))
-    keep_start w (Opens mode reading) e n b a x Flush chosen ex xt place g = absurd (place (λ z. z))
-    keep_start w (Opens mode reading) e n b a x (Migrate m block) chosen ex xt place g = absurd (place (λ z. z))
-    keep_start w (Opens mode reading) e n b a x (Replace old new) chosen ex xt place g = absurd (place (λ z. z))
+        subst (λ (v : State P A). Keeps (started shape v a job chosen)) is (keep_at_target t w.commit w.devices w.actors n (subst (λ (v : State P A). Whole v n) (sym is) b) a x job chosen ex xt place g refl)
+    keep_start w phase e n b a x job chosen ex xt place g = absurd (place (λ z. z))
 
     keep_starts : (w : State P A) (n : Notes) → Whole w n → (a : ℕ) (job : Job) (chosen : Chosen P A) → (¬ DoesNotApply w (Start a job)) → StartGives shape w.phase (slice_get w.actors a) job Started chosen → Keeps (started shape w a job chosen)
     keep_starts w n b a job chosen applies g =
@@ -412,22 +341,7 @@ module _ (P A : Type 0) (shape : Shape) where
     keep_what w n b (Step a) (Stepped next got) read chosen h = keep_steps w n b a next got read chosen (slice_get w.actors a) refl h
     keep_what w n b (FaultStep a choice) (Stepped next got) read chosen h = subst (λ (g : Got). Keeps (after_what shape w (FaultStep a choice) (Stepped next g) chosen)) (sym h.1) (keep_faults w n b a choice next chosen (slice_get w.actors a) refl h.2)
     keep_what w n b (Stop choice) Stopped read chosen h = none_rest w.actors
-    keep_what w n b (Start a job) Skipped read chosen h = b.keeping
-    keep_what w n b (Start a job) (Refused refusal) read chosen h = b.keeping
-    keep_what w n b (Step a) Skipped read chosen h = b.keeping
-    keep_what w n b (Step a) (Refused refusal) read chosen h = b.keeping
-    keep_what w n b (FaultStep a choice) Skipped read chosen h = b.keeping
-    keep_what w n b (FaultStep a choice) (Refused refusal) read chosen h = b.keeping
-    keep_what w n b (Stop choice) Skipped read chosen h = b.keeping
-    keep_what w n b (Stop choice) (Refused refusal) read chosen h = b.keeping
-    keep_what w n b (Start a job) (Stepped next got) read chosen h = b.keeping
-    keep_what w n b (Start a job) Stopped read chosen h = b.keeping
-    keep_what w n b (Step a) Started read chosen h = b.keeping
-    keep_what w n b (Step a) Stopped read chosen h = b.keeping
-    keep_what w n b (FaultStep a choice) Started read chosen h = b.keeping
-    keep_what w n b (FaultStep a choice) Stopped read chosen h = b.keeping
-    keep_what w n b (Stop choice) Started read chosen h = b.keeping
-    keep_what w n b (Stop choice) (Stepped next got) read chosen h = b.keeping
+    keep_what w n b event what read chosen h = b.keeping
 
     -- ---- every event
 
@@ -437,22 +351,7 @@ module _ (P A : Type 0) (shape : Shape) where
     goes_what w n b (FaultStep a choice) (Stepped next got) read chosen h =
         subst (λ (g : Got). Goes P A shape (after_what shape w (FaultStep a choice) (Stepped next g) chosen) (noted_what shape (shown shape (after_what shape w (FaultStep a choice) (Stepped next g) chosen)) n (FaultStep a choice) (Stepped next g) read)) (sym h.1) (fault_goes w n b a choice next read chosen (slice_get w.actors a) refl h.2)
     goes_what w n b (Stop choice) Stopped read chosen h = crash_goes P A shape b.goes.images w n b.goes.known b.goes.followed choice
-    goes_what w n b (Start a job) Skipped read chosen h = b.goes
-    goes_what w n b (Start a job) (Refused refusal) read chosen h = b.goes
-    goes_what w n b (Start a job) (Stepped next got) read chosen h = b.goes
-    goes_what w n b (Start a job) Stopped read chosen h = b.goes
-    goes_what w n b (Step a) Skipped read chosen h = b.goes
-    goes_what w n b (Step a) (Refused refusal) read chosen h = b.goes
-    goes_what w n b (Step a) Started read chosen h = b.goes
-    goes_what w n b (Step a) Stopped read chosen h = b.goes
-    goes_what w n b (FaultStep a choice) Skipped read chosen h = b.goes
-    goes_what w n b (FaultStep a choice) (Refused refusal) read chosen h = b.goes
-    goes_what w n b (FaultStep a choice) Started read chosen h = b.goes
-    goes_what w n b (FaultStep a choice) Stopped read chosen h = b.goes
-    goes_what w n b (Stop choice) Skipped read chosen h = b.goes
-    goes_what w n b (Stop choice) (Refused refusal) read chosen h = b.goes
-    goes_what w n b (Stop choice) Started read chosen h = b.goes
-    goes_what w n b (Stop choice) (Stepped next got) read chosen h = b.goes
+    goes_what w n b event what read chosen h = b.goes
 
     pub whole_after : (w : State P A) (n : Notes) (h : Happening P A) → Whole w n → MayBe shape w h.record_is.event h.record_is.what h.record_is.read.items h.chosen → Whole (after_happening shape w h) (note_happening shape w n h)
     whole_after w n h b m =
