@@ -44,4 +44,3 @@ pub keeps_where : (desk : DeskState Quiet) (kept : List Order) (old new : OBlock
 keeps_where desk kept old new cache mapping at k =
     let same = mapped_once desk.geometry.cache_blocks desk.geometry.origin_blocks desk.tree.entries old.0 k.0.0 cache.0 mapping k.2 at in
     subst (λ (n : ℕ). Contains kept (Replace old new (record { 0 = n }))) same k.1
-

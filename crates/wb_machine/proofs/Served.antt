@@ -438,4 +438,3 @@ pub roomy_free : (nodes n : ℕ) → AllRoomy nodes (replicate n free)
 roomy_free nodes zero b x e = absurd (cc)
 roomy_free nodes (suc n) zero x e = let same : free ≡ x = cc in subst (λ (v : Member). IsRoomy nodes v.task) same tt
 roomy_free nodes (suc n) (suc b) x e = roomy_free nodes n b x e
-
