@@ -6,7 +6,7 @@ use std::alloc::Global;
 use std::fmt;
 use std::fmt::{Display, Formatter};
 use wb_disk::Disk;
-use wb_meta::{State, read_state};
+use wb_meta::read_state;
 use wb_types::CBlock;
 
 /// The cache that a metadata device stands for: its blocks, how many of them are mapped, and how many may be newer than the origin's.
@@ -25,14 +25,9 @@ pub trait Consent {
 
 /// What a formatting of this device gives up; none where nothing is cached there, or what it holds cannot be read.
 pub fn find_given_up<D: Disk>(alloc: Global, metadata: &mut D) -> Option<GivenUp> {
-    match read_state(alloc, alloc, metadata) {
-        Ok(state) => cached_in(&state),
-        Err(_) => None,
-    }
-}
-
-/// The cached blocks of a state, if there are any: after an unclean end all of them may be dirty.
-fn cached_in(state: &State<Global>) -> Option<GivenUp> {
+    let Ok(state) = read_state(alloc, alloc, metadata) else {
+        return None;
+    };
     let cache_blocks = state.root.geometry.cache_blocks;
     let (mut mapped, mut dirty) = (0u32, 0u32);
     for number in 0..cache_blocks {
@@ -43,11 +38,16 @@ fn cached_in(state: &State<Global>) -> Option<GivenUp> {
             }
         }
     }
-    (mapped > 0).then_some(GivenUp {
-        cache_blocks,
-        mapped,
-        dirty,
-    })
+    drop(state);
+    if mapped == 0 {
+        None
+    } else {
+        Some(GivenUp {
+            cache_blocks,
+            mapped,
+            dirty,
+        })
+    }
 }
 
 impl Display for GivenUp {
