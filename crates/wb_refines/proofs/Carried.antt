@@ -74,23 +74,23 @@ module _ (actors : List Actor) (there : ℕ) (s : Shared) (part : BlockRange) (c
   abbrev order : Order
   order = order_on part c next
 
-  abbrev os : List ℕ
+  abbrev os : List (List ℕ)
   os = offsets part.block_sectors part.extents
 
   -- the abstract actor with these steps to come, or these real ones
-  abbrev at_steps : Migration → List AbstractWant → Held → AbstractAnswer → Content → Actor
+  abbrev at_steps : Migration → List AbstractWant → Held → AbstractAnswer → (ℕ → Content) → Actor
   at_steps migration steps held answer buffer = record { task = Some (record { job = job_under order os migration; steps = steps; answer = answer }); held = held; order = kept; leads = false; buffer = buffer }
 
-  abbrev at : Migration → List Want → Held → AbstractAnswer → Content → Actor
+  abbrev at : Migration → List Want → Held → AbstractAnswer → (ℕ → Content) → Actor
   at migration steps held answer buffer = at_steps migration (migration_wants part.block_sectors order os migration steps) held answer buffer
 
-  abbrev Then : Migration → Plan → Card → AbstractAnswer → Content → Words → Plan → Card → Type 0
+  abbrev Then : Migration → Plan → Card → AbstractAnswer → (ℕ → Content) → Words → Plan → Card → Type 0
   Then migration plan card answer buffer words plan' card' = FollowsMigration actors there s (at migration plan.steps (held_for plan.steps card) answer buffer) words part c next migration kept plan' card'
 
   abbrev of : Migration → List Want → Answer → Plan
   of migration steps answer = plan_of (Migrating migration part) steps answer
 
-  looks_fail : (migration : Migration) (block : OBlock) (answer : Answer) (told : AbstractAnswer) (buffer : Content) (words : Words) (card : Card) → WordsAgree words s → AnswersAlike answer told →
+  looks_fail : (migration : Migration) (block : OBlock) (answer : Answer) (told : AbstractAnswer) (buffer : ℕ → Content) (words : Words) (card : Card) → WordsAgree words s → AnswersAlike answer told →
       Then migration (of migration (Cell (Look Fail) ∷ Cell (Look (LockWord block)) ∷ []) answer) card told buffer words (after (of migration (Cell (Look Fail) ∷ Cell (Look (LockWord block)) ∷ []) answer) (Word words.fail)) (looked Fail words.fail card)
   looks_fail migration block answer told buffer words card w alike = by_test (words.fail == 0) (flag_of words.fail (words.fail == 0) refl)
     where
@@ -109,12 +109,12 @@ module _ (actors : List Actor) (there : ℕ) (s : Shared) (part : BlockRange) (c
   breaks migration = refl
 
   -- it is lost there, with no block and the order kept
-  is_lost : (migration : Migration) (held : Held) (told : AbstractAnswer) (buffer : Content) (words : Words) (card : Card) → held ≡ held_of card.hold → WordsAgree words s →
+  is_lost : (migration : Migration) (held : Held) (told : AbstractAnswer) (buffer : ℕ → Content) (words : Words) (card : Card) → held ≡ held_of card.hold → WordsAgree words s →
       FollowsMigration actors there s (at migration (Cell (Look (LockWord part.block)) ∷ []) held told buffer) words part c next migration kept (of migration [] (Refuses Busy)) card
   is_lost migration held told buffer words card h w = subst (λ (ws : List AbstractWant). FollowsMigration actors there s (at_steps migration ws held told buffer) words part c next migration kept (of migration [] (Refuses Busy)) card) (sym (acquires migration))
       (record { results = Lost ∷ []; may = (tt, tt, tt); quiet = (tt, tt); words_agree = w; same = same s; at = inl (record { answer = AnsweredBusy; buffer = buffer; is = λ i. at_steps migration [] (h i) AnsweredBusy buffer; alike = λ e. absurd (cc); saw = tt }) })
 
-  looks_lock : (migration : Migration) (answer : Answer) (told : AbstractAnswer) (buffer : Content) (words : Words) (card : Card) → WordsAgree words s → AnswersAlike answer told →
+  looks_lock : (migration : Migration) (answer : Answer) (told : AbstractAnswer) (buffer : ℕ → Content) (words : Words) (card : Card) → WordsAgree words s → AnswersAlike answer told →
       Then migration (of migration (Cell (Look (LockWord part.block)) ∷ []) answer) card told buffer words (after (of migration (Cell (Look (LockWord part.block)) ∷ []) answer) (Word (word_at words.cells part.block))) (looked (LockWord part.block) (word_at words.cells part.block) card)
   looks_lock migration answer told buffer words card w alike = by_test (may_take (OnBlock (Migrating migration part)) (word_at words.cells part.block))
     where
@@ -123,7 +123,7 @@ module _ (actors : List Actor) (there : ℕ) (s : Shared) (part : BlockRange) (c
       by_test true = record { results = []; may = tt; quiet = tt; words_agree = w; same = same s; at = inl (record { answer = told; buffer = buffer; is = refl; alike = alike; saw = tt }) }
       by_test false = is_lost migration (held_of card.hold) told buffer words (looked (LockWord part.block) (word_at words.cells part.block) card) refl w
 
-  takes : (migration : Migration) (seen : ℕ) (answer : Answer) (told : AbstractAnswer) (buffer : Content) (words : Words) (card : Card) → card.hold ≡ HoldsNothing → WordsAgree words s → AnswersAlike answer told →
+  takes : (migration : Migration) (seen : ℕ) (answer : Answer) (told : AbstractAnswer) (buffer : ℕ → Content) (words : Words) (card : Card) → card.hold ≡ HoldsNothing → WordsAgree words s → AnswersAlike answer told →
       Then migration (of migration (Cell (Take Owned part.block seen) ∷ Cell (Look (SealWord part.block)) ∷ []) answer) card told buffer (words_after words (Take Owned part.block seen))
       (after (of migration (Cell (Take Owned part.block seen) ∷ Cell (Look (SealWord part.block)) ∷ []) answer) (got_of (result_of words (Take Owned part.block seen)))) (card_after words (Take Owned part.block seen) card)
   takes migration seen answer told buffer words card h w alike = by_test (word_at words.cells part.block == seen)
@@ -149,7 +149,7 @@ module _ (actors : List Actor) (there : ℕ) (s : Shared) (part : BlockRange) (c
       }
       by_test false = is_lost migration (held_of card.hold) told buffer words (losing part.block (word_at words.cells part.block) card) refl w
 
-  looks_seal : (migration : Migration) (ws : List Want) (answer : Answer) (told : AbstractAnswer) (buffer : Content) (words : Words) (card : Card) → card.hold ≡ HoldsBlock Owned part.block → WordsAgree words s → AnswersAlike answer told →
+  looks_seal : (migration : Migration) (ws : List Want) (answer : Answer) (told : AbstractAnswer) (buffer : ℕ → Content) (words : Words) (card : Card) → card.hold ≡ HoldsBlock Owned part.block → WordsAgree words s → AnswersAlike answer told →
       Then migration (of migration (Cell (Look (SealWord part.block)) ∷ ws) answer) card told buffer words (after (of migration (Cell (Look (SealWord part.block)) ∷ ws) answer) (Word (word_at words.seals part.block))) (looked (SealWord part.block) (word_at words.seals part.block) card)
   looks_seal migration ws answer told buffer words card h w alike = record {
     results = [];
@@ -172,7 +172,7 @@ module _ (actors : List Actor) (there : ℕ) (s : Shared) (part : BlockRange) (c
   same_work Demote seen seal where_is a = ap (work_there (job_under order os Demote)) (λ i. record { location = a.location i; dirty = a.dirty c where_is i })
   same_work Clean seen seal where_is a = ap (work_there (job_under order os Clean)) (λ i. record { location = a.location i; dirty = a.dirty c where_is i })
 
-  looks_number : (migration : Migration) (seen : ℕ) (answer : Answer) (told : AbstractAnswer) (buffer : Content) (words : Words) (card : Card) → 0 < part.block_sectors → Fills migration c → IsWhere migration c (place_in seen) → card.hold ≡ HoldsBlock Owned part.block → word_at words.seals part.block ≡ seen → WordsAgree words s →
+  looks_number : (migration : Migration) (seen : ℕ) (answer : Answer) (told : AbstractAnswer) (buffer : ℕ → Content) (words : Words) (card : Card) → 0 < part.block_sectors → Fills migration c → IsWhere migration c (place_in seen) → card.hold ≡ HoldsBlock Owned part.block → word_at words.seals part.block ≡ seen → WordsAgree words s →
       WinsBeside actors there Nothing (Own part.block.0) Done → AnswersAlike answer told →
       Then migration (of migration (Cell (Look (Number part.block)) ∷ work_of (OnBlock (Migrating migration part)) seen) answer) card told buffer words (of migration (work_of (OnBlock (Migrating migration part)) seen) answer) (looked (Number part.block) (word_at words.numbers part.block) card)
   looks_number migration seen answer told buffer words card some fills where_is h k w wins alike = subst (λ (ws : List AbstractWant). FollowsMigration actors there s (at_steps migration ws Nothing told buffer) words part c next migration kept (of migration steps answer) card') (sym (acquires migration)) (record {
@@ -202,7 +202,7 @@ module _ (actors : List Actor) (there : ℕ) (s : Shared) (part : BlockRange) (c
       held_is : Owns part.block.0 ≡ held_for steps card'
       held_is = sym (held_plain steps card' plain ∙ ap held_of h)
 
-  seals : (migration : Migration) (place : Option CBlock) (dirty : Bool) (ws : List Want) (answer : Answer) (told : AbstractAnswer) (buffer : Content) (words : Words) (card : Card) → IsPlain ws → part.block.0 < length words.seals → place_in (Rattle.wb_words.specs.SharedWords.seal_word place dirty) ≡ place → WordsAgree words s → AnswersAlike answer told →
+  seals : (migration : Migration) (place : Option CBlock) (dirty : Bool) (ws : List Want) (answer : Answer) (told : AbstractAnswer) (buffer : ℕ → Content) (words : Words) (card : Card) → IsPlain ws → part.block.0 < length words.seals → place_in (Rattle.wb_words.specs.SharedWords.seal_word place dirty) ≡ place → WordsAgree words s → AnswersAlike answer told →
       Then migration (of migration (Cell (Seal part.block place dirty) ∷ ws) answer) card told buffer (words_after words (Seal part.block place dirty)) (of migration ws answer) (card_after words (Seal part.block place dirty) card)
   seals migration place dirty ws answer told buffer words card p inside tells w alike = record {
     results = Done ∷ [];
@@ -213,7 +213,7 @@ module _ (actors : List Actor) (there : ℕ) (s : Shared) (part : BlockRange) (c
     at = inl (record { answer = told; buffer = buffer; is = λ i. at migration ws (sym (held_plain ws (card_after words (Seal part.block place dirty) card) p) i) told buffer; alike = alike; saw = saw_plain (of migration ws answer) ws _ p });
   }
 
-  counts : (migration : Migration) (kind : _) (ws : List Want) (answer : Answer) (told : AbstractAnswer) (buffer : Content) (words : Words) (card : Card) → IsPlain ws → WordsAgree words s → AnswersAlike answer told →
+  counts : (migration : Migration) (kind : _) (ws : List Want) (answer : Answer) (told : AbstractAnswer) (buffer : ℕ → Content) (words : Words) (card : Card) → IsPlain ws → WordsAgree words s → AnswersAlike answer told →
       Then migration (of migration (Cell (Count kind) ∷ ws) answer) card told buffer (words_after words (Count kind)) (of migration ws answer) (card_after words (Count kind) card)
   counts migration kind ws answer told buffer words card p w alike = record {
     results = [];
@@ -224,7 +224,7 @@ module _ (actors : List Actor) (there : ℕ) (s : Shared) (part : BlockRange) (c
     at = inl (record { answer = told; buffer = buffer; is = λ i. at migration ws (sym (held_plain ws (counting kind card) p) i) told buffer; alike = alike; saw = saw_plain (of migration ws answer) ws _ p });
   }
 
-  gives_back : (migration : Migration) (ws : List Want) (answer : Answer) (told : AbstractAnswer) (buffer : Content) (words : Words) (card : Card) → IsParting (Migrating migration part) ws → WordsAgree words s → AnswersAlike answer told →
+  gives_back : (migration : Migration) (ws : List Want) (answer : Answer) (told : AbstractAnswer) (buffer : ℕ → Content) (words : Words) (card : Card) → IsParting (Migrating migration part) ws → WordsAgree words s → AnswersAlike answer told →
       Then migration (of migration (Cell (Release Owned part.block) ∷ ws) answer) card told buffer (words_after words (Release Owned part.block)) (of migration ws answer) (card_after words (Release Owned part.block) card)
   gives_back migration ws answer told buffer words card p w alike = record {
     results = Done ∷ [];
@@ -238,7 +238,7 @@ module _ (actors : List Actor) (there : ℕ) (s : Shared) (part : BlockRange) (c
   failed_same : SameElse s (record s { fail = true })
   failed_same = record { origin = refl; cache = refl; images = record { mapping = refl; blocks = refl; live = refl; mode = refl; committing = refl; began = refl; ended = refl; broken = refl; committed = refl; running = refl; root_written = refl; committed_clean = refl; running_clean = refl } }
 
-  fails : (migration : Migration) (answer : Answer) (told : AbstractAnswer) (buffer : Content) (words : Words) (card : Card) (failures suspensions : ℕ) → words.fail ≡ fail_word failures suspensions → (refusal : Refusal) → answer ≡ Refuses refusal → WordsAgree words s → AnswersAlike answer told →
+  fails : (migration : Migration) (answer : Answer) (told : AbstractAnswer) (buffer : ℕ → Content) (words : Words) (card : Card) (failures suspensions : ℕ) → words.fail ≡ fail_word failures suspensions → (refusal : Refusal) → answer ≡ Refuses refusal → WordsAgree words s → AnswersAlike answer told →
       Then migration (of migration (Cell SetFailed ∷ []) answer) card told buffer (words_after words SetFailed) (of migration [] answer) (card_after words SetFailed card)
   fails migration answer told buffer words card f z e refusal is w alike = subst (λ (ws : List AbstractWant). FollowsMigration actors there s (at_steps migration ws (held_of card.hold) told buffer) (words_after words SetFailed) part c next migration kept (of migration [] answer) (card_after words SetFailed card)) (sym (breaks migration)) (record {
     results = Done ∷ [];
@@ -249,7 +249,7 @@ module _ (actors : List Actor) (there : ℕ) (s : Shared) (part : BlockRange) (c
     at = inr (failed_flag words.fail f z e, record { over = refl; refused = λ k. let bad : Refuses refusal ≡ Finished = sym is ∙ k in absurd (cc); script = _; task = refl; nothing = refl; undone = subst (λ (r : Answer). AnswersAlike r told) is alike; job = refl; order = refl; leads = refl; below = keeps_owned _ card refl });
   })
 
-  module _ (blocks : ℕ) (words : Words) (cards : List Card) (a : ℕ) (card : Card) (migration : Migration) (answer : Answer) (told : AbstractAnswer) (buffer : Content) (some : 0 < part.block_sectors) (rule : LockRule blocks words cards) (here : slice_get cards a ≡ Some card) (w : WordsAgree words s)
+  module _ (blocks : ℕ) (words : Words) (cards : List Card) (a : ℕ) (card : Card) (migration : Migration) (answer : Answer) (told : AbstractAnswer) (buffer : ℕ → Content) (some : 0 < part.block_sectors) (rule : LockRule blocks words cards) (here : slice_get cards a ≡ Some card) (w : WordsAgree words s)
       (fills : Fills migration c) (inside : part.block.0 < blocks) (alike : AnswersAlike answer told) where
     abbrev Goal : CellStep → List Want → Type 0
     Goal step ws = Then migration (of migration (Cell step ∷ ws) answer) card told buffer (words_after words step) (after (of migration (Cell step ∷ ws) answer) (got_of (result_of words step))) (card_after words step card)

@@ -21,10 +21,10 @@ use Rattle.wb_types.specs.declared.number.OBlock.{OBlock}
 use Rattle.wb_tasks.specs.Plan.{first_steps}
 use Rattle.wb_refines.specs.Tasks.{IsResting, NobodyIsAlone}
 
-abbrev owning : Job → Order → Content → AbstractAnswer → List AbstractWant → Actor
+abbrev owning : Job → Order → (ℕ → Content) → AbstractAnswer → List AbstractWant → Actor
 owning job order buffer answer steps = record { task = Some (record { job = job; steps = steps; answer = answer }); held = Owns order.block; order = Some order; leads = false; buffer = buffer }
 
-takes : (actors : List Actor) (a : ℕ) (s : Shared) (part : BlockRange) (c : CBlock) (next : Option ℕ) (migration : Migration) (place : Option CBlock) (dirty : Bool) (later : List Want) (answer : AbstractAnswer) (buffer : Content) →
+takes : (actors : List Actor) (a : ℕ) (s : Shared) (part : BlockRange) (c : CBlock) (next : Option ℕ) (migration : Migration) (place : Option CBlock) (dirty : Bool) (later : List Want) (answer : AbstractAnswer) (buffer : ℕ → Content) →
     0 < part.block_sectors → Fills migration c → IsWhere migration c place → WinsBeside actors a Nothing (Own part.block.0) Done → s.seals part.block.0 ≡ record { location = number_of place; dirty = dirty } →
     GoesTo actors a s (without_block (migrating part.block_sectors (order_on part c next) (offsets part.block_sectors part.extents) migration (Cell (Look (Number part.block)) ∷ later) answer buffer)) (Done ∷ Seen (s.seals part.block.0) ∷ []) s
     (migrating part.block_sectors (order_on part c next) (offsets part.block_sectors part.extents) migration (work (Migrating migration part) place dirty) answer buffer)
@@ -39,16 +39,16 @@ takes actors a s part c next migration place dirty later answer buffer some f w 
   is = ap (owning (job_under (order_on part c next) (offsets part.block_sectors part.extents) migration) (order_on part c next) buffer answer) (ap (work_there (job_under (order_on part c next) (offsets part.block_sectors part.extents) migration)) e ∙ sym (works part c next migration place dirty some f w));
 }
 
-is_busy : (size : ℕ) (actors : List Actor) (a : ℕ) (s : Shared) (order : Order) (os : List ℕ) (migration : Migration) (block : OBlock) (later : List Want) (answer : AbstractAnswer) (buffer : Content) → GoesTo actors a s (without_block (migrating size order os migration (Cell (Look (LockWord block)) ∷ later) answer buffer)) (Lost ∷ []) s (without_block (migrating size order os migration [] AnsweredBusy buffer))
+is_busy : (size : ℕ) (actors : List Actor) (a : ℕ) (s : Shared) (order : Order) (os : List (List ℕ)) (migration : Migration) (block : OBlock) (later : List Want) (answer : AbstractAnswer) (buffer : ℕ → Content) → GoesTo actors a s (without_block (migrating size order os migration (Cell (Look (LockWord block)) ∷ later) answer buffer)) (Lost ∷ []) s (without_block (migrating size order os migration [] AnsweredBusy buffer))
 is_busy size actors a s order os (Promote c) block later answer buffer = record { may = (tt, tt, tt); shared = refl; is = refl }
 is_busy size actors a s order os migration block later answer buffer = record { may = (tt, tt, tt); shared = refl; is = refl }
 
-fails : (size : ℕ) (actors : List Actor) (a : ℕ) (s : Shared) (order : Order) (os : List ℕ) (migration : Migration) (buffer : Content) → GoesTo actors a s (migrating size order os migration (Cell SetFailed ∷ []) AnsweredIo buffer) (Done ∷ []) (record s { fail = true }) (migrating size order os migration [] AnsweredIo buffer)
+fails : (size : ℕ) (actors : List Actor) (a : ℕ) (s : Shared) (order : Order) (os : List (List ℕ)) (migration : Migration) (buffer : ℕ → Content) → GoesTo actors a s (migrating size order os migration (Cell SetFailed ∷ []) AnsweredIo buffer) (Done ∷ []) (record s { fail = true }) (migrating size order os migration [] AnsweredIo buffer)
 fails size actors a s order os (Promote c) buffer = record { may = (tt, tt, tt); shared = refl; is = refl }
 fails size actors a s order os migration buffer = record { may = (tt, tt, tt); shared = refl; is = refl }
 
 -- a migration's job is under its order
-pub under_order : (order : Order) (os : List ℕ) (migration : Migration) → order_of_job (job_under order os migration) ≡ Some order
+pub under_order : (order : Order) (os : List (List ℕ)) (migration : Migration) → order_of_job (job_under order os migration) ≡ Some order
 under_order order os (Promote c) = refl
 under_order order os migration = refl
 

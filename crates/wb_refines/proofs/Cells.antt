@@ -46,7 +46,7 @@ pub same : (s : Shared) → SameElse s s
 same s = record { origin = refl; cache = refl; images = same_images s }
 
 -- the actor that is at this
-abbrev pub at : ℕ → Content → Plan → Card → Content → Actor
+abbrev pub at : ℕ → Content → Plan → Card → (ℕ → Content) → Actor
 at size content plan card buffer = record { task = Some (script_for size content plan); held = held_for plan.steps card; order = None; leads = false; buffer = buffer }
 
 pub flag_of : (n : ℕ) (t : Bool) → (n == 0) ≡ t → flag n ≡ cond t false true
@@ -149,7 +149,7 @@ sealed_agree words s block place dirty inside tells w = record { fail = w.fail; 
     there other n = subst (λ (v : ℕ). SealAgrees v (changed s.seals block.0 (record { location = number_of place; dirty = dirty }) other.0)) (sym (word_at_else words.seals other block (seal_word place dirty) n))
         (subst (λ (v : SealThere). SealAgrees (word_at words.seals other) v) (sym (changed_other s.seals block.0 other.0 (record { location = number_of place; dirty = dirty }) n)) (w.seals other))
 
-module _ (size : ℕ) (content : Content) (actors : List Actor) (a : ℕ) (s : Shared) (buffer : Content) where
+module _ (size : ℕ) (content : Content) (actors : List Actor) (a : ℕ) (s : Shared) (buffer : ℕ → Content) where
   abbrev Then : Plan → Card → Words → Plan → Card → Type 0
   Then plan card words plan' card' = Follows size content actors a s (at size content plan card buffer) words plan' card'
 

@@ -39,7 +39,7 @@ parting_nothing (Writing part) (Desk (ReleaseOrder b) ∷ []) r p = absurd p
 parting_nothing (Migrating migration part) (Desk (ReleaseOrder b) ∷ []) r p = absurd r
 parting_nothing job ws r p = absurd p
 
-module _ (size blocks : ℕ) (content : Content) (words : Words) (cards : List Card) (actors : List Actor) (there a : ℕ) (card : Card) (s : Shared) (buffer : Content) (answer : Answer) (some : 0 < size) (rule : LockRule blocks words cards) (here : slice_get cards a ≡ Some card) (w : WordsAgree words s) where
+module _ (size blocks : ℕ) (content : Content) (words : Words) (cards : List Card) (actors : List Actor) (there a : ℕ) (card : Card) (s : Shared) (buffer : ℕ → Content) (answer : Answer) (some : 0 < size) (rule : LockRule blocks words cards) (here : slice_get cards a ≡ Some card) (w : WordsAgree words s) where
   abbrev Goal : BlockJob → CellStep → List Want → Type 0
   Goal job step ws = Follows size content actors there s (at size content (plan_of job (Cell step ∷ ws) answer) card buffer) (words_after words step) (after (plan_of job (Cell step ∷ ws) answer) (got_of (result_of words step))) (card_after words step card)
 

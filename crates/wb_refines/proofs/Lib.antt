@@ -10,6 +10,5 @@ pub mod Flushing
 pub mod Tasks
 pub mod Openings
 pub mod Migrating
-pub mod Copying
 pub mod Carrying
 pub mod Carried

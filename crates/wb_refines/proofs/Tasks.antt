@@ -1,12 +1,12 @@
 -- How tasks begin and are answered.
-use Rattle.std.proofs.Common.{◌≡◌, ◌≤◌, ◌+◌, ◌%◌, ◌∙◌, inl, inr, ℕ, zero, suc, false, List, [], ◌∷◌, ◌++◌, Option, Some, None, refl, sym, ap, subst, arith, Contains}
+use Rattle.std.proofs.Common.{◌≡◌, ◌≤◌, ◌+◌, ◌%◌, ◌∙◌, inl, inr, ℕ, zero, suc, false, List, [], ◌∷◌, Option, Some, None, refl, sym, ap, subst, arith, Contains}
 use Rattle.wb_types.proofs.Lists.{Contains-first, Contains-behind}
 use Rattle.wb_types.specs.declared.extent.Extent.{Extent}
 use Rattle.wb_types.specs.Extents.{rising}
 use Rattle.wb_tasks.specs.Tables.{Reading, Writing, OnBlock, Flushing}
 use Rattle.wb_tasks.specs.Plan.{table}
 use Rattle.wb_link.specs.Tables.{Flushing as FlushingFor, Script, Want, Done as DoneThere}
-use Rattle.wb_link.specs.World.{Shared, Actor, Within, start_actor}
+use Rattle.wb_link.specs.World.{Shared, Actor, Within, AllWithin, start_actor}
 use Rattle.wb_refines.proofs.Holding.{holds_nothing}
 use Rattle.wb_refines.specs.Translation.{offsets, job_for, script_for}
 use Rattle.wb_refines.specs.Going.{shared_after, gone, MayGo}
@@ -16,13 +16,13 @@ use Rattle.wb_disk.specs.Device.{History, newest, entries}
 use Rattle.wb_contents.specs.Devices.{by_block, CrashLeaves}
 use Rattle.wb_contents.proofs.Devices.{crash_is_act}
 
-within_rising : (size first count : ℕ) (rest : List ℕ) → first + count ≤ size → Within size rest → Within size (rising first count ++ rest)
-within_rising size first zero rest l w = w
-within_rising size first (suc count) rest l w = (omega (arith, l), within_rising size (first + 1) count rest (omega (arith, l)) w)
+within_rising : (size first count : ℕ) → first + count ≤ size → Within size (rising first count)
+within_rising size first zero l = tt
+within_rising size first (suc count) l = (omega (arith, l), within_rising size (first + 1) count (omega (arith, l)))
 
-pub within_offsets : (size : ℕ) (es : List Extent) → AllInBlocks size es → Within size (offsets size es)
+pub within_offsets : (size : ℕ) (es : List Extent) → AllInBlocks size es → AllWithin size (offsets size es)
 within_offsets size [] all = tt
-within_offsets size (e ∷ es) all = within_rising size (e.first % size) e.count (offsets size es) (all e (Contains-first e es)) (within_offsets size es (λ f m. all f (Contains-behind e es f m)))
+within_offsets size (e ∷ es) all = (within_rising size (e.first % size) e.count (all e (Contains-first e es)), within_offsets size es (λ f m. all f (Contains-behind e es f m)))
 
 pub tasks_begin : TasksBegin
 tasks_begin = record {

@@ -32,7 +32,7 @@ AnswersAlike (Refuses refusal) answer = answer ≢ AnsweredDone
 -- An abstract actor is at what is left of this migration, under an order for this block and cache block, which it has still or not.
 pub record IsMigrationAt (part : BlockRange) (c : CBlock) (next : Option ℕ) (migration : Migration) (kept : Option Order) (plan : Plan) (card : Card) (y : Actor) : Type 0 where
   pub answer : AbstractAnswer
-  pub buffer : Content
+  pub buffer : ℕ → Content
   pub is : y ≡ record {
     task = Some (record {
       job = job_under (order_on part c next) (offsets part.block_sectors part.extents) migration;

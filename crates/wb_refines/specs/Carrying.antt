@@ -54,42 +54,42 @@ pub record MigrationsBegin : Type 0 where
 
 -- Each step of a migration on the words and on the desk but those that stand for nothing.
 pub record CarryingFollowed : Type 0 where
-  pub looks_fail : (size : ℕ) (actors : List Actor) (a : ℕ) (s : Shared) (order : Order) (os : List ℕ) (migration : Migration) (block : OBlock) (answer : AbstractAnswer) (buffer : Content) → s.fail ≡ false →
+  pub looks_fail : (size : ℕ) (actors : List Actor) (a : ℕ) (s : Shared) (order : Order) (os : List (List ℕ)) (migration : Migration) (block : OBlock) (answer : AbstractAnswer) (buffer : ℕ → Content) → s.fail ≡ false →
       GoesTo actors a s (without_block (migrating size order os migration (Cell (Look Fail) ∷ Cell (Look (LockWord block)) ∷ []) answer buffer)) (Flag false ∷ []) s (without_block (migrating size order os migration (Cell (Look (LockWord block)) ∷ []) answer buffer))
   -- the order is kept
-  pub has_failed : (size : ℕ) (actors : List Actor) (a : ℕ) (s : Shared) (order : Order) (os : List ℕ) (migration : Migration) (block : OBlock) (answer : AbstractAnswer) (buffer : Content) → s.fail ≡ true →
+  pub has_failed : (size : ℕ) (actors : List Actor) (a : ℕ) (s : Shared) (order : Order) (os : List (List ℕ)) (migration : Migration) (block : OBlock) (answer : AbstractAnswer) (buffer : ℕ → Content) → s.fail ≡ true →
       GoesTo actors a s (without_block (migrating size order os migration (Cell (Look Fail) ∷ Cell (Look (LockWord block)) ∷ []) answer buffer)) (Flag true ∷ []) s (without_block (migrating size order os migration [] AnsweredFailed buffer))
   -- the block is won where the number is looked at, and is where the order says
-  pub takes : (actors : List Actor) (a : ℕ) (s : Shared) (part : BlockRange) (c : CBlock) (next : Option ℕ) (migration : Migration) (place : Option CBlock) (dirty : Bool) (later : List Want) (answer : AbstractAnswer) (buffer : Content) →
+  pub takes : (actors : List Actor) (a : ℕ) (s : Shared) (part : BlockRange) (c : CBlock) (next : Option ℕ) (migration : Migration) (place : Option CBlock) (dirty : Bool) (later : List Want) (answer : AbstractAnswer) (buffer : ℕ → Content) →
       0 < part.block_sectors → Fills migration c → IsWhere migration c place → WinsBeside actors a Nothing (Own part.block.0) Done → s.seals part.block.0 ≡ record { location = number_of place; dirty = dirty } →
       GoesTo actors a s (without_block (migrating part.block_sectors (order_on part c next) (offsets part.block_sectors part.extents) migration (Cell (Look (Number part.block)) ∷ later) answer buffer)) (Done ∷ Seen (s.seals part.block.0) ∷ []) s
       (migrating part.block_sectors (order_on part c next) (offsets part.block_sectors part.extents) migration (work (Migrating migration part) place dirty) answer buffer)
   -- it is busy, and the order is kept
-  pub is_busy : (size : ℕ) (actors : List Actor) (a : ℕ) (s : Shared) (order : Order) (os : List ℕ) (migration : Migration) (block : OBlock) (later : List Want) (answer : AbstractAnswer) (buffer : Content) →
+  pub is_busy : (size : ℕ) (actors : List Actor) (a : ℕ) (s : Shared) (order : Order) (os : List (List ℕ)) (migration : Migration) (block : OBlock) (later : List Want) (answer : AbstractAnswer) (buffer : ℕ → Content) →
       GoesTo actors a s (without_block (migrating size order os migration (Cell (Look (LockWord block)) ∷ later) answer buffer)) (Lost ∷ []) s (without_block (migrating size order os migration [] AnsweredBusy buffer))
-  pub seals : (size : ℕ) (actors : List Actor) (a : ℕ) (s : Shared) (order : Order) (kept : Option Order) (os : List ℕ) (migration : Migration) (block : OBlock) (place : Option CBlock) (dirty : Bool) (later : List Want) (answer : AbstractAnswer) (buffer : Content) →
+  pub seals : (size : ℕ) (actors : List Actor) (a : ℕ) (s : Shared) (order : Order) (kept : Option Order) (os : List (List ℕ)) (migration : Migration) (block : OBlock) (place : Option CBlock) (dirty : Bool) (later : List Want) (answer : AbstractAnswer) (buffer : ℕ → Content) →
       GoesTo actors a s (under kept (migrating size order os migration (Cell (Seal block place dirty) ∷ later) answer buffer)) (Done ∷ [])
       (effect s (job_under order os migration) buffer (Set_seal block.0 (record { location = number_of place; dirty = dirty })) Done) (under kept (migrating size order os migration later answer buffer))
-  pub gives_back : (size : ℕ) (actors : List Actor) (a : ℕ) (s : Shared) (order : Order) (kept : Option Order) (os : List ℕ) (migration : Migration) (block : OBlock) (later : List Want) (answer : AbstractAnswer) (buffer : Content) →
+  pub gives_back : (size : ℕ) (actors : List Actor) (a : ℕ) (s : Shared) (order : Order) (kept : Option Order) (os : List (List ℕ)) (migration : Migration) (block : OBlock) (later : List Want) (answer : AbstractAnswer) (buffer : ℕ → Content) →
       GoesTo actors a s (under kept (migrating size order os migration (Cell (Release Owned block) ∷ later) answer buffer)) (Done ∷ []) s (without_block (under kept (migrating size order os migration later answer buffer)))
   -- the failed bit; block and order are kept
-  pub fails : (size : ℕ) (actors : List Actor) (a : ℕ) (s : Shared) (order : Order) (os : List ℕ) (migration : Migration) (buffer : Content) →
+  pub fails : (size : ℕ) (actors : List Actor) (a : ℕ) (s : Shared) (order : Order) (os : List (List ℕ)) (migration : Migration) (buffer : ℕ → Content) →
       GoesTo actors a s (migrating size order os migration (Cell SetFailed ∷ []) AnsweredIo buffer) (Done ∷ []) (record s { fail = true }) (migrating size order os migration [] AnsweredIo buffer)
   -- the map ends a promotion's order
-  pub maps : (size : ℕ) (actors : List Actor) (a : ℕ) (s : Shared) (order : Order) (os : List ℕ) (c : CBlock) (block : OBlock) (later : List Want) (answer : AbstractAnswer) (buffer : Content) →
+  pub maps : (size : ℕ) (actors : List Actor) (a : ℕ) (s : Shared) (order : Order) (os : List (List ℕ)) (c : CBlock) (block : OBlock) (later : List Want) (answer : AbstractAnswer) (buffer : ℕ → Content) →
       GoesTo actors a s (migrating size order os (Promote c) (Desk (Map block c) ∷ later) answer buffer) (Done ∷ Done ∷ [])
       (effect s (Promoting order os) buffer (Map_to order) Done) (under None (migrating size order os (Promote c) later answer buffer))
   -- without memory for the entry it gives back its block, and then its order
-  pub has_no_room : (size : ℕ) (actors : List Actor) (a : ℕ) (s : Shared) (order : Order) (os : List ℕ) (c : CBlock) (block : OBlock) (later : List Want) (answer : AbstractAnswer) (buffer : Content) → order.block ≡ block.0 →
+  pub has_no_room : (size : ℕ) (actors : List Actor) (a : ℕ) (s : Shared) (order : Order) (os : List (List ℕ)) (c : CBlock) (block : OBlock) (later : List Want) (answer : AbstractAnswer) (buffer : ℕ → Content) → order.block ≡ block.0 →
       GoesTo actors a s (migrating size order os (Promote c) (Desk (Map block c) ∷ later) answer buffer) (Short ∷ []) s
       (migrating size order os (Promote c) (Cell (Release Owned block) ∷ Desk (ReleaseOrder block) ∷ []) AnsweredFailed buffer)
   -- a demotion's order ends, or goes on with the block that follows
-  pub unmaps : (size : ℕ) (actors : List Actor) (a : ℕ) (s : Shared) (order : Order) (os : List ℕ) (block : OBlock) (later : List Want) (answer : AbstractAnswer) (buffer : Content) →
+  pub unmaps : (size : ℕ) (actors : List Actor) (a : ℕ) (s : Shared) (order : Order) (os : List (List ℕ)) (block : OBlock) (later : List Want) (answer : AbstractAnswer) (buffer : ℕ → Content) →
       GoesTo actors a s (migrating size order os Demote (Desk (Unmap block) ∷ later) answer buffer) (Done ∷ [])
       (effect s (Returning true order os) buffer (Unmap_from order) Done) (under (following order.cache order.next) (migrating size order os Demote later answer buffer))
-  pub gives_up : (size : ℕ) (actors : List Actor) (a : ℕ) (s : Shared) (order : Order) (os : List ℕ) (migration : Migration) (block : OBlock) (later : List Want) (answer : AbstractAnswer) (buffer : Content) →
+  pub gives_up : (size : ℕ) (actors : List Actor) (a : ℕ) (s : Shared) (order : Order) (os : List (List ℕ)) (migration : Migration) (block : OBlock) (later : List Want) (answer : AbstractAnswer) (buffer : ℕ → Content) →
       GoesTo actors a s (without_block (migrating size order os migration (Desk (ReleaseOrder block) ∷ later) answer buffer)) (Done ∷ [])
       (effect s (job_under order os migration) buffer (Give_up order) Done) (without_block (under None (migrating size order os migration later answer buffer)))
   -- what is left is only the answer, and what it has it keeps
-  pub answers : (size : ℕ) (actors : List Actor) (a : ℕ) (s : Shared) (order : Order) (kept : Option Order) (os : List ℕ) (migration : Migration) (answer : AbstractAnswer) (buffer : Content) →
+  pub answers : (size : ℕ) (actors : List Actor) (a : ℕ) (s : Shared) (order : Order) (kept : Option Order) (os : List (List ℕ)) (migration : Migration) (answer : AbstractAnswer) (buffer : ℕ → Content) →
       GoesTo actors a s (under kept (migrating size order os migration [] answer buffer)) (Done ∷ []) s (record (under kept (migrating size order os migration [] answer buffer)) { task = None })

@@ -12,7 +12,6 @@ use Rattle.wb_tasks.specs.declared.step.DeviceStep.TheVariants.{Sync, ReadMetada
 use Rattle.wb_tasks.specs.declared.step.Want.{Want}
 use Rattle.wb_tasks.specs.declared.step.Want.TheVariants.{Device}
 use Rattle.wb_tasks.specs.declared.step.Got.TheVariants.{Done, Fault, Refused, More}
-use Rattle.wb_link.specs.Tables.{Choice}
 use Rattle.wb_link.specs.World.{Block}
 use Rattle.wb_link.specs.Openings.{Learnt, Stage, Settling, Caching, Basing, Looking, Rooting, Renewing, Answering, Phase, Stands, Gone, Opens, Site, Advances, Outcome, Settled, Fine, Learns, Refused as LooksRefused, Broke, Shown, Yields, MayHappen, after_event}
 
@@ -55,8 +54,8 @@ FollowedBy outcome steps = (size left : ℕ) (w : Site) (mode : Mode) (learnt : 
 
 -- a step that fails ends it there
 abbrev pub FailsAs : List Want → Type 0
-FailsAs steps = (size left : ℕ) (w : Site) (mode : Mode) (learnt : Learnt) (choice : Choice) → w.phase ≡ phase_for mode learnt (opening left steps Finished) →
-    Leads size w (Broke choice) (phase_for mode learnt (after (opening left steps Finished) Fault))
+FailsAs steps = (size left : ℕ) (w : Site) (mode : Mode) (learnt : Learnt) (lands : ℕ → ℕ → Bool) → w.phase ≡ phase_for mode learnt (opening left steps Finished) →
+    Leads size w (Broke lands) (phase_for mode learnt (after (opening left steps Finished) Fault))
 
 -- Each step of an opening, with each result that it may have.
 pub record OpeningStepsFollowed : Type 0 where

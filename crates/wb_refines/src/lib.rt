@@ -1,11 +1,11 @@
 //! The tasks of the real steps as tasks of the abstract world (wb_link): definitions and laws, no code.
 #![tactic(auto)]
 
-ghost use Rattle.wb_refines.specs.Laws.{TablesAgree, CellStepsFollowed, HasNoMore, ExtentStepsFollowed};
+ghost use Rattle.wb_refines.specs.Laws.{TablesAgree, CellStepsFollowed, HasNoMore};
 ghost use Rattle.wb_refines.specs.Migrations.{MigrationTablesAgree};
 ghost use Rattle.wb_refines.specs.Carrying.{MigrationsBegin, CarryingFollowed};
 ghost use Rattle.wb_refines.specs.Carried.{MigrationCellsFollowed};
-ghost use Rattle.wb_refines.specs.Copies.{CopiesFollowed};
+ghost use Rattle.wb_refines.specs.Data.{ExtentsFollowed};
 ghost use Rattle.wb_refines.specs.Flushes.{FlushStepsFollowed};
 ghost use Rattle.wb_refines.specs.Openings.{OpeningStepsFollowed};
 ghost use Rattle.wb_refines.specs.Tasks.{TasksBegin, TasksEnd, CrashesFollowed};
@@ -23,10 +23,10 @@ pub fn cell_steps_are_followed()
     ensures has_no_more { HasNoMore }
 {}
 
-/// And so is each step of theirs on an extent of a device: a sector after the other, where the device is a list of sectors; of
-/// a write that fails each sector has landed or not.
-pub fn extent_steps_are_followed()
-    ensures { ExtentStepsFollowed }
+/// And so is each step of a task on an extent of a device, where that is a list of sectors, done or failing; of a write that fails
+/// each sector has landed or not.
+pub fn extents_are_followed()
+    ensures { ExtentsFollowed }
 {}
 
 /// So is each step of a flush, done, refused or failing, by one that serves nobody there; but not that an order is given up.
@@ -48,19 +48,12 @@ pub fn tasks_begin_and_end()
     ensures crashes { CrashesFollowed }
 {}
 
-/// The table of a migration goes on as the abstract one, a written extent as the read and the write of each of its sectors: from its
-/// start, from where it has seen its block where its order says, and where it gives everything back or has failed.
+/// The table of a migration goes on as the abstract one: from its start, from where it has seen its block where its order says, and where it gives everything back or has failed.
 pub fn migration_tables_agree()
     ensures { MigrationTablesAgree }
 {}
 
-/// So each step of a migration on an extent is followed, done or failing, where what is written is what stands at the place that is
-/// read; of a write that fails each sector has landed or not.
-pub fn copies_are_followed()
-    ensures { CopiesFollowed }
-{}
-
-/// So are its start under an order that may be given, or again under one that lives, the look at the fail word, its block's taking where the number is looked at, a busy block, a seal, what it
+/// A migration is followed in its start under an order that may be given, or again under one that lives, the look at the fail word, its block's taking where the number is looked at, a busy block, a seal, what it
 /// gives back, the failed bit, each call on the desk, also without memory, and its answer.
 pub fn migrations_are_followed()
     ensures begins { MigrationsBegin }

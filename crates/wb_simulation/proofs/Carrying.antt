@@ -52,11 +52,11 @@ going (got ∷ gots) y (Some script) h m = let r = by (want script) h (λ u i. g
     by (End answer) h rest = absurd h
     by next h rest = (tt, rest (actor_after y script next got) h)
 
-pub under_migrates : (order : AbstractOrder) (os : List ℕ) (migration : Migration) → IsMigrating (job_under order os migration)
+pub under_migrates : (order : AbstractOrder) (os : List (List ℕ)) (migration : Migration) → IsMigrating (job_under order os migration)
 under_migrates order os (Promote c) = tt
 under_migrates order os migration = tt
 
-under_among : (order : AbstractOrder) (os : List ℕ) (migration : Migration) → job_alone (job_under order os migration) ≡ false
+under_among : (order : AbstractOrder) (os : List (List ℕ)) (migration : Migration) → job_alone (job_under order os migration) ≡ false
 under_among order os (Promote c) = refl
 under_among order os migration = refl
 

@@ -13,7 +13,7 @@ use Rattle.wb_policy.specs.declared.order.Order.TheVariants.{Replace, Demote as 
 use Rattle.wb_words.specs.Rule.{LockRule}
 use Rattle.wb_tasks.specs.Tables.{BlockRange, Migrating}
 use Rattle.wb_tasks.specs.Plan.{Plan, want, after}
-use Rattle.wb_tasks.specs.Ready.{Suits, IsRest, target_of}
+use Rattle.wb_tasks.specs.Ready.{Suits}
 use Rattle.wb_tasks.specs.declared.step.Answer.{Answer}
 use Rattle.wb_tasks.specs.declared.step.DeviceStep.TheVariants.{Read, Write}
 use Rattle.wb_tasks.specs.declared.step.DeskStep.TheVariants.{Map, Unmap, ReleaseOrder}
@@ -36,9 +36,8 @@ use Rattle.wb_simulation.specs.Worlds.{Agrees, Stays, Maps, Unmaps, GivesUp}
 use Rattle.wb_simulation.specs.Laws.{after_step}
 use Rattle.wb_simulation.specs.Migrating.{MigrationsFollowed, Carried, EndsOrder, TurnsOrder, LeavesFrom}
 use Rattle.wb_simulation.proofs.Followed.{begins_by, answers_by}
-use Rattle.wb_simulation.proofs.Moving.{same_device}
 use Rattle.wb_simulation.proofs.Migrating.{cells}
-use Rattle.wb_simulation.proofs.Copying.{reads, writes, write_falls, read_falls, writes_blocks}
+use Rattle.wb_simulation.proofs.Copying.{reads, writes, write_falls, read_falls}
 use Rattle.wb_simulation.proofs.Ordering.{starts, again}
 use Rattle.std.proofs.Common.{◌≢◌, ◌⊎◌, true, false}
 use Rattle.wb_words.specs.SharedWords.{flag}
@@ -117,27 +116,20 @@ module _ (size most blocks : ℕ) (words : Words) (committing : Bool) (orders : 
         let f = found (Device (Write device e)) asked (λ answer q. absurd (cc)) (λ o. o) in
         let has = has_now (Device (Write device e)) f in
         told_by (Device (Write device e)) f (λ p. Carried Stays size most a s words committing orders (with_device device devices (written_each (device_in device devices) e.first x.buffer)) actors (after_step (Migrate migration block) p Done x))
-        (writes size most blocks words committing orders devices actors a x s its.0 g ex its.1 migration block f.part device e plan.answer has.1.1.1.0 f.later f.carried has room rule suited)
+        (writes size most blocks words committing orders devices actors a x s its.0 g ex its.1 migration block f.part device e plan.answer f.later f.carried has room)
 
     write_has_failed : LockRule blocks words (cards_of actors) → AllSuited blocks actors → (lands : ℕ → Bool) → want plan ≡ Device (Write device e) → e.first + e.count ≤ length (device_in device devices) → Carried Stays size most a s words committing orders (with_device device devices (written_where lands (device_in device devices) e.first x.buffer)) actors (after_step (Migrate migration block) plan Fault x)
     write_has_failed rule suited lands asked room =
         let f = found (Device (Write device e)) asked (λ answer q. absurd (cc)) (λ o. o) in
         let has = has_now (Device (Write device e)) f in
         told_by (Device (Write device e)) f (λ p. Carried Stays size most a s words committing orders (with_device device devices (written_where lands (device_in device devices) e.first x.buffer)) actors (after_step (Migrate migration block) p Fault x))
-        (write_falls size most blocks words committing orders devices actors a x s its.0 g ex its.1 migration block f.part device e plan.answer has.1.1.1.0 f.later f.carried has room rule suited lands)
+        (write_falls size most blocks words committing orders devices actors a x s its.0 g ex its.1 migration block f.part device e plan.answer f.later f.carried has room lands)
 
     read_has_failed : want plan ≡ Device (Read device e) → Carried Stays size most a s words committing orders devices actors (after_step (Migrate migration block) plan Fault x)
     read_has_failed asked =
         let f = found (Device (Read device e)) asked (λ answer q. absurd (cc)) (λ o. o) in
-        let w = written_after size block.0 e f.later f.carried.paired.0 in
-        let has = has_now (Device (Read device e)) f in
-        let jobs = subst (λ (us : List Want). IsRest (Migrating migration f.part) has.1.1.0 us) w.3 has.1.1.1.1 in
-        let on_target : w.0 ≡ target_of migration = jobs.0 in
-        subst (λ (ds : Devices (List History)). Carried Stays size most a s words committing orders ds actors (after_step (Migrate migration block) plan Fault x)) (same_device w.0 devices (writes_blocks migration w.0 on_target))
-        (told_by (Device (Read device e)) f (λ p. Carried Stays size most a s words committing orders (with_device w.0 devices (device_in w.0 devices)) actors (after_step (Migrate migration block) p Fault x))
-        (read_falls size most blocks words committing orders devices actors a x s its.0 g ex its.1 migration block f.part w.0 w.1 plan.answer on_target device e w.2
-        (subst (λ (us : List Want). IsCarried size orders devices migration block f.part (Device (Read device e) ∷ us) plan.answer x its.0) w.3 f.carried)
-        (subst (λ (us : List Want). Suits blocks (plan_of (Migrating migration f.part) (Device (Read device e) ∷ us) plan.answer) x.card) w.3 has)))
+        told_by (Device (Read device e)) f (λ p. Carried Stays size most a s words committing orders devices actors (after_step (Migrate migration block) p Fault x))
+        (read_falls size most blocks words committing orders devices actors a x s its.0 g ex its.1 migration block f.part device e plan.answer f.later f.carried (has_now (Device (Read device e)) f))
 
   -- the actor once its order is over, with this left
   abbrev left_so : Plan → OBlock → Actor
