@@ -14,7 +14,7 @@ use Rattle.wb_link.proofs.Lists.{replicated}
 use Rattle.wb_link.proofs.Steps.{in_set, stepped, step_is, step_linked, Facts, step_facts}
 use Rattle.wb_link.proofs.Acts.{Keeps}
 use Rattle.wb_link.proofs.Aside.{release_is, release_linked}
-use Rattle.wb_link.proofs.Starting.{again_is, again_linked, again_acted, start_is, start_linked, start_run, start_keeps}
+use Rattle.wb_link.proofs.Starting.{again_is, again_linked, start_is, start_linked, start_run, start_keeps}
 use Rattle.wb_link.proofs.Noting.{AllEntered, all_below, finished_ok, flushes, floors_ok, entered_on, entered_ok}
 use Rattle.wb_link.proofs.Actors.{job_on, no_task}
 
@@ -128,14 +128,14 @@ moves size w d n (Start a job) i k m = record {
   acts = start_acts a job;
   run = start_run a d job;
   linked = subst (λ (v : World). Linked size v (after_acts d (start_acts a job))) (sym (start_is size w a job m.0 m.1)) (start_linked size w d a m.0 job i m.1);
-  noted = subst (λ (v : World). Noted v.actors (after_acts d (start_acts a job)) (note n (Start a job))) (sym (start_is size w a job m.0 m.1)) (started_noted size w d n a m.0 job (start_keeps size w d a m.0 job i m.1) k m.1.actor);
+  noted = subst (λ (v : World). Noted v.actors (after_acts d (start_acts a job)) (note n (Start a job))) (sym (start_is size w a job m.0 m.1)) (started_noted size w d n a m.0 job (start_keeps size w d a m.0 job i m.1.task) k m.1.actor);
   right = tt;
 }
 moves size w d n (Again a job) i k m = record {
   acts = start_acts a job;
   run = start_run a d job;
   linked = subst (λ (v : World). Linked size v (after_acts d (start_acts a job))) (sym (again_is size w a job m.0 m.1)) (again_linked size w d a m.0 job i m.1);
-  noted = subst (λ (v : World). Noted v.actors (after_acts d (start_acts a job)) (note n (Again a job))) (sym (again_is size w a job m.0 m.1)) (started_noted size w d n a m.0 job (again_acted size w d a m.0 job i m.1).keeps k m.1.actor);
+  noted = subst (λ (v : World). Noted v.actors (after_acts d (start_acts a job)) (note n (Again a job))) (sym (again_is size w a job m.0 m.1)) (started_noted size w d n a m.0 job (start_keeps size w d a m.0 job i m.1.task) k m.1.actor);
   right = tt;
 }
 moves size w d n (Step a next got) i k m =
