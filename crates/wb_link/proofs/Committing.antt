@@ -2,13 +2,13 @@
 use Rattle.std.proofs.Common.{◌≡◌, ◌≢◌, ◌≤◌, ℕ, zero, suc, Bool, true, false, List, [], ◌∷◌, Option, refl, sym, ap, subst, ◌∙◌, arith}
 use Rattle.wb_disk.specs.Device.{Content}
 use Rattle.wb_contents.specs.Volume.{Volume, Locations}
-use Rattle.wb_contents.specs.Acts.{Act, after as after_act, Sync_cache, Sync_origin, Fail_cache_sync, Fail_origin_sync, Write_root, End_commit, after_all as after_acts}
+use Rattle.wb_contents.specs.Acts.{Act, after as after_act, End_flush, Sync_cache, Sync_origin, Fail_cache_sync, Fail_origin_sync, Write_root, End_commit, after_all as after_acts}
 use Rattle.wb_link.specs.Tables.{Order, Job, Flushing, Suspending, Answer, Finished, Io, Want, Set_failed, Break_commits, Sync_cache_device, Sync_origin_device, Put_root, Sync_metadata, End_running, End, Got, Done, Fault, breaking}
 use Rattle.wb_link.specs.World.{Shared, Nothing, Actor, actor_after}
 use Rattle.wb_link.proofs.Views.{CommitView, commit_view}
 use Rattle.wb_contents.specs.Conditions.{IsRun as IsActs}
 use Rattle.wb_link.proofs.Link.{Agrees, Ready, Owes, Others, Right, AllMine, Goes, Safe, acts_of, flush_acts}
-use Rattle.wb_link.proofs.Agreeing.{cached_agrees, based_agrees, cached_partly_agrees, based_partly_agrees, root_agrees, end_agrees, failed_agrees, broken_agrees}
+use Rattle.wb_link.proofs.Agreeing.{cached_agrees, based_agrees, cached_partly_agrees, based_partly_agrees, root_agrees, end_agrees, flush_agrees, failed_agrees, broken_agrees}
 use Rattle.wb_link.proofs.Calm.{calmly}
 use Rattle.wb_link.proofs.Givings.{at_work, script_of, Comes, holds_nothing, resting_safe, gives_done, gives_fault}
 
@@ -53,6 +53,27 @@ refused_safe zero size a job commits answer other order leads c s d owes = tt
 refused_safe (suc n) size a job commits answer other order leads c s d owes = λ t e got o g v r. let no = refused_right a job commits answer other t.mapping c e in
     gives_done (λ k. Comes n size a job [] answer Nothing order leads c t e k)
     (calmly size a (λ y u f. Safe n size a y u f) _ _ (End answer) Done t t e _ no.0 g.agrees (holds_nothing answer t) (owes t e o) no.1 (resting_safe n size a Nothing order leads c t e)) got v
+
+-- answered done, once its commit has ended
+pub finishing : (n size a : ℕ) (job : Job) → Commits job → (order : Option Order) (c : ℕ → Content) (s : Shared) (d : Volume) → d.ticket a ≤ d.ended →
+    ((t : Shared) (e : Volume) → Others a (at_work job [] Finished Nothing order false c) s d t e → Owes job (End Finished) t (after_act e (End_flush a))) → Safe n size a (at_work job [] Finished Nothing order false c) s d
+finishing zero size a job commits order c s d k owes = tt
+finishing (suc n) size a job commits order c s d k owes = λ t e got o g v r. gives_done (λ w. Comes n size a job [] Finished Nothing order false c t e w)
+    (subst (λ (ys : List Act). Goes size a (λ y v f. Safe n size a y v f) (at_work job [] Finished Nothing order false c) (script_of job [] Finished) (End Finished) Done t t e (after_acts e ys) ys) (sym (commit_acts job commits t.mapping a c (End Finished) Done)) (record {
+      run = (omega (arith, k, o.ticket, o.ended), tt);
+      mine = (refl, tt);
+      agrees = flush_agrees t e a g.agrees;
+      ready = refl;
+      owes = owes t e o;
+      right = flush_right job commits e;
+      left = resting_safe n size a Nothing order false c t (after_act e (End_flush a));
+    }))
+    got v
+  where
+    flush_right : (job : Job) → Commits job → (e : Volume) → Right a job (End Finished) Done e (after_act e (End_flush a))
+    flush_right (Flushing order) commits e = record { reads = tt; histories = refl; flushes = λ b i. omega arith }
+    flush_right Suspending commits e = record { reads = tt; histories = refl; flushes = λ b i. omega arith }
+    flush_right job commits e = absurd commits
 
 -- what its leader knows of the commit: it serves this flush; and which of its steps are done
 pub record Led (a : ℕ) (cached based root_written : Bool) (d : Volume) : Type 0 where
