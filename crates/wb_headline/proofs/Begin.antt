@@ -25,7 +25,6 @@ use Rattle.wb_headline.proofs.Events.{start_reached, event_reaches}
 use Rattle.wb_headline.proofs.Unclean.{IsPlainTask}
 use Rattle.wb_headline.proofs.Following.{many, size}
 use Rattle.wb_headline.proofs.Keeping.{HasNone}
-use Rattle.wb_headline.proofs.Placed.{TaskPlaced}
 use Rattle.wb_headline.proofs.Whole.{Whole}
 
 -- a tree without entries has no block
@@ -119,5 +118,4 @@ module _ (P A : Type 0) (shape : Shape) (metadata : List History) (f : IsFormatt
     };
     asked = nobody;
     keeping = λ a x e. subst (λ (v : Actor). HasNone v) (sym (replicated shape.actors a resting x e)) (refl, refl);
-    placed = λ a x e. subst (λ (v : Actor). TaskPlaced (block_size shape) v.card v.task) (sym (replicated shape.actors a resting x e)) tt;
   }

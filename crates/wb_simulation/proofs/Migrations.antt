@@ -111,15 +111,15 @@ module _ (size most blocks : ℕ) (words : Words) (committing : Bool) (orders : 
         told_by (Device (Read device e)) f (λ p. Carried Stays size most a s words committing orders devices actors (record x { task = Some (Migrate migration block, after p Done); buffer = contents_at (device_in device devices) e }))
         (reads size most blocks words committing orders devices actors a x s its.0 g ex its.1 migration block f.part device e plan.answer f.later f.carried (has_now (Device (Read device e)) f) room)
 
-    write_is_done : LockRule blocks words (cards_of actors) → AllSuited blocks actors → want plan ≡ Device (Write device e) → e.first + e.count ≤ length (device_in device devices) → Carried Stays size most a s words committing orders (with_device device devices (written_each (device_in device devices) e.first x.buffer)) actors (after_step (Migrate migration block) plan Done x)
-    write_is_done rule suited asked room =
+    write_is_done : want plan ≡ Device (Write device e) → e.first + e.count ≤ length (device_in device devices) → Carried Stays size most a s words committing orders (with_device device devices (written_each (device_in device devices) e.first x.buffer)) actors (after_step (Migrate migration block) plan Done x)
+    write_is_done asked room =
         let f = found (Device (Write device e)) asked (λ answer q. absurd (cc)) (λ o. o) in
         let has = has_now (Device (Write device e)) f in
         told_by (Device (Write device e)) f (λ p. Carried Stays size most a s words committing orders (with_device device devices (written_each (device_in device devices) e.first x.buffer)) actors (after_step (Migrate migration block) p Done x))
         (writes size most blocks words committing orders devices actors a x s its.0 g ex its.1 migration block f.part device e plan.answer f.later f.carried has room)
 
-    write_has_failed : LockRule blocks words (cards_of actors) → AllSuited blocks actors → (lands : ℕ → Bool) → want plan ≡ Device (Write device e) → e.first + e.count ≤ length (device_in device devices) → Carried Stays size most a s words committing orders (with_device device devices (written_where lands (device_in device devices) e.first x.buffer)) actors (after_step (Migrate migration block) plan Fault x)
-    write_has_failed rule suited lands asked room =
+    write_has_failed : (lands : ℕ → Bool) → want plan ≡ Device (Write device e) → e.first + e.count ≤ length (device_in device devices) → Carried Stays size most a s words committing orders (with_device device devices (written_where lands (device_in device devices) e.first x.buffer)) actors (after_step (Migrate migration block) plan Fault x)
+    write_has_failed lands asked room =
         let f = found (Device (Write device e)) asked (λ answer q. absurd (cc)) (λ o. o) in
         let has = has_now (Device (Write device e)) f in
         told_by (Device (Write device e)) f (λ p. Carried Stays size most a s words committing orders (with_device device devices (written_where lands (device_in device devices) e.first x.buffer)) actors (after_step (Migrate migration block) p Fault x))
@@ -290,8 +290,8 @@ migrations_followed = record {
   cells = cells;
   read_done = λ size most blocks words committing orders devices actors a x migration block plan device e s ex task suits asked room g. read_is_done size most blocks words committing orders devices actors a x migration block plan s ex task suits g device e asked room;
   read_fails = λ size most blocks words committing orders devices actors a x migration block plan device e s ex task suits asked g. read_has_failed size most blocks words committing orders devices actors a x migration block plan s ex task suits g device e asked;
-  write_done = λ size most blocks words committing orders devices actors a x migration block plan device e s rule suited ex task suits asked room g. write_is_done size most blocks words committing orders devices actors a x migration block plan s ex task suits g device e rule suited asked room;
-  write_fails = λ size most blocks words committing orders devices actors a x migration block plan device e lands s rule suited ex task suits asked room g. write_has_failed size most blocks words committing orders devices actors a x migration block plan s ex task suits g device e rule suited lands asked room;
+  write_done = λ size most blocks words committing orders devices actors a x migration block plan device e s ex task suits asked room g. write_is_done size most blocks words committing orders devices actors a x migration block plan s ex task suits g device e asked room;
+  write_fails = λ size most blocks words committing orders devices actors a x migration block plan device e lands s ex task suits asked room g. write_has_failed size most blocks words committing orders devices actors a x migration block plan s ex task suits g device e lands asked room;
   maps = λ size most blocks words committing orders devices actors a x migration block b c plan s ex task suits asked free g. map_is_done size most blocks words committing orders devices actors a x migration block plan s ex task suits g b c asked free;
   is_refused = λ size most blocks words committing orders devices actors a x migration block b c plan refusal s ex task suits asked g. map_is_refused size most blocks words committing orders devices actors a x migration block plan s ex task suits g b c refusal asked;
   unmaps = λ size most blocks words committing orders devices actors a x migration block b plan s ex task suits asked leaving g. unmap_is_done size most blocks words committing orders devices actors a x migration block plan s ex task suits g b asked leaving;

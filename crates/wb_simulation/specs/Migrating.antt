@@ -136,10 +136,10 @@ pub record MigrationsFollowed : Type 0 where
       Carried Stays size most a s words committing orders devices actors (after_step (Migrate migration block) plan Fault x)
   -- a write takes it from there
   pub write_done : (size most blocks : ℕ) (words : Words) (committing : Bool) (orders : List (Option Order)) (devices : Devices (List History)) (actors : List Actor) (a : ℕ) (x : Actor) (migration : Migration) (block : OBlock) (plan : Plan) (device : Dev) (e : Extent) (s : World) →
-      LockRule blocks words (cards_of actors) → AllSuited blocks actors → slice_get actors a ≡ Some x → x.task ≡ Some (Migrate migration block, plan) → Suits blocks plan x.card → want plan ≡ Device (WriteExtent device e) → e.first + e.count ≤ length (device_in device devices) → Agrees size most words committing orders devices actors s →
+      slice_get actors a ≡ Some x → x.task ≡ Some (Migrate migration block, plan) → Suits blocks plan x.card → want plan ≡ Device (WriteExtent device e) → e.first + e.count ≤ length (device_in device devices) → Agrees size most words committing orders devices actors s →
       Carried Stays size most a s words committing orders (with_device device devices (written_each (device_in device devices) e.first x.buffer)) actors (after_step (Migrate migration block) plan Done x)
   pub write_fails : (size most blocks : ℕ) (words : Words) (committing : Bool) (orders : List (Option Order)) (devices : Devices (List History)) (actors : List Actor) (a : ℕ) (x : Actor) (migration : Migration) (block : OBlock) (plan : Plan) (device : Dev) (e : Extent) (lands : ℕ → Bool) (s : World) →
-      LockRule blocks words (cards_of actors) → AllSuited blocks actors → slice_get actors a ≡ Some x → x.task ≡ Some (Migrate migration block, plan) → Suits blocks plan x.card → want plan ≡ Device (WriteExtent device e) → e.first + e.count ≤ length (device_in device devices) → Agrees size most words committing orders devices actors s →
+      slice_get actors a ≡ Some x → x.task ≡ Some (Migrate migration block, plan) → Suits blocks plan x.card → want plan ≡ Device (WriteExtent device e) → e.first + e.count ≤ length (device_in device devices) → Agrees size most words committing orders devices actors s →
       Carried Stays size most a s words committing orders (with_device device devices (written_where lands (device_in device devices) e.first x.buffer)) actors (after_step (Migrate migration block) plan Fault x)
   -- A promotion's order is over once its block is mapped, a demotion's once it is unmapped; and each where it is given up.
   pub maps : (size most blocks : ℕ) (words : Words) (committing : Bool) (orders : List (Option Order)) (devices : Devices (List History)) (actors : List Actor) (a : ℕ) (x : Actor) (migration : Migration) (block : OBlock) (b : OBlock) (c : CBlock) (plan : Plan) (s : World) →
