@@ -8,8 +8,7 @@ pub mod Extents
 pub mod Moving
 pub mod Flushing
 pub mod Tasks
-pub mod Openings
 pub mod Migrating
 pub mod Copying
 pub mod Carrying
-pub mod Carried
+pub mod Roles

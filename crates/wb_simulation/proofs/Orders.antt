@@ -31,7 +31,8 @@ use Rattle.wb_runs.specs.States.{Actor}
 use Rattle.wb_simulation.specs.Steps.{AreOfBlock, ArePaired}
 use Rattle.wb_simulation.specs.Carried.{HasRead, IsUnder, AreCopiedAt, target, held, is_at, replacement_there, order_there, live_there, IsOf, IsCarried, IsAtMigration}
 use Rattle.wb_simulation.specs.Worlds.{IsThere, OrdersAgree}
-use Rattle.wb_simulation.proofs.Kept.{late_on}
+use Rattle.wb_simulation.specs.Telling.{IsMigrating}
+use Rattle.wb_simulation.proofs.Kept.{late_on, ended_on}
 
 -- an order of the desk is on its cache block there too
 pub cache_there : (m : Locations) (c : ℕ) (o : Order) → (order_there m c o).cache ≡ c
@@ -144,7 +145,7 @@ module _ (size : ℕ) (words words' : Words) (up : flag words.fail ≡ true → 
     job = d.job;
     at = elim d.at [
       | inl k ↦ inl (carries b z u migration block d.part plan n ez eu task d.job k)
-      | inr o ↦ elim o [ inl e ↦ inr (inl (record { failed = up e.failed; c = e.c; kept = e.kept; next = e.next; is = e.is })) | inr l ↦ inr (inr (late_on size size words words' up u plan l)) ]
+      | inr o ↦ elim o [ inl e ↦ inr (inl (ended_on size size words words' up u IsMigrating plan z.card e)) | inr l ↦ inr (inr (late_on size size words words' up u plan l)) ]
     ];
   }
 
