@@ -141,7 +141,7 @@ flush_steps_followed = record {
   answers = λ size most answer words committing orders devices actors a x plan orders' awaiting' s ex t e keeps g. answered size most words committing orders devices actors a x plan s ex t g orders' awaiting' keeps answer e;
 }
   where
-    last : (size most : ℕ) (serves : List OBlock) (words : Words) (committing : Bool) (orders : List (Option Order)) (devices : Devices (List History)) (actors : List Actor) (a : ℕ) (x : Actor) (s : World) (y : AbstractActor) (ex : slice_get actors a ≡ Some x) (ey : slice_get s.actors a ≡ Some y) (g : Agrees size most words committing orders devices actors s) → (later : List Want) (answer : Answer) →
-        IsOfFlush most (Desk EndCommit ∷ later) → IsFlushing size [] (flushing serves most (Desk EndCommit ∷ later) answer) true y → FollowsBy Ends Quietly size most a s words false orders devices (slice_set actors a (after_step Flush (flushing serves most (Desk EndCommit ∷ later) answer) Done x))
-    last size most serves words committing orders devices actors a x s y ex ey g [] answer o is = ends size most serves words committing orders devices actors a x s y ex ey g answer is
-    last size most serves words committing orders devices actors a x s y ex ey g (v ∷ ws) answer o is = absurd o
+    last : (size most : ℕ) (blocks : List OBlock) (words : Words) (committing : Bool) (orders : List (Option Order)) (devices : Devices (List History)) (actors : List Actor) (a : ℕ) (x : Actor) (s : World) (y : AbstractActor) (ex : slice_get actors a ≡ Some x) (ey : slice_get s.actors a ≡ Some y) (g : Agrees size most words committing orders devices actors s) → (later : List Want) (answer : Answer) →
+        IsOfFlush most (Desk EndCommit ∷ later) → IsFlushing size [] (flushing blocks most (Desk EndCommit ∷ later) answer) true y → FollowsBy Ends Quietly size most a s words false orders devices (slice_set actors a (after_step Flush (flushing blocks most (Desk EndCommit ∷ later) answer) Done x))
+    last size most blocks words committing orders devices actors a x s v ex ev g [] answer o is = ends size most blocks words committing orders devices actors a x s v ex ev g answer is
+    last size most blocks words committing orders devices actors a x s v ex ev g (next ∷ ws) answer o is = absurd o

@@ -6,7 +6,7 @@ use Rattle.wb_words.specs.Rule.{LockRule}
 use Rattle.wb_words.specs.Effects.{result_of, words_after, card_after}
 use Rattle.wb_words.specs.declared.card.Card.{Card}
 use Rattle.wb_words.specs.declared.step.CellStep.{CellStep}
-use Rattle.wb_words.specs.declared.step.CellStep.TheVariants.{Look, SetFailed}
+use Rattle.wb_words.specs.declared.step.CellStep.TheVariants.{Look, Release}
 use Rattle.wb_words.specs.declared.word.Word.TheVariants.{Fail}
 use Rattle.wb_policy.specs.declared.order.Order.{Order}
 use Rattle.wb_tasks.specs.Tables.{BlockRange, BlockJob, TaskJob, Reading, Writing, OnBlock, range_of}
@@ -14,13 +14,13 @@ use Rattle.wb_tasks.specs.Plan.{Plan, table, want, after, got_of, first_step, wo
 use Rattle.wb_tasks.specs.Ready.{Suits}
 use Rattle.wb_tasks.specs.declared.step.Want.{Want}
 use Rattle.wb_tasks.specs.declared.step.Answer.{Answer}
-use Rattle.wb_tasks.specs.declared.step.Want.TheVariants.{Cell, Device, Desk, End}
+use Rattle.wb_tasks.specs.declared.step.Want.TheVariants.{Cell, End}
 use Rattle.wb_tasks.proofs.Readiness.{job_stays}
 use Rattle.wb_devices.specs.declared.devices.Devices.{Devices}
 use Rattle.wb_link.specs.Tables.{Job as AbstractJob}
 use Rattle.wb_link.specs.World.{World, Actor as AbstractActor}
 use Rattle.wb_refines.specs.Going.{records, shared_after, gone}
-use Rattle.wb_refines.specs.Models.{IsRequest, IsAt, HasStopped, TellsPlace, plan_of}
+use Rattle.wb_refines.specs.Models.{IsRequest, IsAt, HasStopped, OnlyParts, TellsPlace, plan_of}
 use Rattle.wb_refines.specs.Roles.{Role, IsAs, request_role}
 use Rattle.wb_refines.proofs.Roles.{requests_play, as_request, at_request}
 use Rattle.wb_runs.specs.declared.job.Job.{Job}
@@ -56,19 +56,27 @@ first plan job next j e P some none = by plan.steps refl
 pub begins_by : (plan : Plan) (next : Want) → want plan ≡ next → ((answer : Answer) → next ≢ End answer) → (ws : List Want) × (plan.steps ≡ next ∷ ws)
 begins_by plan next e n = first plan plan.job next refl e (λ p. (ws : List Want) × (p.steps ≡ next ∷ ws)) (λ rest k. (rest, refl)) (λ k is. absurd (n plan.answer (sym is)))
 
--- a step that comes after the block was taken, or the commit begun, and before its answer
+-- a step that neither begins a task nor gives a block back, and no answer
 abbrev pub IsWithin : Want → Type 0
-IsWithin (Device step) = Unit {0}
-IsWithin (Desk step) = Unit {0}
-IsWithin (Cell SetFailed) = Unit {0}
-IsWithin next = ⊥
+IsWithin (Cell (Look Fail)) = ⊥
+IsWithin (Cell (Release access block)) = ⊥
+IsWithin (End answer) = ⊥
+IsWithin next = Unit {0}
 
--- who is late takes none, nor who has only to give its block back
+-- who is late takes none, nor who has only to answer
 pub never_late : (words : Words) (plan : Plan) (job : TaskJob) (next : Want) (y : AbstractActor) → plan.job ≡ job → want (table job) ≡ Cell (Look Fail) → want plan ≡ next → IsWithin next → IsLate words plan y → ⊥
 never_late words plan job next y j begins e within l = elim l.at [
   | inl t ↦ subst IsWithin (sym e ∙ ap want (t ∙ ap (λ k. table k) j) ∙ begins) within
   | inr n ↦ subst IsWithin (sym e ∙ ap (λ (ws : List Want). first_step ws plan.answer) n.0) within
 ]
+
+pub never_over : (plan : Plan) (next : Want) → want plan ≡ next → IsWithin next → OnlyParts plan.steps → ⊥
+never_over plan next e within over = by plan.steps over (subst IsWithin (sym e) within)
+  where
+    by : (ws : List Want) → OnlyParts ws → IsWithin (first_step ws plan.answer) → ⊥
+    by [] o w = w
+    by (Cell (Release access b) ∷ []) o w = w
+    by ws o w = o
 
 -- of one that answers if nothing is left, if no answer is among its steps
 pub answers_by : (plan : Plan) (job : TaskJob) (answer : Answer) → plan.job ≡ job → want plan ≡ End answer → ((ws : List Want) → plan.steps ≢ End answer ∷ ws) → (P : Plan → Type 0) → P (record { job = job; steps = []; answer = answer }) → P plan

@@ -12,7 +12,6 @@ use Rattle.wb_policy.specs.declared.order.Order.{Order}
 use Rattle.wb_policy.specs.declared.order.Order.TheVariants.{Replace, Demote as DemoteOrder}
 use Rattle.wb_words.specs.Rule.{LockRule}
 use Rattle.wb_words.specs.declared.card.Hold.TheVariants.{Nothing as HoldsNothing}
-use Rattle.wb_words.specs.declared.step.CellStep.TheVariants.{Release}
 use Rattle.wb_tasks.specs.Tables.{BlockRange, Migrating, OnBlock}
 use Rattle.wb_tasks.specs.Plan.{Plan, want, after}
 use Rattle.wb_tasks.specs.Ready.{Suits, IsRest, target_of}
@@ -23,7 +22,7 @@ use Rattle.wb_tasks.specs.declared.step.Got.TheVariants.{Done, Fault, Refused}
 use Rattle.wb_tasks.specs.declared.step.Migration.{Migration}
 use Rattle.wb_tasks.specs.declared.step.Migration.TheVariants.{Promote, Demote}
 use Rattle.wb_tasks.specs.declared.step.Want.{Want}
-use Rattle.wb_tasks.specs.declared.step.Want.TheVariants.{Cell, Device, Desk, End}
+use Rattle.wb_tasks.specs.declared.step.Want.TheVariants.{Device, Desk, End}
 use Rattle.wb_devices.specs.declared.devices.Devices.{Devices}
 use Rattle.wb_devices.specs.Moving.{device_in}
 use Rattle.wb_link.specs.World.{World}
@@ -37,7 +36,7 @@ use Rattle.wb_simulation.specs.Steps.{IsWrittenNext}
 use Rattle.wb_simulation.specs.Worlds.{Agrees, Stays, Maps, Unmaps, GivesUp}
 use Rattle.wb_simulation.specs.Laws.{after_step}
 use Rattle.wb_simulation.specs.Migrating.{MigrationsFollowed, Carried, EndsOrder, TurnsOrder, LeavesFrom}
-use Rattle.wb_simulation.proofs.Followed.{first, answers_by, IsWithin, never_late}
+use Rattle.wb_simulation.proofs.Followed.{first, answers_by, IsWithin, never_late, never_over}
 use Rattle.wb_simulation.proofs.Ending.{IsOver, IsNothingLeft, stopped_over, late_over, answers}
 use Rattle.wb_simulation.proofs.Moving.{same_device}
 use Rattle.wb_simulation.proofs.Migrating.{cells}
@@ -45,7 +44,7 @@ use Rattle.wb_simulation.proofs.Copying.{reads, writes, write_falls, read_falls,
 use Rattle.wb_simulation.proofs.Ordering.{starts, again}
 use Rattle.std.proofs.Common.{◌⊎◌}
 use Rattle.wb_link.specs.World.{Actor as AbstractActor}
-use Rattle.wb_refines.specs.Models.{OnlyParts, held_of}
+use Rattle.wb_refines.specs.Models.{held_of}
 use Rattle.wb_refines.specs.Migrations.{order_on}
 use Rattle.wb_simulation.specs.Actors.{IsLate}
 use Rattle.wb_simulation.specs.Carried.{IsOrderFor, IsCarried, HasEnded, IsAtMigration}
@@ -76,14 +75,10 @@ module _ (size most blocks : ℕ) (words : Words) (committing : Bool) (orders : 
   found next asked within P h = elim at.at [
     | inl k ↦ first plan (OnBlock (Migrating migration at.part)) next at.job asked (λ p. IsCarried size orders devices migration block at.part p.steps p.answer x its.0 → Suits blocks p x.card → P p) (λ later is f has. h at.part later f has) (λ is end. absurd (subst IsWithin (sym end) within)) k suits
     | inr o ↦ elim o [
-      | inl e ↦ first plan (OnBlock (Migrating migration at.part)) next at.job asked (λ p. OnlyParts p.steps → P p) (λ later is over. absurd (not_over next later within over)) (λ is end. absurd (subst IsWithin (sym end) within)) e.0.over
+      | inl e ↦ absurd (never_over plan next asked within e.0.over)
       | inr l ↦ absurd (never_late words plan (OnBlock (Migrating migration at.part)) next its.0 at.job refl asked within l)
     ]
   ]
-    where
-      not_over : (next : Want) (later : List Want) → IsWithin next → OnlyParts (next ∷ later) → ⊥
-      not_over (Cell (Release access b)) later w over = w
-      not_over next later w over = over
 
   module _ (device : Dev) (e : Extent) where
     read_is_done : want plan ≡ Device (Read device e) → e.first + e.count ≤ length (device_in device devices) → Carried Stays size most a s words committing orders devices actors (record x { task = Some (Migrate migration block, after plan Done); buffer = contents_at (device_in device devices) e })
