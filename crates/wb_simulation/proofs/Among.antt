@@ -1,6 +1,7 @@
 -- One actor goes on, and all others are as they were.
 use Rattle.std.proofs.Common.{Contains, ◌≢◌, ◌<◌, zero, suc, [], ◌∷◌, bit_or, ◌≡◌, ◌+◌, ◌==◌, ◌∙◌, inl, inr, cond, if◌then◌else◌, ℕ, Bool, true, false, List, Option, Some, refl, sym, ap, subst, arith, length, slice_get, slice_set}
 use Rattle.std.proofs.lemmas.List.{length-set}
+use Rattle.std.proofs.lemmas.Option.{slice_get_within}
 use Rattle.wb_disk.specs.Device.{History}
 use Rattle.wb_contents.specs.Devices.{by_block}
 use Rattle.wb_words.specs.declared.word.Word.TheVariants.{Number}
@@ -53,11 +54,6 @@ failed_stays words step f z e t = t
 
 -- ---- who is there
 
-pub is_inside : {X : Type 0} (xs : List X) (i : ℕ) (x : X) → slice_get xs i ≡ Some x → i < length xs
-is_inside [] i x e = absurd (cc)
-is_inside (y ∷ ys) zero x e = omega arith
-is_inside (y ∷ ys) (suc i) x e = let l = is_inside ys i x e in omega (arith, l)
-
 pub there_is : {X : Type 0} (xs : List X) (i : ℕ) → i < length xs → (x : X) × (slice_get xs i ≡ Some x)
 there_is [] i l = absurd (omega (arith, l))
 there_is (x ∷ xs) zero l = (x, refl)
@@ -71,10 +67,10 @@ card_there (z ∷ xs) (suc a) x e = card_there xs a x e
 module _ (size most : ℕ) (words : Words) (committing : Bool) (orders : List (Option Order)) (devices : Devices (List History)) (actors : List Actor) (s : World) (g : Agrees size most words committing orders devices actors s) where
   -- each of the run's actors is there, and nobody else
   pub own_there : (a : ℕ) (x : Actor) → slice_get actors a ≡ Some x → (y : AbstractActor) × (slice_get s.actors a ≡ Some y)
-  own_there a x e = there_is s.actors a (let l = is_inside actors a x e in let many = g.many in omega (arith, l, many))
+  own_there a x e = there_is s.actors a (let l = slice_get_within actors a x e in let many = g.many in omega (arith, l, many))
 
   pub whose : (b : ℕ) (y : AbstractActor) → slice_get s.actors b ≡ Some y → (x : Actor) × (slice_get actors b ≡ Some x)
-  whose b y e = there_is actors b (let l = is_inside s.actors b y e in let many = g.many in omega (arith, l, many))
+  whose b y e = there_is actors b (let l = slice_get_within s.actors b y e in let many = g.many in omega (arith, l, many))
 
   pub nobody_alone : (b : ℕ) (z : AbstractActor) → slice_get s.actors b ≡ Some z → is_alone z.task ≡ false
   nobody_alone b z e = let x = whose b z e in (g.each b x.0 z x.1 e).among_others

@@ -12,7 +12,7 @@ use Rattle.wb_tasks.specs.Tables.{Flushing}
 use Rattle.wb_tasks.specs.Plan.{Plan, want}
 use Rattle.wb_tasks.specs.declared.step.Answer.{Answer}
 use Rattle.wb_tasks.specs.declared.step.DeviceStep.TheVariants.{Sync}
-use Rattle.wb_tasks.specs.declared.step.DeskStep.TheVariants.{BeginCommit, EndCommit}
+use Rattle.wb_tasks.specs.declared.step.DeskStep.TheVariants.{BeginCommit, EndCommit, ReleaseOrder}
 use Rattle.wb_tasks.specs.declared.step.Want.{Want}
 use Rattle.wb_tasks.specs.declared.step.Want.TheVariants.{Cell, Device, Desk, End}
 use Rattle.wb_tasks.specs.declared.step.Got.TheVariants.{Done, Fault, Began, Refused}
@@ -28,7 +28,6 @@ use Rattle.wb_simulation.specs.Telling.{Quietly, Answers, Releases}
 use Rattle.wb_simulation.specs.Worlds.{Agrees, Begins, Puts, Ends, GivesUp, FollowsBy, Follows}
 use Rattle.wb_simulation.specs.Laws.{FlushStepsFollowed, after_step, turn_of, went}
 use Rattle.wb_types.specs.declared.number.OBlock.{OBlock}
-use Rattle.wb_tasks.specs.declared.step.DeskStep.TheVariants.{ReleaseOrder}
 use Rattle.wb_simulation.specs.Carried.{held}
 use Rattle.wb_simulation.proofs.Among.{own_there}
 use Rattle.wb_simulation.proofs.Followed.{doing_of, first, answers_by, IsWithin}

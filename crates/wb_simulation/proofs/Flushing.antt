@@ -15,12 +15,12 @@ use Rattle.wb_words.specs.declared.step.CellStep.TheVariants.{Look, SetFailed}
 use Rattle.wb_words.specs.declared.word.Word.TheVariants.{Fail}
 use Rattle.wb_policy.specs.declared.order.Order.{Order}
 use Rattle.wb_tasks.specs.Tables.{Flushing}
-use Rattle.wb_tasks.specs.Plan.{Plan, after, device_of, onward, refused}
+use Rattle.wb_tasks.specs.Plan.{Plan, after, device_of, onward, refused, release_orders, lets_go_unless_busy}
 use Rattle.wb_tasks.specs.declared.step.Answer.{Answer}
 use Rattle.wb_tasks.specs.declared.step.Answer.TheVariants.{Refused as Refuses}
 use Rattle.wb_tasks.specs.declared.step.DeviceStep.{DeviceStep}
 use Rattle.wb_tasks.specs.declared.step.DeviceStep.TheVariants.{Sync, WriteNode, WriteRoot}
-use Rattle.wb_tasks.specs.declared.step.DeskStep.TheVariants.{BeginCommit, EndCommit}
+use Rattle.wb_tasks.specs.declared.step.DeskStep.TheVariants.{BeginCommit, EndCommit, ReleaseOrder}
 use Rattle.wb_tasks.specs.declared.step.Want.{Want}
 use Rattle.wb_tasks.specs.declared.step.Want.TheVariants.{Cell, Device, Desk}
 use Rattle.wb_tasks.specs.declared.step.Got.TheVariants.{Done, Fault, Word, Began, Refused}
@@ -29,7 +29,7 @@ use Rattle.wb_devices.specs.Moving.{device_in}
 use Rattle.wb_tasks.specs.Ready.{HoldsBlocks}
 use Rattle.wb_link.specs.Tables.{Begin, End_running, Done as DoneThere, Flushing as FlushingFor}
 use Rattle.wb_link.specs.World.{World, Shared, Actor as AbstractActor, effect}
-use Rattle.wb_refines.specs.Going.{gone}
+use Rattle.wb_refines.specs.Going.{gone, AreQuiet, shared_after}
 use Rattle.wb_refines.specs.Translation.{wants_of}
 use Rattle.wb_refines.specs.Models.{WordsAgree}
 use Rattle.wb_refines.specs.Flushes.{IsFlushing, IsOnMetadata, IsNoBegin, IsWrittenAfter, flushing, Leads}
@@ -37,16 +37,12 @@ use Rattle.wb_refines.proofs.Cells.{failed_flag}
 use Rattle.wb_refines.proofs.Flushing.{flush_steps_followed as followed_alone}
 use Rattle.wb_runs.specs.declared.job.Job.TheVariants.{Flush}
 use Rattle.wb_runs.specs.States.{Actor, with_device}
-use Rattle.wb_simulation.specs.Actors.{IsLate, IsOfFlush, LeadsAt, StandsFor}
+use Rattle.wb_simulation.specs.Actors.{IsLate, IsOfFlush, LeadsAt, StandsFor, AreReleases}
 use Rattle.wb_simulation.specs.Telling.{Quietly, Releases}
 use Rattle.wb_simulation.specs.Worlds.{zeros, Agrees, Turn, Stays, Begins, Puts, Ends, GivesUp, TurnedTo, DeskTurnedTo, FollowsBy, Follows, IsUnfinished}
 use Rattle.wb_simulation.specs.Laws.{turn_of, went, IsOnlyOf}
 use Rattle.wb_simulation.proofs.Telling.{unnoted_none, quiet_are_unnoted}
 use Rattle.wb_types.specs.declared.number.OBlock.{OBlock}
-use Rattle.wb_tasks.specs.Plan.{release_orders, lets_go_unless_busy}
-use Rattle.wb_tasks.specs.declared.step.DeskStep.TheVariants.{ReleaseOrder}
-use Rattle.wb_refines.specs.Going.{AreQuiet, shared_after}
-use Rattle.wb_simulation.specs.Actors.{AreReleases}
 use Rattle.wb_simulation.proofs.Orders.{does_none, carries_same}
 use Rattle.wb_disk.proofs.FailedSyncs.{partly_synced as partly_synced_list}
 use Rattle.wb_disk.proofs.Leaving.{newest-synced, read-partly}

@@ -1,5 +1,5 @@
 -- A migration is followed, whatever it comes to.
-use Rattle.std.proofs.Common.{◌++◌, ◌≡◌, ◌≤◌, ◌+◌, ◌∙◌, inl, inr, ℕ, Bool, List, [], ◌∷◌, Option, Some, None, refl, sym, ap, subst, length, slice_get}
+use Rattle.std.proofs.Common.{◌++◌, ◌≡◌, ◌≤◌, ◌+◌, ◌∙◌, inl, inr, ℕ, Bool, List, [], ◌∷◌, Option, Some, None, refl, sym, ap, subst, length, slice_get, ◌⊎◌}
 use Rattle.wb_types.specs.declared.extent.Extent.{Extent}
 use Rattle.wb_types.specs.declared.mode.Dev.{Dev}
 use Rattle.wb_types.specs.declared.number.OBlock.{OBlock}
@@ -25,9 +25,9 @@ use Rattle.wb_tasks.specs.declared.step.Want.{Want}
 use Rattle.wb_tasks.specs.declared.step.Want.TheVariants.{Device, Desk, End}
 use Rattle.wb_devices.specs.declared.devices.Devices.{Devices}
 use Rattle.wb_devices.specs.Moving.{device_in}
-use Rattle.wb_link.specs.World.{World}
-use Rattle.wb_refines.specs.Models.{plan_of}
-use Rattle.wb_refines.specs.Migrations.{Fills}
+use Rattle.wb_link.specs.World.{World, Actor as AbstractActor}
+use Rattle.wb_refines.specs.Models.{plan_of, held_of}
+use Rattle.wb_refines.specs.Migrations.{Fills, order_on}
 use Rattle.wb_runs.specs.declared.job.Job.TheVariants.{Migrate}
 use Rattle.wb_runs.specs.Effects.{contents_at, dropped, replacing}
 use Rattle.wb_runs.specs.States.{Actor, with_device}
@@ -35,21 +35,16 @@ use Rattle.wb_runs.specs.Holding.{cards_of, AllSuited}
 use Rattle.wb_simulation.specs.Steps.{IsWrittenNext}
 use Rattle.wb_simulation.specs.Worlds.{Agrees, Stays, Maps, Unmaps, GivesUp}
 use Rattle.wb_simulation.specs.Laws.{after_step}
-use Rattle.wb_simulation.specs.Migrating.{MigrationsFollowed, Carried, EndsOrder, TurnsOrder, LeavesFrom}
+use Rattle.wb_simulation.specs.Migrating.{MigrationsFollowed, Carried, EndsOrder, TurnsOrder, LeavesFrom, Goes}
 use Rattle.wb_simulation.proofs.Followed.{first, answers_by, IsWithin, never_late, never_over}
 use Rattle.wb_simulation.proofs.Ending.{IsOver, IsNothingLeft, stopped_over, late_over, answers}
 use Rattle.wb_simulation.proofs.Moving.{same_device}
 use Rattle.wb_simulation.proofs.Migrating.{cells}
 use Rattle.wb_simulation.proofs.Copying.{reads, writes, write_falls, read_falls, writes_blocks}
 use Rattle.wb_simulation.proofs.Ordering.{starts, again}
-use Rattle.std.proofs.Common.{◌⊎◌}
-use Rattle.wb_link.specs.World.{Actor as AbstractActor}
-use Rattle.wb_refines.specs.Models.{held_of}
-use Rattle.wb_refines.specs.Migrations.{order_on}
 use Rattle.wb_simulation.specs.Actors.{IsLate}
 use Rattle.wb_simulation.specs.Carried.{IsOrderFor, IsCarried, HasEnded, IsAtMigration}
 use Rattle.wb_simulation.specs.Telling.{Rests, Rested}
-use Rattle.wb_simulation.specs.Migrating.{Goes}
 use Rattle.wb_simulation.proofs.Among.{own_there}
 use Rattle.wb_simulation.proofs.Carrying.{carried_leads, under_migrates}
 use Rattle.wb_simulation.proofs.Deciding.{map_refused, mapped, unmapped, turned_over, given_up}

@@ -16,10 +16,10 @@ use Rattle.wb_tasks.specs.Plan.{Plan}
 use Rattle.wb_tasks.specs.declared.step.Migration.{Migration}
 use Rattle.wb_tasks.specs.declared.step.Migration.TheVariants.{Promote}
 use Rattle.wb_devices.specs.declared.devices.Devices.{Devices}
-use Rattle.wb_link.specs.Tables.{Job as AbstractJob, Order as AbstractOrder, Finished as AnsweredDone}
-use Rattle.wb_link.specs.World.{IsRun, World, Shared, Start, Again, Apart, Ungiven, MayStart, MayAgain, Actor as AbstractActor, reserved}
+use Rattle.wb_link.specs.Tables.{Job as AbstractJob, Order as AbstractOrder, Finished as AnsweredDone, Script, Flag, Done as DoneThere, table as table_there}
+use Rattle.wb_link.specs.World.{IsRun, World, Shared, Start, Again, Apart, Ungiven, MayStart, MayAgain, Actor as AbstractActor, reserved, Record, order_of as order_of_job, aside, taken, given, after_all, start_actor, again_actor}
 use Rattle.wb_link.proofs.Lists.{get_set_same, get_set_other}
-use Rattle.wb_refines.specs.Tasks.{AllInBlocks}
+use Rattle.wb_refines.specs.Tasks.{AllInBlocks, IsResting}
 use Rattle.wb_refines.specs.Models.{held_of}
 use Rattle.wb_refines.specs.Translation.{offsets}
 use Rattle.wb_refines.specs.Migrations.{order_on, job_under, migration_wants, Fills}
@@ -32,11 +32,8 @@ use Rattle.wb_runs.specs.States.{Actor}
 use Rattle.wb_simulation.specs.Actors.{StandsFor}
 use Rattle.wb_simulation.proofs.Cut.{whole_part, whole_covered}
 use Rattle.wb_contents.proofs.Positions.{changed_same, changed_other}
-use Rattle.wb_link.specs.Tables.{Script, Flag, Done as DoneThere, table as table_there}
-use Rattle.wb_link.specs.World.{Record, order_of as order_of_job, aside, taken, given, after_all, start_actor, again_actor}
 use Rattle.wb_link.proofs.Aside.{aside_cases}
 use Rattle.wb_refines.specs.Going.{records, shared_after, gone, MayGo}
-use Rattle.wb_refines.specs.Tasks.{IsResting}
 use Rattle.wb_refines.proofs.Going.{goes, set_twice}
 use Rattle.wb_simulation.specs.Steps.{IsPart}
 use Rattle.wb_simulation.specs.Carried.{held, order_there, live_there, IsOf, IsOrderFor, IsCarried}
