@@ -59,8 +59,8 @@ resumed_plain a task rs (Nowhere none e) = subst ArePlainRecords (sym e) tt
 
 told_plain : (telling : Telling) (a : ℕ) (task : Option Script) (rs : List Record) → IsPlainTelling telling → IsTold telling a task rs → ArePlainRecords rs
 told_plain Quietly a task rs p t = subst ArePlainRecords (sym t.2) (steps_plain a task t.0)
-told_plain (Reads block offset contents) a task rs p t = subst ArePlainRecords (sym t.told_is) (steps_plain a task _)
-told_plain (Writes block offset count content) a task rs p t = subst ArePlainRecords (sym t.told_is) (steps_plain a task t.results)
+told_plain (Reads block offset contents) a task rs p t = subst ArePlainRecords (sym t.told_is) (steps_plain a task (Rattle.wb_link.specs.Tables.Gave t.there ∷ []))
+told_plain (Writes block offset count content) a task rs p t = subst ArePlainRecords (sym t.told_is) (steps_plain a task (t.got ∷ []))
 told_plain (Answers job answer) a task rs p t = subst ArePlainRecords (sym t.1) (steps_plain a task (Rattle.wb_link.specs.Tables.Done ∷ []))
 told_plain (Starts job) a task rs p t = subst ArePlainRecords (sym t) (p, tt)
 told_plain Resumes a task rs p t = resumed_plain a task rs t

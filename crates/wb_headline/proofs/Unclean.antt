@@ -3,8 +3,8 @@ use Rattle.std.proofs.Common.{◌≡◌, inl, inr, ℕ, Bool, true, false, List,
 use Rattle.wb_types.proofs.Lists.{set_cases}
 use Rattle.wb_disk.specs.Device.{Content}
 use Rattle.wb_types.specs.declared.mode.Mode.{Mode}
-use Rattle.wb_link.specs.Tables.{Job, Reading, Writing, Writing_through, Flushing, Suspending, Promoting, Returning, Invalidating, Order, Script, Seal, Want, Begin, Begin_clean, End_running, Read_at, Write_at, Sync_cache_device, Sync_origin_device, End, Got, Done, Flag, Seen, Gave, Ticket, Short, Fault, read_each, write_each, copy_each, write_through_each, dirtying, copy_dirty, dropping, read_from, write_work, work, table, want, first_of_steps, later_steps, until_failed, breaking, steps_after_fault, after_fault, letting, release, after}
-use Rattle.wb_link.specs.World.{World, Shared, Actor, Record, Start, Again, Step, Release, release_order, effect, if_landed, put_sector, task_after, actor_after, step_task, step_actor, start_actor, again_actor, reserved, after_record, after_all, job_alone, given}
+use Rattle.wb_link.specs.Tables.{Job, Reading, Writing, Writing_through, Flushing, Suspending, Promoting, Returning, Invalidating, Order, Script, Seal, Want, Begin, Begin_clean, End_running, Read_all, Write_all, Sync_cache_device, Sync_origin_device, End, Got, Done, Flag, Seen, Gave, Ticket, Short, Fault, read_each, write_each, copy_each, write_through_each, dirtying, copy_dirty, dropping, read_from, write_work, work, table, want, first_of_steps, later_steps, breaking, after_fault, letting, release, after}
+use Rattle.wb_link.specs.World.{World, Shared, Actor, Record, Start, Again, Step, Release, release_order, effect, if_landed, put_sector, put_where, contents_for, task_after, actor_after, step_task, step_actor, start_actor, again_actor, reserved, after_record, after_all, job_alone, given}
 use Rattle.wb_link.specs.Openings.{Site, Phase, Opens, Stage, Settling, Caching, Basing, Rooting, Answering, Outcome, Settled, Fine, Learns, Refused, Broke, Shown, Event, On, Stopped, Begins, Advances, after_event, advance, advanced, found_clean, emptied, stopped}
 use Rattle.wb_link.proofs.Lists.{replicated}
 use Rattle.wb_refines.specs.Going.{records}
@@ -42,19 +42,19 @@ ArePlainRecords (r ∷ rs) = IsPlainRecord r × ArePlainRecords rs
 
 -- ---- what is left of a task
 
-read_plain : (location : Option ℕ) (b : ℕ) (os : List ℕ) (rest : List Want) → ArePlain rest → ArePlain (read_each location b os rest)
+read_plain : (location : Option ℕ) (b : ℕ) (os : List (List ℕ)) (rest : List Want) → ArePlain rest → ArePlain (read_each location b os rest)
 read_plain location b [] rest p = p
 read_plain location b (o ∷ os) rest p = (tt, read_plain location b os rest p)
 
-write_plain : (location : Option ℕ) (b : ℕ) (os : List ℕ) (rest : List Want) → ArePlain rest → ArePlain (write_each location b os rest)
+write_plain : (location : Option ℕ) (b : ℕ) (os : List (List ℕ)) (rest : List Want) → ArePlain rest → ArePlain (write_each location b os rest)
 write_plain location b [] rest p = p
 write_plain location b (o ∷ os) rest p = (tt, write_plain location b os rest p)
 
-copy_plain : (from to : Option ℕ) (b : ℕ) (os : List ℕ) (rest : List Want) → ArePlain rest → ArePlain (copy_each from to b os rest)
+copy_plain : (from to : Option ℕ) (b : ℕ) (os : List (List ℕ)) (rest : List Want) → ArePlain rest → ArePlain (copy_each from to b os rest)
 copy_plain from to b [] rest p = p
 copy_plain from to b (o ∷ os) rest p = (tt, (tt, copy_plain from to b os rest p))
 
-through_plain : (location : Option ℕ) (b : ℕ) (os : List ℕ) (rest : List Want) → ArePlain rest → ArePlain (write_through_each location b os rest)
+through_plain : (location : Option ℕ) (b : ℕ) (os : List (List ℕ)) (rest : List Want) → ArePlain rest → ArePlain (write_through_each location b os rest)
 through_plain None b os rest p = write_plain None b os rest p
 through_plain (Some k) b [] rest p = p
 through_plain (Some k) b (o ∷ os) rest p = (tt, (tt, through_plain (Some k) b os rest p))
@@ -64,7 +64,7 @@ dirtying_plain b None dirty rest p = p
 dirtying_plain b (Some k) false rest p = (tt, p)
 dirtying_plain b (Some k) true rest p = p
 
-dirty_plain : (dirty : Bool) (order : Order) (os : List ℕ) (rest : List Want) → ArePlain rest → ArePlain (copy_dirty dirty order os rest)
+dirty_plain : (dirty : Bool) (order : Order) (os : List (List ℕ)) (rest : List Want) → ArePlain rest → ArePlain (copy_dirty dirty order os rest)
 dirty_plain true order os rest p = copy_plain (Some order.cache) None order.block os rest p
 dirty_plain false order os rest p = p
 
@@ -72,7 +72,7 @@ dropping_plain : (b : ℕ) (location : Option ℕ) (rest : List Want) → ArePla
 dropping_plain b None rest p = p
 dropping_plain b (Some k) rest p = (tt, (tt, p))
 
-written_plain : (past : Bool) (b : ℕ) (os : List ℕ) (seal : Seal) → ArePlain (write_work past b os seal)
+written_plain : (past : Bool) (b : ℕ) (os : List (List ℕ)) (seal : Seal) → ArePlain (write_work past b os seal)
 written_plain true b os seal = dropping_plain b seal.location _ (write_plain None b os _ (tt, tt))
 written_plain false b os seal = dirtying_plain b seal.location seal.dirty _ (write_plain seal.location b os _ (tt, tt))
 
@@ -96,24 +96,10 @@ later_plain : (ws : List Want) → ArePlain ws → ArePlain (later_steps ws)
 later_plain [] p = tt
 later_plain (w ∷ ws) p = p.1
 
-until_plain : (ws : List Want) → ArePlain (until_failed ws)
-until_plain [] = (tt, tt)
-until_plain (Read_at location b o ∷ ws) = (tt, until_plain ws)
-until_plain (Write_at location b o ∷ ws) = (tt, until_plain ws)
-until_plain (w ∷ ws) = (tt, tt)
-
 breaking_plain : (job : Job) → ArePlain (breaking job)
 breaking_plain (Flushing order) = (tt, (tt, tt))
 breaking_plain Suspending = (tt, (tt, tt))
 breaking_plain job = (tt, tt)
-
-fault_plain : (job : Job) (more : Bool) (ws : List Want) → ArePlain (steps_after_fault job more ws)
-fault_plain (Writing past b os c) true ws = until_plain ws
-fault_plain (Promoting order os) true ws = until_plain ws
-fault_plain (Returning leaves order os) true ws = until_plain ws
-fault_plain (Flushing order) more ws = (tt, (tt, tt))
-fault_plain Suspending more ws = (tt, (tt, tt))
-fault_plain job more ws = (tt, tt)
 
 release_plain : (job : Job) → ArePlain (release job)
 release_plain (Flushing order) = tt
@@ -134,11 +120,10 @@ after_plain s (Seen seal) p = (p.0, work_plain s.job seal)
 after_plain s (Gave c) p = (p.0, later_plain s.steps p.1)
 after_plain s (Ticket k) p = (p.0, (tt, later_plain s.steps p.1))
 after_plain s Short p = (p.0, letting_plain s.job)
-after_plain s (Fault choice) p = by_want (want s)
+after_plain s (Fault lands) p = by_want (want s)
   where
-    by_want : (w : Want) → IsPlainTask (Some (after_fault s choice.more w))
-    by_want (Read_at location b o) = (p.0, release_plain s.job)
-    by_want (Write_at location b o) = (p.0, fault_plain s.job choice.more (later_steps s.steps))
+    by_want : (w : Want) → IsPlainTask (Some (after_fault s w))
+    by_want (Read_all location b os) = (p.0, release_plain s.job)
     by_want w = (p.0, breaking_plain s.job)
 after_plain s got p = (p.0, tt)
 
@@ -160,25 +145,29 @@ put_unclean : (s : Shared) (location : Option ℕ) (b o : ℕ) (c : Content) →
 put_unclean s None b o c u = u
 put_unclean s (Some k) b o c u = u
 
-effect_unclean : (s : Shared) (job : Job) (buffer : Content) (w : Want) (got : Got) → IsPlain w → AreUnclean s → AreUnclean (effect s job buffer w got)
+where_unclean : (lands : ℕ → Bool) (s : Shared) (location : Option ℕ) (b : ℕ) (os : List ℕ) (contents : ℕ → Content) → AreUnclean s → AreUnclean (put_where lands s location b os contents)
+where_unclean lands s location b [] contents u = u
+where_unclean lands s location b (o ∷ os) contents u = where_unclean lands (if_landed (lands o) (put_sector s location b o (contents o)) s) location b os contents (landed_unclean (lands o) (put_sector s location b o (contents o)) s (put_unclean s location b o (contents o) u) u)
+
+effect_unclean : (s : Shared) (job : Job) (buffer : ℕ → Content) (w : Want) (got : Got) → IsPlain w → AreUnclean s → AreUnclean (effect s job buffer w got)
 effect_unclean s job buffer Begin_clean got p u = absurd p
 effect_unclean s job buffer (Begin ticket) Done p u = (u.0, λ b. refl)
 effect_unclean s job buffer (Begin ticket) got p u = u
 effect_unclean s job buffer End_running got p u = (u.1, u.1)
-effect_unclean s job buffer (Write_at location b o) Done p u = put_unclean s location b o _ u
-effect_unclean s job buffer (Write_at location b o) (Fault choice) p u = landed_unclean choice.landed _ s (put_unclean s location b o _ u) u
-effect_unclean s job buffer (Write_at location b o) got p u = u
+effect_unclean s job buffer (Write_all location b os) Done p u = where_unclean (λ o. true) s location b os (contents_for job buffer) u
+effect_unclean s job buffer (Write_all location b os) (Fault lands) p u = where_unclean (lands b) s location b os (contents_for job buffer) u
+effect_unclean s job buffer (Write_all location b os) got p u = u
 effect_unclean s job buffer Sync_cache_device got p u = by_got got
   where
     by_got : (got : Got) → AreUnclean (effect s job buffer Sync_cache_device got)
     by_got Done = u
-    by_got (Fault choice) = u
+    by_got (Fault lands) = u
     by_got got = u
 effect_unclean s job buffer Sync_origin_device got p u = by_got got
   where
     by_got : (got : Got) → AreUnclean (effect s job buffer Sync_origin_device got)
     by_got Done = u
-    by_got (Fault choice) = u
+    by_got (Fault lands) = u
     by_got got = u
 effect_unclean s job buffer w got p u = u
 
@@ -246,12 +235,12 @@ found_unclean s false u = u.0
 advanced_unclean : (s : Shared) (mode : Mode) (stage : Stage) (outcome : Outcome) → AreUnclean s → AreUnclean (advanced s mode stage outcome)
 advanced_unclean s mode Settling (Settled new_root) u = (found_unclean s new_root u, found_unclean s new_root u)
 advanced_unclean s mode Caching Fine u = u
-advanced_unclean s mode Caching (Broke choice) u = u
+advanced_unclean s mode Caching (Broke lands) u = u
 advanced_unclean s mode Basing Fine u = u
-advanced_unclean s mode Basing (Broke choice) u = u
+advanced_unclean s mode Basing (Broke lands) u = u
 advanced_unclean s mode (Rooting i) Refused u = u
 advanced_unclean s mode (Rooting i) Fine u = (u.0, λ b. refl)
-advanced_unclean s mode (Rooting i) (Broke choice) u = (u.0, λ b. refl)
+advanced_unclean s mode (Rooting i) (Broke lands) u = (u.0, λ b. refl)
 advanced_unclean s mode (Rooting i) (Settled new_root) u = (u.0, λ b. refl)
 advanced_unclean s mode (Rooting i) (Learns learnt) u = (u.0, λ b. refl)
 advanced_unclean s mode (Rooting i) (Shown blocks view) u = (u.0, λ b. refl)

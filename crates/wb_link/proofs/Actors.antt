@@ -5,7 +5,7 @@ use Rattle.wb_disk.specs.Device.{Content}
 use Rattle.wb_contents.specs.Volume.{Volume, changed}
 use Rattle.wb_contents.specs.Conditions.{IsUnnamed}
 use Rattle.wb_contents.proofs.Positions.{changed_same, changed_other}
-use Rattle.wb_link.specs.Tables.{Order, Job, Suspending, Answer, Finished, Want, Share, Own, Leave, Disown, Read_at, Write_at, Begin, Begin_clean, Sync_cache_device, Sync_origin_device, End_running, Map_to, Unmap_from, Unmap_plain, Give_up, End, Got, Done, Flag, Fault, Script, after, after_fault, after_flag, want}
+use Rattle.wb_link.specs.Tables.{Order, Job, Suspending, Answer, Finished, Want, Share, Own, Leave, Disown, Read_all, Write_all, Begin, Begin_clean, Sync_cache_device, Sync_origin_device, End_running, Map_to, Unmap_from, Unmap_plain, Give_up, End, Got, Done, Flag, Fault, Script, after, after_fault, after_flag, want}
 use Rattle.wb_link.specs.World.{Block, Mapped, Reserved, Retained, removed, following, Names, Apart, Shared, Held, Nothing, Shares, Owns, Actor, effect, held_after, order_after, leads_after, task_after, actor_after, is_alone, job_alone, drops, job_drops, Gives}
 use Rattle.wb_link.proofs.Views.{Holds}
 use Rattle.wb_link.proofs.Acts.{Keeps}
@@ -77,9 +77,9 @@ leads_was s leads End_running got g e = absurd (cc)
 leads_was s leads w got g e = inl e
 
 -- a task goes on with its job
-fault_on : (script : Script) (more : Bool) (w : Want) → (after_fault script more w).job ≡ script.job
-fault_on script more (Read_at location b o) = refl
-fault_on script more w = refl
+fault_on : (script : Script) (w : Want) → (after_fault script w).job ≡ script.job
+fault_on script (Read_all location b os) = refl
+fault_on script w = refl
 
 flag_on : (script : Script) (f : Bool) → (after_flag script f).job ≡ script.job
 flag_on script true = refl
@@ -88,7 +88,7 @@ flag_on script false = refl
 pub job_on : (script : Script) (got : Got) → (after script got).job ≡ script.job
 job_on script Done = refl
 job_on script (Flag f) = flag_on script f
-job_on script (Fault choice) = fault_on script choice.more (want script)
+job_on script (Fault lands) = fault_on script (want script)
 job_on script got = refl
 
 -- a task that is alone was so
@@ -141,8 +141,8 @@ disjoint_right x y script s w got ready g task wins l i = record {
 busy_desk : (s t : Shared) → SameDesk s t → s.committing ≡ true → t.committing ≡ true
 busy_desk s t i e = i.committing ∙ e
 
-pub other_busy : (x : Actor) (s : Shared) (job : Job) (buffer : Content) (w : Want) (got : Got) → (x.leads ≡ true → ⊥) → Ready w x s → s.committing ≡ true → (effect s job buffer w got).committing ≡ true
-other_busy x s job buffer (Write_at location b o) got n r e = busy_desk s _ (write_desk s job buffer location b o got) e
+pub other_busy : (x : Actor) (s : Shared) (job : Job) (buffer : ℕ → Content) (w : Want) (got : Got) → (x.leads ≡ true → ⊥) → Ready w x s → s.committing ≡ true → (effect s job buffer w got).committing ≡ true
+other_busy x s job buffer (Write_all location b os) got n r e = busy_desk s _ (write_desk s job buffer location b os got) e
 other_busy x s job buffer (Begin ticket) Done n r e = refl
 other_busy x s job buffer Begin_clean Done n r e = refl
 other_busy x s job buffer Sync_cache_device got n r e = busy_desk s _ (sync_cached_desk s job buffer got) e
@@ -150,8 +150,8 @@ other_busy x s job buffer Sync_origin_device got n r e = busy_desk s _ (sync_bas
 other_busy x s job buffer End_running got n r e = absurd (n r)
 other_busy x s job buffer w got n r e = e
 
-pub leader_busy : (x : Actor) (s : Shared) (job : Job) (buffer : Content) (w : Want) (got : Got) → (x.leads ≡ true → s.committing ≡ true) → leads_after x.leads w got ≡ true → (effect s job buffer w got).committing ≡ true
-leader_busy x s job buffer (Write_at location b o) got l e = busy_desk s _ (write_desk s job buffer location b o got) (l e)
+pub leader_busy : (x : Actor) (s : Shared) (job : Job) (buffer : ℕ → Content) (w : Want) (got : Got) → (x.leads ≡ true → s.committing ≡ true) → leads_after x.leads w got ≡ true → (effect s job buffer w got).committing ≡ true
+leader_busy x s job buffer (Write_all location b os) got l e = busy_desk s _ (write_desk s job buffer location b os got) (l e)
 leader_busy x s job buffer (Begin ticket) Done l e = refl
 leader_busy x s job buffer Begin_clean Done l e = refl
 leader_busy x s job buffer Sync_cache_device got l e = busy_desk s _ (sync_cached_desk s job buffer got) (l e)
@@ -163,8 +163,8 @@ leader_busy x s job buffer w got l e = l e
 own_desk : (s t : Shared) (k : ℕ) → SameDesk s t → Turns (s.blocks k) (t.blocks k)
 own_desk s t k i = inl (ap (λ f. f k) i.blocks)
 
-pub own_state : (x : Actor) (s : Shared) (job : Job) (buffer : Content) (w : Want) (got : Got) (p : Order) → Stays w → Ready w x s → (x.order ≡ Some p → drops x.task ≡ false) → order_after x.order w ≡ Some p → Ordered (s.blocks p.cache) → Turns (s.blocks p.cache) ((effect s job buffer w got).blocks p.cache)
-own_state x s job buffer (Write_at location b o) got p st r f e i = own_desk s _ p.cache (write_desk s job buffer location b o got)
+pub own_state : (x : Actor) (s : Shared) (job : Job) (buffer : ℕ → Content) (w : Want) (got : Got) (p : Order) → Stays w → Ready w x s → (x.order ≡ Some p → drops x.task ≡ false) → order_after x.order w ≡ Some p → Ordered (s.blocks p.cache) → Turns (s.blocks p.cache) ((effect s job buffer w got).blocks p.cache)
+own_state x s job buffer (Write_all location b os) got p st r f e i = own_desk s _ p.cache (write_desk s job buffer location b os got)
 own_state x s job buffer (Begin ticket) Done p st r f e i = begun_turns (s.blocks p.cache) i
 own_state x s job buffer Begin_clean Done p st r f e i = begun_turns (s.blocks p.cache) i
 own_state x s job buffer Sync_cache_device got p st r f e i = own_desk s _ p.cache (sync_cached_desk s job buffer got)
@@ -183,16 +183,16 @@ is_false false m = refl
 map_desk : (s t : Shared) → SameDesk s t → t.mapping ≡ s.mapping
 map_desk s t i = i.mapping
 
-begin_map : (s : Shared) (job : Job) (buffer : Content) (ticket : Option ℕ) (got : Got) → (effect s job buffer (Begin ticket) got).mapping ≡ s.mapping
+begin_map : (s : Shared) (job : Job) (buffer : ℕ → Content) (ticket : Option ℕ) (got : Got) → (effect s job buffer (Begin ticket) got).mapping ≡ s.mapping
 begin_map s job buffer ticket Done = refl
 begin_map s job buffer ticket got = refl
 
-suspend_map : (s : Shared) (job : Job) (buffer : Content) (got : Got) → (effect s job buffer Begin_clean got).mapping ≡ s.mapping
+suspend_map : (s : Shared) (job : Job) (buffer : ℕ → Content) (got : Got) → (effect s job buffer Begin_clean got).mapping ≡ s.mapping
 suspend_map s job buffer Done = refl
 suspend_map s job buffer got = refl
 
-pub own_mapping : (x : Actor) (s : Shared) (job : Job) (buffer : Content) (w : Want) (got : Got) (p : Order) → Stays w → Ready w x s → (x.order ≡ Some p → drops x.task ≡ false) → order_after x.order w ≡ Some p → (effect s job buffer w got).mapping ≡ s.mapping
-own_mapping x s job buffer (Write_at location b o) got p st r f e = map_desk s _ (write_desk s job buffer location b o got)
+pub own_mapping : (x : Actor) (s : Shared) (job : Job) (buffer : ℕ → Content) (w : Want) (got : Got) (p : Order) → Stays w → Ready w x s → (x.order ≡ Some p → drops x.task ≡ false) → order_after x.order w ≡ Some p → (effect s job buffer w got).mapping ≡ s.mapping
+own_mapping x s job buffer (Write_all location b os) got p st r f e = map_desk s _ (write_desk s job buffer location b os got)
 own_mapping x s job buffer (Begin ticket) got p st r f e = begin_map s job buffer ticket got
 own_mapping x s job buffer Begin_clean got p st r f e = suspend_map s job buffer got
 own_mapping x s job buffer Sync_cache_device got p st r f e = map_desk s _ (sync_cached_desk s job buffer got)
@@ -238,11 +238,11 @@ placing_on s t p b m x i = (
 removed_as : (next : Option ℕ) (b : ℕ) → next ≡ Some b → removed next ≡ Retained false
 removed_as next b e = ap removed e
 
-pub own_ordered : (x : Actor) (s : Shared) (job : Job) (buffer : Content) (w : Want) (got : Got) (q : Order) → Ready w x s → ((p : Order) → x.order ≡ Some p → drops x.task ≡ false) → ((p : Order) → x.order ≡ Some p → Ordered (s.blocks p.cache)) → order_after x.order w ≡ Some q → Ordered ((effect s job buffer w got).blocks q.cache)
+pub own_ordered : (x : Actor) (s : Shared) (job : Job) (buffer : ℕ → Content) (w : Want) (got : Got) (q : Order) → Ready w x s → ((p : Order) → x.order ≡ Some p → drops x.task ≡ false) → ((p : Order) → x.order ≡ Some p → Ordered (s.blocks p.cache)) → order_after x.order w ≡ Some q → Ordered ((effect s job buffer w got).blocks q.cache)
 own_ordered x s job buffer (Unmap_from o) got q r d was f = let is = follower_is o.cache o.next q f in inr (false, ap (changed s.blocks o.cache (removed o.next)) is.0 ∙ changed_same s.blocks o.cache (removed o.next) ∙ removed_as o.next q.block is.1)
 own_ordered x s job buffer w got q r d was f = let had = order_was x.order w q tt f in turned (s.blocks q.cache) _ (was q had) (own_state x s job buffer w got q tt r (d q) f (was q had))
 
-pub own_placing : (x : Actor) (s : Shared) (job : Job) (buffer : Content) (w : Want) (got : Got) (q : Order) → Ready w x s → ((p : Order) → x.order ≡ Some p → drops x.task ≡ false) → ((p : Order) → x.order ≡ Some p → Ordered (s.blocks p.cache)) → ((p : Order) → x.order ≡ Some p → Placing s p) → order_after x.order w ≡ Some q → Placing (effect s job buffer w got) q
+pub own_placing : (x : Actor) (s : Shared) (job : Job) (buffer : ℕ → Content) (w : Want) (got : Got) (q : Order) → Ready w x s → ((p : Order) → x.order ≡ Some p → drops x.task ≡ false) → ((p : Order) → x.order ≡ Some p → Ordered (s.blocks p.cache)) → ((p : Order) → x.order ≡ Some p → Placing s p) → order_after x.order w ≡ Some q → Placing (effect s job buffer w got) q
 own_placing x s job buffer (Unmap_from o) got q r d was at f =
     let is = follower_is o.cache o.next q f in
     let now : changed s.blocks o.cache (removed o.next) q.cache ≡ Retained false = ap (changed s.blocks o.cache (removed o.next)) is.0 ∙ changed_same s.blocks o.cache (removed o.next) ∙ removed_as o.next q.block is.1 in (

@@ -8,7 +8,7 @@ use Rattle.wb_link.specs.Tables.{Order, Job, Suspending, Failed, Finished, Look_
 use Rattle.wb_link.specs.World.{Shared, Held, Actor, World, Apart, aside, taken, actor_after, Release, release_order, after_record, given_back}
 use Rattle.wb_link.proofs.Link.{NobodyAlone, Owes, Right, Safe, SetAside, Linked, acts_of}
 use Rattle.wb_link.proofs.Calm.{calmly}
-use Rattle.wb_link.proofs.Givings.{at_work, script_of, Comes, resting_safe, gives_flag_is, gives_end}
+use Rattle.wb_link.proofs.Givings.{at_work, script_of, Comes, resting_safe, gives_flag, gives_done}
 use Rattle.wb_link.proofs.Lists.{get_set_other}
 use Rattle.wb_link.proofs.Steps.{in_set}
 use Rattle.wb_link.proofs.Actors.{turned, placing_on, safe_on}
@@ -149,24 +149,24 @@ release_linked size w d k p i e nobody = record {
 
 -- ---- who has kept something at a failure begins nothing: it finds that the target has failed
 
-refusal : (a : ℕ) (job : Job) (c : Content) (t : Shared) (e : Volume) → t.fail ≡ true → (acts_of t.mapping a job c (End Failed) Done ≡ []) × Owes job (End Failed) t e × Right a job (End Failed) Done e e
+refusal : (a : ℕ) (job : Job) (c : ℕ → Content) (t : Shared) (e : Volume) → t.fail ≡ true → (acts_of t.mapping a job c (End Failed) Done ≡ []) × Owes job (End Failed) t e × Right a job (End Failed) Done e e
 refusal a Suspending c t e f = (refl, inl f, record { reads = tt; histories = refl; flushes = tt })
 refusal a job c t e f = (refl, tt, record { reads = tt; histories = refl; flushes = tt })
 
-look : (a : ℕ) (job : Job) (c : Content) (flag : Bool) (t : Shared) (e : Volume) → (acts_of t.mapping a job c Look_fail (Flag flag) ≡ []) × Right a job Look_fail (Flag flag) e e
+look : (a : ℕ) (job : Job) (c : ℕ → Content) (flag : Bool) (t : Shared) (e : Volume) → (acts_of t.mapping a job c Look_fail (Flag flag) ≡ []) × Right a job Look_fail (Flag flag) e e
 look a Suspending c flag t e = (refl, record { reads = tt; histories = refl; flushes = tt })
 look a job c flag t e = (refl, record { reads = tt; histories = refl; flushes = tt })
 
-kept_ends : (job : Job) (n size a : ℕ) (held : Held) (order : Option Order) (leads : Bool) (c : Content) (s : Shared) (d : Volume) → s.fail ≡ true → Safe n size a (at_work job [] Failed held order leads c) s d
+kept_ends : (job : Job) (n size a : ℕ) (held : Held) (order : Option Order) (leads : Bool) (c : ℕ → Content) (s : Shared) (d : Volume) → s.fail ≡ true → Safe n size a (at_work job [] Failed held order leads c) s d
 kept_ends job zero size a held order leads c s d f = tt
 kept_ends job (suc n) size a held order leads c s d f = λ t e got o g v r. let no = refusal a job c t e (o.fail f) in
-    gives_end t Failed (λ k. Comes n size a job [] Failed held order leads c t e k)
+    gives_done (λ k. Comes n size a job [] Failed held order leads c t e k)
     (calmly size a (λ y u h. Safe n size a y u h) _ _ (End Failed) Done t t e _ no.0 g.agrees (inr (o.fail f)) no.1 no.2 (resting_safe n size a held order leads c t e)) got v
 
 -- so, whatever it is given, it only answers
-pub kept_safe : (job : Job) (n size a : ℕ) (held : Held) (order : Option Order) (leads : Bool) (c : Content) (s : Shared) (d : Volume) → s.fail ≡ true → Safe n size a (at_work job (Look_fail ∷ acquire job) Finished held order leads c) s d
+pub kept_safe : (job : Job) (n size a : ℕ) (held : Held) (order : Option Order) (leads : Bool) (c : ℕ → Content) (s : Shared) (d : Volume) → s.fail ≡ true → Safe n size a (at_work job (Look_fail ∷ acquire job) Finished held order leads c) s d
 kept_safe job zero size a held order leads c s d f = tt
 kept_safe job (suc n) size a held order leads c s d f = λ t e got o g v r. let steps = Look_fail ∷ acquire job in
-    gives_flag_is t (λ k. Comes n size a job steps Finished held order leads c t e k) (λ flag is. let no = look a job c flag t e in
+    gives_flag t (λ k. Comes n size a job steps Finished held order leads c t e k) (λ flag is. let no = look a job c flag t e in
     calmly size a (λ y u h. Safe n size a y u h) _ _ Look_fail (Flag flag) t t e _ no.0 g.agrees tt tt no.1
     (subst (λ (w : Bool). Safe n size a (actor_after (at_work job steps Finished held order leads c) (script_of job steps Finished) Look_fail (Flag w)) t e) (sym (is ∙ o.fail f)) (kept_ends job n size a held order leads c t e (o.fail f)))) got v

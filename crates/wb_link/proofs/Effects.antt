@@ -1,13 +1,13 @@
 -- What a step does to what is shared, whatever task takes it: what it leaves to others, and the desk's rules after it.
-use Rattle.std.proofs.Common.{◌≡◌, ◌≢◌, inl, inr, ℕ, Bool, true, false, Option, Some, None, refl, sym, ap, subst, ◌∙◌}
+use Rattle.std.proofs.Common.{◌≡◌, ◌≢◌, inl, inr, ℕ, Bool, true, false, List, [], ◌∷◌, Option, Some, None, refl, sym, ap, subst, ◌∙◌}
 use Rattle.std.proofs.lemmas.Bool.{cases_eq}
 use Rattle.wb_disk.specs.Device.{Content}
 use Rattle.wb_contents.specs.Volume.{Locations, Volume, changed}
 use Rattle.wb_contents.specs.Conditions.{IsUnnamed}
 use Rattle.wb_contents.proofs.Positions.{changed_same, changed_other}
 use Rattle.wb_contents.proofs.Floors.{HasHomes}
-use Rattle.wb_link.specs.Tables.{Order, Job, Want, Set_seal, Set_failed, Set_suspended, Break_commits, Write_at, Begin, Begin_clean, Sync_cache_device, Sync_origin_device, Put_root, End_running, Map_to, Unmap_from, Unmap_plain, Give_up, Got, Done, Fault}
-use Rattle.wb_link.specs.World.{Block, Free, Mapped, Reserved, Quarantined, Retained, removed, Shared, Owns, Actor, effect, put_sector, if_landed, content_for, begun, ended, given_back, drops}
+use Rattle.wb_link.specs.Tables.{Order, Job, Want, Set_seal, Set_failed, Set_suspended, Break_commits, Write_all, Begin, Begin_clean, Sync_cache_device, Sync_origin_device, Put_root, End_running, Map_to, Unmap_from, Unmap_plain, Give_up, Got, Done, Fault}
+use Rattle.wb_link.specs.World.{Block, Free, Mapped, Reserved, Quarantined, Retained, removed, Shared, Owns, Actor, effect, put_sector, put_where, if_landed, contents_for, begun, ended, given_back, drops}
 use Rattle.wb_link.proofs.Acts.{NotCache}
 use Rattle.wb_link.proofs.Link.{Ordered, Turns, Good, Sound, AllSound, Ready}
 
@@ -40,19 +40,26 @@ landed_desk : (t : Bool) (s : Shared) (location : Option ℕ) (b o : ℕ) (c : C
 landed_desk true s location b o c = put_sector_desk s location b o c
 landed_desk false s location b o c = desk_same s
 
-pub write_desk : (s : Shared) (job : Job) (buffer : Content) (location : Option ℕ) (b o : ℕ) (got : Got) → SameDesk s (effect s job buffer (Write_at location b o) got)
-write_desk s job buffer location b o Done = put_sector_desk s location b o (content_for job buffer)
-write_desk s job buffer location b o (Fault choice) = landed_desk choice.landed s location b o (content_for job buffer)
-write_desk s job buffer location b o got = desk_same s
+desk_then : (s t u : Shared) → SameDesk s t → SameDesk t u → SameDesk s u
+desk_then s t u i j = record { seals = j.seals ∙ i.seals; mapping = j.mapping ∙ i.mapping; blocks = j.blocks ∙ i.blocks; committing = j.committing ∙ i.committing; committed = j.committed ∙ i.committed; running = j.running ∙ i.running; root_written = j.root_written ∙ i.root_written; fail = j.fail ∙ i.fail }
 
-pub sync_cached_desk : (s : Shared) (job : Job) (buffer : Content) (got : Got) → SameDesk s (effect s job buffer Sync_cache_device got)
+where_desk : (lands : ℕ → Bool) (s : Shared) (location : Option ℕ) (b : ℕ) (os : List ℕ) (contents : ℕ → Content) → SameDesk s (put_where lands s location b os contents)
+where_desk lands s location b [] contents = desk_same s
+where_desk lands s location b (o ∷ os) contents = desk_then s _ _ (landed_desk (lands o) s location b o (contents o)) (where_desk lands (if_landed (lands o) (put_sector s location b o (contents o)) s) location b os contents)
+
+pub write_desk : (s : Shared) (job : Job) (buffer : ℕ → Content) (location : Option ℕ) (b : ℕ) (os : List ℕ) (got : Got) → SameDesk s (effect s job buffer (Write_all location b os) got)
+write_desk s job buffer location b os Done = where_desk (λ o. true) s location b os (contents_for job buffer)
+write_desk s job buffer location b os (Fault lands) = where_desk (lands b) s location b os (contents_for job buffer)
+write_desk s job buffer location b os got = desk_same s
+
+pub sync_cached_desk : (s : Shared) (job : Job) (buffer : ℕ → Content) (got : Got) → SameDesk s (effect s job buffer Sync_cache_device got)
 sync_cached_desk s job buffer Done = record { seals = refl; mapping = refl; blocks = refl; committing = refl; committed = refl; running = refl; root_written = refl; fail = refl }
-sync_cached_desk s job buffer (Fault choice) = record { seals = refl; mapping = refl; blocks = refl; committing = refl; committed = refl; running = refl; root_written = refl; fail = refl }
+sync_cached_desk s job buffer (Fault lands) = record { seals = refl; mapping = refl; blocks = refl; committing = refl; committed = refl; running = refl; root_written = refl; fail = refl }
 sync_cached_desk s job buffer got = desk_same s
 
-pub sync_based_desk : (s : Shared) (job : Job) (buffer : Content) (got : Got) → SameDesk s (effect s job buffer Sync_origin_device got)
+pub sync_based_desk : (s : Shared) (job : Job) (buffer : ℕ → Content) (got : Got) → SameDesk s (effect s job buffer Sync_origin_device got)
 sync_based_desk s job buffer Done = record { seals = refl; mapping = refl; blocks = refl; committing = refl; committed = refl; running = refl; root_written = refl; fail = refl }
-sync_based_desk s job buffer (Fault choice) = record { seals = refl; mapping = refl; blocks = refl; committing = refl; committed = refl; running = refl; root_written = refl; fail = refl }
+sync_based_desk s job buffer (Fault lands) = record { seals = refl; mapping = refl; blocks = refl; committing = refl; committed = refl; running = refl; root_written = refl; fail = refl }
 sync_based_desk s job buffer got = desk_same s
 
 by_desk : (x : Actor) (s t : Shared) → SameDesk s t → KeepsShared x s t
@@ -89,10 +96,10 @@ ended_turns (Quarantined true) i = absurd (none i)
 order_keeps : (x : Actor) (s : Shared) (p : Order) (m : Locations) (b : Block) → x.order ≡ Some p → KeepsShared x s (record s { mapping = m; blocks = changed s.blocks p.cache b })
 order_keeps x s p m b e = record { seal = λ c n. refl; state = λ h k n r. inl (changed_other s.blocks p.cache k b (λ y. n p e (sym y))) }
 
-pub effect_keeps : (x : Actor) (s : Shared) (job : Job) (buffer : Content) (w : Want) (got : Got) → Ready w x s → KeepsShared x s (effect s job buffer w got)
+pub effect_keeps : (x : Actor) (s : Shared) (job : Job) (buffer : ℕ → Content) (w : Want) (got : Got) → Ready w x s → KeepsShared x s (effect s job buffer w got)
 effect_keeps x s job buffer (Set_seal b seal) got r = record { seal = λ c n. changed_other s.seals b c seal (λ e. n (r ∙ ap (λ v. Owns v) (sym e))); state = λ h k n i. inl refl }
 effect_keeps x s job buffer Set_failed got r = same x s (effect s job buffer Set_failed got) refl refl
-effect_keeps x s job buffer (Write_at location b o) got r = by_desk x s _ (write_desk s job buffer location b o got)
+effect_keeps x s job buffer (Write_all location b os) got r = by_desk x s _ (write_desk s job buffer location b os got)
 effect_keeps x s job buffer (Begin ticket) Done r = record { seal = λ b n. refl; state = λ h k n r. begun_turns (s.blocks k) r }
 effect_keeps x s job buffer Break_commits got r = same x s (effect s job buffer Break_commits got) refl refl
 effect_keeps x s job buffer Set_suspended got r = same x s (effect s job buffer Set_suspended got) refl refl
@@ -169,8 +176,8 @@ unnamed_now m home b k homes e c y = elim (cases_eq c b) [
       let one : Some c ≡ Some b = sym (homes c k there) ∙ homes b k e in let is : c ≡ b = cc in absurd (n is)
 ]
 
-pub effect_sound : (size : ℕ) (x : Actor) (s : Shared) (d : Volume) (job : Job) (buffer : Content) (w : Want) (got : Got) → Good size s d → Ready w x s → AllSound (effect s job buffer w got)
-effect_sound size x s d job buffer (Write_at location b o) got i r = sound_desk s _ (write_desk s job buffer location b o got) i.sound
+pub effect_sound : (size : ℕ) (x : Actor) (s : Shared) (d : Volume) (job : Job) (buffer : ℕ → Content) (w : Want) (got : Got) → Good size s d → Ready w x s → AllSound (effect s job buffer w got)
+effect_sound size x s d job buffer (Write_all location b os) got i r = sound_desk s _ (write_desk s job buffer location b os got) i.sound
 effect_sound size x s d job buffer (Begin ticket) Done i r = λ k. sound_begun (s.blocks k) s.mapping s.committed s.running k (i.sound k)
 effect_sound size x s d job buffer Begin_clean Done i r = λ k. sound_begun (s.blocks k) s.mapping s.committed s.running k (i.sound k)
 effect_sound size x s d job buffer Sync_cache_device got i r = sound_desk s _ (sync_cached_desk s job buffer got) i.sound
@@ -192,9 +199,9 @@ effect_sound size x s d job buffer w got i r = i.sound
 idle_desk : (s t : Shared) → SameDesk s t → (s.committing ≡ false → s.root_written ≡ false) → t.committing ≡ false → t.root_written ≡ false
 idle_desk s t i f e = i.root_written ∙ f (sym i.committing ∙ e)
 
-pub effect_idle : (x : Actor) (s : Shared) (job : Job) (buffer : Content) (w : Want) (got : Got) → (x.leads ≡ true → s.committing ≡ true) → Ready w x s → (s.committing ≡ false → s.root_written ≡ false) →
+pub effect_idle : (x : Actor) (s : Shared) (job : Job) (buffer : ℕ → Content) (w : Want) (got : Got) → (x.leads ≡ true → s.committing ≡ true) → Ready w x s → (s.committing ≡ false → s.root_written ≡ false) →
     (effect s job buffer w got).committing ≡ false → (effect s job buffer w got).root_written ≡ false
-effect_idle x s job buffer (Write_at location b o) got l r f = idle_desk s _ (write_desk s job buffer location b o got) f
+effect_idle x s job buffer (Write_all location b os) got l r f = idle_desk s _ (write_desk s job buffer location b os got) f
 effect_idle x s job buffer (Begin ticket) Done l r f = λ e. absurd (cc)
 effect_idle x s job buffer Begin_clean Done l r f = λ e. absurd (cc)
 effect_idle x s job buffer Sync_cache_device got l r f = idle_desk s _ (sync_cached_desk s job buffer got) f
@@ -208,18 +215,18 @@ effect_idle x s job buffer w got l r f = f
 fail_desk : (s t : Shared) → SameDesk s t → s.fail ≡ true → t.fail ≡ true
 fail_desk s t i e = i.fail ∙ e
 
-begin_fail : (s : Shared) (job : Job) (buffer : Content) (ticket : Option ℕ) (got : Got) → s.fail ≡ true → (effect s job buffer (Begin ticket) got).fail ≡ true
+begin_fail : (s : Shared) (job : Job) (buffer : ℕ → Content) (ticket : Option ℕ) (got : Got) → s.fail ≡ true → (effect s job buffer (Begin ticket) got).fail ≡ true
 begin_fail s job buffer ticket Done e = e
 begin_fail s job buffer ticket got e = e
 
-suspend_fail : (s : Shared) (job : Job) (buffer : Content) (got : Got) → s.fail ≡ true → (effect s job buffer Begin_clean got).fail ≡ true
+suspend_fail : (s : Shared) (job : Job) (buffer : ℕ → Content) (got : Got) → s.fail ≡ true → (effect s job buffer Begin_clean got).fail ≡ true
 suspend_fail s job buffer Done e = e
 suspend_fail s job buffer got e = e
 
-pub effect_fail : (s : Shared) (job : Job) (buffer : Content) (w : Want) (got : Got) → s.fail ≡ true → (effect s job buffer w got).fail ≡ true
+pub effect_fail : (s : Shared) (job : Job) (buffer : ℕ → Content) (w : Want) (got : Got) → s.fail ≡ true → (effect s job buffer w got).fail ≡ true
 effect_fail s job buffer Set_failed got e = refl
 effect_fail s job buffer Set_suspended got e = refl
-effect_fail s job buffer (Write_at location b o) got e = fail_desk s _ (write_desk s job buffer location b o got) e
+effect_fail s job buffer (Write_all location b os) got e = fail_desk s _ (write_desk s job buffer location b os got) e
 effect_fail s job buffer (Begin ticket) got e = begin_fail s job buffer ticket got e
 effect_fail s job buffer Begin_clean got e = suspend_fail s job buffer got e
 effect_fail s job buffer Sync_cache_device got e = fail_desk s _ (sync_cached_desk s job buffer got) e

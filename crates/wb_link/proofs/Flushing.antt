@@ -8,25 +8,25 @@ use Rattle.wb_link.specs.World.{Shared, Nothing, Actor, actor_after}
 use Rattle.wb_link.proofs.Link.{Good, Receives, Right, FlushesRight, Safe}
 use Rattle.wb_link.proofs.Agreeing.{begin_agrees, flush_agrees, blocks_agrees}
 use Rattle.wb_link.proofs.Committing.{refused_safe, caching}
-use Rattle.wb_link.proofs.Givings.{at_work, script_of, Comes, resting_safe, quietly, gives_flag, gives_begin, gives_up, gives_end}
+use Rattle.wb_link.proofs.Givings.{at_work, script_of, Comes, resting_safe, quietly, gives_done, gives_flag, gives_begin}
 
-abbrev flushing : Option Order → List Want → Answer → Bool → Content → Actor
+abbrev flushing : Option Order → List Want → Answer → Bool → (ℕ → Content) → Actor
 flushing q steps answer leads c = at_work (Flushing q) steps answer Nothing q leads c
 
-abbrev Result : Option Order → ℕ → ℕ → ℕ → List Want → Answer → Bool → Content → Shared → Volume → Got → Type 0
+abbrev Result : Option Order → ℕ → ℕ → ℕ → List Want → Answer → Bool → (ℕ → Content) → Shared → Volume → Got → Type 0
 Result q n size a steps answer leads c t e got = Comes n size a (Flushing q) steps answer Nothing q leads c t e got
 
 plain : (q : Option Order) (a : ℕ) (w : Want) (got : Got) (d e : Volume) → e.histories ≡ d.histories → FlushesRight a (Flushing q) w d e → Right a (Flushing q) w got d e
 plain q a w got d e r f = record { reads = tt; histories = r; flushes = f }
 
 -- answered otherwise than done
-given_up : (q : Option Order) (n size a : ℕ) (answer : Answer) (leads : Bool) (c : Content) (s : Shared) (d : Volume) → answer ≢ Finished → Safe n size a (flushing q [] answer leads c) s d
+given_up : (q : Option Order) (n size a : ℕ) (answer : Answer) (leads : Bool) (c : ℕ → Content) (s : Shared) (d : Volume) → answer ≢ Finished → Safe n size a (flushing q [] answer leads c) s d
 given_up q n size a answer leads c s d other = refused_safe n size a (Flushing q) tt answer other q leads c s d (λ t e o. tt)
 
 -- its commit has ended
-finishing : (q : Option Order) (n size a : ℕ) (c : Content) (s : Shared) (d : Volume) → d.ticket a ≤ d.ended → Safe n size a (flushing q [] Finished false c) s d
+finishing : (q : Option Order) (n size a : ℕ) (c : ℕ → Content) (s : Shared) (d : Volume) → d.ticket a ≤ d.ended → Safe n size a (flushing q [] Finished false c) s d
 finishing q zero size a c s d k = tt
-finishing q (suc n) size a c s d k = λ t e got o g v r. gives_end t Finished (λ w. Result q n size a [] Finished false c t e w)
+finishing q (suc n) size a c s d k = λ t e got o g v r. gives_done (λ w. Result q n size a [] Finished false c t e w)
     (record {
       run = (omega (arith, k, o.ticket, o.ended), tt);
       mine = (refl, tt);
@@ -39,17 +39,17 @@ finishing q (suc n) size a c s d k = λ t e got o g v r. gives_end t Finished (�
     got v
 
 -- a replacement's order is given up
-releasing : (n size a : ℕ) (p : Order) (c : Content) (s : Shared) (d : Volume) → Safe n size a (flushing (Some p) (Give_up p ∷ []) Failed false c) s d
+releasing : (n size a : ℕ) (p : Order) (c : ℕ → Content) (s : Shared) (d : Volume) → Safe n size a (flushing (Some p) (Give_up p ∷ []) Failed false c) s d
 releasing zero size a p c s d = tt
-releasing (suc n) size a p c s d = λ t e got o g v r. gives_up t p (λ k. Result (Some p) n size a (Give_up p ∷ []) Failed false c t e k)
+releasing (suc n) size a p c s d = λ t e got o g v r. gives_done (λ k. Result (Some p) n size a (Give_up p ∷ []) Failed false c t e k)
     (record { run = tt; mine = tt; agrees = blocks_agrees t e _ g.agrees; ready = refl; owes = tt; right = plain (Some p) a (Give_up p) Done e e refl tt; left = refused_safe n size a (Flushing (Some p)) tt Failed (λ f. absurd (cc)) None false c _ e (λ u f o. tt) }) got v
 
-short : (q : Option Order) (n size a : ℕ) (c : Content) (s : Shared) (d : Volume) → Safe n size a (flushing q (let_go q) Failed false c) s d
+short : (q : Option Order) (n size a : ℕ) (c : ℕ → Content) (s : Shared) (d : Volume) → Safe n size a (flushing q (let_go q) Failed false c) s d
 short None n size a c s d = given_up None n size a Failed false c s d (λ f. absurd (cc))
 short (Some p) n size a c s d = releasing n size a p c s d
 
 -- it leads a commit
-leading : (q : Option Order) (n size a : ℕ) (ticket : Option ℕ) (c : Content) (t : Shared) (e : Volume) → Good size t e → e.ticket a ≤ e.began + 1 → e.live ≡ true → t.committing ≡ false → Result q n size a (Begin ticket ∷ Sync_cache_device ∷ Sync_origin_device ∷ Put_root ∷ Sync_metadata ∷ End_running ∷ []) Finished false c t e Done
+leading : (q : Option Order) (n size a : ℕ) (ticket : Option ℕ) (c : ℕ → Content) (t : Shared) (e : Volume) → Good size t e → e.ticket a ≤ e.began + 1 → e.live ≡ true → t.committing ≡ false → Result q n size a (Begin ticket ∷ Sync_cache_device ∷ Sync_origin_device ∷ Put_root ∷ Sync_metadata ∷ End_running ∷ []) Finished false c t e Done
 leading q n size a ticket c t e g k l idle = record {
   run = ((l, sym g.agrees.root_written ∙ g.idle idle), tt);
   mine = (idle, tt);
@@ -61,7 +61,7 @@ leading q n size a ticket c t e g k l idle = record {
 }
 
 -- with a ticket: any commit of its number or a later one began after this flush did
-asking : (q : Option Order) (n size a k : ℕ) (c : Content) (s : Shared) (d : Volume) → d.ticket a ≤ k → d.ticket a ≤ d.began + 1 → d.live ≡ true → Safe n size a (flushing q (Begin (Some k) ∷ Sync_cache_device ∷ Sync_origin_device ∷ Put_root ∷ Sync_metadata ∷ End_running ∷ []) Finished false c) s d
+asking : (q : Option Order) (n size a k : ℕ) (c : ℕ → Content) (s : Shared) (d : Volume) → d.ticket a ≤ k → d.ticket a ≤ d.began + 1 → d.live ≡ true → Safe n size a (flushing q (Begin (Some k) ∷ Sync_cache_device ∷ Sync_origin_device ∷ Put_root ∷ Sync_metadata ∷ End_running ∷ []) Finished false c) s d
 asking q zero size a k c s d i j l = tt
 asking q (suc n) size a k c s d i j l = λ t e got o g v r.
     gives_begin t (Some k) (λ w. Result q n size a (Begin (Some k) ∷ Sync_cache_device ∷ Sync_origin_device ∷ Put_root ∷ Sync_metadata ∷ End_running ∷ []) Finished false c t e w)
@@ -73,7 +73,7 @@ asking q (suc n) size a k c s d i j l = λ t e got o g v r.
     (quietly size a (λ y u f. Safe n size a y u f) _ _ (Begin (Some k)) Lost t e g refl tt (plain q a (Begin (Some k)) Lost e e refl tt) (given_up q n size a Busy false c t e (λ f. absurd (cc))))
     got v
 
-beginning : (q : Option Order) (n size a : ℕ) (c : Content) (s : Shared) (d : Volume) → d.ticket a ≤ d.began + 1 → d.live ≡ true → Safe n size a (flushing q (Begin None ∷ Sync_cache_device ∷ Sync_origin_device ∷ Put_root ∷ Sync_metadata ∷ End_running ∷ []) Finished false c) s d
+beginning : (q : Option Order) (n size a : ℕ) (c : ℕ → Content) (s : Shared) (d : Volume) → d.ticket a ≤ d.began + 1 → d.live ≡ true → Safe n size a (flushing q (Begin None ∷ Sync_cache_device ∷ Sync_origin_device ∷ Put_root ∷ Sync_metadata ∷ End_running ∷ []) Finished false c) s d
 beginning q zero size a c s d k l = tt
 beginning q (suc n) size a c s d k l = λ t e got o g v r.
     gives_begin t None (λ w. Result q n size a (Begin None ∷ Sync_cache_device ∷ Sync_origin_device ∷ Put_root ∷ Sync_metadata ∷ End_running ∷ []) Finished false c t e w)
@@ -86,12 +86,12 @@ beginning q (suc n) size a c s d k l = λ t e got o g v r.
     (quietly size a (λ y u f. Safe n size a y u f) _ _ (Begin None) Lost t e g refl tt (plain q a (Begin None) Lost e e refl tt) (given_up q n size a Busy false c t e (λ f. absurd (cc))))
     got v
 
-pub flushing_safe : (q : Option Order) (n size a : ℕ) (c : Content) (s : Shared) (d : Volume) → d.ticket a ≤ d.began + 1 → Safe n size a (flushing q (Look_fail ∷ Begin None ∷ Sync_cache_device ∷ Sync_origin_device ∷ Put_root ∷ Sync_metadata ∷ End_running ∷ []) Finished false c) s d
+pub flushing_safe : (q : Option Order) (n size a : ℕ) (c : ℕ → Content) (s : Shared) (d : Volume) → d.ticket a ≤ d.began + 1 → Safe n size a (flushing q (Look_fail ∷ Begin None ∷ Sync_cache_device ∷ Sync_origin_device ∷ Put_root ∷ Sync_metadata ∷ End_running ∷ []) Finished false c) s d
 flushing_safe q zero size a c s d k = tt
 flushing_safe q (suc n) size a c s d k = λ t e got o g v r.
     let steps = Look_fail ∷ Begin None ∷ Sync_cache_device ∷ Sync_origin_device ∷ Put_root ∷ Sync_metadata ∷ End_running ∷ [] in
     gives_flag t (λ w. Receives (flushing q steps Finished false c) (Flushing q) Look_fail w t e → Result q n size a steps Finished false c t e w)
-    (λ f h. quietly size a (λ y u f. Safe n size a y u f) _ _ Look_fail (Flag f) t e g tt tt (plain q a Look_fail (Flag f) e e refl tt) (on f t e (omega (arith, k, o.ticket, o.began)) h)) got v r
+    (λ f is h. quietly size a (λ y u f. Safe n size a y u f) _ _ Look_fail (Flag f) t e g tt tt (plain q a Look_fail (Flag f) e e refl tt) (on f t e (omega (arith, k, o.ticket, o.began)) h)) got v r
   where
     on : (f : Bool) (t : Shared) (e : Volume) → e.ticket a ≤ e.began + 1 → Receives (flushing q (Look_fail ∷ Begin None ∷ Sync_cache_device ∷ Sync_origin_device ∷ Put_root ∷ Sync_metadata ∷ End_running ∷ []) Finished false c) (Flushing q) Look_fail (Flag f) t e →
         Safe n size a (actor_after (flushing q (Look_fail ∷ Begin None ∷ Sync_cache_device ∷ Sync_origin_device ∷ Put_root ∷ Sync_metadata ∷ End_running ∷ []) Finished false c) (script_of (Flushing q) (Look_fail ∷ Begin None ∷ Sync_cache_device ∷ Sync_origin_device ∷ Put_root ∷ Sync_metadata ∷ End_running ∷ []) Finished) Look_fail (Flag f)) t e

@@ -4,53 +4,41 @@ use Rattle.wb_disk.specs.Device.{Content}
 use Rattle.wb_contents.specs.Volume.{Volume}
 use Rattle.wb_types.specs.declared.mode.Mode.{Mode}
 use Rattle.wb_contents.specs.Acts.{after_all as after_acts}
-use Rattle.wb_link.specs.Tables.{Order, Job, Seal, Answer, Finished, Want, Look_fail, Share, Own, Look_seal, Set_seal, Leave, Disown, Set_failed, Set_suspended, Break_commits, Read_at, Write_at, Begin, Begin_clean, Sync_cache_device, Sync_origin_device, Put_root, Sync_metadata, End_running, Make_room, Map_to, Unmap_from, Unmap_plain, Give_up, End, Choice, Got, Done, Lost, Flag, Seen, Gave, Ticket, Served, Broken, Short, Fault, Script, first_of_steps}
-use Rattle.wb_link.specs.World.{Serves, Shared, Held, Nothing, Actor, actor_after, newest_at, Gives, effect}
+use Rattle.wb_link.specs.Tables.{Order, Job, Seal, Answer, Finished, Want, Look_fail, Look_seal, Read_all, Begin, Begin_clean, Got, Done, Lost, Flag, Seen, Gave, Ticket, Served, Broken, Short, Fault, Script, first_of_steps}
+use Rattle.wb_link.specs.World.{Serves, Shared, Held, Nothing, Actor, actor_after, newest_at, AreAlike, IsDone, MayFail, MayLose, MayLack, Gives, effect}
 use Rattle.wb_link.proofs.Link.{Good, Others, MayEnd, Ready, Owes, Right, Goes, Safe, acts_of}
 
-pub gives_flag : (s : Shared) (P : Got → Type 0) → ((f : Bool) → P (Flag f)) → (got : Got) → Gives s Look_fail got → P got
-gives_flag s P p (Flag f) g = p f
+pub gives_done : (P : Got → Type 0) → P Done → (got : Got) → IsDone got → P got
+gives_done P p Done g = p
+gives_done P p got g = absurd g
+
+pub gives_fault : (P : Got → Type 0) → P Done → ((lands : ℕ → ℕ → Bool) → P (Fault lands)) → (got : Got) → MayFail got → P got
+gives_fault P p q Done g = p
+gives_fault P p q (Fault lands) g = q lands
+gives_fault P p q got g = absurd g
+
+pub gives_lost : (P : Got → Type 0) → P Done → P Lost → (got : Got) → MayLose got → P got
+gives_lost P p q Done g = p
+gives_lost P p q Lost g = q
+gives_lost P p q got g = absurd g
+
+pub gives_short : (P : Got → Type 0) → P Done → P Short → (got : Got) → MayLack got → P got
+gives_short P p q Done g = p
+gives_short P p q Short g = q
+gives_short P p q got g = absurd g
+
+pub gives_flag : (s : Shared) (P : Got → Type 0) → ((f : Bool) → f ≡ s.fail → P (Flag f)) → (got : Got) → Gives s Look_fail got → P got
+gives_flag s P p (Flag f) g = p f g
 gives_flag s P p got g = absurd g
-
-pub gives_share : (s : Shared) (b : ℕ) (P : Got → Type 0) → P Done → P Lost → (got : Got) → Gives s (Share b) got → P got
-gives_share s b P p q Done g = p
-gives_share s b P p q Lost g = q
-gives_share s b P p q got g = absurd g
-
-pub gives_own : (s : Shared) (b : ℕ) (P : Got → Type 0) → P Done → P Lost → (got : Got) → Gives s (Own b) got → P got
-gives_own s b P p q Done g = p
-gives_own s b P p q Lost g = q
-gives_own s b P p q got g = absurd g
 
 pub gives_seal : (s : Shared) (b : ℕ) (P : Got → Type 0) → ((seal : Seal) → seal ≡ s.seals b → P (Seen seal)) → (got : Got) → Gives s (Look_seal b) got → P got
 gives_seal s b P p (Seen seal) g = p seal g
 gives_seal s b P p got g = absurd g
 
-pub gives_set : (s : Shared) (b : ℕ) (seal : Seal) (P : Got → Type 0) → P Done → (got : Got) → Gives s (Set_seal b seal) got → P got
-gives_set s b seal P p Done g = p
-gives_set s b seal P p got g = absurd g
-
-pub gives_leave : (s : Shared) (b : ℕ) (P : Got → Type 0) → P Done → (got : Got) → Gives s (Leave b) got → P got
-gives_leave s b P p Done g = p
-gives_leave s b P p got g = absurd g
-
-pub gives_disown : (s : Shared) (b : ℕ) (P : Got → Type 0) → P Done → (got : Got) → Gives s (Disown b) got → P got
-gives_disown s b P p Done g = p
-gives_disown s b P p got g = absurd g
-
-pub gives_failed : (s : Shared) (P : Got → Type 0) → P Done → (got : Got) → Gives s Set_failed got → P got
-gives_failed s P p Done g = p
-gives_failed s P p got g = absurd g
-
-pub gives_read : (s : Shared) (location : Option ℕ) (b o : ℕ) (P : Got → Type 0) → ((c : Content) → c ≡ newest_at s location b o → P (Gave c)) → ((choice : Choice) → P (Fault choice)) → (got : Got) → Gives s (Read_at location b o) got → P got
-gives_read s location b o P p q (Gave c) g = p c g
-gives_read s location b o P p q (Fault choice) g = q choice
-gives_read s location b o P p q got g = absurd g
-
-pub gives_write : (s : Shared) (location : Option ℕ) (b o : ℕ) (P : Got → Type 0) → P Done → ((choice : Choice) → P (Fault choice)) → (got : Got) → Gives s (Write_at location b o) got → P got
-gives_write s location b o P p q Done g = p
-gives_write s location b o P p q (Fault choice) g = q choice
-gives_write s location b o P p q got g = absurd g
+pub gives_read : (s : Shared) (location : Option ℕ) (b : ℕ) (os : List ℕ) (P : Got → Type 0) → ((contents : ℕ → Content) → AreAlike os contents (newest_at s location b) → P (Gave contents)) → ((lands : ℕ → ℕ → Bool) → P (Fault lands)) → (got : Got) → Gives s (Read_all location b os) got → P got
+gives_read s location b os P p q (Gave contents) g = p contents g
+gives_read s location b os P p q (Fault lands) g = q lands
+gives_read s location b os P p q got g = absurd g
 
 pub gives_begin : (s : Shared) (ticket : Option ℕ) (P : Got → Type 0) → (s.committing ≡ false → P Done) → ((k : ℕ) → ticket ≡ None → k ≡ s.began + 1 → P (Ticket k)) → (Serves s ticket → P Served) → P Broken → P Short → P Lost → (got : Got) → Gives s (Begin ticket) got → P got
 gives_begin s ticket P p q r z y x Done g = p g.0
@@ -67,65 +55,8 @@ gives_suspend s P p q r Lost g = q
 gives_suspend s P p q r Short g = r
 gives_suspend s P p q r got g = absurd g
 
-pub gives_suspended : (s : Shared) (P : Got → Type 0) → P Done → (got : Got) → Gives s Set_suspended got → P got
-gives_suspended s P p Done g = p
-gives_suspended s P p got g = absurd g
-
-pub gives_break : (s : Shared) (P : Got → Type 0) → P Done → (got : Got) → Gives s Break_commits got → P got
-gives_break s P p Done g = p
-gives_break s P p got g = absurd g
-
-pub gives_cached : (s : Shared) (P : Got → Type 0) → P Done → ((choice : Choice) → P (Fault choice)) → (got : Got) → Gives s Sync_cache_device got → P got
-gives_cached s P p q Done g = p
-gives_cached s P p q (Fault choice) g = q choice
-gives_cached s P p q got g = absurd g
-
-pub gives_based : (s : Shared) (P : Got → Type 0) → P Done → ((choice : Choice) → P (Fault choice)) → (got : Got) → Gives s Sync_origin_device got → P got
-gives_based s P p q Done g = p
-gives_based s P p q (Fault choice) g = q choice
-gives_based s P p q got g = absurd g
-
-pub gives_root : (s : Shared) (P : Got → Type 0) → P Done → ((choice : Choice) → P (Fault choice)) → (got : Got) → Gives s Put_root got → P got
-gives_root s P p q Done g = p
-gives_root s P p q (Fault choice) g = q choice
-gives_root s P p q got g = absurd g
-
-pub gives_meta : (s : Shared) (P : Got → Type 0) → P Done → ((choice : Choice) → P (Fault choice)) → (got : Got) → Gives s Sync_metadata got → P got
-gives_meta s P p q Done g = p
-gives_meta s P p q (Fault choice) g = q choice
-gives_meta s P p q got g = absurd g
-
-pub gives_running : (s : Shared) (P : Got → Type 0) → P Done → (got : Got) → Gives s End_running got → P got
-gives_running s P p Done g = p
-gives_running s P p got g = absurd g
-
-pub gives_room : (s : Shared) (P : Got → Type 0) → P Done → P Short → (got : Got) → Gives s Make_room got → P got
-gives_room s P p q Done g = p
-gives_room s P p q Short g = q
-gives_room s P p q got g = absurd g
-
-pub gives_map : (s : Shared) (order : Order) (P : Got → Type 0) → P Done → (got : Got) → Gives s (Map_to order) got → P got
-gives_map s order P p Done g = p
-gives_map s order P p got g = absurd g
-
-pub gives_unmap : (s : Shared) (order : Order) (P : Got → Type 0) → P Done → (got : Got) → Gives s (Unmap_from order) got → P got
-gives_unmap s order P p Done g = p
-gives_unmap s order P p got g = absurd g
-
-pub gives_drop : (s : Shared) (b k : ℕ) (P : Got → Type 0) → P Done → (got : Got) → Gives s (Unmap_plain b k) got → P got
-gives_drop s b k P p Done g = p
-gives_drop s b k P p got g = absurd g
-
-pub gives_up : (s : Shared) (order : Order) (P : Got → Type 0) → P Done → (got : Got) → Gives s (Give_up order) got → P got
-gives_up s order P p Done g = p
-gives_up s order P p got g = absurd g
-
-pub gives_end : (s : Shared) (answer : Answer) (P : Got → Type 0) → P Done → (got : Got) → Gives s (End answer) got → P got
-gives_end s answer P p Done g = p
-gives_end s answer P p got g = absurd g
-
 -- an actor at work
-abbrev pub at_work : Job → List Want → Answer → Held → Option Order → Bool → Content → Actor
+abbrev pub at_work : Job → List Want → Answer → Held → Option Order → Bool → (ℕ → Content) → Actor
 at_work job steps answer held order leads buffer = record { task = Some (record { job = job; steps = steps; answer = answer }); held = held; order = order; leads = leads; buffer = buffer }
 
 abbrev pub script_of : Job → List Want → Answer → Script
@@ -137,13 +68,13 @@ pub quietly : (size a : ℕ) (rest : Actor → Shared → Volume → Type 0) (x 
 quietly size a rest x script w got t e g ready owes right left = record { run = tt; mine = tt; agrees = g.agrees; ready = ready; owes = owes; right = right; left = left }
 
 -- what comes of a step of an actor at work, with this result
-abbrev pub Comes : ℕ → ℕ → ℕ → Job → List Want → Answer → Held → Option Order → Bool → Content → Shared → Volume → Got → Type 0
+abbrev pub Comes : ℕ → ℕ → ℕ → Job → List Want → Answer → Held → Option Order → Bool → (ℕ → Content) → Shared → Volume → Got → Type 0
 Comes n size a job steps answer held order leads buffer t e got =
     Goes size a (λ y u f. Safe n size a y u f) (at_work job steps answer held order leads buffer) (script_of job steps answer) (first_of_steps steps answer) got t (effect t job buffer (first_of_steps steps answer) got) e
     (after_acts e (acts_of t.mapping a job buffer (first_of_steps steps answer) got)) (acts_of t.mapping a job buffer (first_of_steps steps answer) got)
 
 -- nothing is left of a task that is answered
-pub resting_safe : (n size a : ℕ) (held : Held) (order : Option Order) (leads : Bool) (c : Content) (s : Shared) (d : Volume) → Safe n size a (record { task = None; held = held; order = order; leads = leads; buffer = c }) s d
+pub resting_safe : (n size a : ℕ) (held : Held) (order : Option Order) (leads : Bool) (c : ℕ → Content) (s : Shared) (d : Volume) → Safe n size a (record { task = None; held = held; order = order; leads = leads; buffer = c }) s d
 resting_safe zero size a held order leads c s d = tt
 resting_safe (suc n) size a held order leads c s d = tt
 
@@ -161,7 +92,3 @@ may_end_on a x s t d e answer held o h = elim h [ inl m ↦ inl m | inr f ↦ in
 pub holds_nothing : (answer : Answer) (s : Shared) → MayEnd answer Nothing s
 holds_nothing Finished s = refl
 holds_nothing answer s = inl refl
-
-pub gives_flag_is : (s : Shared) (P : Got → Type 0) → ((f : Bool) → f ≡ s.fail → P (Flag f)) → (got : Got) → Gives s Look_fail got → P got
-gives_flag_is s P p (Flag f) g = p f g
-gives_flag_is s P p got g = absurd g

@@ -11,9 +11,10 @@ pub mod Steps
 pub mod Givings
 pub mod Calm
 pub mod Committing
+pub mod Sweeping
 pub mod Migrating
 pub mod Aside
-pub mod Unmapped
+pub mod Moved
 pub mod Reading
 pub mod Writing
 pub mod Flushing

@@ -1,6 +1,6 @@
 -- What ties the world to the contents machine: which acts each step is, what is known between any two steps, and
 -- when what is left of a task is safe whatever the other actors do meanwhile.
-use Rattle.std.proofs.Common.{◌≡◌, ◌≢◌, ◌≤◌, ◌⊎◌, ℕ, zero, suc, Bool, true, false, List, [], ◌∷◌, Option, Some, None, length, slice_get}
+use Rattle.std.proofs.Common.{◌≡◌, ◌≢◌, ◌≤◌, ◌⊎◌, ◌++◌, ℕ, zero, suc, Bool, true, false, List, [], ◌∷◌, Option, Some, None, length, slice_get}
 use Rattle.wb_disk.specs.Device.{Content, newest, only}
 use Rattle.wb_contents.specs.Volume.{Locations, Volume, Whole}
 use Rattle.wb_types.specs.declared.mode.Mode.{Mode}
@@ -8,17 +8,23 @@ use Rattle.wb_types.specs.declared.mode.Mode.TheVariants.{Passthrough}
 use Rattle.wb_contents.specs.Acts.{Act, Write, Write_origin, Write_cache, Fail_write, Finish, Fill_cache, Copy_back, Map, Unmap, Make_dirty, Make_clean, Begin_commit, Begin_suspend, Sync_cache, Sync_origin, Fail_cache_sync, Fail_origin_sync, Write_root, End_commit, Begin_flush, End_flush, after_all as after_acts}
 use Rattle.wb_contents.specs.Conditions.{IsUnnamed, IsRun as IsActs}
 use Rattle.wb_contents.proofs.Run.{KeepsAll}
-use Rattle.wb_link.specs.Tables.{Order, Job, Reading, Writing, Writing_through, Flushing, Suspending, Promoting, Returning, Invalidating, Seal, Answer, Finished, Want, Look_fail, Share, Own, Set_seal, Leave, Disown, Read_at, Write_at, Begin, Begin_clean, Sync_cache_device, Sync_origin_device, Put_root, End_running, Map_to, Unmap_from, Unmap_plain, Give_up, End, Got, Done, Flag, Gave, Fault, Script, want}
-use Rattle.wb_link.specs.World.{Block, Free, Mapped, Reserved, Quarantined, Retained, Shared, Held, Nothing, Shares, Owns, Actor, World, effect, actor_after, Gives, Apart, NextIsUnmapped, is_alone, job_alone, drops}
+use Rattle.wb_link.specs.Tables.{Order, Job, Reading, Writing, Writing_through, Flushing, Suspending, Promoting, Returning, Invalidating, Seal, Answer, Finished, Want, Look_fail, Share, Own, Set_seal, Leave, Disown, Read_all, Write_all, Begin, Begin_clean, Sync_cache_device, Sync_origin_device, Put_root, End_running, Map_to, Unmap_from, Unmap_plain, Give_up, End, Got, Done, Flag, Gave, Fault, Script, want}
+use Rattle.wb_link.specs.World.{AreAlike, Block, Free, Mapped, Reserved, Quarantined, Retained, Shared, Held, Nothing, Shares, Owns, Actor, World, effect, actor_after, Gives, Apart, NextIsUnmapped, is_alone, job_alone, drops}
 use Rattle.wb_link.specs.Clerk.{histories_after}
 use Rattle.wb_link.proofs.Views.{BlockView, block_view, commit_view, Holds}
 use Rattle.wb_link.proofs.Acts.{Mine}
 
 -- The acts of a step, task by task.
 
-abbrev pub landed_write : Bool → (b o : ℕ) → Content → List Act
-landed_write true b o c = Write b o c ∷ []
-landed_write false b o c = Fail_write b o c ∷ []
+-- of an extent's sectors, one after the other
+abbrev pub each_act : (ℕ → List Act) → List ℕ → List Act
+each_act acts [] = []
+each_act acts (o ∷ os) = acts o ++ each_act acts os
+
+-- a write that lands, or is lost
+abbrev pub landed_or : Bool → Act → (b o : ℕ) → Content → List Act
+landed_or true act b o c = act ∷ []
+landed_or false act b o c = Fail_write b o c ∷ []
 
 abbrev pub if_so : Bool → List Act → List Act
 if_so true acts = acts
@@ -27,53 +33,52 @@ if_so false acts = []
 abbrev pub write_acts : Content → Want → Got → List Act
 write_acts c (Set_seal b seal) got = if_so seal.dirty (Make_dirty b ∷ [])
 write_acts c (Unmap_plain b k) got = Unmap b ∷ []
-write_acts c (Write_at location b o) Done = Write b o c ∷ Finish b o ∷ []
-write_acts c (Write_at location b o) (Fault choice) = landed_write choice.landed b o c
+write_acts c (Write_all location b os) Done = each_act (λ o. Write b o c ∷ Finish b o ∷ []) os
+write_acts c (Write_all location b os) (Fault lands) = each_act (λ o. landed_or (lands b o) (Write b o c) b o c) os
 write_acts c w got = []
 
 -- by write-through: where it is mapped, on the origin first
-abbrev pub landed_through : Bool → (b o : ℕ) → Content → List Act
-landed_through true b o c = Write_origin b o c ∷ []
-landed_through false b o c = Fail_write b o c ∷ []
-
-abbrev pub origin_acts : Option ℕ → (b o : ℕ) → Content → Got → List Act
-origin_acts None b o c Done = Write b o c ∷ Finish b o ∷ []
-origin_acts None b o c (Fault choice) = landed_write choice.landed b o c
-origin_acts (Some k) b o c Done = Write_origin b o c ∷ []
-origin_acts (Some k) b o c (Fault choice) = landed_through choice.landed b o c
-origin_acts location b o c got = []
+abbrev pub origin_acts : Option ℕ → (b : ℕ) → List ℕ → Content → Got → List Act
+origin_acts None b os c got = write_acts c (Write_all None b os) got
+origin_acts (Some k) b os c Done = each_act (λ o. Write_origin b o c ∷ []) os
+origin_acts (Some k) b os c (Fault lands) = each_act (λ o. landed_or (lands b o) (Write_origin b o c) b o c) os
+origin_acts location b os c got = []
 
 abbrev pub write_through_acts : Option ℕ → Content → Want → Got → List Act
-write_through_acts location c (Write_at None b o) got = origin_acts location b o c got
-write_through_acts location c (Write_at (Some k) b o) Done = Write_cache b o ∷ Finish b o ∷ []
-write_through_acts location c (Write_at (Some k) b o) (Fault choice) = if_so choice.landed (Write_cache b o ∷ [])
+write_through_acts location c (Write_all None b os) got = origin_acts location b os c got
+write_through_acts location c (Write_all (Some k) b os) Done = each_act (λ o. Write_cache b o ∷ Finish b o ∷ []) os
+write_through_acts location c (Write_all (Some k) b os) (Fault lands) = each_act (λ o. if_so (lands b o) (Write_cache b o ∷ [])) os
 write_through_acts location c w got = []
 
 abbrev pub flush_acts : ℕ → Want → Got → List Act
 flush_acts a (Begin ticket) Done = Begin_commit ∷ []
 flush_acts a Begin_clean Done = Begin_suspend ∷ []
 flush_acts a Sync_cache_device Done = Sync_cache ∷ []
-flush_acts a Sync_cache_device (Fault choice) = Fail_cache_sync choice.settled ∷ []
+flush_acts a Sync_cache_device (Fault lands) = Fail_cache_sync lands ∷ []
 flush_acts a Sync_origin_device Done = Sync_origin ∷ []
-flush_acts a Sync_origin_device (Fault choice) = Fail_origin_sync choice.settled ∷ []
+flush_acts a Sync_origin_device (Fault lands) = Fail_origin_sync lands ∷ []
 flush_acts a Put_root got = Write_root ∷ []
 flush_acts a End_running got = End_commit ∷ []
 flush_acts a (End Finished) got = End_flush a ∷ []
 flush_acts a w got = []
 
-abbrev pub promote_acts : Order → Content → Want → Got → List Act
-promote_acts order c (Write_at location b o) Done = Fill_cache order.cache o c ∷ []
-promote_acts order c (Write_at location b o) (Fault choice) = if_so choice.landed (Fill_cache order.cache o c ∷ [])
-promote_acts order c (Map_to o) got = Map order.block order.cache ∷ []
-promote_acts order c w got = []
+-- of a copy, a sector of which is such an act
+abbrev pub copy_acts : (ℕ → Act) → ℕ → List ℕ → Got → List Act
+copy_acts act b os Done = each_act (λ o. act o ∷ []) os
+copy_acts act b os (Fault lands) = each_act (λ o. if_so (lands b o) (act o ∷ [])) os
+copy_acts act b os got = []
+
+abbrev pub promote_acts : Order → (ℕ → Content) → Want → Got → List Act
+promote_acts order contents (Write_all location b os) got = copy_acts (λ o. Fill_cache order.cache o (contents o)) b os got
+promote_acts order contents (Map_to o) got = Map order.block order.cache ∷ []
+promote_acts order contents w got = []
 
 abbrev pub clean_acts : (leaves : Bool) → ℕ → List Act
 clean_acts true b = []
 clean_acts false b = Make_clean b ∷ []
 
 abbrev pub return_acts : (leaves : Bool) → Order → Want → Got → List Act
-return_acts leaves order (Write_at location b o) Done = Copy_back order.block o ∷ []
-return_acts leaves order (Write_at location b o) (Fault choice) = if_so choice.landed (Copy_back order.block o ∷ [])
+return_acts leaves order (Write_all location b os) got = copy_acts (λ o. Copy_back order.block o) b os got
 return_acts leaves order (Unmap_from o) got = Unmap order.block ∷ []
 return_acts leaves order (Set_seal b seal) got = clean_acts leaves order.block
 return_acts leaves order w got = []
@@ -82,7 +87,7 @@ abbrev pub drop_acts : Want → Got → List Act
 drop_acts (Unmap_plain b k) got = Unmap b ∷ []
 drop_acts w got = []
 
-abbrev pub acts_of : Locations → ℕ → Job → Content → Want → Got → List Act
+abbrev pub acts_of : Locations → ℕ → Job → (ℕ → Content) → Want → Got → List Act
 acts_of locations a (Reading past b os) buffer w got = []
 acts_of locations a (Writing past b os c) buffer w got = write_acts c w got
 acts_of locations a (Writing_through b os c) buffer w got = write_through_acts (locations b) c w got
@@ -176,7 +181,7 @@ abbrev pub Ready : Want → Actor → Shared → Type 0
 Ready (Share b) x s = x.held ≡ Nothing
 Ready (Own b) x s = x.held ≡ Nothing
 Ready (Set_seal b seal) x s = x.held ≡ Owns b
-Ready (Write_at location b o) x s = x.held ≡ Owns b
+Ready (Write_all location b os) x s = x.held ≡ Owns b
 Ready (Leave b) x s = x.held ≡ Shares b
 Ready (Disown b) x s = x.held ≡ Owns b
 Ready (Begin ticket) x s = x.leads ≡ false
@@ -205,7 +210,7 @@ Owes job w t e = Unit {0}
 -- What is promised of a step: what a read gives is the sector's last write; the histories are the clerk's, who sees
 -- the step alone; a flush that is answered done has covered what was finished when it began.
 abbrev pub ReadsRight : Job → Want → Got → Volume → Type 0
-ReadsRight (Reading past block os) (Read_at location b o) (Gave c) d = c ≡ newest (d.histories b o)
+ReadsRight (Reading past block extents) (Read_all location b os) (Gave contents) d = AreAlike os contents (λ o. newest (d.histories b o))
 ReadsRight job w got d = Unit {0}
 
 abbrev pub FlushesRight : ℕ → Job → Want → Volume → Volume → Type 0

@@ -1,12 +1,12 @@
 -- The clerk's notes against the contents machine: its histories are the machine's, what it takes as finished the
 -- machine does too, and so its floors.
-use Rattle.std.proofs.Common.{◌≡◌, ◌≤◌, ◌⊎◌, inl, inr, ℕ, Bool, true, false, List, [], ◌∷◌, None, refl, arith, length, length-append, max}
+use Rattle.std.proofs.Common.{◌≡◌, ◌≤◌, ◌⊎◌, ◌+◌, ◌∙◌, sym, ap, inl, inr, ℕ, Bool, true, false, List, [], ◌∷◌, None, refl, arith, length, length-append, max}
 use Rattle.wb_disk.specs.Device.{Content, History, added}
 use Rattle.wb_contents.specs.Volume.{Volume, changed_at}
 use Rattle.wb_contents.proofs.Sectors.{here_is, elsewhere_is, by_sector}
-use Rattle.wb_link.specs.Tables.{Job, Writing, Writing_through, Flushing, Suspending, Finished, Want, Write_at, End, Got}
+use Rattle.wb_link.specs.Tables.{Job, Writing, Writing_through, Flushing, Suspending, Finished, Want, Write_all, End, Got}
 use Rattle.wb_link.specs.World.{Shared, Held, Nothing, Owns, Actor, held_after}
-use Rattle.wb_link.specs.Clerk.{Entry, entry, histories_after, entered_after, raised, finished_after, floors_after}
+use Rattle.wb_link.specs.Clerk.{Entry, entry, added_each, entered_each, histories_after, entered_after, raised, finished_after, floors_after}
 use Rattle.wb_link.proofs.Acts.{Grows}
 use Rattle.wb_link.proofs.Link.{Owes, Ready, FlushesRight}
 use Rattle.wb_link.proofs.Actors.{owns_or, disowned}
@@ -77,12 +77,27 @@ entered_own x s t d e job w got (y ∷ es) g r o i = (
   entered_own x s t d e job w got es g r o i.1,
 )
 
--- and a new entry is of a block that is owned
-new_entry : (histories g : ℕ → ℕ → History) (b o : ℕ) (c : Content) (held : Held) (e : Volume) → g ≡ histories → e.histories ≡ changed_at histories b o (added (histories b o) c) → held ≡ Owns b → Entered held e (entry g b o)
-new_entry histories g b o c held e same is own = inr (own, rw (same, is, here_is histories b o (added (histories b o) c), length-append (histories b o).later (c ∷ [])) (omega arith))
+-- histories to which an extent's sectors are added are no shorter then
+added_more : (g : ℕ → ℕ → History) (b : ℕ) (os : List ℕ) (c : Content) (b' o' : ℕ) → length (g b' o').later ≤ length (added_each g b os c b' o').later
+added_more g b [] c b' o' = omega arith
+added_more g b (o ∷ os) c b' o' = let more = added_more (changed_at g b o (added (g b o) c)) b os c b' o' in
+    let one : length (g b' o').later ≤ length (changed_at g b o (added (g b o) c) b' o').later = by_sector (λ i j. length (g i j).later ≤ length (changed_at g b o (added (g b o) c) i j).later) b o
+    (rw (here_is g b o (added (g b o) c), length-append (g b o).later (c ∷ [])) (omega arith)) (λ i j n. rw (elsewhere_is g b o i j (added (g b o) c) n) (omega arith)) b' o' in omega (arith, more, one)
+
+-- and new entries are of a block that is owned
+new_entries : (g : ℕ → ℕ → History) (b : ℕ) (os : List ℕ) (c : Content) (held : Held) (e : Volume) (es : List Entry) → e.histories ≡ added_each g b os c → held ≡ Owns b → AllEntered held e es → AllEntered held e (entered_each g b os c es)
+new_entries g b [] c held e es is own i = i
+new_entries g b (o ∷ os) c held e es is own i = new_entries (changed_at g b o (added (g b o) c)) b os c held e (entry g b o ∷ es) is own (
+  inr (
+    own,
+    rw is (let more = added_more (changed_at g b o (added (g b o) c)) b os c b o in
+        let here : length (changed_at g b o (added (g b o) c) b o).later ≡ length (g b o).later + 1 = ap (λ (h : History). length h.later) (here_is g b o (added (g b o) c)) ∙ length-append (g b o).later (c ∷ []) in omega (arith, more, here)),
+  ),
+  i,
+)
 
 pub entered_ok : (x : Actor) (s t : Shared) (d e : Volume) (job : Job) (w : Want) (got : Got) (histories : ℕ → ℕ → History) (es : List Entry) → histories ≡ d.histories → e.histories ≡ histories_after d.histories job w → Grows d e → Ready w x s → Owes job w t e → AllEntered x.held d es →
     AllEntered (held_after x.held w got) e (entered_after histories job w es)
-entered_ok x s t d e (Writing past block os c) (Write_at location b o) got histories es same is g r p i = (new_entry d.histories histories b o c x.held e same is r, entered_own x s t d e (Writing past block os c) (Write_at location b o) got es g r p i)
-entered_ok x s t d e (Writing_through block os c) (Write_at None b o) got histories es same is g r p i = (new_entry d.histories histories b o c x.held e same is r, entered_own x s t d e (Writing_through block os c) (Write_at None b o) got es g r p i)
+entered_ok x s t d e (Writing past block all c) (Write_all location b os) got histories es same is g r p i = new_entries histories b os c x.held e es (is ∙ ap (λ h. added_each h b os c) (sym same)) r (entered_own x s t d e (Writing past block all c) (Write_all location b os) got es g r p i)
+entered_ok x s t d e (Writing_through block all c) (Write_all None b os) got histories es same is g r p i = new_entries histories b os c x.held e es (is ∙ ap (λ h. added_each h b os c) (sym same)) r (entered_own x s t d e (Writing_through block all c) (Write_all None b os) got es g r p i)
 entered_ok x s t d e job w got histories es same is g r p i = entered_own x s t d e job w got es g r p i

@@ -31,7 +31,7 @@ fresh size many s d g rest live = record {
   resting = λ a x e. subst (λ (v : Actor). v.task ≡ None → (v.held ≡ Nothing) ⊎ (s.fail ≡ true)) (replicated many a resting x e) (λ f. inl refl);
   living = λ nobody f. live;
   aside = record { at = λ k p e. absurd (cc); stands = λ k p e. absurd (cc); placed = λ k p e. absurd (cc); apart = λ k p a x q e. absurd (cc); each = λ j k p q e. absurd (cc); modes = λ k p e. absurd (cc) };
-  safe = λ a x n e. subst (λ (v : Actor). Safe n size a v s d) (replicated many a resting x e) (resting_safe n size a Nothing None false [] s d);
+  safe = λ a x n e. subst (λ (v : Actor). Safe n size a v s d) (replicated many a resting x e) (resting_safe n size a Nothing None false (λ o. []) s d);
 }
 
 -- what of the machine is the world's where no target stands: no mapping, mode, seal or block of the desk
@@ -132,9 +132,9 @@ stop_empty size s d r i m = record {
 abbrev pub opening_acts : Mode → Stage → Outcome → List Act
 opening_acts mode Settling (Settled new_root) = Find_image new_root ∷ []
 opening_acts mode Caching Fine = Sync_cache ∷ []
-opening_acts mode Caching (Broke choice) = Fail_cache_sync choice.settled ∷ []
+opening_acts mode Caching (Broke lands) = Fail_cache_sync lands ∷ []
 opening_acts mode Basing Fine = Sync_origin ∷ []
-opening_acts mode Basing (Broke choice) = Fail_origin_sync choice.settled ∷ []
+opening_acts mode Basing (Broke lands) = Fail_origin_sync lands ∷ []
 opening_acts mode (Rooting i) Refused = []
 opening_acts mode (Rooting i) outcome = Write_opening_root ∷ []
 opening_acts mode (Answering i) (Shown blocks view) = Open mode ∷ []
@@ -234,17 +234,17 @@ opening_goes size w mode Settling (Settled n) d e r y = record {
   run = ((λ f. sym e.told.root_written ∙ y f), tt);
   lived = (settled_empty size w.shared d n y e, (record { live = refl; is_cached = λ f. absurd (cc); is_based = λ f. absurd (cc) }, refl));
 }
-opening_goes size w mode Settling (Broke choice) d e r y = record { run = tt; lived = e }
+opening_goes size w mode Settling (Broke lands) d e r y = record { run = tt; lived = e }
 opening_goes size w mode Caching Fine d e r y = record {
   run = (tt, tt);
   lived = (cached_empty size w.shared d e, (record { live = r.0.live; is_cached = λ f. refl; is_based = λ f. absurd (cc) }, r.1));
 }
-opening_goes size w mode Caching (Broke choice) d e r y = record { run = (tt, tt); lived = partly_cached_empty size w.shared d choice.settled e }
+opening_goes size w mode Caching (Broke lands) d e r y = record { run = (tt, tt); lived = partly_cached_empty size w.shared d lands e }
 opening_goes size w mode Basing Fine d e r y = record {
   run = (tt, tt);
   lived = (based_empty size w.shared d e, (record { live = r.0.live; is_cached = r.0.is_cached; is_based = λ f. refl }, r.1));
 }
-opening_goes size w mode Basing (Broke choice) d e r y = record { run = (tt, tt); lived = partly_based_empty size w.shared d choice.settled e }
+opening_goes size w mode Basing (Broke lands) d e r y = record { run = (tt, tt); lived = partly_based_empty size w.shared d lands e }
 opening_goes size w mode Looking (Learns i) d e r y = record {
   run = tt;
   lived = (
@@ -261,14 +261,14 @@ opening_goes size w mode Looking (Learns i) d e r y = record {
   );
 }
 opening_goes size w mode Looking Refused d e r y = record { run = tt; lived = e }
-opening_goes size w mode Looking (Broke choice) d e r y = record { run = tt; lived = e }
+opening_goes size w mode Looking (Broke lands) d e r y = record { run = tt; lived = e }
 opening_goes size w mode (Rooting i) Fine d e r y = record {
   run = ((r.0.live, r.1), tt);
   lived = (rooted_empty size w.shared d mode i e r.0.live r.1 r.2, (decided_rooted d r.0, knows_rooted mode i d r.2));
 }
-opening_goes size w mode (Rooting i) (Broke choice) d e r y = record { run = ((r.0.live, r.1), tt); lived = rooted_empty size w.shared d mode i e r.0.live r.1 r.2 }
+opening_goes size w mode (Rooting i) (Broke lands) d e r y = record { run = ((r.0.live, r.1), tt); lived = rooted_empty size w.shared d mode i e r.0.live r.1 r.2 }
 opening_goes size w mode (Rooting i) Refused d e r y = record { run = tt; lived = e }
 opening_goes size w mode (Renewing i) Fine d e r y = record { run = tt; lived = (e, r) }
-opening_goes size w mode (Renewing i) (Broke choice) d e r y = record { run = tt; lived = e }
+opening_goes size w mode (Renewing i) (Broke lands) d e r y = record { run = tt; lived = e }
 opening_goes size w mode (Answering i) (Shown blocks view) d e r y = record { run = (may_open mode i d r.0 r.1, tt); lived = opened_linked size w d mode i blocks e r.0 r.1 y.0 }
 opening_goes size w mode stage outcome d e r y = absurd y

@@ -5,9 +5,10 @@ use Rattle.wb_contents.specs.Volume.{Volume, changed}
 use Rattle.wb_contents.specs.Acts.{Act, after_all as after_acts}
 use Rattle.wb_contents.specs.Conditions.{IsRun as IsActs}
 use Rattle.wb_contents.proofs.Positions.{changed_same, changed_other}
-use Rattle.wb_link.specs.Tables.{Want, End, Got, Gave, Job, Flushing, Suspending, Script, want, after, table, Reading, Read_at}
+use Rattle.wb_link.specs.Tables.{Want, End, Got, Gave, Job, Flushing, Suspending, Script, want, after, table, Reading, Read_all}
 use Rattle.wb_link.specs.World.{Release, Held, effect, Actor, World, Record, Start, Step, actor_after, task_after, given, resting, after_record, May, MayStep, Again}
 use Rattle.wb_link.specs.Clerk.{Notes, note, histories_after, noted_step, entered_after, Entry, job_noted, GivesLatest, IsRight, opened}
+use Rattle.wb_link.proofs.Copying.{alike_on}
 use Rattle.wb_link.proofs.Link.{Linked, acts_of, start_acts, Ready, ReadsRight}
 use Rattle.wb_link.proofs.Lists.{replicated}
 use Rattle.wb_link.proofs.Steps.{in_set, stepped, step_is, step_linked, Facts, step_facts}
@@ -50,7 +51,7 @@ start_noted a d Suspending f = changed_same d.then_finished a d.finished
 start_noted a d job f = absurd (cc)
 
 reads_right : (histories : ℕ → ℕ → History) (job : Job) (w : Want) (got : Got) (d : Volume) → histories ≡ d.histories → ReadsRight job w got d → GivesLatest histories (Some job) w got
-reads_right histories (Reading past block os) (Read_at location b o) (Gave c) d e r = r ∙ sym (ap (λ f. newest (f b o)) e)
+reads_right histories (Reading past block extents) (Read_all location b os) (Gave contents) d e r = alike_on os contents (λ o. newest (d.histories b o)) (λ o. newest (histories b o)) (λ o. ap (λ f. newest (f b o)) e) r
 reads_right histories job w got d e r = tt
 
 started_noted : (size : ℕ) (w : World) (d : Volume) (n : Notes) (a : ℕ) (x : Actor) (job : Job) → Keeps a x w.shared.committing d (after_acts d (start_acts a job)) → Noted w.actors d n → slice_get w.actors a ≡ Some x → Noted (slice_set w.actors a (given x job)) (after_acts d (start_acts a job)) (note n (Start a job))

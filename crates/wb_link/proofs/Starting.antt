@@ -9,7 +9,7 @@ use Rattle.wb_contents.specs.Acts.{after_all as after_acts}
 use Rattle.wb_contents.specs.Conditions.{IsRun as IsActs}
 use Rattle.wb_contents.proofs.Positions.{changed_same, changed_other}
 use Rattle.wb_link.specs.Tables.{Order, Job, Reading, Writing, Writing_through, Flushing, Suspending, Promoting, Returning, Invalidating, Seal, Finished, Look_fail, acquire, Script}
-use Rattle.wb_link.specs.World.{IsFree, job_alone, Within, Covers, Block, Free, Mapped, Reserved, Retained, Shared, Nothing, Owns, Actor, World, Start, reserved, order_of, given, start_actor, Apart, MayStart, MayBegin, after_record, drops, job_drops, Again, again_actor, aside, taken, MayAgain, MayRepeat}
+use Rattle.wb_link.specs.World.{IsFree, job_alone, AllWithin, AllDistinct, Covers, Block, Free, Mapped, Reserved, Retained, Shared, Nothing, Owns, Actor, World, Start, reserved, order_of, given, start_actor, Apart, MayStart, MayBegin, after_record, drops, job_drops, Again, again_actor, aside, taken, MayAgain, MayRepeat}
 use Rattle.wb_link.proofs.Views.{block_view}
 use Rattle.wb_link.proofs.Acts.{Keeps}
 use Rattle.wb_link.proofs.Link.{Ordered, Turns, SetAside, Agrees, Placing, Good, Sound, AllSound, Rests, Safe, Disjoint, Unowned, Linked, AllMine, start_acts}
@@ -33,21 +33,21 @@ use Rattle.wb_link.proofs.Returning.{returning_safe}
 -- What a job's start has to give its task.
 abbrev Startable : ℕ → ℕ → Job → Shared → Volume → Type 0
 Startable size a (Reading past b os) t e = past ≡ true → e.mode ≡ Passthrough
-Startable size a (Writing past b os x) t e = Within size os × (e.mode ≡ mode_of past)
-Startable size a (Writing_through b os x) t e = Within size os × (e.mode ≡ Writethrough)
+Startable size a (Writing past b os x) t e = AllWithin size os × (e.mode ≡ mode_of past)
+Startable size a (Writing_through b os x) t e = AllWithin size os × AllDistinct os × (e.mode ≡ Writethrough)
 Startable size a (Invalidating b) t e = e.mode ≡ Passthrough
 Startable size a (Flushing q) t e = e.ticket a ≤ e.began + 1
 Startable size a Suspending t e = (e.ticket a ≤ e.began + 1) × (t.fail ≡ false → e.live ≡ true)
-Startable size a (Promoting p os) t e = Within size os × Covers size os × Granted p t e
-Startable size a (Returning leaves p os) t e = Within size os × Covers size os × (e.mapping p.block ≡ Some p.cache)
+Startable size a (Promoting p os) t e = AllWithin size os × Covers size os × Granted p t e
+Startable size a (Returning leaves p os) t e = AllWithin size os × Covers size os × (e.mapping p.block ≡ Some p.cache)
 
-abbrev beginner : Job → Content → Actor
+abbrev beginner : Job → (ℕ → Content) → Actor
 beginner job c = at_work job (Look_fail ∷ acquire job) Finished Nothing (order_of job) false c
 
-job_safe : (n size a : ℕ) (job : Job) (c : Content) (t : Shared) (e : Volume) → Startable size a job t e → Safe n size a (beginner job c) t e
+job_safe : (n size a : ℕ) (job : Job) (c : ℕ → Content) (t : Shared) (e : Volume) → Startable size a job t e → Safe n size a (beginner job c) t e
 job_safe n size a (Reading past b os) c t e k = reading_safe n size a past b os c t e k
 job_safe n size a (Writing past b os x) c t e k = writing_safe n size a past b os x c t e k.0 k.1
-job_safe n size a (Writing_through b os x) c t e k = writing_through_safe n size a b os x c t e k.0 k.1
+job_safe n size a (Writing_through b os x) c t e k = writing_through_safe n size a b os x c t e k.0 k.1 k.2
 job_safe n size a (Invalidating b) c t e k = invalidating_safe n size a b c t e k
 job_safe n size a (Flushing q) c t e k = flushing_safe q n size a c t e k
 job_safe n size a Suspending c t e k = suspending_safe n size a c t e k.0 k.1
@@ -98,7 +98,7 @@ reserves : (size : ℕ) (w : World) (d : Volume) (a : ℕ) (x : Actor) (job : Jo
 reserves size w d a x (Reading false b os) g l m = unmoved size a x _ w.shared d d g.agrees g.sound (λ f. absurd (cc)) (λ p e. absurd (cc)) (λ p e. absurd (cc))
 reserves size w d a x (Reading true b os) g l m = unmoved size a x _ w.shared d d g.agrees g.sound (λ f. sym g.agrees.mode ∙ m.1) (λ p e. absurd (cc)) (λ p e. absurd (cc))
 reserves size w d a x (Writing past b os c) g l m = unmoved size a x _ w.shared d d g.agrees g.sound (m.0, sym g.agrees.mode ∙ m.1) (λ p e. absurd (cc)) (λ p e. absurd (cc))
-reserves size w d a x (Writing_through b os c) g l m = unmoved size a x _ w.shared d d g.agrees g.sound (m.0, sym g.agrees.mode ∙ m.1) (λ p e. absurd (cc)) (λ p e. absurd (cc))
+reserves size w d a x (Writing_through b os c) g l m = unmoved size a x _ w.shared d d g.agrees g.sound (m.0, m.1, sym g.agrees.mode ∙ m.2) (λ p e. absurd (cc)) (λ p e. absurd (cc))
 reserves size w d a x (Invalidating b) g l m = unmoved size a x _ w.shared d d g.agrees g.sound (sym g.agrees.mode ∙ m) (λ p e. absurd (cc)) (λ p e. absurd (cc))
 reserves size w d a x (Flushing q) g l m = unmoved size a x _ w.shared d _ (asked_agrees w.shared d a g.agrees) g.sound (let e = changed_same d.ticket a (d.began + 1) in omega (arith, e)) (λ p e. absurd (cc)) (λ p e. absurd (cc))
 reserves size w d a x Suspending g l m = unmoved size a x _ w.shared d _ (asked_agrees w.shared d a g.agrees) g.sound (let e = changed_same d.ticket a (d.began + 1) in omega (arith, e), l) (λ p e. absurd (cc)) (λ p e. absurd (cc))

@@ -8,12 +8,12 @@ use Rattle.wb_link.specs.World.{Shared, Nothing, Actor, actor_after}
 use Rattle.wb_link.proofs.Link.{Others, Receives, Right, FlushesRight, Safe}
 use Rattle.wb_link.proofs.Agreeing.{suspend_agrees, flush_agrees, failed_agrees}
 use Rattle.wb_link.proofs.Committing.{refused_safe, caching}
-use Rattle.wb_link.proofs.Givings.{at_work, script_of, Comes, resting_safe, quietly, gives_flag_is, gives_suspend, gives_suspended, gives_end}
+use Rattle.wb_link.proofs.Givings.{at_work, script_of, Comes, resting_safe, quietly, gives_done, gives_flag, gives_suspend}
 
-abbrev suspending : List Want → Answer → Bool → Content → Actor
+abbrev suspending : List Want → Answer → Bool → (ℕ → Content) → Actor
 suspending steps answer leads c = at_work Suspending steps answer Nothing None leads c
 
-abbrev Result : ℕ → ℕ → ℕ → List Want → Answer → Bool → Content → Shared → Volume → Got → Type 0
+abbrev Result : ℕ → ℕ → ℕ → List Want → Answer → Bool → (ℕ → Content) → Shared → Volume → Got → Type 0
 Result n size a steps answer leads c t e got = Comes n size a Suspending steps answer Nothing None leads c t e got
 
 plain : (a : ℕ) (w : Want) (got : Got) (d e : Volume) → e.histories ≡ d.histories → FlushesRight a Suspending w d e → Right a Suspending w got d e
@@ -28,13 +28,13 @@ stood_on a x s t d e o (inl f) = inl (o.fail f)
 stood_on a x s t d e o (inr l) = inr (o.live ∙ l)
 
 -- answered otherwise than done
-given_up : (n size a : ℕ) (answer : Answer) (leads : Bool) (c : Content) (s : Shared) (d : Volume) → answer ≢ Finished → Stood s d → Safe n size a (suspending [] answer leads c) s d
+given_up : (n size a : ℕ) (answer : Answer) (leads : Bool) (c : ℕ → Content) (s : Shared) (d : Volume) → answer ≢ Finished → Stood s d → Safe n size a (suspending [] answer leads c) s d
 given_up n size a answer leads c s d other h = refused_safe n size a Suspending tt answer other None leads c s d (λ t e o. stood_on a (suspending [] answer leads c) s t d e o h)
 
 -- its commit has ended
-finishing : (n size a : ℕ) (c : Content) (s : Shared) (d : Volume) → d.ticket a ≤ d.ended → s.fail ≡ true → Safe n size a (suspending [] Finished false c) s d
+finishing : (n size a : ℕ) (c : ℕ → Content) (s : Shared) (d : Volume) → d.ticket a ≤ d.ended → s.fail ≡ true → Safe n size a (suspending [] Finished false c) s d
 finishing zero size a c s d k h = tt
-finishing (suc n) size a c s d k h = λ t e got o g v r. gives_end t Finished (λ w. Result n size a [] Finished false c t e w)
+finishing (suc n) size a c s d k h = λ t e got o g v r. gives_done (λ w. Result n size a [] Finished false c t e w)
     (record {
       run = (omega (arith, k, o.ticket, o.ended), tt);
       mine = (refl, tt);
@@ -47,13 +47,13 @@ finishing (suc n) size a c s d k h = λ t e got o g v r. gives_end t Finished (�
     got v
 
 -- the suspended bit is set
-marking : (n size a : ℕ) (c : Content) (s : Shared) (d : Volume) → d.ticket a ≤ d.ended → Safe n size a (suspending (Set_suspended ∷ []) Finished false c) s d
+marking : (n size a : ℕ) (c : ℕ → Content) (s : Shared) (d : Volume) → d.ticket a ≤ d.ended → Safe n size a (suspending (Set_suspended ∷ []) Finished false c) s d
 marking zero size a c s d k = tt
-marking (suc n) size a c s d k = λ t e got o g v r. gives_suspended t (λ w. Result n size a (Set_suspended ∷ []) Finished false c t e w)
+marking (suc n) size a c s d k = λ t e got o g v r. gives_done (λ w. Result n size a (Set_suspended ∷ []) Finished false c t e w)
     (record { run = tt; mine = tt; agrees = failed_agrees t e g.agrees; ready = tt; owes = tt; right = plain a Set_suspended Done e e refl tt; left = finishing n size a c (record t { fail = true }) e (omega (arith, k, o.ticket, o.ended)) refl })
     got v
 
-beginning : (n size a : ℕ) (c : Content) (s : Shared) (d : Volume) → d.ticket a ≤ d.began + 1 → d.live ≡ true → s.fail ≡ false → Safe n size a (suspending (Begin_clean ∷ Sync_cache_device ∷ Sync_origin_device ∷ Put_root ∷ Sync_metadata ∷ End_running ∷ Set_suspended ∷ []) Finished false c) s d
+beginning : (n size a : ℕ) (c : ℕ → Content) (s : Shared) (d : Volume) → d.ticket a ≤ d.began + 1 → d.live ≡ true → s.fail ≡ false → Safe n size a (suspending (Begin_clean ∷ Sync_cache_device ∷ Sync_origin_device ∷ Put_root ∷ Sync_metadata ∷ End_running ∷ Set_suspended ∷ []) Finished false c) s d
 beginning zero size a c s d k l f = tt
 beginning (suc n) size a c s d k l f = λ t e got o g v r.
     let steps = Begin_clean ∷ Sync_cache_device ∷ Sync_origin_device ∷ Put_root ∷ Sync_metadata ∷ End_running ∷ Set_suspended ∷ [] in
@@ -71,11 +71,11 @@ beginning (suc n) size a c s d k l f = λ t e got o g v r.
     (λ rest. quietly size a (λ y u f. Safe n size a y u f) _ _ Begin_clean Short t e g (refl, refl) tt (plain a Begin_clean Short e e refl tt) (given_up n size a Failed false c t e (λ f. absurd (cc)) (inr (o.live ∙ l))))
     got v r
 
-pub suspending_safe : (n size a : ℕ) (c : Content) (s : Shared) (d : Volume) → d.ticket a ≤ d.began + 1 → (s.fail ≡ false → d.live ≡ true) → Safe n size a (suspending (Look_fail ∷ Begin_clean ∷ Sync_cache_device ∷ Sync_origin_device ∷ Put_root ∷ Sync_metadata ∷ End_running ∷ Set_suspended ∷ []) Finished false c) s d
+pub suspending_safe : (n size a : ℕ) (c : ℕ → Content) (s : Shared) (d : Volume) → d.ticket a ≤ d.began + 1 → (s.fail ≡ false → d.live ≡ true) → Safe n size a (suspending (Look_fail ∷ Begin_clean ∷ Sync_cache_device ∷ Sync_origin_device ∷ Put_root ∷ Sync_metadata ∷ End_running ∷ Set_suspended ∷ []) Finished false c) s d
 suspending_safe zero size a c s d k l = tt
 suspending_safe (suc n) size a c s d k l = λ t e got o g v r.
     let steps = Look_fail ∷ Begin_clean ∷ Sync_cache_device ∷ Sync_origin_device ∷ Put_root ∷ Sync_metadata ∷ End_running ∷ Set_suspended ∷ [] in
-    gives_flag_is t (λ w. Result n size a steps Finished false c t e w)
+    gives_flag t (λ w. Result n size a steps Finished false c t e w)
     (λ f is. quietly size a (λ y u f. Safe n size a y u f) _ _ Look_fail (Flag f) t e g tt tt (plain a Look_fail (Flag f) e e refl tt)
     (on f t e is (omega (arith, k, o.ticket, o.began)) (λ h. o.live ∙ l (ap (λ (v : Shared). v.fail) (sym (o.alone refl).0) ∙ h)))) got v
   where

@@ -1,5 +1,5 @@
 -- The world is not empty: a run of one actor that writes, promotes, writes again, flushes and demotes.
-use Rattle.std.proofs.Common.{◌≡◌, ◌≢◌, ◌<◌, inl, inr, ℕ, zero, suc, Bool, true, false, cond, [], ◌∷◌, Option, Some, None, refl, sym, subst, ◌∙◌, arith, slice_get, Contains}
+use Rattle.std.proofs.Common.{◌≡◌, ◌≢◌, ◌<◌, inl, inr, ℕ, zero, suc, Bool, true, false, cond, [], ◌∷◌, Option, Some, None, refl, sym, subst, ◌∙◌, arith, slice_get}
 use Rattle.wb_link.specs.Examples.{order, one_actor, replacement, follower, replaced, settles, lives_of, reopening, one_clean, past_the_cache}
 use Rattle.wb_disk.specs.Device.{History, newest, added, only}
 use Rattle.wb_contents.specs.Volume.{changed, changed_at, at_location}
@@ -7,7 +7,7 @@ use Rattle.wb_contents.specs.Acts.{all_synced}
 use Rattle.wb_disk.proofs.Leaving.{newest_there}
 use Rattle.wb_link.specs.Openings.{Site, site, MayStop, Happens}
 use Rattle.wb_link.specs.Tables.{Order, Seal}
-use Rattle.wb_link.specs.World.{Shared, Actor, Nothing, Owns, Shares, Apart, IsRun, begins, is_alone}
+use Rattle.wb_link.specs.World.{Shared, Actor, Nothing, Owns, Shares, Apart, AreIn, IsRun, begins, is_alone}
 
 infixr 30 ◌▸◌
 -- one record, and then the rest of the run
@@ -27,8 +27,8 @@ free x n b y e = subst (λ (v : Actor). (v.held ≢ Owns 0) × (v.held ≢ Share
 ungiven : (x : Actor) → x.order ≡ None → (b : ℕ) (y : Actor) (o : Order) → slice_get (x ∷ []) b ≡ Some y → y.order ≡ Some o → Apart o order
 ungiven x n b y o e = subst (λ (v : Actor). v.order ≡ Some o → Apart o order) (only_one x y b e) (λ f. absurd (cc))
 
-covers : (o : ℕ) → o < 1 → Contains (0 ∷ []) o
-covers o l = (0, omega arith, omega arith)
+covers : (o : ℕ) → o < 1 → AreIn ((0 ∷ []) ∷ []) o
+covers o l = inl (0, omega arith, omega arith)
 
 pub one_actor_runs : IsRun 1 (begins 1 []) one_actor
 one_actor_runs =
@@ -43,7 +43,7 @@ one_actor_runs =
     (_, _, record { actor = refl; task = refl; asked = refl; gives = refl; wins = tt }) ▸
     (_, _, record { actor = refl; task = refl; asked = refl; gives = tt; wins = free _ refl }) ▸
     (_, _, record { actor = refl; task = refl; asked = refl; gives = refl; wins = tt }) ▸
-    (_, _, record { actor = refl; task = refl; asked = refl; gives = refl; wins = tt }) ▸
+    (_, _, record { actor = refl; task = refl; asked = refl; gives = (refl, tt); wins = tt }) ▸
     (_, _, record { actor = refl; task = refl; asked = refl; gives = tt; wins = tt }) ▸
     (_, _, record { actor = refl; task = refl; asked = refl; gives = tt; wins = tt }) ▸
     (_, _, record { actor = refl; task = refl; asked = refl; gives = tt; wins = tt }) ▸
@@ -71,7 +71,7 @@ one_actor_runs =
     (_, _, record { actor = refl; task = refl; asked = refl; gives = refl; wins = tt }) ▸
     (_, _, record { actor = refl; task = refl; asked = refl; gives = tt; wins = free _ refl }) ▸
     (_, _, record { actor = refl; task = refl; asked = refl; gives = refl; wins = tt }) ▸
-    (_, _, record { actor = refl; task = refl; asked = refl; gives = refl; wins = tt }) ▸
+    (_, _, record { actor = refl; task = refl; asked = refl; gives = (refl, tt); wins = tt }) ▸
     (_, _, record { actor = refl; task = refl; asked = refl; gives = tt; wins = tt }) ▸
     (_, _, record { actor = refl; task = refl; asked = refl; gives = tt; wins = tt }) ▸
     (_, _, record { actor = refl; task = refl; asked = refl; gives = tt; wins = tt }) ▸
@@ -114,7 +114,7 @@ three_actors_run =
     (_, _, record { actor = refl; task = refl; asked = refl; gives = refl; wins = tt }) ▸
     (_, _, record { actor = refl; task = refl; asked = refl; gives = tt; wins = free_of 0 _ _ _ refl refl refl }) ▸
     (_, _, record { actor = refl; task = refl; asked = refl; gives = refl; wins = tt }) ▸
-    (_, _, record { actor = refl; task = refl; asked = refl; gives = refl; wins = tt }) ▸
+    (_, _, record { actor = refl; task = refl; asked = refl; gives = (refl, tt); wins = tt }) ▸
     (_, _, record { actor = refl; task = refl; asked = refl; gives = tt; wins = tt }) ▸
     (_, _, record { actor = refl; task = refl; asked = refl; gives = tt; wins = tt }) ▸
     (_, _, record { actor = refl; task = refl; asked = refl; gives = tt; wins = tt }) ▸
@@ -157,7 +157,7 @@ three_actors_run =
     (_, _, record { actor = refl; task = refl; asked = refl; gives = refl; wins = tt }) ▸
     (_, _, record { actor = refl; task = refl; asked = refl; gives = tt; wins = free_of 1 _ _ _ refl refl refl }) ▸
     (_, _, record { actor = refl; task = refl; asked = refl; gives = refl; wins = tt }) ▸
-    (_, _, record { actor = refl; task = refl; asked = refl; gives = refl; wins = tt }) ▸
+    (_, _, record { actor = refl; task = refl; asked = refl; gives = (refl, tt); wins = tt }) ▸
     (_, _, record { actor = refl; task = refl; asked = refl; gives = tt; wins = tt }) ▸
     (_, _, record { actor = refl; task = refl; asked = refl; gives = tt; wins = tt }) ▸
     (_, _, record { actor = refl; task = refl; asked = refl; gives = tt; wins = tt }) ▸
@@ -241,4 +241,4 @@ one_view : (b o : ℕ) → [] ≡ newest (at_location (λ b o. only []) copied (
 one_view b o = either_view b o _
 
 pub past_the_cache_happens : Happens 1 (site 1 []) past_the_cache
-past_the_cache_happens = ((refl, (_, record { actor = refl; task = refl; free = inl (refl, refl); nobody_alone = nobody _ refl; may = ((omega arith, tt), covers, (ungiven _ refl, (λ k o e. absurd (cc))), (λ e. absurd (cc)), refl, refl, (λ b e. absurd (cc))) })), ((refl, (_, _, record { actor = refl; task = refl; asked = refl; gives = refl; wins = tt })), ((refl, (_, _, record { actor = refl; task = refl; asked = refl; gives = tt; wins = free _ refl })), ((refl, (_, _, record { actor = refl; task = refl; asked = refl; gives = refl; wins = tt })), ((refl, (_, _, record { actor = refl; task = refl; asked = refl; gives = refl; wins = tt })), ((refl, (_, _, record { actor = refl; task = refl; asked = refl; gives = tt; wins = tt })), ((refl, (_, _, record { actor = refl; task = refl; asked = refl; gives = tt; wins = tt })), ((refl, (_, _, record { actor = refl; task = refl; asked = refl; gives = tt; wins = tt })), ((refl, (_, _, record { actor = refl; task = refl; asked = refl; gives = tt; wins = tt })), ((refl, (_, _, record { actor = refl; task = refl; asked = refl; gives = tt; wins = tt })), ((refl, (_, _, record { actor = refl; task = refl; asked = refl; gives = tt; wins = tt })), ((refl, (_, record { actor = refl; task = refl; free = inl (refl, refl); nobody_alone = nobody _ refl; may = idle _ refl })), ((refl, (_, _, record { actor = refl; task = refl; asked = refl; gives = refl; wins = tt })), ((refl, (_, _, record { actor = refl; task = refl; asked = refl; gives = tt; wins = tt })), ((refl, (_, _, record { actor = refl; task = refl; asked = refl; gives = tt; wins = tt })), ((refl, (_, record { actor = refl; task = refl; free = inl (refl, refl); nobody_alone = nobody _ refl; may = idle _ refl })), ((refl, (_, _, record { actor = refl; task = refl; asked = refl; gives = refl; wins = tt })), ((refl, (_, _, record { actor = refl; task = refl; asked = refl; gives = refl; wins = tt })), ((refl, (_, _, record { actor = refl; task = refl; asked = refl; gives = tt; wins = tt })), ((refl, (_, _, record { actor = refl; task = refl; asked = refl; gives = tt; wins = tt })), ((refl, (_, _, record { actor = refl; task = refl; asked = refl; gives = tt; wins = tt })), ((refl, (_, _, record { actor = refl; task = refl; asked = refl; gives = tt; wins = tt })), ((refl, (_, _, record { actor = refl; task = refl; asked = refl; gives = tt; wins = tt })), ((refl, (_, _, record { actor = refl; task = refl; asked = refl; gives = tt; wins = tt })), ((refl, (_, _, record { actor = refl; task = refl; asked = refl; gives = tt; wins = tt })), (inr refl, ((_, _, refl, (λ e. absurd (cc))), ((_, _, refl, tt), ((_, _, refl, tt), ((_, _, refl, (refl, refl, one_is_clean)), ((_, _, refl, tt), (inl (λ e. absurd (cc)), ((_, _, refl, (λ e. absurd (cc))), ((_, _, refl, tt), ((_, _, refl, tt), ((_, _, refl, (refl, refl, one_is_clean)), ((_, _, refl, tt), ((_, _, refl, tt), ((_, _, refl, ((λ k. inl refl), one_view)), ((refl, (_, record { actor = refl; task = refl; free = inl (refl, refl); nobody_alone = nobody _ refl; may = ((omega arith, tt), refl) })), ((refl, (_, _, record { actor = refl; task = refl; asked = refl; gives = refl; wins = tt })), ((refl, (_, _, record { actor = refl; task = refl; asked = refl; gives = tt; wins = unowned _ refl })), ((refl, (_, _, record { actor = refl; task = refl; asked = refl; gives = refl; wins = tt })), ((refl, (_, _, record { actor = refl; task = refl; asked = refl; gives = refl; wins = tt })), ((refl, (_, _, record { actor = refl; task = refl; asked = refl; gives = tt; wins = tt })), ((refl, (_, _, record { actor = refl; task = refl; asked = refl; gives = tt; wins = tt })), ((refl, (_, record { actor = refl; task = refl; free = inl (refl, refl); nobody_alone = nobody _ refl; may = ((omega arith, tt), refl) })), ((refl, (_, _, record { actor = refl; task = refl; asked = refl; gives = refl; wins = tt })), ((refl, (_, _, record { actor = refl; task = refl; asked = refl; gives = tt; wins = free _ refl })), ((refl, (_, _, record { actor = refl; task = refl; asked = refl; gives = refl; wins = tt })), ((refl, (_, _, record { actor = refl; task = refl; asked = refl; gives = tt; wins = tt })), ((refl, (_, _, record { actor = refl; task = refl; asked = refl; gives = tt; wins = tt })), ((refl, (_, _, record { actor = refl; task = refl; asked = refl; gives = tt; wins = tt })), ((refl, (_, _, record { actor = refl; task = refl; asked = refl; gives = tt; wins = tt })), ((refl, (_, _, record { actor = refl; task = refl; asked = refl; gives = tt; wins = tt })), ((refl, (_, record { actor = refl; task = refl; free = inl (refl, refl); nobody_alone = nobody _ refl; may = ((omega arith, tt), refl) })), ((refl, (_, _, record { actor = refl; task = refl; asked = refl; gives = refl; wins = tt })), ((refl, (_, _, record { actor = refl; task = refl; asked = refl; gives = tt; wins = unowned _ refl })), ((refl, (_, _, record { actor = refl; task = refl; asked = refl; gives = refl; wins = tt })), ((refl, (_, _, record { actor = refl; task = refl; asked = refl; gives = refl; wins = tt })), ((refl, (_, _, record { actor = refl; task = refl; asked = refl; gives = tt; wins = tt })), ((refl, (_, _, record { actor = refl; task = refl; asked = refl; gives = tt; wins = tt })), tt))))))))))))))))))))))))))))))))))))))))))))))))))))))))))))))
+past_the_cache_happens = ((refl, (_, record { actor = refl; task = refl; free = inl (refl, refl); nobody_alone = nobody _ refl; may = ((omega arith, tt), covers, (ungiven _ refl, (λ k o e. absurd (cc))), (λ e. absurd (cc)), refl, refl, (λ b e. absurd (cc))) })), ((refl, (_, _, record { actor = refl; task = refl; asked = refl; gives = refl; wins = tt })), ((refl, (_, _, record { actor = refl; task = refl; asked = refl; gives = tt; wins = free _ refl })), ((refl, (_, _, record { actor = refl; task = refl; asked = refl; gives = refl; wins = tt })), ((refl, (_, _, record { actor = refl; task = refl; asked = refl; gives = (refl, tt); wins = tt })), ((refl, (_, _, record { actor = refl; task = refl; asked = refl; gives = tt; wins = tt })), ((refl, (_, _, record { actor = refl; task = refl; asked = refl; gives = tt; wins = tt })), ((refl, (_, _, record { actor = refl; task = refl; asked = refl; gives = tt; wins = tt })), ((refl, (_, _, record { actor = refl; task = refl; asked = refl; gives = tt; wins = tt })), ((refl, (_, _, record { actor = refl; task = refl; asked = refl; gives = tt; wins = tt })), ((refl, (_, _, record { actor = refl; task = refl; asked = refl; gives = tt; wins = tt })), ((refl, (_, record { actor = refl; task = refl; free = inl (refl, refl); nobody_alone = nobody _ refl; may = idle _ refl })), ((refl, (_, _, record { actor = refl; task = refl; asked = refl; gives = refl; wins = tt })), ((refl, (_, _, record { actor = refl; task = refl; asked = refl; gives = tt; wins = tt })), ((refl, (_, _, record { actor = refl; task = refl; asked = refl; gives = tt; wins = tt })), ((refl, (_, record { actor = refl; task = refl; free = inl (refl, refl); nobody_alone = nobody _ refl; may = idle _ refl })), ((refl, (_, _, record { actor = refl; task = refl; asked = refl; gives = refl; wins = tt })), ((refl, (_, _, record { actor = refl; task = refl; asked = refl; gives = refl; wins = tt })), ((refl, (_, _, record { actor = refl; task = refl; asked = refl; gives = tt; wins = tt })), ((refl, (_, _, record { actor = refl; task = refl; asked = refl; gives = tt; wins = tt })), ((refl, (_, _, record { actor = refl; task = refl; asked = refl; gives = tt; wins = tt })), ((refl, (_, _, record { actor = refl; task = refl; asked = refl; gives = tt; wins = tt })), ((refl, (_, _, record { actor = refl; task = refl; asked = refl; gives = tt; wins = tt })), ((refl, (_, _, record { actor = refl; task = refl; asked = refl; gives = tt; wins = tt })), ((refl, (_, _, record { actor = refl; task = refl; asked = refl; gives = tt; wins = tt })), (inr refl, ((_, _, refl, (λ e. absurd (cc))), ((_, _, refl, tt), ((_, _, refl, tt), ((_, _, refl, (refl, refl, one_is_clean)), ((_, _, refl, tt), (inl (λ e. absurd (cc)), ((_, _, refl, (λ e. absurd (cc))), ((_, _, refl, tt), ((_, _, refl, tt), ((_, _, refl, (refl, refl, one_is_clean)), ((_, _, refl, tt), ((_, _, refl, tt), ((_, _, refl, ((λ k. inl refl), one_view)), ((refl, (_, record { actor = refl; task = refl; free = inl (refl, refl); nobody_alone = nobody _ refl; may = ((omega arith, tt), refl) })), ((refl, (_, _, record { actor = refl; task = refl; asked = refl; gives = refl; wins = tt })), ((refl, (_, _, record { actor = refl; task = refl; asked = refl; gives = tt; wins = unowned _ refl })), ((refl, (_, _, record { actor = refl; task = refl; asked = refl; gives = refl; wins = tt })), ((refl, (_, _, record { actor = refl; task = refl; asked = refl; gives = (refl, tt); wins = tt })), ((refl, (_, _, record { actor = refl; task = refl; asked = refl; gives = tt; wins = tt })), ((refl, (_, _, record { actor = refl; task = refl; asked = refl; gives = tt; wins = tt })), ((refl, (_, record { actor = refl; task = refl; free = inl (refl, refl); nobody_alone = nobody _ refl; may = ((omega arith, tt), refl) })), ((refl, (_, _, record { actor = refl; task = refl; asked = refl; gives = refl; wins = tt })), ((refl, (_, _, record { actor = refl; task = refl; asked = refl; gives = tt; wins = free _ refl })), ((refl, (_, _, record { actor = refl; task = refl; asked = refl; gives = refl; wins = tt })), ((refl, (_, _, record { actor = refl; task = refl; asked = refl; gives = tt; wins = tt })), ((refl, (_, _, record { actor = refl; task = refl; asked = refl; gives = tt; wins = tt })), ((refl, (_, _, record { actor = refl; task = refl; asked = refl; gives = tt; wins = tt })), ((refl, (_, _, record { actor = refl; task = refl; asked = refl; gives = tt; wins = tt })), ((refl, (_, _, record { actor = refl; task = refl; asked = refl; gives = tt; wins = tt })), ((refl, (_, record { actor = refl; task = refl; free = inl (refl, refl); nobody_alone = nobody _ refl; may = ((omega arith, tt), refl) })), ((refl, (_, _, record { actor = refl; task = refl; asked = refl; gives = refl; wins = tt })), ((refl, (_, _, record { actor = refl; task = refl; asked = refl; gives = tt; wins = unowned _ refl })), ((refl, (_, _, record { actor = refl; task = refl; asked = refl; gives = refl; wins = tt })), ((refl, (_, _, record { actor = refl; task = refl; asked = refl; gives = (refl, tt); wins = tt })), ((refl, (_, _, record { actor = refl; task = refl; asked = refl; gives = tt; wins = tt })), ((refl, (_, _, record { actor = refl; task = refl; asked = refl; gives = tt; wins = tt })), tt))))))))))))))))))))))))))))))))))))))))))))))))))))))))))))))

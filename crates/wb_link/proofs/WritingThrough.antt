@@ -1,211 +1,211 @@
 -- What is left of a write by write-through is safe, from its start on.
-use Rattle.std.proofs.Common.{◌≡◌, ◌≢◌, ◌<◌, inl, inr, ℕ, zero, suc, Bool, true, false, List, [], ◌∷◌, Option, Some, None, refl, sym, ap, subst, ◌∙◌, length}
+use Rattle.std.proofs.Common.{◌≡◌, ◌≢◌, ◌<◌, ◌⊎◌, inl, inr, ℕ, zero, suc, Bool, true, false, List, [], ◌∷◌, Option, Some, None, refl, sym, ap, subst, ◌∙◌, length, arith, Contains}
+use Rattle.std.proofs.lemmas.Bool.{cases_eq}
 use Rattle.wb_disk.specs.Device.{Content, History, added, newest}
-use Rattle.wb_contents.specs.Volume.{Volume, Whole, Half}
+use Rattle.wb_contents.specs.Volume.{Volume, Whole, Half, changed_at}
 use Rattle.wb_types.specs.declared.mode.Mode.TheVariants.{Writethrough}
-use Rattle.wb_contents.specs.Acts.{sector_written, written_through, after as after_act, Write, Write_origin, Write_cache, Finish, Fail_write, after_all as after_acts}
+use Rattle.wb_contents.specs.Acts.{written_through, after as after_act, Write_origin, Write_cache, Finish}
 use Rattle.wb_contents.proofs.Positions.{last_of-append}
 use Rattle.wb_contents.proofs.Sectors.{here_is, elsewhere_is}
-use Rattle.wb_link.specs.Tables.{Job, Writing_through, Answer, Finished, Want, Look_fail, Own, Look_seal, Disown, Write_at, Choice, Got, Done, Fault, Seal, write_each, write_through_each}
-use Rattle.wb_link.specs.World.{Shared, Held, Nothing, Owns, Actor, Within, effect, put_sector, if_landed}
-use Rattle.wb_link.specs.Clerk.{histories_after}
+use Rattle.wb_link.specs.Tables.{Writing_through, Finished, Want, Look_fail, Own, Look_seal, Disown, Write_all, Done, Fault, Seal, write_through_each}
+use Rattle.wb_link.specs.World.{Shared, Nothing, Owns, Actor, Within, AllWithin, AreDistinct, AllDistinct, put_sector, if_landed}
+use Rattle.wb_link.specs.Clerk.{added_each}
 use Rattle.wb_link.proofs.Views.{BlockView, block_view}
-use Rattle.wb_link.proofs.Link.{Agrees, Good, Rests, RestsAt, Right, Goes, Safe, landed_write, landed_through, write_through_acts, if_so}
-use Rattle.wb_link.proofs.Agreeing.{write_agrees, based_write_agrees, through_agrees, finish_agrees, lose_agrees}
-use Rattle.wb_link.proofs.Writing.{whole_still, written_rests, finished_all, book_elsewhere, written_whole, written_books, written_life}
+use Rattle.wb_link.proofs.Effects.{put_sector_desk}
+use Rattle.wb_link.proofs.Link.{Agrees, Rests, RestsAt, Safe, landed_or, if_so, origin_acts}
+use Rattle.wb_link.proofs.Sweeping.{Leads, Sweep, sweep, sweeps}
+use Rattle.wb_link.proofs.Agreeing.{based_write_agrees, through_agrees, finish_agrees, lose_agrees}
+use Rattle.wb_link.proofs.Copying.{contains_cases, contains_more}
+use Rattle.wb_link.proofs.Writing.{writing}
 use Rattle.wb_link.proofs.Calm.{held_on, failing, disowned, beginning}
-use Rattle.wb_link.proofs.Givings.{at_work, script_of, Comes, Life, quietly, gives_write}
+use Rattle.wb_link.proofs.Givings.{at_work, Comes, Life, life_on, gives_fault}
 
--- the write of this content to sectors of a block
-abbrev writing_through_of : ℕ → List ℕ → Content → List Want → Answer → Held → Content → Actor
-writing_through_of b os x steps answer held c = at_work (Writing_through b os x) steps answer held None false c
+-- Where it is mapped, each extent on the origin and then on the cache.
 
-abbrev Result : ℕ → ℕ → ℕ → Job → List Want → Answer → Held → Content → Shared → Volume → Got → Type 0
-Result n size a job steps answer held c t e got = Comes n size a job steps answer held None false c t e got
+-- a sector that is on the origin and not yet on the cache; one that is on both; and where the block is, on this cache block
+abbrev Halved : Content → BlockView → ℕ → Type 0
+Halved x v i = (v.standing i ≡ Half) × (newest (v.histories i) ≡ x)
 
--- what a write knows of the block that it owns: it rests, and where it stands
-pub record Owning (to : Option ℕ) (seal : Seal) (v : BlockView) : Type 0 where
-  pub rests : Rests seal v
-  pub route : to ≡ v.location
+abbrev Settled : BlockView → ℕ → Type 0
+Settled v i = (v.standing i ≡ Whole) × (v.finished i ≡ length (v.histories i).later)
 
-plain : (a b : ℕ) (os : List ℕ) (x : Content) (w : Want) (got : Got) (d e : Volume) → e.histories ≡ histories_after d.histories (Writing_through b os x) w → Right a (Writing_through b os x) w got d e
-plain a b os x w got d e r = record { reads = tt; histories = r; flushes = tt }
-
--- Where the block is unmapped each sector is written on the origin alone.
-
--- a step whose acts are chosen by where its block stands
-abbrev GoesBy : ℕ → ℕ → ℕ → ℕ → List ℕ → Content → List Want → Content → Want → Got → Shared → Volume → Option ℕ → Type 0
-GoesBy n size a b all x steps c w got t e p = Goes size a (λ y u f. Safe n size a y u f) (writing_through_of b all x steps Finished (Owns b) c) (script_of (Writing_through b all x) steps Finished) w got t (effect t (Writing_through b all x) c w got) e
-    (after_acts e (write_through_acts p x w got)) (write_through_acts p x w got)
-
-stands_at : (t : Shared) (e : Volume) (b : ℕ) (to : Option ℕ) → Agrees t e → to ≡ e.mapping b → t.mapping b ≡ to
-stands_at t e b to g r = ap (λ f. f b) g.mapping ∙ sym r
-
-written_owning : (seal : Seal) (e : Volume) (p : Option ℕ) (b o : ℕ) (x : Content) → Owning None seal (block_view e b) → Owning None seal (block_view (after_act (sector_written e p b o x) (Finish b o)) b)
-written_owning seal e None b o x k = record { rests = written_rests seal e None b o x k.rests; route = k.route }
-written_owning seal e (Some j) b o x k = record { rests = written_rests seal e (Some j) b o x k.rests; route = k.route }
-
-abbrev origin_left : ℕ → List ℕ → List Want
-origin_left b os = write_each None b os (Disown b ∷ [])
-
-origin_write : (n size a b : ℕ) (all : List ℕ) (q : ℕ) (os : List ℕ) (x c : Content) (s : Shared) (d : Volume) → q < size → Life Writethrough d → Owning None (s.seals b) (block_view d b) →
-    ((t : Shared) (e : Volume) → Life Writethrough e → Owning None (t.seals b) (block_view e b) → Safe n size a (writing_through_of b all x (origin_left b os) Finished (Owns b) c) t e) →
-    Safe (suc n) size a (writing_through_of b all x (origin_left b (q ∷ os)) Finished (Owns b) c) s d
-origin_write n size a b all q os x c s d m l k next = λ t e got o g v r.
-    let life : Life Writethrough e = (o.live ∙ l.0, o.mode ∙ l.1) in
-    let now : Owning None (t.seals b) (block_view e b) = held_on (λ w v. Owning None w v) a b _ s t d e o refl k in
-    gives_write t None b q (λ w. Result n size a (Writing_through b all x) (origin_left b (q ∷ os)) Finished (Owns b) c t e w)
-    (done t e g life now (t.mapping b) (stands_at t e b None g.agrees now.route))
-    (λ choice. failed choice t e g life now (t.mapping b) (stands_at t e b None g.agrees now.route))
-    got v
-  where
-    done : (t : Shared) (e : Volume) → Good size t e → Life Writethrough e → Owning None (t.seals b) (block_view e b) → (p : Option ℕ) → p ≡ None → GoesBy n size a b all x (origin_left b (q ∷ os)) c (Write_at None b q) Done t e p
-    done t e g life now (Some j) is = absurd (cc)
-    done t e g life now None is = record {
-      run = ((life.0, inl (sym now.route)), (written_whole e (e.mapping b) b q x, tt));
-      mine = ((refl, m), (refl, tt));
-      agrees = finish_agrees _ _ b q (write_agrees t e None b q x now.route g.agrees);
-      ready = refl;
-      owes = tt;
-      right = plain a b all x (Write_at None b q) Done e (after_act (after_act e (Write b q x)) (Finish b q)) (written_books e (e.mapping b) b q x);
-      left = next _ (after_act (after_act e (Write b q x)) (Finish b q)) (written_life Writethrough e (e.mapping b) b q x life) (written_owning (t.seals b) e (e.mapping b) b q x now);
-    }
-
-    failed : (choice : Choice) (t : Shared) (e : Volume) → Good size t e → Life Writethrough e → Owning None (t.seals b) (block_view e b) → (p : Option ℕ) → p ≡ None → GoesBy n size a b all x (origin_left b (q ∷ os)) c (Write_at None b q) (Fault choice) t e p
-    failed choice t e g life now (Some j) is = absurd (cc)
-    failed choice t e g life now None is = settled choice.landed where
-      settled : (landed : Bool) → Goes size a (λ y u f. Safe n size a y u f) (writing_through_of b all x (origin_left b (q ∷ os)) Finished (Owns b) c) (script_of (Writing_through b all x) (origin_left b (q ∷ os)) Finished) (Write_at None b q) (Fault choice)
-          t (if_landed landed (put_sector t None b q x) t) e (after_acts e (landed_write landed b q x)) (landed_write landed b q x)
-      settled true = record { run = ((life.0, inl (sym now.route)), tt); mine = ((refl, m), tt); agrees = write_agrees t e None b q x now.route g.agrees; ready = refl; owes = tt; right = plain a b all x (Write_at None b q) (Fault choice) e (after_act e (Write b q x)) (written_books e (e.mapping b) b q x); left = failing n size a (Writing_through b all x) tt (Owns b) None c _ _ }
-      settled false = record { run = (life.0, tt); mine = ((refl, m), tt); agrees = lose_agrees t e b q x g.agrees; ready = refl; owes = tt; right = plain a b all x (Write_at None b q) (Fault choice) e (after_act e (Fail_write b q x)) refl; left = failing n size a (Writing_through b all x) tt (Owns b) None c _ _ }
-
-alone_on_origin : (n size a b : ℕ) (all os : List ℕ) (x c : Content) (s : Shared) (d : Volume) → Within size os → Life Writethrough d → Owning None (s.seals b) (block_view d b) → Safe n size a (writing_through_of b all x (origin_left b os) Finished (Owns b) c) s d
-alone_on_origin zero size a b all os x c s d m l k = tt
-alone_on_origin (suc n) size a b all [] x c s d m l k = disowned (suc n) size a (Writing_through b all x) tt b Finished None c s d k.rests
-alone_on_origin (suc n) size a b all (q ∷ os) x c s d m l k = origin_write n size a b all q os x c s d m.0 l k (λ t e life now. alone_on_origin n size a b all os x c t e m.1 life now)
-
--- Where it is mapped, on the origin and then on the cache.
-
--- between the two: this sector is half written, and its last write is this content
-record Halfway (k q : ℕ) (x : Content) (seal : Seal) (v : BlockView) : Type 0 where
-  half : v.standing q ≡ Half
-  whole : (i : ℕ) → i ≢ q → v.standing i ≡ Whole
+record Mapped_at (k : ℕ) (seal : Seal) (v : BlockView) : Type 0 where
   location : seal.location ≡ v.location
   dirty : (j : ℕ) → v.location ≡ Some j → seal.dirty ≡ v.dirty
-  done : (i : ℕ) → i ≢ q → v.finished i ≡ length (v.histories i).later
   route : Some k ≡ v.location
-  history : newest (v.histories q) ≡ x
 
-abbrev first_left : ℕ → List ℕ → Content → ℕ → List ℕ → List Want
-first_left b all x k os = write_through_each (Some k) b os (Disown b ∷ [])
+-- between the two steps: these sectors are half written
+record Halfway (k : ℕ) (pending : List ℕ) (x : Content) (seal : Seal) (v : BlockView) : Type 0 where
+  half : (i : ℕ) → Contains pending i → Halved x v i
+  whole : (i : ℕ) → ¬ Contains pending i → Settled v i
+  stands : Mapped_at k seal v
 
-abbrev second_left : ℕ → List ℕ → Content → ℕ → ℕ → List ℕ → List Want
-second_left b all x k q os = Write_at (Some k) b q ∷ write_through_each (Some k) b os (Disown b ∷ [])
+all_settled : (k : ℕ) (x : Content) (seal : Seal) (v : BlockView) → Mapped_at k seal v → ((i : ℕ) → Settled v i) → Rests seal v
+all_settled k x seal v at all = record { whole = λ i. (all i).0; location = at.location; dirty = at.dirty; done = λ i. (all i).1 }
 
-halved : (k q b : ℕ) (x : Content) (seal : Seal) (e : Volume) → Owning (Some k) seal (block_view e b) → Halfway k q x seal (block_view (after_act e (Write_origin b q x)) b)
-halved k q b x seal e now = record {
-  half = here_is e.standing b q Half;
-  whole = λ i n. elsewhere_is e.standing b q b i Half (inr n) ∙ now.rests.whole i;
-  location = now.rests.location;
-  dirty = now.rests.dirty;
-  done = λ i n. now.rests.done i ∙ ap (λ (h : History). length h.later) (sym (book_elsewhere e.histories b q (added (e.histories b q) x) i n));
-  route = now.route;
-  history = ap newest (here_is e.histories b q (added (e.histories b q) x)) ∙ last_of-append (e.histories b q).first x (e.histories b q).later;
-}
+module _ (size a b : ℕ) (all : List (List ℕ)) (x : Content) (k : ℕ) (c : ℕ → Content) where
+  put_seal : (Knows : Seal → Type 0) (location : Option ℕ) (t : Shared) (q : ℕ) → Knows (t.seals b) → Knows ((put_sector t location b q x).seals b)
+  put_seal Knows location t q h = subst (λ (f : ℕ → Seal). Knows (f b)) (sym (put_sector_desk t location b q x).seals) h
 
-first_write : (n size a b : ℕ) (all : List ℕ) (q : ℕ) (os : List ℕ) (x : Content) (k : ℕ) (c : Content) (s : Shared) (d : Volume) → q < size → Life Writethrough d → Owning (Some k) (s.seals b) (block_view d b) →
-    ((t : Shared) (e : Volume) → Life Writethrough e → Halfway k q x (t.seals b) (block_view e b) → Safe n size a (writing_through_of b all x (second_left b all x k q os) Finished (Owns b) c) t e) →
-    Safe (suc n) size a (writing_through_of b all x (first_left b all x k (q ∷ os)) Finished (Owns b) c) s d
-first_write n size a b all q os x k c s d m l h next = λ t e got o g v r.
-    let life : Life Writethrough e = (o.live ∙ l.0, o.mode ∙ l.1) in
-    let now : Owning (Some k) (t.seals b) (block_view e b) = held_on (λ w v. Owning (Some k) w v) a b _ s t d e o refl h in
-    gives_write t None b q (λ w. Result n size a (Writing_through b all x) (first_left b all x k (q ∷ os)) Finished (Owns b) c t e w)
-    (done t e g life now (t.mapping b) (stands_at t e b (Some k) g.agrees now.route))
-    (λ choice. failed choice t e g life now (t.mapping b) (stands_at t e b (Some k) g.agrees now.route))
-    got v
-  where
-    done : (t : Shared) (e : Volume) → Good size t e → Life Writethrough e → Owning (Some k) (t.seals b) (block_view e b) → (p : Option ℕ) → p ≡ Some k → GoesBy n size a b all x (first_left b all x k (q ∷ os)) c (Write_at None b q) Done t e p
-    done t e g life now None is = absurd (cc)
-    done t e g life now (Some j) is = record {
-      run = (life.0, tt);
-      mine = ((refl, m), tt);
-      agrees = based_write_agrees t e b q x g.agrees;
-      ready = refl;
-      owes = tt;
-      right = plain a b all x (Write_at None b q) Done e (after_act e (Write_origin b q x)) refl;
-      left = next _ (after_act e (Write_origin b q x)) life (halved k q b x (t.seals b) e now);
-    }
+  -- on the origin: of these sectors some are half written, others are left
+  record Basing (os left : List ℕ) (seal : Seal) (v : BlockView) : Type 0 where
+    touched : (i : ℕ) → Contains os i → Contains left i ⊎ Halved x v i
+    whole : (i : ℕ) → ¬ Contains os i → Settled v i
+    stands : Mapped_at k seal v
+    inside : (i : ℕ) → Contains left i → Contains os i
 
-    failed : (choice : Choice) (t : Shared) (e : Volume) → Good size t e → Life Writethrough e → Owning (Some k) (t.seals b) (block_view e b) → (p : Option ℕ) → p ≡ Some k → GoesBy n size a b all x (first_left b all x k (q ∷ os)) c (Write_at None b q) (Fault choice) t e p
-    failed choice t e g life now None is = absurd (cc)
-    failed choice t e g life now (Some j) is = settled choice.landed where
-      settled : (landed : Bool) → Goes size a (λ y u f. Safe n size a y u f) (writing_through_of b all x (first_left b all x k (q ∷ os)) Finished (Owns b) c) (script_of (Writing_through b all x) (first_left b all x k (q ∷ os)) Finished) (Write_at None b q) (Fault choice)
-          t (if_landed landed (put_sector t None b q x) t) e (after_acts e (landed_through landed b q x)) (landed_through landed b q x)
-      settled true = record { run = (life.0, tt); mine = ((refl, m), tt); agrees = based_write_agrees t e b q x g.agrees; ready = refl; owes = tt; right = plain a b all x (Write_at None b q) (Fault choice) e (after_act e (Write_origin b q x)) refl; left = failing n size a (Writing_through b all x) tt (Owns b) None c _ _ }
-      settled false = record { run = (life.0, tt); mine = ((refl, m), tt); agrees = lose_agrees t e b q x g.agrees; ready = refl; owes = tt; right = plain a b all x (Write_at None b q) (Fault choice) e (after_act e (Fail_write b q x)) refl; left = failing n size a (Writing_through b all x) tt (Owns b) None c _ _ }
+  abbrev OnOrigin : (List ℕ → Seal → BlockView → Type 0) → (ℕ → ℕ → History) → List ℕ → Shared → Volume → Type 0
+  OnOrigin Knows histories = Sweep (λ left h. added_each h b left x) histories (λ left t e. Life Writethrough e × Knows left (t.seals b) (block_view e b))
 
--- what the second write leaves, by where the block stands
-record Second (size k q b : ℕ) (x : Content) (t : Shared) (e f : Volume) : Type 0 where
-  agrees : Agrees (put_sector t (Some k) b q x) f
-  whole : f.standing b q ≡ Whole
-  histories : f.histories ≡ e.histories
-  life : Life Writethrough f
-  owning : Owning (Some k) (t.seals b) (block_view (after_act f (Finish b q)) b)
+  based : (y : Actor) (busy : Bool) (histories : ℕ → ℕ → History) (os : List ℕ) → y.held ≡ Owns b → (q : ℕ) (left : List ℕ) (t : Shared) (e : Volume) → q < size → OnOrigin (Basing os) histories (q ∷ left) t e →
+      Leads size a y busy (λ f. OnOrigin (Basing os) histories left (put_sector t None b q x) f) e (Write_origin b q x ∷ [])
+  based y busy histories os own q left t e l h = let before = h.knows.1 in record {
+    run = (h.knows.0.0, tt);
+    mine = ((own, l), tt);
+    ends = record {
+      agrees = based_write_agrees t e b q x h.agrees;
+      booked = h.booked;
+      knows = (
+        h.knows.0,
+        put_seal (λ w. Basing os left w (block_view (after_act e (Write_origin b q x)) b)) None t q (record {
+          touched = λ i m. elim (cases_eq i q) [
+            | inl s ↦ inr (ap (changed_at e.standing b q Half b) s ∙ here_is e.standing b q Half, ap (λ j. newest (changed_at e.histories b q (added (e.histories b q) x) b j)) s ∙ ap newest (here_is e.histories b q (added (e.histories b q) x)) ∙ last_of-append (e.histories b q).first x (e.histories b q).later)
+            | inr n ↦ elim (before.touched i m) [
+              | inl p ↦ elim (contains_cases q left i p) [ inl s ↦ absurd (n (sym s)) | inr p ↦ inl p ]
+              | inr old ↦ inr (elsewhere_is e.standing b q b i Half (inr n) ∙ old.0, ap newest (elsewhere_is e.histories b q b i (added (e.histories b q) x) (inr n)) ∙ old.1)
+            ]
+          ];
+          whole = λ i m.
+              let n : i ≢ q = (λ s. m (before.inside i (zero, omega arith, sym s))) in
+              let old = before.whole i m in
+              (elsewhere_is e.standing b q b i Half (inr n) ∙ old.0, old.1 ∙ ap (λ (h : History). length h.later) (sym (elsewhere_is e.histories b q b i (added (e.histories b q) x) (inr n))));
+          stands = record { location = before.stands.location; dirty = before.stands.dirty; route = before.stands.route };
+          inside = λ i m. before.inside i (contains_more q left i m);
+        }),
+      );
+    };
+  }
 
-second_done : (size k q b : ℕ) (x : Content) (t : Shared) (e : Volume) (p : Option ℕ) → p ≡ Some k → Agrees t e → Life Writethrough e → Halfway k q x (t.seals b) (block_view e b) → Second size k q b x t e (written_through e p b q)
-second_done size k q b x t e None is g l now = absurd (cc)
-second_done size k q b x t e (Some j) is g l now =
-    let same : k ≡ j = cc in record {
-      agrees = subst (λ (i : ℕ). Agrees (put_sector t (Some k) b q x) (written_through e (Some i) b q)) same (through_agrees t e k b q x (sym now.history) g);
-      whole = here_is e.standing b q Whole;
-      histories = refl;
-      life = l;
-      owning = record { rests = record { whole = whole_still e.standing b q now.whole; location = now.location; dirty = now.dirty; done = finished_all e.finished e.histories e.histories b q (λ i n. refl) now.done }; route = now.route };
-    }
+  abbrev Unknown : List ℕ → Seal → BlockView → Type 0
+  Unknown left seal v = Unit {0}
 
-second_write : (n size a b : ℕ) (all : List ℕ) (q : ℕ) (os : List ℕ) (x : Content) (k : ℕ) (c : Content) (s : Shared) (d : Volume) → q < size → Life Writethrough d → Halfway k q x (s.seals b) (block_view d b) →
-    ((t : Shared) (e : Volume) → Life Writethrough e → Owning (Some k) (t.seals b) (block_view e b) → Safe n size a (writing_through_of b all x (first_left b all x k os) Finished (Owns b) c) t e) →
-    Safe (suc n) size a (writing_through_of b all x (second_left b all x k q os) Finished (Owns b) c) s d
-second_write n size a b all q os x k c s d m l h next = λ t e got o g v r.
-    let life : Life Writethrough e = (o.live ∙ l.0, o.mode ∙ l.1) in
-    let now : Halfway k q x (t.seals b) (block_view e b) = held_on (λ w v. Halfway k q x w v) a b _ s t d e o refl h in
-    gives_write t (Some k) b q (λ w. Result n size a (Writing_through b all x) (second_left b all x k q os) Finished (Owns b) c t e w)
-    (done t e life now (second_done size k q b x t e (e.mapping b) (sym now.route) g.agrees life now) (t.mapping b) (stands_at t e b (Some k) g.agrees now.route))
-    (λ choice. failed choice t e g life now (second_done size k q b x t e (e.mapping b) (sym now.route) g.agrees life now) (t.mapping b) (stands_at t e b (Some k) g.agrees now.route))
-    got v
-  where
-    done : (t : Shared) (e : Volume) → Life Writethrough e → Halfway k q x (t.seals b) (block_view e b) → Second size k q b x t e (written_through e (e.mapping b) b q) → (p : Option ℕ) → p ≡ Some k → GoesBy n size a b all x (second_left b all x k q os) c (Write_at (Some k) b q) Done t e p
-    done t e life now after None is = absurd (cc)
-    done t e life now after (Some j) is = record {
-      run = ((life.0, now.half), (after.whole, tt));
-      mine = ((refl, m), (refl, tt));
-      agrees = finish_agrees _ _ b q after.agrees;
-      ready = refl;
-      owes = tt;
-      right = plain a b all x (Write_at (Some k) b q) Done e (after_act (after_act e (Write_cache b q)) (Finish b q)) after.histories;
-      left = next _ (after_act (after_act e (Write_cache b q)) (Finish b q)) after.life (record { rests = after.owning.rests; route = after.owning.route });
-    }
+  lost : (y : Actor) (busy : Bool) (histories : ℕ → ℕ → History) → y.held ≡ Owns b → (landed : Bool) (q : ℕ) (left : List ℕ) (t : Shared) (e : Volume) → q < size → OnOrigin Unknown histories (q ∷ left) t e →
+      Leads size a y busy (λ f. OnOrigin Unknown histories left (if_landed landed (put_sector t None b q x) t) f) e (landed_or landed (Write_origin b q x) b q x)
+  lost y busy histories own true q left t e l h = record { run = (h.knows.0.0, tt); mine = ((own, l), tt); ends = record { agrees = based_write_agrees t e b q x h.agrees; booked = h.booked; knows = (h.knows.0, tt) } }
+  lost y busy histories own false q left t e l h = record { run = (h.knows.0.0, tt); mine = ((own, l), tt); ends = record { agrees = lose_agrees t e b q x h.agrees; booked = h.booked; knows = (h.knows.0, tt) } }
 
-    failed : (choice : Choice) (t : Shared) (e : Volume) → Good size t e → Life Writethrough e → Halfway k q x (t.seals b) (block_view e b) → Second size k q b x t e (written_through e (e.mapping b) b q) → (p : Option ℕ) → p ≡ Some k → GoesBy n size a b all x (second_left b all x k q os) c (Write_at (Some k) b q) (Fault choice) t e p
-    failed choice t e g life now after None is = absurd (cc)
-    failed choice t e g life now after (Some j) is = settled choice.landed where
-      settled : (landed : Bool) → Goes size a (λ y u f. Safe n size a y u f) (writing_through_of b all x (second_left b all x k q os) Finished (Owns b) c) (script_of (Writing_through b all x) (second_left b all x k q os) Finished) (Write_at (Some k) b q) (Fault choice)
-          t (if_landed landed (put_sector t (Some k) b q x) t) e (after_acts e (if_so landed (Write_cache b q ∷ []))) (if_so landed (Write_cache b q ∷ []))
-      settled true = record { run = ((life.0, now.half), tt); mine = ((refl, m), tt); agrees = after.agrees; ready = refl; owes = tt; right = plain a b all x (Write_at (Some k) b q) (Fault choice) e (after_act e (Write_cache b q)) after.histories; left = failing n size a (Writing_through b all x) tt (Owns b) None c _ _ }
-      settled false = quietly size a (λ y u f. Safe n size a y u f) _ _ (Write_at (Some k) b q) (Fault choice) t e g refl tt (plain a b all x (Write_at (Some k) b q) (Fault choice) e e refl) (failing n size a (Writing_through b all x) tt (Owns b) None c t e)
+  -- on the cache: those that are left are half written, and no other one where each has landed
+  record Caching (whole : Bool) (left : List ℕ) (seal : Seal) (v : BlockView) : Type 0 where
+    half : (i : ℕ) → Contains left i → Halved x v i
+    others : whole ≡ true → (i : ℕ) → ¬ Contains left i → Settled v i
+    stands : Mapped_at k seal v
+    distinct : AreDistinct left
 
-both : (n size a b : ℕ) (all os : List ℕ) (x : Content) (k : ℕ) (c : Content) (s : Shared) (d : Volume) → Within size os → Life Writethrough d → Owning (Some k) (s.seals b) (block_view d b) → Safe n size a (writing_through_of b all x (first_left b all x k os) Finished (Owns b) c) s d
-both zero size a b all os x k c s d m l h = tt
-both (suc n) size a b all [] x k c s d m l h = disowned (suc n) size a (Writing_through b all x) tt b Finished None c s d h.rests
-both (suc zero) size a b all (q ∷ os) x k c s d m l h = first_write zero size a b all q os x k c s d m.0 l h (λ t e life j. tt)
-both (suc (suc n)) size a b all (q ∷ os) x k c s d m l h = first_write (suc n) size a b all q os x k c s d m.0 l h
-    (λ t e life j. second_write n size a b all q os x k c t e m.0 life j (λ u f now i. both n size a b all os x k c u f m.1 now i))
+  abbrev OnCache : Bool → (ℕ → ℕ → History) → List ℕ → Shared → Volume → Type 0
+  OnCache whole histories = Sweep (λ left h. h) histories (λ left t e. Life Writethrough e × Caching whole left (t.seals b) (block_view e b))
 
-worked : (n size a b : ℕ) (os : List ℕ) (x : Content) (p : Option ℕ) (c : Content) (s : Shared) (d : Volume) → Within size os → Life Writethrough d → RestsAt s d b → p ≡ (s.seals b).location →
-    Safe n size a (writing_through_of b os x (write_through_each p b os (Disown b ∷ [])) Finished (Owns b) c) s d
-worked n size a b os x None c s d m l k is = alone_on_origin n size a b os os x c s d m l (record { rests = k; route = is ∙ k.location })
-worked n size a b os x (Some j) c s d m l k is = both n size a b os os x j c s d m l (record { rests = k; route = is ∙ k.location })
+  -- a sector reaches the cache, wherever its block is
+  cached_one : (whole : Bool) (q : ℕ) (left : List ℕ) (t : Shared) (e : Volume) (p : Option ℕ) → p ≡ Some k → Agrees t e → Life Writethrough e → Caching whole (q ∷ left) (t.seals b) (block_view e b) →
+      Agrees (put_sector t (Some k) b q x) (written_through e p b q) × ((written_through e p b q).standing b q ≡ Whole) × ((written_through e p b q).histories ≡ e.histories) × Life Writethrough (written_through e p b q) × Caching false left (t.seals b) (block_view (written_through e p b q) b)
+      × (whole ≡ true → Caching true left (t.seals b) (block_view (after_act (written_through e p b q) (Finish b q)) b))
+  cached_one whole q left t e None is g l h = absurd (cc)
+  cached_one whole q left t e (Some j) is g l h =
+      let same : k ≡ j = cc in
+      let still : (i : ℕ) → Contains left i → Halved x (block_view (written_through e (Some j) b q) b) i = λ i m.
+      let n : i ≢ q = (λ s. h.distinct.0 (subst (λ (v : ℕ). Contains left v) s m)) in let old = h.half i (contains_more q left i m) in (elsewhere_is e.standing b q b i Whole (inr n) ∙ old.0, old.1)
+      in (
+        subst (λ (i : ℕ). Agrees (put_sector t (Some k) b q x) (written_through e (Some i) b q)) same (through_agrees t e k b q x (sym (h.half q (zero, omega arith, refl)).1) g),
+        here_is e.standing b q Whole,
+        refl,
+        l,
+        record { half = still; others = λ f. absurd (cc); stands = record { location = h.stands.location; dirty = h.stands.dirty; route = h.stands.route }; distinct = h.distinct.1 },
+        λ f. record {
+          half = still;
+          others = λ y i m. elim (cases_eq i q) [
+            | inl s ↦ (ap (changed_at e.standing b q Whole b) s ∙ here_is e.standing b q Whole, ap (changed_at e.finished b q (length (e.histories b q).later) b) s ∙ here_is e.finished b q (length (e.histories b q).later) ∙ ap (λ v. length (e.histories b v).later) (sym s))
+            | inr n ↦ let old = h.others f i (λ p. elim (contains_cases q left i p) [ inl s ↦ n (sym s) | inr p ↦ m p ]) in
+                (elsewhere_is e.standing b q b i Whole (inr n) ∙ old.0, elsewhere_is e.finished b q b i (length (e.histories b q).later) (inr n) ∙ old.1)
+          ];
+          stands = record { location = h.stands.location; dirty = h.stands.dirty; route = h.stands.route };
+          distinct = h.distinct.1;
+        },
+      )
 
-pub writing_through_safe : (n size a b : ℕ) (os : List ℕ) (x c : Content) (s : Shared) (d : Volume) → Within size os → d.mode ≡ Writethrough → Safe n size a (writing_through_of b os x (Look_fail ∷ Own b ∷ Look_seal b ∷ []) Finished Nothing c) s d
-writing_through_safe n size a b os x c s d m l = beginning size a (Writing_through b os x) tt b None c (λ t e. e.mode ≡ Writethrough) (λ y s t d e h o k. o.mode ∙ k)
-    (λ n seal t e k live rests is. worked n size a b os x seal.location c t e m (live, k) rests (ap (λ (w : Seal). w.location) is)) n s d l
+  cached : (y : Actor) (busy : Bool) (histories : ℕ → ℕ → History) → y.held ≡ Owns b → (q : ℕ) (left : List ℕ) (t : Shared) (e : Volume) → q < size → OnCache true histories (q ∷ left) t e →
+      Leads size a y busy (λ f. OnCache true histories left (put_sector t (Some k) b q x) f) e (Write_cache b q ∷ Finish b q ∷ [])
+  cached y busy histories own q left t e l h = let went = cached_one true q left t e (e.mapping b) (sym h.knows.1.stands.route) h.agrees h.knows.0 h.knows.1 in record {
+    run = ((h.knows.0.0, (h.knows.1.half q (zero, omega arith, refl)).0), (went.1, tt));
+    mine = ((own, l), (own, tt));
+    ends = record { agrees = finish_agrees _ _ b q went.0; booked = went.2 ∙ h.booked; knows = ((went.3.0, went.3.1), went.5 refl) };
+  }
+
+  some_cached : (y : Actor) (busy : Bool) (histories : ℕ → ℕ → History) → y.held ≡ Owns b → (landed : Bool) (q : ℕ) (left : List ℕ) (t : Shared) (e : Volume) → q < size → OnCache false histories (q ∷ left) t e →
+      Leads size a y busy (λ f. OnCache false histories left (if_landed landed (put_sector t (Some k) b q x) t) f) e (if_so landed (Write_cache b q ∷ []))
+  some_cached y busy histories own true q left t e l h = let went = cached_one false q left t e (e.mapping b) (sym h.knows.1.stands.route) h.agrees h.knows.0 h.knows.1 in record {
+    run = ((h.knows.0.0, (h.knows.1.half q (zero, omega arith, refl)).0), tt);
+    mine = ((own, l), tt);
+    ends = record { agrees = went.0; booked = went.2 ∙ h.booked; knows = (went.3, went.4) };
+  }
+  some_cached y busy histories own false q left t e l h = let old = h.knows.1 in record { run = tt; mine = tt; ends = record { agrees = h.agrees; booked = h.booked; knows = (h.knows.0, record { half = λ i m. old.half i (contains_more q left i m); others = λ f. absurd (cc); stands = old.stands; distinct = old.distinct.1 }) } }
+
+  abbrev first_left : List (List ℕ) → List Want
+  first_left extents = write_through_each (Some k) b extents (Disown b ∷ [])
+
+  abbrev second_left : List ℕ → List (List ℕ) → List Want
+  second_left os extents = Write_all (Some k) b os ∷ first_left extents
+
+  stands_at : (t : Shared) (e : Volume) → Agrees t e → Some k ≡ e.mapping b → t.mapping b ≡ Some k
+  stands_at t e g r = ap (λ f. f b) g.mapping ∙ sym r
+
+  abbrev its : List Want → Actor
+  its steps = at_work (Writing_through b all x) steps Finished (Owns b) None false c
+
+  first : (n : ℕ) (os : List ℕ) (extents : List (List ℕ)) (s : Shared) (d : Volume) → Within size os → Life Writethrough d → Halfway k [] x (s.seals b) (block_view d b) →
+      ((t : Shared) (e : Volume) → Life Writethrough e → Halfway k os x (t.seals b) (block_view e b) → Safe n size a (its (second_left os extents)) t e) → Safe (suc n) size a (its (first_left (os ∷ extents))) s d
+  first n os extents s d w l h next = λ t e got o g v r.
+      let y : Actor = its (first_left (os ∷ extents)) in
+      let life : Life Writethrough e = life_on a y s t d e Writethrough o l in
+      let now : Halfway k [] x (t.seals b) (block_view e b) = held_on (λ w v. Halfway k [] x w v) a b y s t d e o refl h in
+      let at = stands_at t e g.agrees now.stands.route in
+      gives_fault (λ w. Comes n size a (Writing_through b all x) (first_left (os ∷ extents)) Finished (Owns b) None false c t e w)
+      (sweeps size a (λ y u f. Safe n size a y u f) _ _ (Write_all None b os) Done t _ e _ _ _ _ _ (ap (λ p. origin_acts p b os x Done) at)
+      (sweep size a y t.committing (λ o. true) None b (λ o. x) (λ q. Write_origin b q x ∷ []) (OnOrigin (Basing os) (added_each e.histories b os x)) (based y t.committing (added_each e.histories b os x) os refl) os t e w
+      (record { agrees = g.agrees; booked = refl; knows = (life, record { touched = λ i m. inl m; whole = λ i m. now.whole i (λ z. absurd (let bad = z.1 in omega (arith, bad))); stands = now.stands; inside = λ i m. m }) }))
+      refl (λ f. tt) (λ f q. record { reads = tt; histories = q; flushes = tt }) (λ f q. next _ f q.0 (record { half = λ i m. elim (q.1.touched i m) [ inl z ↦ absurd (let bad = z.1 in omega (arith, bad)) | inr z ↦ z ]; whole = q.1.whole; stands = q.1.stands })))
+      (λ lands. sweeps size a (λ y u f. Safe n size a y u f) _ _ (Write_all None b os) (Fault lands) t _ e _ _ _ _ _ (ap (λ p. origin_acts p b os x (Fault lands)) at)
+      (sweep size a y t.committing (lands b) None b (λ o. x) (λ q. landed_or (lands b q) (Write_origin b q x) b q x) (OnOrigin Unknown (added_each e.histories b os x)) (λ q. lost y t.committing (added_each e.histories b os x) refl (lands b q) q) os t e w (record { agrees = g.agrees; booked = refl; knows = (life, tt) }))
+      refl (λ f. tt) (λ f q. record { reads = tt; histories = q; flushes = tt }) (λ f q. failing n size a (Writing_through b all x) tt (Owns b) None c _ f))
+      got v
+
+  second : (n : ℕ) (os : List ℕ) (extents : List (List ℕ)) (s : Shared) (d : Volume) → Within size os → AreDistinct os → Life Writethrough d → Halfway k os x (s.seals b) (block_view d b) →
+      ((t : Shared) (e : Volume) → Life Writethrough e → Halfway k [] x (t.seals b) (block_view e b) → Safe n size a (its (first_left extents)) t e) → Safe (suc n) size a (its (second_left os extents)) s d
+  second n os extents s d w apart l h next = λ t e got o g v r.
+      let y : Actor = its (second_left os extents) in
+      let life : Life Writethrough e = life_on a y s t d e Writethrough o l in
+      let now : Halfway k os x (t.seals b) (block_view e b) = held_on (λ w v. Halfway k os x w v) a b y s t d e o refl h in
+      let begins : (whole : Bool) → OnCache whole e.histories os t e = λ whole. record { agrees = g.agrees; booked = refl; knows = (life, record { half = now.half; others = λ f. now.whole; stands = now.stands; distinct = apart }) } in
+      gives_fault (λ w. Comes n size a (Writing_through b all x) (second_left os extents) Finished (Owns b) None false c t e w)
+      (sweeps size a (λ y u f. Safe n size a y u f) _ _ (Write_all (Some k) b os) Done t _ e _ _ _ _ _ refl
+      (sweep size a y t.committing (λ o. true) (Some k) b (λ o. x) (λ q. Write_cache b q ∷ Finish b q ∷ []) (OnCache true e.histories) (cached y t.committing e.histories refl) os t e w (begins true))
+      refl (λ f. tt) (λ f q. record { reads = tt; histories = q; flushes = tt }) (λ f q. next _ f q.0 (record { half = q.1.half; whole = q.1.others refl; stands = q.1.stands })))
+      (λ lands. sweeps size a (λ y u f. Safe n size a y u f) _ _ (Write_all (Some k) b os) (Fault lands) t _ e _ _ _ _ _ refl
+      (sweep size a y t.committing (lands b) (Some k) b (λ o. x) (λ q. if_so (lands b q) (Write_cache b q ∷ [])) (OnCache false e.histories) (λ q. some_cached y t.committing e.histories refl (lands b q) q) os t e w (begins false))
+      refl (λ f. tt) (λ f q. record { reads = tt; histories = q; flushes = tt }) (λ f q. failing n size a (Writing_through b all x) tt (Owns b) None c _ f))
+      got v
+
+  both : (n : ℕ) (extents : List (List ℕ)) (s : Shared) (d : Volume) → AllWithin size extents → AllDistinct extents → Life Writethrough d → Halfway k [] x (s.seals b) (block_view d b) → Safe n size a (its (first_left extents)) s d
+  both zero extents s d w z l h = tt
+  both (suc n) [] s d w z l h = disowned (suc n) size a (Writing_through b all x) tt b Finished None c s d (all_settled k x (s.seals b) (block_view d b) h.stands (λ i. h.whole i (λ z. absurd (let bad = z.1 in omega (arith, bad)))))
+  both (suc zero) (os ∷ extents) s d w z l h = first zero os extents s d w.0 l h (λ t e life j. tt)
+  both (suc (suc n)) (os ∷ extents) s d w z l h = first (suc n) os extents s d w.0 l h (λ t e life j. second n os extents t e w.0 z.0 life j (λ u f now i. both n extents u f w.1 z.1 now i))
+
+-- Where it is unmapped, on the origin alone.
+worked : (n size a b : ℕ) (all : List (List ℕ)) (x : Content) (p : Option ℕ) (c : ℕ → Content) (s : Shared) (d : Volume) → AllWithin size all → AllDistinct all → Life Writethrough d → RestsAt s d b → p ≡ (s.seals b).location →
+    Safe n size a (at_work (Writing_through b all x) (write_through_each p b all (Disown b ∷ [])) Finished (Owns b) None false c) s d
+worked n size a b all x None c s d w z l k is = writing size a (Writing_through b all x) tt b x None Writethrough c (λ q. refl) (λ l os got e. ap (λ p. origin_acts p b os x got) e) (λ os got d e h. record { reads = tt; histories = h; flushes = tt }) n all s d w l
+    (record { rests = k; writable = inl (sym (is ∙ k.location)); route = is ∙ k.location })
+worked n size a b all x (Some j) c s d w z l k is = both size a b all x j c n all s d w z l (record { half = λ i m. absurd (let bad = m.1 in omega (arith, bad)); whole = λ i m. (k.whole i, k.done i); stands = record { location = k.location; dirty = k.dirty; route = is ∙ k.location } })
+
+pub writing_through_safe : (n size a b : ℕ) (all : List (List ℕ)) (x : Content) (c : ℕ → Content) (s : Shared) (d : Volume) → AllWithin size all → AllDistinct all → d.mode ≡ Writethrough → Safe n size a (at_work (Writing_through b all x) (Look_fail ∷ Own b ∷ Look_seal b ∷ []) Finished Nothing None false c) s d
+writing_through_safe n size a b all x c s d w z l = beginning size a (Writing_through b all x) tt b None c (λ t e. e.mode ≡ Writethrough) (λ y s t d e h o k. o.mode ∙ k)
+    (λ n seal t e g k live rests is. worked n size a b all x seal.location c t e w z (live, k) rests (ap (λ (w : Seal). w.location) is)) n s d l

@@ -1,11 +1,11 @@
 -- What a clerk writes down who sees the records alone: the write history of each sector, what of it is finished, how
 -- far a crash may go back, and of each actor its job, what it has entered, and what was finished when it began. No
 -- device, word, mapping or phase of a task stands in it.
-use Rattle.std.specs.Prelude.{◌≡◌, ◌+◌, ℕ, List, [], ◌∷◌, Option, Some, None, length, max}
+use Rattle.std.specs.Prelude.{◌+◌, ℕ, List, [], ◌∷◌, Option, Some, None, length, max}
 use Rattle.wb_disk.specs.Device.{Content, History, newest, added, only}
 use Rattle.wb_contents.specs.Volume.{changed, changed_at}
-use Rattle.wb_link.specs.Tables.{Job, Reading, Writing, Writing_through, Flushing, Suspending, Finished, Want, Read_at, Write_at, End, Got, Gave}
-use Rattle.wb_link.specs.World.{Record, Start, Again, Step, Release}
+use Rattle.wb_link.specs.Tables.{Job, Reading, Writing, Writing_through, Flushing, Suspending, Finished, Want, Read_all, Write_all, End, Got, Gave}
+use Rattle.wb_link.specs.World.{AreAlike, Record, Start, Again, Step, Release}
 
 -- an entry of a sector's history, by its position
 pub record Entry : Type 0 where
@@ -22,17 +22,25 @@ pub record Notes : Type 0 where
   pub asked : ℕ → ℕ → ℕ → ℕ
 
 -- a write is entered at its first step, failing or not
+abbrev pub added_each : (ℕ → ℕ → History) → ℕ → List ℕ → Content → ℕ → ℕ → History
+added_each histories b [] c = histories
+added_each histories b (o ∷ os) c = added_each (changed_at histories b o (added (histories b o) c)) b os c
+
 abbrev pub histories_after : (ℕ → ℕ → History) → Job → Want → ℕ → ℕ → History
-histories_after histories (Writing past block os c) (Write_at location b o) = changed_at histories b o (added (histories b o) c)
-histories_after histories (Writing_through block os c) (Write_at None b o) = changed_at histories b o (added (histories b o) c)
+histories_after histories (Writing past block extents c) (Write_all location b os) = added_each histories b os c
+histories_after histories (Writing_through block extents c) (Write_all None b os) = added_each histories b os c
 histories_after histories job w = histories
 
 abbrev pub entry : (ℕ → ℕ → History) → ℕ → ℕ → Entry
 entry histories b o = record { block = b; offset = o; position = length (histories b o).later + 1 }
 
+abbrev pub entered_each : (ℕ → ℕ → History) → ℕ → List ℕ → Content → List Entry → List Entry
+entered_each histories b [] c es = es
+entered_each histories b (o ∷ os) c es = entered_each (changed_at histories b o (added (histories b o) c)) b os c (entry histories b o ∷ es)
+
 abbrev pub entered_after : (ℕ → ℕ → History) → Job → Want → List Entry → List Entry
-entered_after histories (Writing past block os c) (Write_at location b o) es = entry histories b o ∷ es
-entered_after histories (Writing_through block os c) (Write_at None b o) es = entry histories b o ∷ es
+entered_after histories (Writing past block extents c) (Write_all location b os) es = entered_each histories b os c es
+entered_after histories (Writing_through block extents c) (Write_all None b os) es = entered_each histories b os c es
 entered_after histories job w es = es
 
 abbrev pub raised : List Entry → (ℕ → ℕ → ℕ) → ℕ → ℕ → ℕ
@@ -78,7 +86,7 @@ note n (Release k) = n
 
 -- what a read is given is the last write
 abbrev pub GivesLatest : (ℕ → ℕ → History) → Option Job → Want → Got → Type 0
-GivesLatest histories (Some (Reading past block os)) (Read_at location b o) (Gave c) = c ≡ newest (histories b o)
+GivesLatest histories (Some (Reading past block extents)) (Read_all location b os) (Gave contents) = AreAlike os contents (λ o. newest (histories b o))
 GivesLatest histories job w got = Unit {0}
 
 abbrev pub IsRight : Notes → Record → Type 0

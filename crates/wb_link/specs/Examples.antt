@@ -4,7 +4,7 @@ use Rattle.std.specs.Prelude.{◌++◌, Bool, true, false, cond, List, [], ◌�
 use Rattle.wb_disk.specs.Device.{Content, newest}
 use Rattle.wb_contents.specs.Volume.{at_location, changed}
 use Rattle.wb_types.specs.declared.mode.Mode.TheVariants.{Writeback, Writethrough, Passthrough}
-use Rattle.wb_link.specs.Tables.{Order, Seal, Reading, Writing, Suspending, Promoting, Returning, Flushing, Finished, Look_fail, Share, Leave, Own, Look_seal, Set_seal, Disown, Read_at, Write_at, Begin, Sync_cache_device, Sync_origin_device, Put_root, Sync_metadata, End_running, Make_room, Map_to, Unmap_from, Unmap_plain, Begin_clean, Set_suspended, Failed, Short, End, Done, Flag, Seen, Gave, Ticket, Served}
+use Rattle.wb_link.specs.Tables.{Order, Seal, Reading, Writing, Suspending, Promoting, Returning, Flushing, Finished, Look_fail, Share, Leave, Own, Look_seal, Set_seal, Disown, Read_all, Write_all, Begin, Sync_cache_device, Sync_origin_device, Put_root, Sync_metadata, End_running, Make_room, Map_to, Unmap_from, Unmap_plain, Begin_clean, Set_suspended, Failed, Short, End, Done, Flag, Seen, Gave, Ticket, Served}
 use Rattle.wb_link.specs.World.{Mapped, Shared, Start, Again, Step, Record}
 use Rattle.wb_link.specs.Openings.{Learnt, Stopping, Settled, Fine, Learns, Refused, Broke, Shown, Event, On, Stopped, Begins, Advances}
 
@@ -13,12 +13,12 @@ order = record { block = 0; cache = 0; next = None }
 
 -- under it block 0 is promoted, by a copy of this
 abbrev pub promoted : Content → List Record
-promoted content = Start 0 (Promoting order (0 ∷ [])) ∷
+promoted content = Start 0 (Promoting order ((0 ∷ []) ∷ [])) ∷
     Step 0 Look_fail (Flag false) ∷
     Step 0 (Own 0) Done ∷
     Step 0 (Look_seal 0) (Seen (record { location = None; dirty = false })) ∷
-    Step 0 (Read_at None 0 0) (Gave content) ∷
-    Step 0 (Write_at (Some 0) 0 0) Done ∷
+    Step 0 (Read_all None 0 (0 ∷ [])) (Gave (λ o. content)) ∷
+    Step 0 (Write_all (Some 0) 0 (0 ∷ [])) Done ∷
     Step 0 Make_room Done ∷
     Step 0 (Map_to order) Done ∷
     Step 0 (Set_seal 0 (record { location = Some 0; dirty = false })) Done ∷
@@ -26,20 +26,20 @@ promoted content = Start 0 (Promoting order (0 ∷ [])) ∷
     Step 0 (End Finished) Done ∷ []
 
 abbrev pub one_actor : List Record
-one_actor = Start 0 (Writing false 0 (0 ∷ []) (7 ∷ [])) ∷
+one_actor = Start 0 (Writing false 0 ((0 ∷ []) ∷ []) (7 ∷ [])) ∷
     Step 0 Look_fail (Flag false) ∷
     Step 0 (Own 0) Done ∷
     Step 0 (Look_seal 0) (Seen (record { location = None; dirty = false })) ∷
-    Step 0 (Write_at None 0 0) Done ∷
+    Step 0 (Write_all None 0 (0 ∷ [])) Done ∷
     Step 0 (Disown 0) Done ∷
     Step 0 (End Finished) Done ∷
     promoted (7 ∷ []) ++
-    Start 0 (Writing false 0 (0 ∷ []) (8 ∷ [])) ∷
+    Start 0 (Writing false 0 ((0 ∷ []) ∷ []) (8 ∷ [])) ∷
     Step 0 Look_fail (Flag false) ∷
     Step 0 (Own 0) Done ∷
     Step 0 (Look_seal 0) (Seen (record { location = Some 0; dirty = false })) ∷
     Step 0 (Set_seal 0 (record { location = Some 0; dirty = true })) Done ∷
-    Step 0 (Write_at (Some 0) 0 0) Done ∷
+    Step 0 (Write_all (Some 0) 0 (0 ∷ [])) Done ∷
     Step 0 (Disown 0) Done ∷
     Step 0 (End Finished) Done ∷
     Start 0 (Flushing None) ∷
@@ -51,12 +51,12 @@ one_actor = Start 0 (Writing false 0 (0 ∷ []) (7 ∷ [])) ∷
     Step 0 Sync_metadata Done ∷
     Step 0 End_running Done ∷
     Step 0 (End Finished) Done ∷
-    Start 0 (Returning true order (0 ∷ [])) ∷
+    Start 0 (Returning true order ((0 ∷ []) ∷ [])) ∷
     Step 0 Look_fail (Flag false) ∷
     Step 0 (Own 0) Done ∷
     Step 0 (Look_seal 0) (Seen (record { location = Some 0; dirty = true })) ∷
-    Step 0 (Read_at (Some 0) 0 0) (Gave (8 ∷ [])) ∷
-    Step 0 (Write_at None 0 0) Done ∷
+    Step 0 (Read_all (Some 0) 0 (0 ∷ [])) (Gave (λ o. (8 ∷ []))) ∷
+    Step 0 (Write_all None 0 (0 ∷ [])) Done ∷
     Step 0 (Unmap_from order) Done ∷
     Step 0 (Set_seal 0 (record { location = None; dirty = false })) Done ∷
     Step 0 (Disown 0) Done ∷
@@ -72,7 +72,7 @@ follower = record { block = 1; cache = 0; next = None }
 -- two flushes wait for the next commit, and the one that leads it serves both
 abbrev pub replaced : List Record
 replaced = promoted [] ++
-    Start 0 (Returning true replacement (0 ∷ [])) ∷
+    Start 0 (Returning true replacement ((0 ∷ []) ∷ [])) ∷
     Step 0 Look_fail (Flag false) ∷
     Step 0 (Own 0) Done ∷
     Step 0 (Look_seal 0) (Seen (record { location = Some 0; dirty = false })) ∷
@@ -104,12 +104,12 @@ replaced = promoted [] ++
     Step 0 (End Finished) Done ∷
     Step 2 (Begin (Some 2)) Served ∷
     Step 2 (End Finished) Done ∷
-    Again 0 (Promoting follower (0 ∷ [])) ∷
+    Again 0 (Promoting follower ((0 ∷ []) ∷ [])) ∷
     Step 0 Look_fail (Flag false) ∷
     Step 0 (Own 1) Done ∷
     Step 0 (Look_seal 1) (Seen (record { location = None; dirty = false })) ∷
-    Step 0 (Read_at None 1 0) (Gave []) ∷
-    Step 0 (Write_at (Some 0) 1 0) Done ∷
+    Step 0 (Read_all None 1 (0 ∷ [])) (Gave (λ o. [])) ∷
+    Step 0 (Write_all (Some 0) 1 (0 ∷ [])) Done ∷
     Step 0 Make_room Done ∷
     Step 0 (Map_to follower) Done ∷
     Step 0 (Set_seal 1 (record { location = Some 0; dirty = false })) Done ∷
@@ -129,7 +129,7 @@ lives_of s = Stopped (settles s false) ∷
     Begins Writeback ∷
     Advances (Settled false) ∷
     Advances Fine ∷
-    Advances (Broke (record { landed = false; more = false; settled = λ b o. false })) ∷
+    Advances (Broke (λ b o. false)) ∷
     Begins Writethrough ∷
     Advances (Settled false) ∷
     Advances Fine ∷
@@ -180,27 +180,27 @@ promoted_and_suspended = promoted [] ++
     Step 0 (End Finished) Done ∷ []
 
 abbrev pub read_and_written : List Record
-read_and_written = Start 0 (Reading true 0 (0 ∷ [])) ∷
+read_and_written = Start 0 (Reading true 0 ((0 ∷ []) ∷ [])) ∷
     Step 0 Look_fail (Flag false) ∷
     Step 0 (Share 0) Done ∷
     Step 0 (Look_seal 0) (Seen (record { location = Some 0; dirty = false })) ∷
-    Step 0 (Read_at None 0 0) (Gave []) ∷
+    Step 0 (Read_all None 0 (0 ∷ [])) (Gave (λ o. [])) ∷
     Step 0 (Leave 0) Done ∷
     Step 0 (End Finished) Done ∷
-    Start 0 (Writing true 0 (0 ∷ []) (9 ∷ [])) ∷
+    Start 0 (Writing true 0 ((0 ∷ []) ∷ []) (9 ∷ [])) ∷
     Step 0 Look_fail (Flag false) ∷
     Step 0 (Own 0) Done ∷
     Step 0 (Look_seal 0) (Seen (record { location = Some 0; dirty = false })) ∷
     Step 0 (Unmap_plain 0 0) Done ∷
     Step 0 (Set_seal 0 (record { location = None; dirty = false })) Done ∷
-    Step 0 (Write_at None 0 0) Done ∷
+    Step 0 (Write_all None 0 (0 ∷ [])) Done ∷
     Step 0 (Disown 0) Done ∷
     Step 0 (End Finished) Done ∷
-    Start 0 (Reading true 0 (0 ∷ [])) ∷
+    Start 0 (Reading true 0 ((0 ∷ []) ∷ [])) ∷
     Step 0 Look_fail (Flag false) ∷
     Step 0 (Share 0) Done ∷
     Step 0 (Look_seal 0) (Seen (record { location = None; dirty = false })) ∷
-    Step 0 (Read_at None 0 0) (Gave (9 ∷ [])) ∷
+    Step 0 (Read_all None 0 (0 ∷ [])) (Gave (λ o. (9 ∷ []))) ∷
     Step 0 (Leave 0) Done ∷
     Step 0 (End Finished) Done ∷ []
 

@@ -8,7 +8,6 @@ use Rattle.wb_types.specs.declared.mode.Mode.TheVariants.{Passthrough}
 use Rattle.wb_contents.specs.Acts.{all_synced, partly_synced}
 use Rattle.wb_contents.specs.Conditions.{IsUnnamed}
 use Rattle.wb_contents.specs.Promises.{IsEntryFrom}
-use Rattle.wb_link.specs.Tables.{Choice}
 use Rattle.wb_link.specs.World.{Block, Free, Mapped, Shared, World, Record, resting, begins, after_record, May}
 use Rattle.wb_link.specs.Clerk.{Notes, note, opened, IsRight}
 
@@ -51,7 +50,7 @@ pub data Outcome : Type 0 where
   Fine : Outcome
   Learns : Learnt → Outcome
   Refused : Outcome
-  Broke : Choice → Outcome
+  Broke : (lands : ℕ → ℕ → Bool) → Outcome
   Shown : (blocks : ℕ → Block) → (view : ℕ → ℕ → Content) → Outcome
 
 pub data Event : Type 0 where
@@ -111,19 +110,19 @@ opened_on s mode i blocks = record {
 -- what may come of a step
 abbrev pub Yields : Shared → Mode → Stage → Outcome → Type 0
 Yields s mode Settling (Settled new_root) = new_root ≡ true → s.root_written ≡ true
-Yields s mode Settling (Broke choice) = Unit {0}
+Yields s mode Settling (Broke lands) = Unit {0}
 Yields s mode Caching Fine = Unit {0}
-Yields s mode Caching (Broke choice) = Unit {0}
+Yields s mode Caching (Broke lands) = Unit {0}
 Yields s mode Basing Fine = Unit {0}
-Yields s mode Basing (Broke choice) = Unit {0}
+Yields s mode Basing (Broke lands) = Unit {0}
 Yields s mode Looking (Learns i) = (i.locations ≡ s.committed) × (i.clean ≡ s.committed_clean) × Admitted mode i
 Yields s mode Looking Refused = Unit {0}
-Yields s mode Looking (Broke choice) = Unit {0}
+Yields s mode Looking (Broke lands) = Unit {0}
 Yields s mode (Rooting i) Fine = Unit {0}
-Yields s mode (Rooting i) (Broke choice) = Unit {0}
+Yields s mode (Rooting i) (Broke lands) = Unit {0}
 Yields s mode (Rooting i) Refused = Unit {0}
 Yields s mode (Renewing i) Fine = Unit {0}
-Yields s mode (Renewing i) (Broke choice) = Unit {0}
+Yields s mode (Renewing i) (Broke lands) = Unit {0}
 Yields s mode (Answering i) (Shown blocks view) = ((k : ℕ) → (blocks k ≡ Mapped) ⊎ ((blocks k ≡ Free) × IsUnnamed i.locations k)) × ((b o : ℕ) → view b o ≡ newest (at_location s.origin s.cache (i.locations b) b o))
 Yields s mode stage outcome = ⊥
 
@@ -131,9 +130,9 @@ Yields s mode stage outcome = ⊥
 abbrev pub advanced : Shared → Mode → Stage → Outcome → Shared
 advanced s mode Settling (Settled new_root) = decided s new_root
 advanced s mode Caching Fine = record s { cache = all_synced s.cache }
-advanced s mode Caching (Broke choice) = record s { cache = partly_synced choice.settled s.cache }
+advanced s mode Caching (Broke lands) = record s { cache = partly_synced lands s.cache }
 advanced s mode Basing Fine = record s { origin = all_synced s.origin }
-advanced s mode Basing (Broke choice) = record s { origin = partly_synced choice.settled s.origin }
+advanced s mode Basing (Broke lands) = record s { origin = partly_synced lands s.origin }
 advanced s mode (Rooting i) Refused = s
 advanced s mode (Rooting i) outcome = record s { running = i.locations; running_clean = λ b. false; root_written = true }
 advanced s mode (Answering i) (Shown blocks view) = opened_on s mode i blocks

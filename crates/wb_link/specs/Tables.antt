@@ -9,17 +9,18 @@ pub record Order : Type 0 where
   -- a replacement's: the block of the origin that is to follow on the cache block
   pub next : Option ℕ
 
+-- Sectors are moved extent by extent, each of these offsets in the block.
 pub data Job : Type 0 where
   -- where the block is, or past the cache, as in passthrough
-  Reading : (past : Bool) → (block : ℕ) → List ℕ → Job
-  Writing : (past : Bool) → (block : ℕ) → List ℕ → Content → Job
-  Writing_through : (block : ℕ) → List ℕ → Content → Job
+  Reading : (past : Bool) → (block : ℕ) → List (List ℕ) → Job
+  Writing : (past : Bool) → (block : ℕ) → List (List ℕ) → Content → Job
+  Writing_through : (block : ℕ) → List (List ℕ) → Content → Job
   -- of a replacement, under its order
   Flushing : (order : Option Order) → Job
   Suspending : Job
-  Promoting : Order → List ℕ → Job
+  Promoting : Order → List (List ℕ) → Job
   -- a dirty block's sectors come home: a demotion, after which it leaves the cache, or a write-back, after which it is clean there
-  Returning : (leaves : Bool) → Order → List ℕ → Job
+  Returning : (leaves : Bool) → Order → List (List ℕ) → Job
   Invalidating : (block : ℕ) → Job
 
 pub record Seal : Type 0 where
@@ -43,8 +44,9 @@ pub data Want : Type 0 where
   Set_failed : Want
   Set_suspended : Want
   Break_commits : Want
-  Read_at : (location : Option ℕ) (block offset : ℕ) → Want
-  Write_at : (location : Option ℕ) (block offset : ℕ) → Want
+  -- an extent of a block, in one step
+  Read_all : (location : Option ℕ) (block : ℕ) → List ℕ → Want
+  Write_all : (location : Option ℕ) (block : ℕ) → List ℕ → Want
   -- a flush asks to lead a commit, or to be served: on arriving, or with a ticket
   Begin : (ticket : Option ℕ) → Want
   Begin_clean : Want
@@ -61,54 +63,49 @@ pub data Want : Type 0 where
   Give_up : Order → Want
   End : Answer → Want
 
--- What a fault leaves: whether what was written has landed, and whether it was of one step with the sectors that a write
--- has still to write, or a migration to copy, each of which lands or not; of a sync, which sectors are settled.
-pub record Choice : Type 0 where
-  pub landed : Bool
-  pub more : Bool
-  pub settled : ℕ → ℕ → Bool
-
 pub data Got : Type 0 where
   Done : Got
   Lost : Got
   Flag : Bool → Got
   Seen : Seal → Got
-  Gave : Content → Got
+  -- the contents by their offsets
+  Gave : (ℕ → Content) → Got
   Ticket : ℕ → Got
   Served : Got
   Broken : Got
   -- a growth was refused, or no number is left
   Short : Got
-  Fault : Choice → Got
+  -- of what was written these sectors have landed, by block and offset; of a sync these are settled
+  Fault : (lands : ℕ → ℕ → Bool) → Got
 
 pub record Script : Type 0 where
   pub job : Job
   pub steps : List Want
   pub answer : Answer
 
-abbrev pub read_each : Option ℕ → ℕ → List ℕ → List Want → List Want
+abbrev pub read_each : Option ℕ → ℕ → List (List ℕ) → List Want → List Want
 read_each location b [] rest = rest
-read_each location b (o ∷ os) rest = Read_at location b o ∷ read_each location b os rest
+read_each location b (os ∷ extents) rest = Read_all location b os ∷ read_each location b extents rest
 
-abbrev pub write_each : Option ℕ → ℕ → List ℕ → List Want → List Want
+abbrev pub write_each : Option ℕ → ℕ → List (List ℕ) → List Want → List Want
 write_each location b [] rest = rest
-write_each location b (o ∷ os) rest = Write_at location b o ∷ write_each location b os rest
+write_each location b (os ∷ extents) rest = Write_all location b os ∷ write_each location b extents rest
 
-abbrev pub copy_each : (from to : Option ℕ) → ℕ → List ℕ → List Want → List Want
+abbrev pub copy_each : (from to : Option ℕ) → ℕ → List (List ℕ) → List Want → List Want
 copy_each from to b [] rest = rest
-copy_each from to b (o ∷ os) rest = Read_at from b o ∷ Write_at to b o ∷ copy_each from to b os rest
+copy_each from to b (os ∷ extents) rest = Read_all from b os ∷ Write_all to b os ∷ copy_each from to b extents rest
 
--- write-through: each sector on the origin, then on the cache where it is mapped
-abbrev pub write_through_each : Option ℕ → ℕ → List ℕ → List Want → List Want
-write_through_each None b os rest = write_each None b os rest
+-- write-through: each extent on the origin, then on the cache where it is mapped
+abbrev pub write_through_each : Option ℕ → ℕ → List (List ℕ) → List Want → List Want
+write_through_each None b extents rest = write_each None b extents rest
 write_through_each (Some k) b [] rest = rest
-write_through_each (Some k) b (o ∷ os) rest = Write_at None b o ∷ Write_at (Some k) b o ∷ write_through_each (Some k) b os rest
+write_through_each (Some k) b (os ∷ extents) rest = Write_all None b os ∷ Write_all (Some k) b os ∷ write_through_each (Some k) b extents rest
 
 abbrev pub dirtying : ℕ → Option ℕ → Bool → List Want → List Want
 dirtying b (Some k) false rest = Set_seal b (record { location = Some k; dirty = true }) ∷ rest
 dirtying b location dirty rest = rest
 
-abbrev pub copy_dirty : Bool → Order → List ℕ → List Want → List Want
+abbrev pub copy_dirty : Bool → Order → List (List ℕ) → List Want → List Want
 copy_dirty true order os rest = copy_each (Some order.cache) None order.block os rest
 copy_dirty false order os rest = rest
 
@@ -139,7 +136,7 @@ read_from true location = None
 read_from false location = location
 
 -- a write past the cache unmaps its block first
-abbrev pub write_work : (past : Bool) → ℕ → List ℕ → Seal → List Want
+abbrev pub write_work : (past : Bool) → ℕ → List (List ℕ) → Seal → List Want
 write_work true b os seal = dropping b seal.location (write_each None b os (Disown b ∷ []))
 write_work false b os seal = dirtying b seal.location seal.dirty (write_each seal.location b os (Disown b ∷ []))
 
@@ -200,23 +197,9 @@ breaking (Flushing order) = Set_failed ∷ Break_commits ∷ []
 breaking Suspending = Set_failed ∷ Break_commits ∷ []
 breaking job = Set_failed ∷ []
 
--- the writes that come next, each after its read where they copy, and then the failed bit
-abbrev pub until_failed : List Want → List Want
-until_failed (Read_at location b o ∷ ws) = Read_at location b o ∷ until_failed ws
-until_failed (Write_at location b o ∷ ws) = Write_at location b o ∷ until_failed ws
-until_failed ws = Set_failed ∷ []
-
--- after a fault of a write
-abbrev pub steps_after_fault : Job → (more : Bool) → List Want → List Want
-steps_after_fault (Writing past b os c) true ws = until_failed ws
-steps_after_fault (Promoting order os) true ws = until_failed ws
-steps_after_fault (Returning leaves order os) true ws = until_failed ws
-steps_after_fault job more ws = breaking job
-
-abbrev pub after_fault : Script → (more : Bool) → Want → Script
-after_fault s more (Read_at location b o) = refused s (release s.job) Io
-after_fault s more (Write_at location b o) = refused s (steps_after_fault s.job more (later_steps s.steps)) Io
-after_fault s more w = refused s (breaking s.job) Io
+abbrev pub after_fault : Script → Want → Script
+after_fault s (Read_all location b os) = refused s (release s.job) Io
+after_fault s w = refused s (breaking s.job) Io
 
 abbrev pub after_flag : Script → Bool → Script
 after_flag s true = refused s [] Failed
@@ -237,9 +220,9 @@ after s Done = onward s
 after s Lost = refused s [] Busy
 after s (Flag f) = after_flag s f
 after s (Seen seal) = record s { steps = work s.job seal }
-after s (Gave c) = onward s
+after s (Gave contents) = onward s
 after s (Ticket k) = record s { steps = Begin (Some k) ∷ later_steps s.steps }
 after s Served = refused s [] Finished
 after s Broken = refused s [] Failed
 after s Short = refused s (letting s.job) Failed
-after s (Fault choice) = after_fault s choice.more (want s)
+after s (Fault lands) = after_fault s (want s)

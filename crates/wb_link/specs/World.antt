@@ -6,7 +6,7 @@ use Rattle.wb_contents.specs.Volume.{Locations, changed, changed_at}
 use Rattle.wb_types.specs.declared.mode.Mode.{Mode}
 use Rattle.wb_types.specs.declared.mode.Mode.TheVariants.{Writeback, Writethrough, Passthrough}
 use Rattle.wb_contents.specs.Acts.{all_synced, partly_synced}
-use Rattle.wb_link.specs.Tables.{Begin, Begin_clean, Break_commits, Broken, Disown, Done, End, End_running, Fault, Flag, Flushing, Gave, Give_up, Got, Invalidating, Job, Leave, Look_fail, Look_seal, Lost, Make_room, Map_to, Order, Own, Writing_through, Promoting, Read_at, Reading, Script, Seal, Seen, Served, Set_failed, Set_seal, Set_suspended, Share, Short, Suspending, Sync_origin_device, Sync_cache_device, Sync_metadata, Ticket, Unmap_from, Unmap_plain, Want, Returning, Write_at, Put_root, Writing, after, table, want}
+use Rattle.wb_link.specs.Tables.{Begin, Begin_clean, Break_commits, Broken, Disown, Done, End, End_running, Fault, Flag, Flushing, Gave, Give_up, Got, Invalidating, Job, Leave, Look_fail, Look_seal, Lost, Make_room, Map_to, Order, Own, Writing_through, Promoting, Read_all, Reading, Script, Seal, Seen, Served, Set_failed, Set_seal, Set_suspended, Share, Short, Suspending, Sync_origin_device, Sync_cache_device, Sync_metadata, Ticket, Unmap_from, Unmap_plain, Want, Returning, Write_all, Put_root, Writing, after, table, want}
 
 pub data Block : Type 0 where
   Free : Block
@@ -48,7 +48,8 @@ pub record Actor : Type 0 where
   pub held : Held
   pub order : Option Order
   pub leads : Bool
-  pub buffer : Content
+  -- what it has read last, by offset
+  pub buffer : ℕ → Content
 
 pub record World : Type 0 where
   pub shared : Shared
@@ -77,11 +78,11 @@ given_back Reserved = Free
 given_back (Retained early) = Quarantined early
 given_back block = block
 
--- what an actor writes: a write what it was given, a migration what it has read
-abbrev pub content_for : Job → Content → Content
-content_for (Writing past b os c) buffer = c
-content_for (Writing_through b os c) buffer = c
-content_for other buffer = buffer
+-- what an actor writes at each offset: a write what it was given, a migration what it has read
+abbrev pub contents_for : Job → (ℕ → Content) → ℕ → Content
+contents_for (Writing past b os c) buffer = λ o. c
+contents_for (Writing_through b os c) buffer = λ o. c
+contents_for other buffer = buffer
 
 abbrev pub put_sector : Shared → Option ℕ → ℕ → ℕ → Content → Shared
 put_sector s None b o c = record s { origin = changed_at s.origin b o (added (s.origin b o) c) }
@@ -91,19 +92,24 @@ abbrev pub if_landed : Bool → Shared → Shared → Shared
 if_landed true new old = new
 if_landed false new old = old
 
-abbrev pub effect : Shared → Job → Content → Want → Got → Shared
+-- of an extent's sectors those that land
+abbrev pub put_where : (ℕ → Bool) → Shared → Option ℕ → ℕ → List ℕ → (ℕ → Content) → Shared
+put_where lands s location b [] contents = s
+put_where lands s location b (o ∷ os) contents = put_where lands (if_landed (lands o) (put_sector s location b o (contents o)) s) location b os contents
+
+abbrev pub effect : Shared → Job → (ℕ → Content) → Want → Got → Shared
 effect s job buffer (Set_seal b seal) got = record s { seals = changed s.seals b seal }
 effect s job buffer Set_failed got = record s { fail = true }
 effect s job buffer Set_suspended got = record s { fail = true }
 effect s job buffer Break_commits got = record s { broken = true }
-effect s job buffer (Write_at location b o) Done = put_sector s location b o (content_for job buffer)
-effect s job buffer (Write_at location b o) (Fault choice) = if_landed choice.landed (put_sector s location b o (content_for job buffer)) s
+effect s job buffer (Write_all location b os) Done = put_where (λ o. true) s location b os (contents_for job buffer)
+effect s job buffer (Write_all location b os) (Fault lands) = put_where (lands b) s location b os (contents_for job buffer)
 effect s job buffer (Begin ticket) Done = record s { began = s.began + 1; running_clean = λ b. false; committing = true; running = s.mapping; blocks = λ k. begun (s.blocks k) }
 effect s job buffer Begin_clean Done = record s { began = s.began + 1; running_clean = λ b. cond (s.seals b).dirty false true; committing = true; running = s.mapping; blocks = λ k. begun (s.blocks k); live = false }
 effect s job buffer Sync_cache_device Done = record s { cache = all_synced s.cache }
-effect s job buffer Sync_cache_device (Fault choice) = record s { cache = partly_synced choice.settled s.cache }
+effect s job buffer Sync_cache_device (Fault lands) = record s { cache = partly_synced lands s.cache }
 effect s job buffer Sync_origin_device Done = record s { origin = all_synced s.origin }
-effect s job buffer Sync_origin_device (Fault choice) = record s { origin = partly_synced choice.settled s.origin }
+effect s job buffer Sync_origin_device (Fault lands) = record s { origin = partly_synced lands s.origin }
 effect s job buffer Put_root got = record s { root_written = true }
 effect s job buffer End_running got = record s { ended = s.began; committed_clean = s.running_clean; committing = false; committed = s.running; root_written = false; blocks = λ k. ended (s.blocks k) }
 effect s job buffer (Map_to order) got = record s { mapping = changed s.mapping order.block (Some order.cache); blocks = changed s.blocks order.cache Mapped }
@@ -138,8 +144,8 @@ leads_after leads Begin_clean Done = true
 leads_after leads End_running got = false
 leads_after leads w got = leads
 
-abbrev pub buffer_after : Content → Got → Content
-buffer_after buffer (Gave c) = c
+abbrev pub buffer_after : (ℕ → Content) → Got → ℕ → Content
+buffer_after buffer (Gave contents) = contents
 buffer_after buffer got = buffer
 
 abbrev pub task_after : Script → Want → Got → Option Script
@@ -170,23 +176,39 @@ abbrev pub Unserved : Shared → Option ℕ → Type 0
 Unserved s None = Unit {0}
 Unserved s (Some k) = s.ended < k
 
+-- at these offsets both are the same
+abbrev pub AreAlike : List ℕ → (ℕ → Content) → (ℕ → Content) → Type 0
+AreAlike [] f g = Unit {0}
+AreAlike (o ∷ os) f g = (f o ≡ g o) × AreAlike os f g
+
+-- it is done; or may have failed, be lost to another actor, or be refused
+abbrev pub IsDone : Got → Type 0
+IsDone Done = Unit {0}
+IsDone got = ⊥
+
+abbrev pub MayFail : Got → Type 0
+MayFail (Fault lands) = Unit {0}
+MayFail got = IsDone got
+
+abbrev pub MayLose : Got → Type 0
+MayLose Lost = Unit {0}
+MayLose got = IsDone got
+
+abbrev pub MayLack : Got → Type 0
+MayLack Short = Unit {0}
+MayLack got = IsDone got
+
 abbrev pub Gives : Shared → Want → Got → Type 0
 Gives s Look_fail (Flag f) = f ≡ s.fail
-Gives s (Share b) Done = Unit {0}
-Gives s (Share b) Lost = Unit {0}
-Gives s (Own b) Done = Unit {0}
-Gives s (Own b) Lost = Unit {0}
+Gives s Look_fail got = ⊥
+Gives s (Share b) got = MayLose got
+Gives s (Own b) got = MayLose got
 Gives s (Look_seal b) (Seen seal) = seal ≡ s.seals b
-Gives s (Set_seal b seal) Done = Unit {0}
-Gives s (Leave b) Done = Unit {0}
-Gives s (Disown b) Done = Unit {0}
-Gives s Set_failed Done = Unit {0}
-Gives s Set_suspended Done = Unit {0}
-Gives s Break_commits Done = Unit {0}
-Gives s (Read_at location b o) (Gave c) = c ≡ newest_at s location b o
-Gives s (Read_at location b o) (Fault choice) = Unit {0}
-Gives s (Write_at location b o) Done = Unit {0}
-Gives s (Write_at location b o) (Fault choice) = Unit {0}
+Gives s (Look_seal b) got = ⊥
+Gives s (Read_all location b os) (Gave contents) = AreAlike os contents (newest_at s location b)
+Gives s (Read_all location b os) (Fault lands) = Unit {0}
+Gives s (Read_all location b os) got = ⊥
+Gives s (Write_all location b os) got = MayFail got
 Gives s (Begin ticket) Done = (s.committing ≡ false) × (s.broken ≡ false) × Unserved s ticket
 Gives s (Begin ticket) (Ticket k) = (ticket ≡ None) × (s.committing ≡ true) × (s.broken ≡ false) × (k ≡ s.began + 1)
 Gives s (Begin ticket) Served = Serves s ticket
@@ -194,26 +216,16 @@ Gives s (Begin ticket) Broken = (s.broken ≡ true) × Unserved s ticket
 Gives s (Begin ticket) Short = Unserved s ticket
 -- it does not wait for the one that runs
 Gives s (Begin ticket) Lost = s.committing ≡ true
+Gives s (Begin ticket) got = ⊥
 Gives s Begin_clean Done = s.committing ≡ false
 Gives s Begin_clean Lost = s.committing ≡ true
-Gives s Begin_clean Short = Unit {0}
-Gives s Sync_cache_device Done = Unit {0}
-Gives s Sync_cache_device (Fault choice) = Unit {0}
-Gives s Sync_origin_device Done = Unit {0}
-Gives s Sync_origin_device (Fault choice) = Unit {0}
-Gives s Put_root Done = Unit {0}
-Gives s Put_root (Fault choice) = Unit {0}
-Gives s Sync_metadata Done = Unit {0}
-Gives s Sync_metadata (Fault choice) = Unit {0}
-Gives s End_running Done = Unit {0}
-Gives s Make_room Done = Unit {0}
-Gives s Make_room Short = Unit {0}
-Gives s (Map_to order) Done = Unit {0}
-Gives s (Unmap_from order) Done = Unit {0}
-Gives s (Unmap_plain b k) Done = Unit {0}
-Gives s (Give_up order) Done = Unit {0}
-Gives s (End answer) Done = Unit {0}
-Gives s w got = ⊥
+Gives s Begin_clean got = MayLack got
+Gives s Sync_cache_device got = MayFail got
+Gives s Sync_origin_device got = MayFail got
+Gives s Put_root got = MayFail got
+Gives s Sync_metadata got = MayFail got
+Gives s Make_room got = MayLack got
+Gives s w got = IsDone got
 
 -- What the lock words tell: an exchange to an own meets nobody who holds the block, one to a share nobody who owns it.
 abbrev pub Wins : List Actor → Want → Got → Type 0
@@ -252,21 +264,38 @@ abbrev pub Within : ℕ → List ℕ → Type 0
 Within size [] = Unit {0}
 Within size (o ∷ os) = (o < size) × Within size os
 
+abbrev pub AllWithin : ℕ → List (List ℕ) → Type 0
+AllWithin size [] = Unit {0}
+AllWithin size (os ∷ extents) = Within size os × AllWithin size extents
+
+-- no offset twice in an extent
+abbrev pub AreDistinct : List ℕ → Type 0
+AreDistinct [] = Unit {0}
+AreDistinct (o ∷ os) = (¬ Contains os o) × AreDistinct os
+
+abbrev pub AllDistinct : List (List ℕ) → Type 0
+AllDistinct [] = Unit {0}
+AllDistinct (os ∷ extents) = AreDistinct os × AllDistinct extents
+
 -- and they are all of them
-abbrev pub Covers : ℕ → List ℕ → Type 0
-Covers size os = (o : ℕ) → o < size → Contains os o
+abbrev pub AreIn : List (List ℕ) → ℕ → Type 0
+AreIn [] o = ⊥
+AreIn (os ∷ extents) o = Contains os o ⊎ AreIn extents o
+
+abbrev pub Covers : ℕ → List (List ℕ) → Type 0
+Covers size extents = (o : ℕ) → o < size → AreIn extents o
 
 -- A job may be started: a migration only under an order that may be given.
 abbrev pub MayStart : ℕ → World → Job → Type 0
-MayStart size w (Reading false b os) = Within size os
-MayStart size w (Reading true b os) = Within size os × (w.shared.mode ≡ Passthrough)
-MayStart size w (Writing past b os c) = Within size os × (w.shared.mode ≡ cond past Passthrough Writeback)
-MayStart size w (Writing_through b os c) = Within size os × (w.shared.mode ≡ Writethrough)
+MayStart size w (Reading false b os) = AllWithin size os
+MayStart size w (Reading true b os) = AllWithin size os × (w.shared.mode ≡ Passthrough)
+MayStart size w (Writing past b os c) = AllWithin size os × (w.shared.mode ≡ cond past Passthrough Writeback)
+MayStart size w (Writing_through b os c) = AllWithin size os × AllDistinct os × (w.shared.mode ≡ Writethrough)
 MayStart size w (Invalidating b) = w.shared.mode ≡ Passthrough
 MayStart size w (Flushing order) = order ≡ None
 MayStart size w Suspending = (a : ℕ) (x : Actor) → slice_get w.actors a ≡ Some x → x.task ≡ None
-MayStart size w (Promoting order os) = Within size os × Covers size os × Ungiven w order × (w.shared.mode ≢ Passthrough) × (w.shared.mapping order.block ≡ None) × (w.shared.blocks order.cache ≡ Free) × NextIsUnmapped w.shared order
-MayStart size w (Returning leaves order os) = Within size os × Covers size os × Ungiven w order × (w.shared.mode ≢ Passthrough) × (w.shared.mapping order.block ≡ Some order.cache) × (w.shared.blocks order.cache ≡ Mapped) × NextIsUnmapped w.shared order
+MayStart size w (Promoting order os) = AllWithin size os × Covers size os × Ungiven w order × (w.shared.mode ≢ Passthrough) × (w.shared.mapping order.block ≡ None) × (w.shared.blocks order.cache ≡ Free) × NextIsUnmapped w.shared order
+MayStart size w (Returning leaves order os) = AllWithin size os × Covers size os × Ungiven w order × (w.shared.mode ≢ Passthrough) × (w.shared.mapping order.block ≡ Some order.cache) × (w.shared.blocks order.cache ≡ Mapped) × NextIsUnmapped w.shared order
 
 -- Records.
 
@@ -280,7 +309,7 @@ pub data Record : Type 0 where
 
 -- an actor with nothing to do, that holds nothing
 abbrev pub resting : Actor
-resting = record { task = None; held = Nothing; order = None; leads = false; buffer = [] }
+resting = record { task = None; held = Nothing; order = None; leads = false; buffer = λ o. [] }
 
 abbrev pub given : Actor → Job → Actor
 given x job = record x { task = Some (table job); order = order_of job }
@@ -365,8 +394,8 @@ pub record MayBegin (size : ℕ) (w : World) (a : ℕ) (job : Job) (x : Actor) :
 
 -- what an order says still: its cache block is reserved, or mapped
 abbrev pub MayAgain : ℕ → Shared → Job → Type 0
-MayAgain size s (Promoting order os) = Within size os × Covers size os × (s.blocks order.cache ≡ Reserved)
-MayAgain size s (Returning leaves order os) = Within size os × Covers size os × (s.blocks order.cache ≡ Mapped)
+MayAgain size s (Promoting order os) = AllWithin size os × Covers size os × (s.blocks order.cache ≡ Reserved)
+MayAgain size s (Returning leaves order os) = AllWithin size os × Covers size os × (s.blocks order.cache ≡ Mapped)
 MayAgain size s (Flushing order) = (p : Order) × (order ≡ Some p)
 MayAgain size s job = ⊥
 

@@ -8,11 +8,11 @@ use Rattle.wb_link.specs.World.{order_of as order_of_job, Owns, Actor}
 use Rattle.wb_refines.specs.Migrations.{job_under}
 use Rattle.wb_refines.specs.Carrying.{CarryingFollowed}
 
-abbrev owning : Job → Order → Content → AbstractAnswer → List AbstractWant → Actor
+abbrev owning : Job → Order → (ℕ → Content) → AbstractAnswer → List AbstractWant → Actor
 owning job order buffer answer steps = record { task = Some (record { job = job; steps = steps; answer = answer }); held = Owns order.block; order = Some order; leads = false; buffer = buffer }
 
 -- a migration's job is under its order
-pub under_order : (order : Order) (os : List ℕ) (migration : Migration) → order_of_job (job_under order os migration) ≡ Some order
+pub under_order : (order : Order) (os : List (List ℕ)) (migration : Migration) → order_of_job (job_under order os migration) ≡ Some order
 under_order order os (Promote c) = refl
 under_order order os migration = refl
 

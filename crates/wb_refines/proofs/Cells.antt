@@ -41,7 +41,7 @@ pub same_images : (s : Shared) → SameImages s s
 same_images s = (same_else s).images
 
 -- the actor that is at this
-abbrev pub at : ℕ → Content → Plan → Card → Content → Actor
+abbrev pub at : ℕ → Content → Plan → Card → (ℕ → Content) → Actor
 at size content plan card buffer = record { task = Some (script_for size content plan); held = held_for plan.steps card; order = None; leads = false; buffer = buffer }
 
 pub flag_of : (n : ℕ) (t : Bool) → (n == 0) ≡ t → flag n ≡ cond t false true

@@ -35,7 +35,7 @@ releases_are : (size : ℕ) (serves : List OBlock) → wants_of size (FlushingFo
 releases_are size [] = refl
 releases_are size (b ∷ bs) = releases_are size bs
 
-module _ (size : ℕ) (serves : List OBlock) (most : ℕ) (content : Content) (actors : List Actor) (a : ℕ) (s : Shared) (buffer : Content) where
+module _ (size : ℕ) (serves : List OBlock) (most : ℕ) (content : Content) (actors : List Actor) (a : ℕ) (s : Shared) (buffer : ℕ → Content) where
   -- an actor with these steps of a flush
   abbrev pub asking : List AbstractWant → AnswerThere → Bool → Actor
   asking steps answer leads = record { task = Some (record { job = FlushingFor None; steps = steps; answer = answer }); held = Nothing; order = None; leads = leads; buffer = buffer }
@@ -48,15 +48,15 @@ module _ (size : ℕ) (serves : List OBlock) (most : ℕ) (content : Content) (a
       (written : Bool) × (s.root_written ≡ true → written ≡ true) × Leads size content actors a s (asking (wants_of size (FlushingFor None) steps) answer true) (record s { root_written = written }) (flushing serves most (Cell SetFailed ∷ []) (Refuses (Io refusal))) true
   on_metadata (Device (WriteNode number) ∷ later) answer d m = on_metadata later answer d m
   on_metadata (Device (Sync Metadata) ∷ later) answer d m = on_metadata later answer d m
-  on_metadata (Device WriteRoot ∷ later) answer d m = (true, (λ e. refl), record { results = FaultThere (record { landed = true; more = false; settled = λ b o. false }) ∷ []; may = (tt, tt, tt); quiet = (tt, tt); shared = refl; at = record { buffer = buffer; is = refl } })
-  on_metadata (Desk EndCommit ∷ []) answer d m = (s.root_written, (λ e. e), record { results = FaultThere (record { landed = false; more = false; settled = λ b o. false }) ∷ []; may = (tt, tt, tt); quiet = (tt, tt); shared = refl; at = record { buffer = buffer; is = refl } })
+  on_metadata (Device WriteRoot ∷ later) answer d m = (true, (λ e. refl), record { results = FaultThere (λ b o. false) ∷ []; may = (tt, tt, tt); quiet = (tt, tt); shared = refl; at = record { buffer = buffer; is = refl } })
+  on_metadata (Desk EndCommit ∷ []) answer d m = (s.root_written, (λ e. e), record { results = FaultThere (λ b o. false) ∷ []; may = (tt, tt, tt); quiet = (tt, tt); shared = refl; at = record { buffer = buffer; is = refl } })
   on_metadata steps answer d m = absurd m
 
   fails_on : (step : DeviceStep) (later : List Want) (answer : Answer) → IsOnMetadata (Device step ∷ later) →
       (written : Bool) × IsWrittenAfter step s.root_written written × Leads size content actors a s (flusher (Device step ∷ later) answer true) (record s { root_written = written }) (after (flushing serves most (Device step ∷ later) answer) Fault) true
   fails_on (WriteNode number) later answer m = on_metadata later (answer_for (FlushingFor None) answer) Metadata m
   fails_on (Sync Metadata) later answer m = on_metadata later (answer_for (FlushingFor None) answer) Metadata m
-  fails_on WriteRoot later answer m = (true, refl, record { results = FaultThere (record { landed = true; more = false; settled = λ b o. false }) ∷ []; may = (tt, tt, tt); quiet = (tt, tt); shared = refl; at = record { buffer = buffer; is = refl } })
+  fails_on WriteRoot later answer m = (true, refl, record { results = FaultThere (λ b o. false) ∷ []; may = (tt, tt, tt); quiet = (tt, tt); shared = refl; at = record { buffer = buffer; is = refl } })
   fails_on step later answer m = absurd m
 
   looks_at : (word : ℕ) (answer : Answer) → s.fail ≡ flag word →
@@ -89,8 +89,8 @@ flush_steps_followed = record {
   syncs_metadata = λ size serves most content actors a s y later answer is. record { results = []; may = tt; quiet = subst (λ (v : Actor). AreQuiet v.task []) (sym is.is) tt; shared = ap (λ (v : Actor). shared_after s v v.task []) is.is; at = record { buffer = is.buffer; is = ap (λ (v : Actor). gone v v.task []) is.is } };
   writes_root = λ size serves most content actors a s y later answer is. moved is.is (record { results = DoneThere ∷ []; may = (tt, tt, tt); quiet = (tt, tt); shared = refl; at = record { buffer = is.buffer; is = refl } });
   ends = λ size serves most content actors a s y answer is. moved is.is (record { results = DoneThere ∷ DoneThere ∷ []; may = (tt, tt, (tt, tt, tt)); quiet = (tt, (tt, tt)); shared = refl; at = record { buffer = is.buffer; is = refl } });
-  fails_cache = λ size serves most content actors a s y later answer settled is. moved is.is (record { results = FaultThere (record { landed = false; more = false; settled = settled }) ∷ []; may = (tt, tt, tt); quiet = (tt, tt); shared = refl; at = record { buffer = is.buffer; is = refl } });
-  fails_origin = λ size serves most content actors a s y later answer settled is. moved is.is (record { results = FaultThere (record { landed = false; more = false; settled = settled }) ∷ []; may = (tt, tt, tt); quiet = (tt, tt); shared = refl; at = record { buffer = is.buffer; is = refl } });
+  fails_cache = λ size serves most content actors a s y later answer settled is. moved is.is (record { results = FaultThere settled ∷ []; may = (tt, tt, tt); quiet = (tt, tt); shared = refl; at = record { buffer = is.buffer; is = refl } });
+  fails_origin = λ size serves most content actors a s y later answer settled is. moved is.is (record { results = FaultThere settled ∷ []; may = (tt, tt, tt); quiet = (tt, tt); shared = refl; at = record { buffer = is.buffer; is = refl } });
   fails_metadata = λ size serves most step content actors a s y later answer m is. let one = fails_on size serves most content actors a s is.buffer step later answer m in (one.0, one.1, subst (λ (v : Actor). Leads size content actors a s v (record s { root_written = one.0 }) (after (flushing serves most (Device step ∷ later) answer) Fault) true) (sym is.is) one.2);
   fails = λ size serves most content actors a s y answer is. moved is.is (record { results = DoneThere ∷ DoneThere ∷ []; may = (tt, tt, (tt, tt, tt)); quiet = (tt, (tt, tt)); shared = refl; at = record { buffer = is.buffer; is = refl } });
 }

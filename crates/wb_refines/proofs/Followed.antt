@@ -83,7 +83,7 @@ parting_plain job (Desk (ReleaseOrder b) ∷ []) p = tt
 parting_plain job ws p = absurd p
 
 -- Of a job that plays this role each step on the words is followed.
-module _ (role : Role) (job : BlockJob) (plays : Plays role job) (actors : List Actor) (a : ℕ) (s : Shared) (words : Words) (card : Card) (answer : Answer) (told : AbstractAnswer) (buffer : Content) (alike : role.alike answer told) (w : WordsAgree words s) where
+module _ (role : Role) (job : BlockJob) (plays : Plays role job) (actors : List Actor) (a : ℕ) (s : Shared) (words : Words) (card : Card) (answer : Answer) (told : AbstractAnswer) (buffer : ℕ → Content) (alike : role.alike answer told) (w : WordsAgree words s) where
   abbrev block : OBlock
   block = block_of job
 

@@ -9,6 +9,5 @@ pub mod Moving
 pub mod Flushing
 pub mod Tasks
 pub mod Migrating
-pub mod Copying
 pub mod Carrying
 pub mod Roles

@@ -1,45 +1,35 @@
 -- The tables of migrations and those of the abstract world, step by step.
-use Rattle.std.proofs.Common.{◌≡◌, ◌<◌, ◌∙◌, ℕ, Bool, true, false, List, [], ◌∷◌, ◌++◌, Option, Some, None, refl, sym, ap, subst}
+use Rattle.std.proofs.Common.{◌≡◌, ◌<◌, ℕ, Bool, true, false, List, [], ◌∷◌, ◌++◌, Option, Some, None, refl, sym, subst}
 use Rattle.wb_types.specs.declared.extent.Extent.{Extent}
 use Rattle.wb_types.specs.declared.number.CBlock.{CBlock}
 use Rattle.wb_tasks.specs.declared.step.Migration.{Migration}
 use Rattle.wb_tasks.specs.declared.step.Migration.TheVariants.{Promote, Demote, Clean}
-use Rattle.wb_tasks.specs.Tables.{BlockRange, Migrating, OnBlock, cache_extent, copies, work, ending}
+use Rattle.wb_tasks.specs.Tables.{BlockRange, Migrating, OnBlock, copies, work, ending}
 use Rattle.wb_tasks.specs.declared.step.Want.{Want}
-use Rattle.wb_link.specs.Tables.{Order, Want as AbstractWant, Read_at, Write_at, copy_each, work as work_there, table as table_there, release as release_there, breaking}
+use Rattle.wb_link.specs.Tables.{Order, Want as AbstractWant, Read_all, Write_all, copy_each, work as work_there, table as table_there, release as release_there, breaking}
 use Rattle.wb_words.specs.declared.step.CellStep.TheVariants.{SetFailed}
 use Rattle.wb_tasks.specs.declared.step.Want.TheVariants.{Cell}
 use Rattle.wb_tasks.specs.Plan.{first_steps, lets_go}
 use Rattle.wb_refines.specs.Translation.{offsets_in, offsets, number_of}
-use Rattle.wb_refines.specs.Migrations.{job_under, source, migration_wants, order_on, Fills, IsWhere, MigrationTablesAgree}
+use Rattle.wb_refines.specs.Migrations.{job_under, migration_wants, order_on, Fills, IsWhere, MigrationTablesAgree}
 use Rattle.wb_refines.proofs.Tables.{at_place, at_offset}
 
--- sectors after sectors
-copy_both : (from to : Option ℕ) (b : ℕ) (os ps : List ℕ) (rest : List AbstractWant) → copy_each from to b (os ++ ps) rest ≡ copy_each from to b os (copy_each from to b ps rest)
-copy_both from to b [] ps rest = refl
-copy_both from to b (o ∷ os) ps rest = ap (λ ws. Read_at from b o ∷ Write_at to b o ∷ ws) (copy_both from to b os ps rest)
-
-module _ (part : BlockRange) (some : 0 < part.block_sectors) (order : Order) (os : List ℕ) (migration : Migration) where
+module _ (part : BlockRange) (some : 0 < part.block_sectors) (order : Order) (os : List (List ℕ)) (migration : Migration) where
   abbrev size : ℕ
   size = part.block_sectors
 
   abbrev Wants : List Want → List AbstractWant
   Wants ws = migration_wants part.block_sectors order os migration ws
 
-  abbrev Copies : Option ℕ → List ℕ → List AbstractWant → List AbstractWant
-  Copies to qs rest = copy_each (source order migration) to order.block qs rest
-
   -- home from a cache block
-  homes_are : (from : CBlock) (es : List Extent) (ws : List Want) → Wants (copies part (Some from) None es ++ ws) ≡ Copies None (offsets size es) (Wants ws)
+  homes_are : (from : CBlock) (es : List Extent) (ws : List Want) → Wants (copies part (Some from) None es ++ ws) ≡ copy_each (Some from.0) None order.block (offsets size es) (Wants ws)
   homes_are from [] ws = refl
-  homes_are from (e ∷ es) ws = ap (Copies None (offsets_in size e)) (homes_are from es ws) ∙ sym (copy_both (source order migration) None order.block (offsets_in size e) (offsets size es) (Wants ws))
+  homes_are from (e ∷ es) ws = (λ i. Read_all (at_place part some from e i) order.block (at_offset part some from e i) ∷ Write_all None order.block (offsets_in size e) ∷ homes_are from es ws i)
 
   -- into one
-  fills_are : (c : CBlock) (es : List Extent) (ws : List Want) → Wants (copies part None (Some c) es ++ ws) ≡ Copies (Some c.0) (offsets size es) (Wants ws)
+  fills_are : (c : CBlock) (es : List Extent) (ws : List Want) → Wants (copies part None (Some c) es ++ ws) ≡ copy_each None (Some c.0) order.block (offsets size es) (Wants ws)
   fills_are c [] ws = refl
-  fills_are c (e ∷ es) ws = ap (λ (l : Option ℕ). Copies l (offsets_in size (cache_extent part c e)) (Wants (copies part None (Some c) es ++ ws))) (at_place part some c e)
-      ∙ ap (λ (qs : List ℕ). Copies (Some c.0) qs (Wants (copies part None (Some c) es ++ ws))) (at_offset part some c e)
-      ∙ ap (Copies (Some c.0) (offsets_in size e)) (fills_are c es ws) ∙ sym (copy_both (source order migration) (Some c.0) order.block (offsets_in size e) (offsets size es) (Wants ws))
+  fills_are c (e ∷ es) ws = (λ i. Read_all None order.block (offsets_in size e) ∷ Write_all (at_place part some c e i) order.block (at_offset part some c e i) ∷ fills_are c es ws i)
 
 abbrev Works : BlockRange → CBlock → Option ℕ → Migration → Option CBlock → Bool → Type 0
 Works part c next migration place dirty = migration_wants part.block_sectors (order_on part c next) (offsets part.block_sectors part.extents) migration (work (Migrating migration part) place dirty)
@@ -64,10 +54,10 @@ migration_tables_agree = record {
     begins size part c next (Promote k) = refl
     begins size part c next migration = refl
 
-    goes : (size : ℕ) (part : BlockRange) (c : CBlock) (next : Option ℕ) (migration : Migration) (os : List ℕ) → migration_wants size (order_on part c next) os migration (lets_go (OnBlock (Migrating migration part))) ≡ release_there (job_under (order_on part c next) os migration)
+    goes : (size : ℕ) (part : BlockRange) (c : CBlock) (next : Option ℕ) (migration : Migration) (os : List (List ℕ)) → migration_wants size (order_on part c next) os migration (lets_go (OnBlock (Migrating migration part))) ≡ release_there (job_under (order_on part c next) os migration)
     goes size part c next (Promote k) os = refl
     goes size part c next migration os = refl
 
-    fails : (size : ℕ) (part : BlockRange) (c : CBlock) (next : Option ℕ) (migration : Migration) (os : List ℕ) → migration_wants size (order_on part c next) os migration (Cell SetFailed ∷ []) ≡ breaking (job_under (order_on part c next) os migration)
+    fails : (size : ℕ) (part : BlockRange) (c : CBlock) (next : Option ℕ) (migration : Migration) (os : List (List ℕ)) → migration_wants size (order_on part c next) os migration (Cell SetFailed ∷ []) ≡ breaking (job_under (order_on part c next) os migration)
     fails size part c next (Promote k) os = refl
     fails size part c next migration os = refl

@@ -75,7 +75,7 @@ requests_play size content (Writing part) r some e = record {
 requests_play size content (Migrating migration part) r some e = absurd r
 
 -- what a migration's work is hangs on no more of the seal than agrees
-same_there : (migration : Migration) (order : Order) (os : List ℕ) (c : CBlock) (seen : ℕ) (seal : SealThere) → IsWhere migration c (place_in seen) → SealAgrees seen seal → work_there (job_under order os migration) seal ≡ work_there (job_under order os migration) (record { location = number_of (place_in seen); dirty = dirty_in seen })
+same_there : (migration : Migration) (order : Order) (os : List (List ℕ)) (c : CBlock) (seen : ℕ) (seal : SealThere) → IsWhere migration c (place_in seen) → SealAgrees seen seal → work_there (job_under order os migration) seal ≡ work_there (job_under order os migration) (record { location = number_of (place_in seen); dirty = dirty_in seen })
 same_there (Promote k) order os c seen seal where_is a = refl
 same_there Demote order os c seen seal where_is a = ap (work_there (job_under order os Demote)) (λ i. record { location = a.location i; dirty = a.dirty c where_is i })
 same_there Clean order os c seen seal where_is a = ap (work_there (job_under order os Clean)) (λ i. record { location = a.location i; dirty = a.dirty c where_is i })

@@ -1,7 +1,6 @@
 -- The tables of reads, writes and flushes, and those of the abstract world, step by step.
-use Rattle.std.proofs.Common.{◌≡◌, ◌<◌, ◌%◌, ◌∙◌, ℕ, Bool, true, false, List, [], ◌∷◌, ◌++◌, Option, Some, None, refl, sym, ap, map}
+use Rattle.std.proofs.Common.{◌≡◌, ◌<◌, ◌%◌, ℕ, Bool, true, false, List, [], ◌∷◌, ◌++◌, Option, Some, None, refl, ap, map, mod-lt}
 use Rattle.std.proofs.lemmas.Nat.{div-mul-add, mod-mul-add}
-use Rattle.std.proofs.Common.{mod-lt}
 use Rattle.wb_types.specs.declared.extent.Extent.{Extent}
 use Rattle.wb_types.specs.Extents.{rising}
 use Rattle.wb_types.specs.declared.number.CBlock.{CBlock}
@@ -9,21 +8,12 @@ use Rattle.wb_types.specs.declared.mode.Dev.TheVariants.{Cache}
 use Rattle.wb_disk.specs.Device.{Content}
 use Rattle.wb_tasks.specs.Tables.{BlockRange, OnBlock, Reading, Writing, cache_extent, read_step, write_step, work}
 use Rattle.wb_tasks.specs.declared.step.Want.{Want}
-use Rattle.wb_link.specs.Tables.{Want as AbstractWant, Read_at, Write_at, Set_seal, Job as AbstractJob, read_each, write_each, work as work_there}
+use Rattle.wb_link.specs.Tables.{Read_all, Write_all, Set_seal, Job as AbstractJob, read_each, write_each, work as work_there}
 use Rattle.wb_refines.specs.Translation.{number_of, location_at, offsets_in, offsets, block_in, job_for, wants_of}
 use Rattle.wb_refines.specs.Laws.{TablesAgree}
 
 pub tables_agree : TablesAgree
 tables_agree size most content part serves = (refl, refl, refl)
-
--- sectors after sectors
-read_both : (to : Option ℕ) (b : ℕ) (os ps : List ℕ) (rest : List AbstractWant) → read_each to b (os ++ ps) rest ≡ read_each to b os (read_each to b ps rest)
-read_both to b [] ps rest = refl
-read_both to b (o ∷ os) ps rest = ap (λ ws. Read_at to b o ∷ ws) (read_both to b os ps rest)
-
-write_both : (to : Option ℕ) (b : ℕ) (os ps : List ℕ) (rest : List AbstractWant) → write_each to b (os ++ ps) rest ≡ write_each to b os (write_each to b ps rest)
-write_both to b [] ps rest = refl
-write_both to b (o ∷ os) ps rest = ap (λ ws. Write_at to b o ∷ ws) (write_both to b os ps rest)
 
 module _ (part : BlockRange) (some : 0 < part.block_sectors) where
   abbrev size : ℕ
@@ -38,17 +28,13 @@ module _ (part : BlockRange) (some : 0 < part.block_sectors) where
 
   pub reads_are : (job : AbstractJob) (place : Option CBlock) (es : List Extent) (ws : List Want) → wants_of size job (map (read_step part place) es ++ ws) ≡ read_each (number_of place) (block_in job) (offsets size es) (wants_of size job ws)
   reads_are job place [] ws = refl
-  reads_are job None (e ∷ es) ws = ap (read_each None (block_in job) (offsets_in size e)) (reads_are job None es ws) ∙ sym (read_both None (block_in job) (offsets_in size e) (offsets size es) (wants_of size job ws))
-  reads_are job (Some c) (e ∷ es) ws = ap (λ (l : Option ℕ). read_each l (block_in job) (offsets_in size (cache_extent part c e)) (wants_of size job (map (read_step part (Some c)) es ++ ws))) (at_place c e)
-      ∙ ap (λ (os : List ℕ). read_each (Some c.0) (block_in job) os (wants_of size job (map (read_step part (Some c)) es ++ ws))) (at_offset c e)
-      ∙ ap (read_each (Some c.0) (block_in job) (offsets_in size e)) (reads_are job (Some c) es ws) ∙ sym (read_both (Some c.0) (block_in job) (offsets_in size e) (offsets size es) (wants_of size job ws))
+  reads_are job None (e ∷ es) ws = ap (λ us. Read_all None (block_in job) (offsets_in size e) ∷ us) (reads_are job None es ws)
+  reads_are job (Some c) (e ∷ es) ws = (λ i. Read_all (at_place c e i) (block_in job) (at_offset c e i) ∷ reads_are job (Some c) es ws i)
 
   pub writes_are : (job : AbstractJob) (place : Option CBlock) (es : List Extent) (ws : List Want) → wants_of size job (map (write_step part place) es ++ ws) ≡ write_each (number_of place) (block_in job) (offsets size es) (wants_of size job ws)
   writes_are job place [] ws = refl
-  writes_are job None (e ∷ es) ws = ap (write_each None (block_in job) (offsets_in size e)) (writes_are job None es ws) ∙ sym (write_both None (block_in job) (offsets_in size e) (offsets size es) (wants_of size job ws))
-  writes_are job (Some c) (e ∷ es) ws = ap (λ (l : Option ℕ). write_each l (block_in job) (offsets_in size (cache_extent part c e)) (wants_of size job (map (write_step part (Some c)) es ++ ws))) (at_place c e)
-      ∙ ap (λ (os : List ℕ). write_each (Some c.0) (block_in job) os (wants_of size job (map (write_step part (Some c)) es ++ ws))) (at_offset c e)
-      ∙ ap (write_each (Some c.0) (block_in job) (offsets_in size e)) (writes_are job (Some c) es ws) ∙ sym (write_both (Some c.0) (block_in job) (offsets_in size e) (offsets size es) (wants_of size job ws))
+  writes_are job None (e ∷ es) ws = ap (λ us. Write_all None (block_in job) (offsets_in size e) ∷ us) (writes_are job None es ws)
+  writes_are job (Some c) (e ∷ es) ws = (λ i. Write_all (at_place c e i) (block_in job) (at_offset c e i) ∷ writes_are job (Some c) es ws i)
 
   -- what a read or write does once it has seen its block's seal
   pub read_work : (content : Content) (place : Option CBlock) (dirty : Bool) → wants_of size (job_for size content (OnBlock (Reading part))) (work (Reading part) place dirty) ≡ work_there (job_for size content (OnBlock (Reading part))) (record { location = number_of place; dirty = dirty })

@@ -1,16 +1,16 @@
 -- The sectors of extents that are of blocks are within them.
-use Rattle.std.proofs.Common.{◌≤◌, ◌+◌, ◌%◌, ℕ, zero, suc, List, [], ◌∷◌, ◌++◌, arith}
+use Rattle.std.proofs.Common.{◌≤◌, ◌+◌, ◌%◌, ℕ, zero, suc, List, [], ◌∷◌, arith}
 use Rattle.wb_types.proofs.Lists.{Contains-first, Contains-behind}
 use Rattle.wb_types.specs.declared.extent.Extent.{Extent}
 use Rattle.wb_types.specs.Extents.{rising}
-use Rattle.wb_link.specs.World.{Within}
+use Rattle.wb_link.specs.World.{Within, AllWithin}
 use Rattle.wb_refines.specs.Translation.{offsets}
 use Rattle.wb_refines.specs.Tasks.{AllInBlocks}
 
-within_rising : (size first count : ℕ) (rest : List ℕ) → first + count ≤ size → Within size rest → Within size (rising first count ++ rest)
-within_rising size first zero rest l w = w
-within_rising size first (suc count) rest l w = (omega (arith, l), within_rising size (first + 1) count rest (omega (arith, l)) w)
+within_rising : (size first count : ℕ) → first + count ≤ size → Within size (rising first count)
+within_rising size first zero l = tt
+within_rising size first (suc count) l = (omega (arith, l), within_rising size (first + 1) count (omega (arith, l)))
 
-pub within_offsets : (size : ℕ) (es : List Extent) → AllInBlocks size es → Within size (offsets size es)
+pub within_offsets : (size : ℕ) (es : List Extent) → AllInBlocks size es → AllWithin size (offsets size es)
 within_offsets size [] all = tt
-within_offsets size (e ∷ es) all = within_rising size (e.first % size) e.count (offsets size es) (all e (Contains-first e es)) (within_offsets size es (λ f m. all f (Contains-behind e es f m)))
+within_offsets size (e ∷ es) all = (within_rising size (e.first % size) e.count (all e (Contains-first e es)), within_offsets size es (λ f m. all f (Contains-behind e es f m)))

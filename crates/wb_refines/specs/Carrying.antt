@@ -33,17 +33,17 @@ under order y = record y { order = order }
 -- Each call of a migration on the desk.
 pub record CarryingFollowed : Type 0 where
   -- the map ends a promotion's order
-  pub maps : (size : ℕ) (actors : List Actor) (a : ℕ) (s : Shared) (order : Order) (os : List ℕ) (c : CBlock) (block : OBlock) (later : List Want) (answer : AbstractAnswer) (buffer : Content) →
+  pub maps : (size : ℕ) (actors : List Actor) (a : ℕ) (s : Shared) (order : Order) (os : List (List ℕ)) (c : CBlock) (block : OBlock) (later : List Want) (answer : AbstractAnswer) (buffer : ℕ → Content) →
       GoesTo actors a s (migrating size order os (Promote c) (Desk (Map block c) ∷ later) answer buffer) (Done ∷ Done ∷ [])
       (effect s (Promoting order os) buffer (Map_to order) Done) (under None (migrating size order os (Promote c) later answer buffer))
   -- without memory for the entry it gives back its block, and then its order
-  pub has_no_room : (size : ℕ) (actors : List Actor) (a : ℕ) (s : Shared) (order : Order) (os : List ℕ) (c : CBlock) (block : OBlock) (later : List Want) (answer : AbstractAnswer) (buffer : Content) → order.block ≡ block.0 →
+  pub has_no_room : (size : ℕ) (actors : List Actor) (a : ℕ) (s : Shared) (order : Order) (os : List (List ℕ)) (c : CBlock) (block : OBlock) (later : List Want) (answer : AbstractAnswer) (buffer : ℕ → Content) → order.block ≡ block.0 →
       GoesTo actors a s (migrating size order os (Promote c) (Desk (Map block c) ∷ later) answer buffer) (Short ∷ []) s
       (migrating size order os (Promote c) (Cell (Release Owned block) ∷ Desk (ReleaseOrder block) ∷ []) AnsweredFailed buffer)
   -- a demotion's order ends, or goes on with the block that follows
-  pub unmaps : (size : ℕ) (actors : List Actor) (a : ℕ) (s : Shared) (order : Order) (os : List ℕ) (block : OBlock) (later : List Want) (answer : AbstractAnswer) (buffer : Content) →
+  pub unmaps : (size : ℕ) (actors : List Actor) (a : ℕ) (s : Shared) (order : Order) (os : List (List ℕ)) (block : OBlock) (later : List Want) (answer : AbstractAnswer) (buffer : ℕ → Content) →
       GoesTo actors a s (migrating size order os Demote (Desk (Unmap block) ∷ later) answer buffer) (Done ∷ [])
       (effect s (Returning true order os) buffer (Unmap_from order) Done) (under (following order.cache order.next) (migrating size order os Demote later answer buffer))
-  pub gives_up : (size : ℕ) (actors : List Actor) (a : ℕ) (s : Shared) (order : Order) (os : List ℕ) (migration : Migration) (block : OBlock) (later : List Want) (answer : AbstractAnswer) (buffer : Content) →
+  pub gives_up : (size : ℕ) (actors : List Actor) (a : ℕ) (s : Shared) (order : Order) (os : List (List ℕ)) (migration : Migration) (block : OBlock) (later : List Want) (answer : AbstractAnswer) (buffer : ℕ → Content) →
       GoesTo actors a s (without_block (migrating size order os migration (Desk (ReleaseOrder block) ∷ later) answer buffer)) (Done ∷ [])
       (effect s (job_under order os migration) buffer (Give_up order) Done) (without_block (under None (migrating size order os migration later answer buffer)))

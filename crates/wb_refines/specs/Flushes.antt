@@ -29,7 +29,7 @@ flushing serves most steps answer = record { job = Flushing serves most; steps =
 
 -- An abstract actor is at what is left of it, and leads the commit or doesn't.
 pub record IsFlushing (size : ℕ) (content : Content) (plan : Plan) (leads : Bool) (y : Actor) : Type 0 where
-  pub buffer : Content
+  pub buffer : ℕ → Content
   pub is : y ≡ record { task = Some (script_for size content plan); held = Nothing; order = None; leads = leads; buffer = buffer }
 
 -- An abstract actor can go on so that this is shared then, and is at what is left.
@@ -65,7 +65,7 @@ pub record FlushStepsFollowed : Type 0 where
   pub looks : (size : ℕ) (serves : List OBlock) (most word : ℕ) (content : Content) (actors : List Actor) (a : ℕ) (s : Shared) (y : Actor) (answer : Answer) → s.fail ≡ flag word → IsFlushing size content (flushing serves most (Cell (Look Fail) ∷ Desk (BeginCommit false most) ∷ []) answer) false y →
       Leads size content actors a s y s (after (flushing serves most (Cell (Look Fail) ∷ Desk (BeginCommit false most) ∷ []) answer) (Word word)) false
   pub begins : (size : ℕ) (serves : List OBlock) (most nodes : ℕ) (content : Content) (actors : List Actor) (a : ℕ) (s : Shared) (y : Actor) (later : List Want) (answer : Answer) → s.committing ≡ false → s.broken ≡ false → IsFlushing size content (flushing serves most (Desk (BeginCommit false most) ∷ later) answer) false y →
-      Leads size content actors a s y (effect s (FlushingFor None) [] (Begin None) DoneThere) (after (flushing serves most (Desk (BeginCommit false most) ∷ later) answer) (Began nodes)) true
+      Leads size content actors a s y (effect s (FlushingFor None) (λ o. []) (Begin None) DoneThere) (after (flushing serves most (Desk (BeginCommit false most) ∷ later) answer) (Began nodes)) true
   pub is_refused : (size : ℕ) (serves : List OBlock) (most : ℕ) (refusal : Refusal) (content : Content) (actors : List Actor) (a : ℕ) (s : Shared) (y : Actor) (later : List Want) (answer : Answer) → IsNoBegin refusal → IsFlushing size content (flushing serves most (Desk (BeginCommit false most) ∷ later) answer) false y →
       Leads size content actors a s y s (after (flushing serves most (Desk (BeginCommit false most) ∷ later) answer) (Refused refusal)) false
   pub syncs_cache : (size : ℕ) (serves : List OBlock) (most : ℕ) (content : Content) (actors : List Actor) (a : ℕ) (s : Shared) (y : Actor) (later : List Want) (answer : Answer) → IsFlushing size content (flushing serves most (Device (Sync Cache) ∷ later) answer) true y →
@@ -80,7 +80,7 @@ pub record FlushStepsFollowed : Type 0 where
   pub writes_root : (size : ℕ) (serves : List OBlock) (most : ℕ) (content : Content) (actors : List Actor) (a : ℕ) (s : Shared) (y : Actor) (later : List Want) (answer : Answer) → IsFlushing size content (flushing serves most (Device WriteRoot ∷ later) answer) true y →
       Leads size content actors a s y (record s { root_written = true }) (after (flushing serves most (Device WriteRoot ∷ later) answer) Done) true
   pub ends : (size : ℕ) (serves : List OBlock) (most : ℕ) (content : Content) (actors : List Actor) (a : ℕ) (s : Shared) (y : Actor) (answer : Answer) → IsFlushing size content (flushing serves most (Desk EndCommit ∷ []) answer) true y →
-      Leads size content actors a s y (effect s (FlushingFor None) [] End_running DoneThere) (after (flushing serves most (Desk EndCommit ∷ []) answer) Done) false
+      Leads size content actors a s y (effect s (FlushingFor None) (λ o. []) End_running DoneThere) (after (flushing serves most (Desk EndCommit ∷ []) answer) Done) false
   -- a sync that fails settles these sectors
   pub fails_cache : (size : ℕ) (serves : List OBlock) (most : ℕ) (content : Content) (actors : List Actor) (a : ℕ) (s : Shared) (y : Actor) (later : List Want) (answer : Answer) (settled : ℕ → ℕ → Bool) → IsFlushing size content (flushing serves most (Device (Sync Cache) ∷ later) answer) true y →
       Leads size content actors a s y (record s { cache = partly_synced settled s.cache }) (after (flushing serves most (Device (Sync Cache) ∷ later) answer) Fault) true

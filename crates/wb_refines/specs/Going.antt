@@ -1,6 +1,6 @@
 -- An actor of the abstract world goes on by several results of its own steps, one after the other.
 use Rattle.std.specs.Prelude.{◌≡◌, ◌≢◌, ℕ, List, [], ◌∷◌, Option, Some, None, slice_get}
-use Rattle.wb_link.specs.Tables.{Script, Want, Share, Own, Read_at, Write_at, End, Got, Done, want}
+use Rattle.wb_link.specs.Tables.{Script, Want, Share, Own, Read_all, Write_all, End, Got, Done, want}
 use Rattle.wb_link.specs.World.{Shared, Held, Nothing, Shares, Owns, Actor, effect, actor_after, task_after, Gives, Record, Step}
 
 -- the steps of an actor with this task that have these results
@@ -36,8 +36,8 @@ MayGo actors a s y (Some script) (got ∷ gots) = Gives s (want script) got × W
 
 -- no step on a device, and no answer
 abbrev pub IsQuiet : Want → Type 0
-IsQuiet (Read_at location block offset) = ⊥
-IsQuiet (Write_at location block offset) = ⊥
+IsQuiet (Read_all location block os) = ⊥
+IsQuiet (Write_all location block os) = ⊥
 IsQuiet (End answer) = ⊥
 IsQuiet next = Unit {0}
 

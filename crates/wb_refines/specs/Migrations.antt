@@ -1,22 +1,20 @@
--- The table of a migration as that of the abstract world. A real step reads or writes an extent, of up to hundreds of sectors; the
--- abstract actor has the content of one sector at most. So a read stands for nothing by itself, and a write for the read and
--- the write of each of its sectors: the block is owned, so its source is then what it was when it was read.
+-- The table of a migration as that of the abstract world, step by step.
 use Rattle.std.specs.Prelude.{◌≡◌, ◌<◌, ℕ, Bool, List, [], ◌∷◌, Option, Some, None, true, false}
 use Rattle.wb_types.specs.declared.number.CBlock.{CBlock}
 use Rattle.wb_tasks.specs.declared.step.Migration.{Migration}
 use Rattle.wb_tasks.specs.declared.step.Migration.TheVariants.{Promote, Demote, Clean}
-use Rattle.wb_tasks.specs.declared.step.DeviceStep.TheVariants.{Write}
+use Rattle.wb_tasks.specs.declared.step.DeviceStep.TheVariants.{Read, Write}
 use Rattle.wb_tasks.specs.declared.step.DeskStep.TheVariants.{Map, Unmap, ReleaseOrder}
 use Rattle.wb_tasks.specs.declared.step.Want.{Want}
 use Rattle.wb_tasks.specs.declared.step.Want.TheVariants.{Cell, Device, Desk}
 use Rattle.wb_words.specs.declared.step.CellStep.TheVariants.{SetFailed}
 use Rattle.wb_tasks.specs.Tables.{BlockRange, Migrating, OnBlock, work}
 use Rattle.wb_tasks.specs.Plan.{first_steps, lets_go}
-use Rattle.wb_link.specs.Tables.{Order, Job as AbstractJob, Promoting, Returning, Want as AbstractWant, Make_room, Map_to, Unmap_from, Give_up, copy_each, table as table_there, work as work_there, release as release_there, breaking}
+use Rattle.wb_link.specs.Tables.{Order, Job as AbstractJob, Promoting, Returning, Want as AbstractWant, Make_room, Map_to, Unmap_from, Give_up, Read_all, Write_all, table as table_there, work as work_there, release as release_there, breaking}
 use Rattle.wb_refines.specs.Translation.{location_at, offsets_in, offsets, cell_wants, number_of}
 
 -- a migration under this order, of these sectors
-abbrev pub job_under : Order → List ℕ → Migration → AbstractJob
+abbrev pub job_under : Order → List (List ℕ) → Migration → AbstractJob
 job_under order os (Promote c) = Promoting order os
 job_under order os Demote = Returning true order os
 job_under order os Clean = Returning false order os
@@ -27,10 +25,11 @@ source order (Promote c) = None
 source order migration = Some order.cache
 
 -- What its steps stand for. Whether there is room for an entry of the mapping is asked first there.
-abbrev pub migration_wants : ℕ → Order → List ℕ → Migration → List Want → List AbstractWant
+abbrev pub migration_wants : ℕ → Order → List (List ℕ) → Migration → List Want → List AbstractWant
 migration_wants size order os migration [] = []
 migration_wants size order os migration (Cell step ∷ later) = cell_wants (job_under order os migration) step (migration_wants size order os migration later)
-migration_wants size order os migration (Device (Write device e) ∷ later) = copy_each (source order migration) (location_at size device e) order.block (offsets_in size e) (migration_wants size order os migration later)
+migration_wants size order os migration (Device (Read device e) ∷ later) = Read_all (location_at size device e) order.block (offsets_in size e) ∷ migration_wants size order os migration later
+migration_wants size order os migration (Device (Write device e) ∷ later) = Write_all (location_at size device e) order.block (offsets_in size e) ∷ migration_wants size order os migration later
 migration_wants size order os migration (Desk (Map block place) ∷ later) = Make_room ∷ Map_to order ∷ migration_wants size order os migration later
 migration_wants size order os migration (Desk (Unmap block) ∷ later) = Unmap_from order ∷ migration_wants size order os migration later
 migration_wants size order os migration (Desk (ReleaseOrder block) ∷ later) = Give_up order ∷ migration_wants size order os migration later
@@ -58,7 +57,7 @@ pub record MigrationTablesAgree : Type 0 where
   pub works : (part : BlockRange) (c : CBlock) (next : Option ℕ) (migration : Migration) (place : Option CBlock) (dirty : Bool) → 0 < part.block_sectors → Fills migration c → IsWhere migration c place →
       migration_wants part.block_sectors (order_on part c next) (offsets part.block_sectors part.extents) migration (work (Migrating migration part) place dirty)
       ≡ work_there (job_under (order_on part c next) (offsets part.block_sectors part.extents) migration) (record { location = number_of place; dirty = dirty })
-  pub lets_go : (size : ℕ) (part : BlockRange) (c : CBlock) (next : Option ℕ) (migration : Migration) (os : List ℕ) →
+  pub lets_go : (size : ℕ) (part : BlockRange) (c : CBlock) (next : Option ℕ) (migration : Migration) (os : List (List ℕ)) →
       migration_wants size (order_on part c next) os migration (lets_go (OnBlock (Migrating migration part))) ≡ release_there (job_under (order_on part c next) os migration)
-  pub fails : (size : ℕ) (part : BlockRange) (c : CBlock) (next : Option ℕ) (migration : Migration) (os : List ℕ) →
+  pub fails : (size : ℕ) (part : BlockRange) (c : CBlock) (next : Option ℕ) (migration : Migration) (os : List (List ℕ)) →
       migration_wants size (order_on part c next) os migration (Cell SetFailed ∷ []) ≡ breaking (job_under (order_on part c next) os migration)

@@ -62,7 +62,7 @@ SawSeal plan steps card = Unit {0}
 
 -- An abstract actor is at what is left of this task.
 pub record IsAt (size : ℕ) (content : Content) (plan : Plan) (card : Card) (y : Actor) : Type 0 where
-  pub buffer : Content
+  pub buffer : ℕ → Content
   pub is : y ≡ record { task = Some (script_for size content plan); held = held_for plan.steps card; order = None; leads = false; buffer = buffer }
   pub saw : SawSeal plan plan.steps card
 

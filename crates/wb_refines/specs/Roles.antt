@@ -36,13 +36,13 @@ pub record Role : Type 1 where
   pub finds : (seal : ℕ) → Type 0
 
 -- an actor in this role, with these steps to come
-abbrev pub acting : Role → List AbstractWant → AbstractAnswer → Held → Content → Actor
+abbrev pub acting : Role → List AbstractWant → AbstractAnswer → Held → (ℕ → Content) → Actor
 acting role steps answer held buffer = record { task = Some (record { job = role.job; steps = steps; answer = answer }); held = held; order = role.order; leads = false; buffer = buffer }
 
 -- It is at what is left of this task.
 pub record IsAs (role : Role) (plan : Plan) (card : Card) (y : Actor) : Type 0 where
   pub answer : AbstractAnswer
-  pub buffer : Content
+  pub buffer : ℕ → Content
   pub is : y ≡ acting role (role.wants plan.steps) answer (held_for plan.steps card) buffer
   pub alike : role.alike plan.answer answer
   pub saw : SawSeal plan plan.steps card

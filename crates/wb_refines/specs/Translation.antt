@@ -1,7 +1,7 @@
 -- The tables of reads, writes and flushes as those of the abstract world: which job each is there, and which steps of it each
 -- step stands for. A look at a lock word, the exchange and the look at the seal stand for nothing by themselves: the abstract
 -- actor takes its block, and sees the seal, where the number is looked at, after which a task can no longer find its block worn.
-use Rattle.std.specs.Prelude.{◌%◌, ◌/◌, ◌++◌, ℕ, false, List, [], ◌∷◌, Option, Some, None}
+use Rattle.std.specs.Prelude.{◌%◌, ◌/◌, ℕ, false, List, [], ◌∷◌, Option, Some, None}
 use Rattle.wb_types.specs.declared.extent.Extent.{Extent}
 use Rattle.wb_types.specs.Extents.{rising}
 use Rattle.wb_types.specs.declared.mode.Dev.{Dev}
@@ -23,7 +23,7 @@ use Rattle.wb_tasks.specs.declared.step.DeskStep.{DeskStep}
 use Rattle.wb_tasks.specs.declared.step.DeskStep.TheVariants.{BeginCommit, EndCommit}
 use Rattle.wb_tasks.specs.declared.step.Want.{Want}
 use Rattle.wb_tasks.specs.declared.step.Want.TheVariants.{Cell, Device, Desk, End}
-use Rattle.wb_link.specs.Tables.{Script, read_each, write_each, acquire, breaking, Job as AbstractJob, Reading as ReadingAt, Writing as WritingAt, Flushing as FlushingFor, Want as AbstractWant, Look_fail, Set_seal, Leave, Disown, Sync_cache_device, Sync_origin_device, Put_root, Sync_metadata, End_running, Answer as AbstractAnswer, Finished as AnsweredDone, Busy as AnsweredBusy, Failed as AnsweredFailed, Io as AnsweredIo}
+use Rattle.wb_link.specs.Tables.{Script, Read_all, Write_all, acquire, breaking, Job as AbstractJob, Reading as ReadingAt, Writing as WritingAt, Flushing as FlushingFor, Want as AbstractWant, Look_fail, Set_seal, Leave, Disown, Sync_cache_device, Sync_origin_device, Put_root, Sync_metadata, End_running, Answer as AbstractAnswer, Finished as AnsweredDone, Busy as AnsweredBusy, Failed as AnsweredFailed, Io as AnsweredIo}
 
 -- the number of the cache block in which a block stands
 abbrev pub number_of : Option CBlock → Option ℕ
@@ -35,13 +35,13 @@ abbrev pub location_at : ℕ → Dev → Extent → Option ℕ
 location_at size Cache e = Some (e.first / size)
 location_at size device e = None
 
--- the offsets in their block of an extent's sectors, and of those of a cut
+-- the offsets in their block of an extent's sectors, and of those of a cut, extent by extent
 abbrev pub offsets_in : ℕ → Extent → List ℕ
 offsets_in size e = rising (e.first % size) e.count
 
-abbrev pub offsets : ℕ → List Extent → List ℕ
+abbrev pub offsets : ℕ → List Extent → List (List ℕ)
 offsets size [] = []
-offsets size (e ∷ es) = offsets_in size e ++ offsets size es
+offsets size (e ∷ es) = offsets_in size e ∷ offsets size es
 
 -- A read, a write of this content to each sector; and a flush, which serves nobody there.
 abbrev pub job_for : ℕ → Content → TaskJob → AbstractJob
@@ -72,11 +72,11 @@ cell_wants job (Count kind) rest = rest
 cell_wants job SetFailed rest = breaking job
 cell_wants job SetSuspended rest = rest
 
--- An extent stands for its sectors. Of a commit's steps on metadata the root and the last sync are there; the latter stands
+-- An extent is one step there too. Of a commit's steps on metadata the root and the last sync are there; the latter stands
 -- with the commit's end.
 abbrev pub device_wants : ℕ → AbstractJob → DeviceStep → List AbstractWant → List AbstractWant
-device_wants size job (Read device e) rest = read_each (location_at size device e) (block_in job) (offsets_in size e) rest
-device_wants size job (Write device e) rest = write_each (location_at size device e) (block_in job) (offsets_in size e) rest
+device_wants size job (Read device e) rest = Read_all (location_at size device e) (block_in job) (offsets_in size e) ∷ rest
+device_wants size job (Write device e) rest = Write_all (location_at size device e) (block_in job) (offsets_in size e) ∷ rest
 device_wants size job (Sync Cache) rest = Sync_cache_device ∷ rest
 device_wants size job (Sync Origin) rest = Sync_origin_device ∷ rest
 device_wants size job WriteRoot rest = Put_root ∷ rest

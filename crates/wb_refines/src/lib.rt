@@ -2,11 +2,11 @@
 #![tactic(auto)]
 
 ghost use Rattle.wb_refines.specs.Roles.{RequestCellsFollowed};
-ghost use Rattle.wb_refines.specs.Laws.{TablesAgree, HasNoMore, ExtentStepsFollowed};
+ghost use Rattle.wb_refines.specs.Laws.{TablesAgree, HasNoMore};
 ghost use Rattle.wb_refines.specs.Migrations.{MigrationTablesAgree};
 ghost use Rattle.wb_refines.specs.Carrying.{CarryingFollowed};
 ghost use Rattle.wb_refines.specs.Carried.{MigrationCellsFollowed};
-ghost use Rattle.wb_refines.specs.Copies.{CopiesFollowed};
+ghost use Rattle.wb_refines.specs.Data.{ExtentsFollowed};
 ghost use Rattle.wb_refines.specs.Flushes.{FlushStepsFollowed};
 
 /// A read, a write or a flush begins in the abstract world as its table does here.
@@ -24,10 +24,10 @@ pub fn cell_steps_are_followed()
     ensures has_no_more { HasNoMore }
 {}
 
-/// And so is each step of a read or a write on an extent of a device: a sector after the other, where the device is a list of sectors; of
-/// a write that fails each sector has landed or not.
-pub fn extent_steps_are_followed()
-    ensures { ExtentStepsFollowed }
+/// And so is each step of a task on an extent of a device, where that is a list of sectors, done or failing; of a write that fails
+/// each sector has landed or not.
+pub fn extents_are_followed()
+    ensures { ExtentsFollowed }
 {}
 
 /// So is each step of a flush, done, refused or failing, by one that serves nobody there; but not that an order is given up.
@@ -35,19 +35,12 @@ pub fn flush_steps_are_followed()
     ensures { FlushStepsFollowed }
 {}
 
-/// The table of a migration goes on as the abstract one, a written extent as the read and the write of each of its sectors: from its
-/// start, from where it has seen its block where its order says, and where it gives everything back or has failed.
+/// The table of a migration goes on as the abstract one: from its start, from where it has seen its block where its order says, and where it gives everything back or has failed.
 pub fn migration_tables_agree()
     ensures { MigrationTablesAgree }
 {}
 
-/// So each step of a migration on an extent is followed, done or failing, where what is written is what stands at the place that is
-/// read; of a write that fails each sector has landed or not.
-pub fn copies_are_followed()
-    ensures { CopiesFollowed }
-{}
-
-/// So is each of its calls on the desk, also without memory, and where it gives up its order.
+/// Each of its calls on the desk is followed, also without memory, and where it gives up its order.
 pub fn migrations_are_followed()
     ensures { CarryingFollowed }
 {}

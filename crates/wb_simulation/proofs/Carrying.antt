@@ -62,11 +62,11 @@ quiet_are_carried (got ∷ gots) (Some script) m q = let r = by (want script) q.
     by (End answer) i q later = absurd i
     by next i q later = (tt, later q)
 
-pub under_migrates : (order : AbstractOrder) (os : List ℕ) (migration : Migration) → IsMigrating (job_under order os migration)
+pub under_migrates : (order : AbstractOrder) (os : List (List ℕ)) (migration : Migration) → IsMigrating (job_under order os migration)
 under_migrates order os (Promote c) = tt
 under_migrates order os migration = tt
 
-under_among : (order : AbstractOrder) (os : List ℕ) (migration : Migration) → job_alone (job_under order os migration) ≡ false
+under_among : (order : AbstractOrder) (os : List (List ℕ)) (migration : Migration) → job_alone (job_under order os migration) ≡ false
 under_among order os (Promote c) = refl
 under_among order os migration = refl
 

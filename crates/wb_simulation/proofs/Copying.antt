@@ -1,22 +1,22 @@
 -- A migration's steps on extents are followed.
-use Rattle.std.proofs.Common.{◌≡◌, ◌≤◌, ◌+◌, ◌*◌, ◌/◌, ◌%◌, ◌∙◌, inl, inr, ℕ, zero, suc, Bool, true, false, List, [], ◌∷◌, Option, Some, refl, sym, ap, subst, arith, length, map, take, drop, slice_get, Contains}
+use Rattle.std.proofs.Common.{◌≡◌, ◌≤◌, ◌+◌, ◌∙◌, ◌⊎◌, inl, inr, ℕ, zero, suc, Bool, false, List, [], ◌∷◌, Option, Some, refl, sym, ap, subst, arith, length, map, take, drop, slice_get, Contains}
+use Rattle.wb_types.specs.Extents.{rising}
 use Rattle.wb_types.specs.declared.extent.Extent.{Extent}
 use Rattle.wb_types.specs.declared.mode.Dev.{Dev}
-use Rattle.wb_types.specs.declared.mode.Dev.TheVariants.{Cache, Origin}
-use Rattle.wb_types.specs.declared.number.CBlock.{CBlock}
+use Rattle.wb_types.specs.declared.mode.Dev.TheVariants.{Metadata}
 use Rattle.wb_types.specs.declared.refusal.Refusal.TheVariants.{Io}
 use Rattle.wb_disk.specs.Device.{Content, History, newest}
 use Rattle.wb_disk.specs.Extents.{GivesEach, written_each, written_where}
 use Rattle.wb_words.specs.SharedWords.{Words}
-use Rattle.wb_words.specs.Rule.{LockRule}
 use Rattle.wb_types.specs.declared.number.OBlock.{OBlock}
 use Rattle.wb_words.specs.declared.word.Access.TheVariants.{Owned}
 use Rattle.wb_words.specs.declared.step.CellStep.TheVariants.{Release, SetFailed}
 use Rattle.wb_policy.specs.declared.order.Order.{Order}
 use Rattle.wb_tasks.specs.Tables.{BlockRange, Migrating}
-use Rattle.wb_tasks.specs.Ready.{Has, Suits, IsRest, HoldsBlocks, source_of, target_of}
+use Rattle.wb_tasks.specs.Ready.{Suits, HoldsBlocks, source_of, target_of}
 use Rattle.wb_tasks.specs.declared.step.Answer.{Answer}
 use Rattle.wb_tasks.specs.declared.step.Answer.TheVariants.{Refused as Refuses}
+use Rattle.wb_tasks.specs.declared.step.DeviceStep.{DeviceStep}
 use Rattle.wb_tasks.specs.declared.step.DeviceStep.TheVariants.{Read, Write}
 use Rattle.wb_tasks.specs.declared.step.DeskStep.TheVariants.{ReleaseOrder}
 use Rattle.wb_tasks.specs.declared.step.Migration.{Migration}
@@ -25,31 +25,29 @@ use Rattle.wb_tasks.specs.declared.step.Want.{Want}
 use Rattle.wb_tasks.specs.declared.step.Want.TheVariants.{Cell, Device, Desk}
 use Rattle.wb_devices.specs.declared.devices.Devices.{Devices}
 use Rattle.wb_devices.specs.Moving.{device_in}
-use Rattle.wb_link.specs.Tables.{Order as AbstractOrder, Got as AbstractGot, Answer as AbstractAnswer, Io as AnsweredIo}
-use Rattle.wb_link.specs.World.{World, Shared, Held as Having, Owns, Actor as AbstractActor}
+use Rattle.wb_link.specs.Tables.{Order as AbstractOrder, Job as AbstractJob, Script, Want as AbstractWant, Got as AbstractGot, Done as DoneThere, Answer as AbstractAnswer, Io as AnsweredIo, breaking}
+use Rattle.wb_link.specs.World.{World, Shared, Held as Having, Owns, Actor as AbstractActor, newest_at, contents_for}
 use Rattle.wb_refines.specs.Going.{shared_after, gone, MayGo}
 use Rattle.wb_contents.specs.Devices.{by_block}
-use Rattle.wb_refines.specs.Translation.{location_at, offsets}
-use Rattle.wb_refines.specs.Data.{row, IsSide, read_fault}
+use Rattle.wb_refines.specs.Translation.{location_at, offsets, offsets_in}
+use Rattle.wb_refines.specs.Data.{IsSide, Moves, left_with as left_there, read_fault, write_fault}
 use Rattle.wb_refines.specs.Models.{SawSeal, SameImages, WordsAgree, plan_of, held_of, held_for}
-use Rattle.wb_refines.specs.Migrations.{order_on, source, migration_wants, job_under}
-use Rattle.wb_refines.specs.Copies.{Across, Copies, copied, copied_where, migrating}
+use Rattle.wb_refines.specs.Migrations.{order_on, migration_wants, job_under}
+use Rattle.wb_refines.specs.Copies.{migrating}
 use Rattle.wb_refines.specs.Carried.{IsMigrationAt, AnswersAlike}
-use Rattle.wb_refines.proofs.Cells.{held_plain, saw_plain, same_images}
+use Rattle.wb_refines.proofs.Cells.{held_plain, saw_plain}
 use Rattle.wb_refines.proofs.Followed.{rest_plain}
-use Rattle.wb_refines.proofs.Copying.{copies_followed}
+use Rattle.wb_refines.proofs.Moving.{extents_followed}
+use Rattle.wb_refines.proofs.Migrating.{migration_tables_agree}
 use Rattle.wb_runs.specs.declared.job.Job.TheVariants.{Migrate}
 use Rattle.wb_runs.specs.Effects.{contents_at}
-use Rattle.wb_runs.specs.Holding.{cards_of, AllSuited}
 use Rattle.wb_runs.specs.States.{Actor, with_device}
-use Rattle.wb_simulation.specs.Steps.{IsNoWrite, IsTail}
-use Rattle.wb_simulation.specs.Carried.{target, HasRead, IsCarried}
-use Rattle.wb_simulation.proofs.Orders.{GoesOn, carried_again, CarriesOthers, carries_same}
+use Rattle.wb_simulation.specs.Steps.{IsNoWrite, IsTail, IsWrittenNext}
+use Rattle.wb_simulation.specs.Carried.{HasRead, IsCarried}
+use Rattle.wb_simulation.proofs.Orders.{GoesOn, carried_again, CarriesOthers, carries_on}
 use Rattle.wb_simulation.proofs.Carrying.{IsOn, carry_on, carried_job, carried_order}
 use Rattle.wb_simulation.specs.Worlds.{zeros, Agrees, Stays}
 use Rattle.wb_simulation.specs.Migrating.{Carried}
-use Rattle.wb_simulation.proofs.Cells.{shared_stays, gone_nowhere}
-use Rattle.wb_simulation.proofs.Beside.{IsBesideCopies, carries_written}
 use Rattle.wb_simulation.proofs.Moving.{words_beside, side_of, sides, same_device}
 
 -- ---- what a read of a device gives
@@ -67,16 +65,32 @@ given_from (h ∷ hs) zero (suc n) l = let later = given_from hs zero n (omega (
 given_from (h ∷ hs) (suc at) count l = let later = given_from hs at count (omega (arith, l)) in (later.0, given_behind h hs at (map newest (take count (drop at hs))) later.1)
 
 -- what is no write has nothing to have been read
-pub no_write_read : (size : ℕ) (list : List History) (at : ℕ) (steps : List Want) (buffer : List Content) → IsNoWrite steps → HasRead size list at steps buffer
-no_write_read size list at (Device (Write device e) ∷ ws) buffer n = absurd n
-no_write_read size list at steps buffer n = tt
+pub no_write_read : (size : ℕ) (steps : List Want) (buffer : List Content) (there : ℕ → Content) → IsNoWrite steps → HasRead size steps buffer there
+no_write_read size (Device (Write device e) ∷ ws) buffer there n = absurd n
+no_write_read size steps buffer there n = tt
+
+-- what is read for a write next is what that writes
+written_next : (size : ℕ) (e : Extent) (ws : List Want) (buffer : List Content) (there : ℕ → Content) → IsWrittenNext size e ws → buffer ≡ map there (offsets_in size e) → HasRead size ws buffer there
+written_next size e (Device (Write to r) ∷ later) buffer there w is = is ∙ sym (λ i. map there (rising (w.1 i) (w.0 i)))
+written_next size e ws buffer there w is = absurd w
+
+-- a migration reads and writes where blocks stand, and writes what it has read
+blocks_are : (migration : Migration) (device : Dev) → (device ≡ source_of migration) ⊎ (device ≡ target_of migration) → HoldsBlocks device
+blocks_are (Promote k) Metadata e = elim e [ inl f ↦ absurd (cc) | inr f ↦ absurd (cc) ]
+blocks_are Demote Metadata e = elim e [ inl f ↦ absurd (cc) | inr f ↦ absurd (cc) ]
+blocks_are Clean Metadata e = elim e [ inl f ↦ absurd (cc) | inr f ↦ absurd (cc) ]
+blocks_are migration device e = tt
+
+writes_read : (order : AbstractOrder) (os : List (List ℕ)) (migration : Migration) (buffer : ℕ → Content) → contents_for (job_under order os migration) buffer ≡ buffer
+writes_read order os (Promote c) buffer = refl
+writes_read order os migration buffer = refl
 
 module _ (size most blocks : ℕ) (words : Words) (committing : Bool) (orders : List (Option Order)) (devices : Devices (List History)) (actors : List Actor) (a : ℕ) (x : Actor) (s : World) (y : AbstractActor) (g : Agrees size most words committing orders devices actors s) (ex : slice_get actors a ≡ Some x) (ey : slice_get s.actors a ≡ Some y)
     (migration : Migration) (block : OBlock) (part : BlockRange) (next : Want) (ws : List Want) (answer : Answer) (f : IsCarried size orders devices migration block part (next ∷ ws) answer x y) where
   abbrev own : AbstractOrder
   own = order_on part f.c f.next
 
-  abbrev os : List ℕ
+  abbrev os : List (List ℕ)
   os = offsets size part.extents
 
   -- Where more is left than its seal and its block, its order is live.
@@ -108,7 +122,7 @@ module _ (size most blocks : ℕ) (words : Words) (committing : Bool) (orders : 
     y_is holds = y_has (Owns part.block.0) holds
 
   -- and what it is then
-  pub at_again : (z : AbstractActor) (us : List Want) (told : AbstractAnswer) (buffer : Content) (kept : Option AbstractOrder) (then_answer : Answer) → z ≡ record (migrating size own os migration us told buffer) { held = held_for us x.card; order = kept } → AnswersAlike then_answer told → SawSeal (plan_of (Migrating migration part) us then_answer) us x.card →
+  pub at_again : (z : AbstractActor) (us : List Want) (told : AbstractAnswer) (buffer : ℕ → Content) (kept : Option AbstractOrder) (then_answer : Answer) → z ≡ record (migrating size own os migration us told buffer) { held = held_for us x.card; order = kept } → AnswersAlike then_answer told → SawSeal (plan_of (Migrating migration part) us then_answer) us x.card →
       IsMigrationAt part f.c f.next migration kept (plan_of (Migrating migration part) us then_answer) x.card z
   at_again z us told buffer kept then_answer e alike saw = record {
     answer = told;
@@ -129,7 +143,7 @@ module _ (size most blocks : ℕ) (words : Words) (committing : Bool) (orders : 
 
   -- It has done something there, under its order, and both are at the same then.
   pub carry_so : ¬ IsTail (next ∷ ws) → (us : List Want) (then_answer : Answer) (buffer : List Content) (devices' : Devices (List History)) (results : List AbstractGot) (t : Shared) (z : AbstractActor) → MayGo s.actors a s.shared y y.task results → shared_after s.shared y y.task results ≡ t → gone y y.task results ≡ z →
-      IsMigrationAt part f.c f.next migration f.kept (plan_of (Migrating migration part) us then_answer) x.card z → GoesOn size own migration part us (device_in (source_of migration) devices') buffer →
+      IsMigrationAt part f.c f.next migration f.kept (plan_of (Migrating migration part) us then_answer) x.card z → GoesOn size part us buffer z.buffer →
       WordsAgree words t → t.origin ≡ by_block size zeros devices'.origin → t.cache ≡ by_block size zeros devices'.cache → SameImages s.shared t → CarriesOthers size orders orders devices devices' actors s a →
       Carried Stays size most a s words committing orders devices' actors (left_with us then_answer buffer)
   carry_so no_tail us then_answer buffer devices' results t z may shared_is gone_is at on w origin cache_is k carries =
@@ -139,143 +153,99 @@ module _ (size most blocks : ℕ) (words : Words) (committing : Bool) (orders : 
       (subst (λ (v : AbstractActor). IsOn size words orders devices' migration block part (plan_of (Migrating migration part) us then_answer) x' v) (sym gone_is) (inl is))
       (ap (λ (v : AbstractActor). v.order) gone_is ∙ ap (λ (v : AbstractActor). v.order) at.is ∙ sym (carried_order size orders devices migration block part (next ∷ ws) answer x y f)) (λ o h. h) k carries
 
--- ---- a read that is done
+-- ---- steps on extents
 
 module _ (size most blocks : ℕ) (words : Words) (committing : Bool) (orders : List (Option Order)) (devices : Devices (List History)) (actors : List Actor) (a : ℕ) (x : Actor) (s : World) (y : AbstractActor) (g : Agrees size most words committing orders devices actors s) (ex : slice_get actors a ≡ Some x) (ey : slice_get s.actors a ≡ Some y)
     (migration : Migration) (block : OBlock) (part : BlockRange) (device : Dev) (e : Extent) (answer : Answer) where
-  -- what is to be written next is what was read
-  pub reads : (ws : List Want) → (f : IsCarried size orders devices migration block part (Device (Read device e) ∷ ws) answer x y) → Suits blocks (plan_of (Migrating migration part) (Device (Read device e) ∷ ws) answer) x.card → e.first + e.count ≤ length (device_in device devices) →
-      Carried Stays size most a s words committing orders devices actors (record x { task = Some (Migrate migration block, plan_of (Migrating migration part) ws answer); buffer = contents_at (device_in device devices) e })
-  reads (Device (Write to r) ∷ later) f suits room =
-      let given = given_from (device_in device devices) e.first e.count room in
-      let written = f.paired.0 in
-      carry_so size most blocks words committing orders devices actors a x s y g ex ey migration block part (Device (Read device e)) (Device (Write to r) ∷ later) answer f (λ n. n) (Device (Write to r) ∷ later) answer (contents_at (device_in device devices) e) devices [] s.shared y tt
-      (shared_stays s.shared y y.task) (gone_nowhere y y.task) (record { answer = f.at.answer; buffer = f.at.buffer; is = f.at.is; alike = f.at.alike; saw = tt })
-      (record {
-        of_block = f.of_block.1;
-        paired = f.paired.1;
-        copies = f.copies.1;
-        read = (given.0 ∙ sym written.0, subst (λ (n : ℕ). GivesEach (device_in (source_of migration) devices) n (contents_at (device_in device devices) e)) first given_there);
-      })
-      g.words_agree g.origin g.cache (same_images s.shared) (carries_same size orders devices actors s a)
-    where
-      source_is : Option ℕ
-      source_is = source (order_on part f.c f.next) migration
+  abbrev list : List History
+  list = device_in device devices
 
-      from_source : device ≡ source_of migration
-      from_source = suits.1.1.1.0
+  module _ (step : DeviceStep) (ws : List Want) (f : IsCarried size orders devices migration block part (Device step ∷ ws) answer x y) (h : HoldsBlocks device) where
+    abbrev own_now : AbstractOrder
+    own_now = order_on part f.c f.next
 
-      given_there : GivesEach (device_in (source_of migration) devices) e.first (contents_at (device_in device devices) e)
-      given_there = subst (λ (d : Dev). GivesEach (device_in d devices) e.first (contents_at (device_in device devices) e)) from_source (given_from (device_in device devices) e.first e.count room).1
+    abbrev all : List (List ℕ)
+    all = offsets size part.extents
 
-      -- it was read where it stands at its source
-      first : e.first ≡ row source_is part.block.0 * size + r.first % size
-      first = f.of_block.0.first ∙ (λ i. row (f.copies.0 i) part.block.0 * size + sym f.paired.0.1 i)
-  reads ws f suits room = absurd f.paired.0
+    abbrev its_job : AbstractJob
+    its_job = job_under own_now all migration
 
--- ---- a write, and a step that fails
+    abbrev wants : List Want → List AbstractWant
+    wants us = migration_wants size own_now all migration us
 
--- a migration writes where blocks stand
-pub writes_blocks : (migration : Migration) (device : Dev) → device ≡ target_of migration → HoldsBlocks device
-writes_blocks (Promote k) device e = subst (λ (d : Dev). HoldsBlocks d) (sym e) tt
-writes_blocks migration device e = subst (λ (d : Dev). HoldsBlocks d) (sym e) tt
+    abbrev Went : Option Script → AbstractGot → List History → List AbstractWant → AbstractAnswer → (ℕ → Content) → Type 0
+    Went task got after steps told there = Moves size zeros s.actors a s.shared y task (location_at size device e) got after (record (left_there y its_job steps told) { buffer = there })
 
-module _ (size most blocks : ℕ) (words : Words) (committing : Bool) (orders : List (Option Order)) (devices : Devices (List History)) (actors : List Actor) (a : ℕ) (x : Actor) (s : World) (y : AbstractActor) (g : Agrees size most words committing orders devices actors s) (ex : slice_get actors a ≡ Some x) (ey : slice_get s.actors a ≡ Some y)
-    (migration : Migration) (block : OBlock) (part : BlockRange) (device : Dev) (e : Extent) (answer : Answer) (on_target : device ≡ target_of migration) where
-  abbrev to : Option ℕ
-  to = location_at size device e
+    -- it has moved an extent, or failed at that, and this is left
+    moves_on : (us : List Want) (told : AbstractAnswer) (then_answer : Answer) (buffer : List Content) (there : ℕ → Content) (got : AbstractGot) (after : List History) → Went (Some (record { job = its_job; steps = wants (Device step ∷ ws); answer = f.at.answer })) got after (wants us) told there →
+        held_for us x.card ≡ held_of x.card.hold → AnswersAlike then_answer told → SawSeal (plan_of (Migrating migration part) us then_answer) us x.card → GoesOn size part us buffer there →
+        Carried Stays size most a s words committing orders (with_device device devices after) actors (record x { task = Some (Migrate migration block, plan_of (Migrating migration part) us then_answer); buffer = buffer })
+    moves_on us told then_answer buffer there got after went held alike saw on =
+        let is = y_has size most blocks words committing orders devices actors a x s y g ex ey migration block part (Device step) ws answer f (λ n. n) (held_of x.card.hold) refl in
+        let live = live_is size most blocks words committing orders devices actors a x s y g ex ey migration block part (Device step) ws answer f (λ n. n) in
+        let m = subst (λ (task : Option Script). Went task got after (wants us) told there) (sym (ap (λ (v : AbstractActor). v.task) is)) went in
+        let t = shared_after s.shared y y.task (got ∷ []) in
+        let z = gone y y.task (got ∷ []) in
+        let now = sides size most words committing orders devices actors a x s y ex ey g device e h after t m.side_is m.beside in
+        carry_so size most blocks words committing orders devices actors a x s y g ex ey migration block part (Device step) ws answer f (λ n. n) us then_answer buffer (with_device device devices after) (got ∷ []) t z m.may refl refl
+        (at_again size most blocks words committing orders devices actors a x s y g ex ey migration block part (Device step) ws answer f z us told there f.kept then_answer
+        (m.is ∙ ap (λ (v : AbstractActor). record (left_there v its_job (wants us) told) { buffer = there }) is ∙ (λ i. record (migrating size own_now all migration us told there) { held = sym held i; order = sym live i })) alike saw)
+        (subst (λ (c : ℕ → Content). GoesOn size part us buffer c) (sym (ap (λ (v : AbstractActor). v.buffer) m.is)) on) (words_beside words (location_at size device e) s.shared t m.beside g.words_agree) now.0 now.1 m.beside.images (carries_on size orders devices (with_device device devices after) actors s a)
 
-  side_from : (c : CBlock) (next : Option ℕ) (m : Migration) → IsSide size zeros (source (order_on part c next) m) (device_in (source_of m) devices) s.shared
-  side_from c next (Promote k) = g.origin
-  side_from c next m = g.cache
+  module _ (ws : List Want) (f : IsCarried size orders devices migration block part (Device (Read device e) ∷ ws) answer x y) (suits : Suits blocks (plan_of (Migrating migration part) (Device (Read device e) ∷ ws) answer) x.card) where
+    abbrev reads_at : HoldsBlocks device
+    reads_at = blocks_are migration device (inl suits.1.1.1.0)
 
-  across : (c : CBlock) (next : Option ℕ) (m : Migration) (d : Dev) → d ≡ target_of m → Across (source (order_on part c next) m) (location_at size d e)
-  across c next (Promote k) Cache same = tt
-  across c next Demote Origin same = tt
-  across c next Clean Origin same = tt
-  across c next m d same = absurd (cc)
+    side_read : IsSide size zeros (location_at size device e) list s.shared
+    side_read = side_of size most words committing orders devices actors a x s y ex ey g device e reads_at
 
-  module _ (next : Want) (ws : List Want) (f : IsCarried size orders devices migration block part (next ∷ ws) answer x y) where
-    abbrev its_under : AbstractOrder
-    its_under = order_on part f.c f.next
+    plain_next : (us : List Want) → IsWrittenNext size e us → (held_for us x.card ≡ held_of x.card.hold) × SawSeal (plan_of (Migrating migration part) us answer) us x.card
+    plain_next (Device (Write to r) ∷ later) w = (refl, tt)
+    plain_next us w = absurd w
 
-    abbrev its_offsets : List ℕ
-    its_offsets = offsets size part.extents
+    -- what is to be written next is what was read
+    pub reads : e.first + e.count ≤ length list → Carried Stays size most a s words committing orders devices actors (record x { task = Some (Migrate migration block, plan_of (Migrating migration part) ws answer); buffer = contents_at list e })
+    reads room =
+        let given = given_from list e.first e.count room in
+        let next = plain_next ws f.paired.0 in
+        subst (λ (ds : Devices (List History)). Carried Stays size most a s words committing orders ds actors (record x { task = Some (Migrate migration block, plan_of (Migrating migration part) ws answer); buffer = contents_at list e })) (same_device device devices reads_at)
+        (moves_on (Read device e) ws f reads_at ws f.at.answer answer (contents_at list e) (newest_at s.shared (location_at size device e) part.block.0) _ list
+        (extents_followed.read_done size zeros s.actors a s.shared y _ (location_at size device e) part.block.0 (offsets_in size e) _ f.at.answer list side_read)
+        next.0 f.at.alike next.1 (record { of_block = f.of_block.1; paired = f.paired.1; read = written_next size e ws (contents_at list e) _ f.paired.0 (extents_followed.reads size zeros s.shared part.block.0 device e list (contents_at list e) f.of_block.0 side_read given.0 given.1) }))
 
-    -- it has copied, or failed at that, and this is left
-    copy_on : ¬ IsTail (next ∷ ws) → (us : List Want) (told : AbstractAnswer) (then_answer : Answer) (results : List AbstractGot) (list : List History) →
-        held_for (next ∷ ws) x.card ≡ Owns part.block.0 → held_for us x.card ≡ Owns part.block.0 → AnswersAlike then_answer told → SawSeal (plan_of (Migrating migration part) us then_answer) us x.card →
-        CarriesOthers size orders orders devices (with_device device devices list) actors s a → Copies size zeros s.actors a s.shared (migrating size its_under its_offsets migration (next ∷ ws) f.at.answer f.at.buffer) results to list (λ c. migrating size its_under its_offsets migration us told c) →
-        GoesOn size its_under migration part us (device_in (source_of migration) (with_device device devices list)) x.buffer →
-        Carried Stays size most a s words committing orders (with_device device devices list) actors (record x { task = Some (Migrate migration block, plan_of (Migrating migration part) us then_answer) })
-    copy_on no_tail us told then_answer results list held held_then alike saw carries copies on =
-        let is = y_is size most blocks words committing orders devices actors a x s y g ex ey migration block part next ws answer f no_tail held in
-        let live = live_is size most blocks words committing orders devices actors a x s y g ex ey migration block part next ws answer f no_tail in
-        let cp = subst (λ (v : AbstractActor). Copies size zeros s.actors a s.shared v results to list (λ c. migrating size its_under its_offsets migration us told c)) (sym is) copies in
-        let t = shared_after s.shared y y.task results in
-        let z = gone y y.task results in
-        let now = sides size most words committing orders devices actors a x s y ex ey g device e (writes_blocks migration device on_target) list t cp.side_is cp.beside in
-        carry_so size most blocks words committing orders devices actors a x s y g ex ey migration block part next ws answer f no_tail us then_answer x.buffer (with_device device devices list) results t z cp.may refl refl
-        (at_again size most blocks words committing orders devices actors a x s y g ex ey migration block part next ws answer f z us told cp.last f.kept then_answer
-        (cp.is ∙ (λ i. record (migrating size its_under its_offsets migration us told cp.last) { held = sym held_then i; order = sym live i })) alike saw)
-        on (words_beside words to s.shared t cp.beside g.words_agree) now.0 now.1 cp.beside.images carries
+    pub read_falls : Carried Stays size most a s words committing orders devices actors (record x { task = Some (Migrate migration block, plan_of (Migrating migration part) (Cell (Release Owned part.block) ∷ Desk (ReleaseOrder part.block) ∷ []) (Refuses (Io device))) })
+    read_falls =
+        let back = Cell (Release Owned part.block) ∷ Desk (ReleaseOrder part.block) ∷ [] in
+        subst (λ (ds : Devices (List History)). Carried Stays size most a s words committing orders ds actors (record x { task = Some (Migrate migration block, plan_of (Migrating migration part) back (Refuses (Io device))) })) (same_device device devices reads_at)
+        (moves_on (Read device e) ws f reads_at back AnsweredIo (Refuses (Io device)) x.buffer y.buffer read_fault list
+        (subst (λ (us : List AbstractWant). Went (Read device e) ws f reads_at (Some (record { job = its_job (Read device e) ws f reads_at; steps = wants (Read device e) ws f reads_at (Device (Read device e) ∷ ws); answer = f.at.answer })) read_fault list us AnsweredIo y.buffer) (sym (migration_tables_agree.lets_go size part f.c f.next migration (offsets size part.extents)))
+        (extents_followed.read_fails size zeros s.actors a s.shared y _ (location_at size device e) part.block.0 (offsets_in size e) _ f.at.answer list side_read))
+        refl (λ n. absurd (cc)) tt (record { of_block = tt; paired = (tt, (tt, tt)); read = tt }))
 
-  module _ (ws : List Want) (f : IsCarried size orders devices migration block part (Device (Write device e) ∷ ws) answer x y) (suits : Suits blocks (plan_of (Migrating migration part) (Device (Write device e) ∷ ws) answer) x.card) (room : e.first + e.count ≤ length (device_in device devices)) where
-    suits_now : Has (Migrating migration part) x.card (Device (Write device e) ∷ ws)
-    suits_now = suits.1
+  module _ (ws : List Want) (f : IsCarried size orders devices migration block part (Device (Write device e) ∷ ws) answer x y) (suits : Suits blocks (plan_of (Migrating migration part) (Device (Write device e) ∷ ws) answer) x.card) (room : e.first + e.count ≤ length list) where
+    abbrev writes_at : HoldsBlocks device
+    writes_at = blocks_are migration device (inr suits.1.1.1.0)
 
-    rest : IsRest (Migrating migration part) suits_now.1.0 ws
-    rest = suits_now.1.1.1
+    side_written : IsSide size zeros (location_at size device e) list s.shared
+    side_written = side_of size most words committing orders devices actors a x s y ex ey g device e writes_at
 
-    -- it writes its own block, or its cache block, out of which nothing is copied
-    in_cache : device ≡ Cache → location_at size device e ≡ Some (e.first / size)
-    in_cache k = ap (λ (d : Dev). location_at size d e) k
+    -- what is written is what was read
+    written_is : map (contents_for (job_under (order_on part f.c f.next) (offsets size part.extents) migration) y.buffer) (offsets_in size e) ≡ x.buffer
+    written_is = ap (λ (there : ℕ → Content). map there (offsets_in size e)) (writes_read (order_on part f.c f.next) (offsets size part.extents) migration y.buffer) ∙ sym f.read
 
-    into : (m : Migration) → device ≡ target_of m → device ≡ Cache → target (order_on part f.c f.next) m ≡ Some f.c.0
-    into (Promote k) to same = refl
-    into Demote to same = (let bad : Origin ≡ Cache = sym to ∙ same in absurd (cc))
-    into Clean to same = (let bad : Origin ≡ Cache = sym to ∙ same in absurd (cc))
+    pub writes : Carried Stays size most a s words committing orders (with_device device devices (written_each list e.first x.buffer)) actors (record x { task = Some (Migrate migration block, plan_of (Migrating migration part) ws answer) })
+    writes =
+        let plain = rest_plain (Migrating migration part) suits.1.1.0 ws suits.1.1.1.1 in
+        moves_on (Write device e) ws f writes_at ws f.at.answer answer x.buffer y.buffer _ (written_each list e.first x.buffer)
+        (subst (λ (cs : List Content). Went (Write device e) ws f writes_at (Some (record { job = its_job (Write device e) ws f writes_at; steps = wants (Write device e) ws f writes_at (Device (Write device e) ∷ ws); answer = f.at.answer })) DoneThere (written_each list e.first cs) (wants (Write device e) ws f writes_at ws) f.at.answer y.buffer) written_is
+        (extents_followed.write_done size zeros s.actors a s.shared y _ part.block.0 device e _ f.at.answer list f.of_block.0 side_written room))
+        (held_plain ws x.card plain) f.at.alike (saw_plain (plan_of (Migrating migration part) ws answer) ws x.card plain) (record { of_block = f.of_block.1; paired = f.paired.1; read = no_write_read size ws x.buffer y.buffer f.paired.0 })
 
-    beside : IsBesideCopies size orders devices s a part.block device e
-    beside d z u m other pt steps told n eu k no_tail on from away same = elim k.has [
-      | inl l ↦
-          let place : Some (e.first / size) ≡ Some f.c.0 = sym (in_cache on) ∙ f.copies.0 ∙ into migration on_target on in
-          let here : e.first / size ≡ f.c.0 = cc in
-          let mine : y.order ≡ Some (order_on part f.c f.next) = carried_order size orders devices migration block part (Device (Write device e) ∷ ws) answer x y f ∙ live_is size most blocks words committing orders devices actors a x s y g ex ey migration block part (Device (Write device e)) ws answer f (λ n. n) in
-          n ((g.orders_agree.once a y (order_on part f.c f.next) ey mine).1 d u (order_on pt k.c k.next) eu (ap (λ (v : AbstractActor). v.order) k.at.is ∙ l.1) (same ∙ here))
-      | inr t ↦ absurd (no_tail t)
-    ]
-
-    module _ (rule : LockRule blocks words (cards_of actors)) (suited : AllSuited blocks actors) where
-      carries_on : (lands : ℕ → Bool) → CarriesOthers size orders orders devices (with_device device devices (written_where lands (device_in device devices) e.first x.buffer)) actors s a
-      carries_on lands = carries_written size blocks words devices orders actors s a x part.block device e lands x.buffer rule suited ex suits.0 suits_now.0 f.of_block.0 f.buffer.0 (writes_blocks migration device on_target) beside
-
-      pub writes : Carried Stays size most a s words committing orders (with_device device devices (written_each (device_in device devices) e.first x.buffer)) actors (record x { task = Some (Migrate migration block, plan_of (Migrating migration part) ws answer) })
-      writes = copy_on (Device (Write device e)) ws f (λ n. n) ws f.at.answer answer (copied x.buffer) (written_each (device_in device devices) e.first x.buffer) (ap held_of suits_now.0)
-          (held_plain ws x.card (rest_plain (Migrating migration part) suits_now.1.0 ws rest) ∙ ap held_of suits_now.0) f.at.alike (saw_plain (plan_of (Migrating migration part) ws answer) ws x.card (rest_plain (Migrating migration part) suits_now.1.0 ws rest)) (carries_on (λ at. true))
-          (copies_followed.write_done size zeros s.actors a s.shared (order_on part f.c f.next) (offsets size part.extents) migration device e ws f.at.answer f.at.buffer (device_in (source_of migration) devices) (device_in device devices) x.buffer
-          (across f.c f.next migration device on_target) f.of_block.0 (side_from f.c f.next migration) (side_of size most words committing orders devices actors a x s y ex ey g device e (writes_blocks migration device on_target)) f.buffer.0 f.buffer.1 room)
-          (record { of_block = f.of_block.1; paired = f.paired.1; copies = f.copies.1; read = no_write_read size _ _ ws x.buffer f.paired.0 })
-
-      pub write_falls : (lands : ℕ → Bool) → Carried Stays size most a s words committing orders (with_device device devices (written_where lands (device_in device devices) e.first x.buffer)) actors
-          (record x { task = Some (Migrate migration block, plan_of (Migrating migration part) (Cell SetFailed ∷ []) (Refuses (Io device))) })
-      write_falls lands = copy_on (Device (Write device e)) ws f (λ n. n) (Cell SetFailed ∷ []) AnsweredIo (Refuses (Io device)) (copied_where lands e.first x.buffer) (written_where lands (device_in device devices) e.first x.buffer) (ap held_of suits_now.0) (ap held_of suits_now.0) (λ n. absurd (cc)) (Io device, refl) (carries_on lands)
-          (copies_followed.write_fails size zeros s.actors a s.shared (order_on part f.c f.next) (offsets size part.extents) migration device e ws f.at.answer f.at.buffer (device_in (source_of migration) devices) (device_in device devices) x.buffer lands
-          (across f.c f.next migration device on_target) f.of_block.0 (side_from f.c f.next migration) (side_of size most words committing orders devices actors a x s y ex ey g device e (writes_blocks migration device on_target)) f.buffer.0 f.buffer.1 room)
-          (record { of_block = tt; paired = (tt, tt); copies = tt; read = tt })
-
-  -- a read that fails is that of what was to be written
-  pub read_falls : (from : Dev) (r : Extent) (later : List Want) → (f : IsCarried size orders devices migration block part (Device (Read from r) ∷ Device (Write device e) ∷ later) answer x y) → Suits blocks (plan_of (Migrating migration part) (Device (Read from r) ∷ Device (Write device e) ∷ later) answer) x.card →
-      Carried Stays size most a s words committing orders (with_device device devices (device_in device devices)) actors
-      (record x { task = Some (Migrate migration block, plan_of (Migrating migration part) (Cell (Release Owned part.block) ∷ Desk (ReleaseOrder part.block) ∷ []) (Refuses (Io from))) })
-  read_falls from r later f suits =
-      let hold = suits.1.0 in
-      copy_on (Device (Read from r)) (Device (Write device e) ∷ later) f (λ n. n) (Cell (Release Owned part.block) ∷ Desk (ReleaseOrder part.block) ∷ []) AnsweredIo (Refuses (Io from)) read_fault (device_in device devices) (ap held_of hold) (ap held_of hold) (λ n. absurd (cc)) tt unmoved
-      (copies_followed.read_fails size zeros s.actors a s.shared (order_on part f.c f.next) (offsets size part.extents) migration part.block from device r e later f.at.answer f.at.buffer (device_in device devices) refl f.of_block.1.0 (side_of size most words committing orders devices actors a x s y ex ey g device e blocks_there))
-      (record { of_block = tt; paired = (tt, (tt, tt)); copies = tt; read = tt })
-    where
-      blocks_there : HoldsBlocks device
-      blocks_there = writes_blocks migration device on_target
-
-      unmoved : CarriesOthers size orders orders devices (with_device device devices (device_in device devices)) actors s a
-      unmoved = subst (λ (ds : Devices (List History)). CarriesOthers size orders orders devices ds actors s a) (sym (same_device device devices blocks_there)) (carries_same size orders devices actors s a)
+    pub write_falls : (lands : ℕ → Bool) → Carried Stays size most a s words committing orders (with_device device devices (written_where lands list e.first x.buffer)) actors (record x { task = Some (Migrate migration block, plan_of (Migrating migration part) (Cell SetFailed ∷ []) (Refuses (Io device))) })
+    write_falls lands =
+        let fault = write_fault size (location_at size device e) part.block.0 lands in
+        moves_on (Write device e) ws f writes_at (Cell SetFailed ∷ []) AnsweredIo (Refuses (Io device)) x.buffer y.buffer fault (written_where lands list e.first x.buffer)
+        (subst (λ (us : List AbstractWant). Went (Write device e) ws f writes_at (Some (record { job = its_job (Write device e) ws f writes_at; steps = wants (Write device e) ws f writes_at (Device (Write device e) ∷ ws); answer = f.at.answer })) fault (written_where lands list e.first x.buffer) us AnsweredIo y.buffer) (sym (migration_tables_agree.fails size part f.c f.next migration (offsets size part.extents)))
+        (subst (λ (cs : List Content). Went (Write device e) ws f writes_at (Some (record { job = its_job (Write device e) ws f writes_at; steps = wants (Write device e) ws f writes_at (Device (Write device e) ∷ ws); answer = f.at.answer })) fault (written_where lands list e.first cs) (breaking (its_job (Write device e) ws f writes_at)) AnsweredIo y.buffer) written_is
+        (extents_followed.write_fails size zeros s.actors a s.shared y _ part.block.0 device e _ f.at.answer list lands f.of_block.0 side_written room)))
+        refl (λ n. absurd (cc)) (Io device, refl) (record { of_block = tt; paired = (tt, tt); read = tt })

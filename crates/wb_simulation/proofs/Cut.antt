@@ -1,6 +1,6 @@
 -- A whole block, however it is cut: its extents are of the block, and have each of its offsets.
 use Rattle.std.proofs.Common.{◌≡◌, ◌<◌, ◌+◌, ◌-◌, ◌*◌, ◌/◌, ◌%◌, ◌∙◌, inl, inr, ℕ, zero, suc, List, [], ◌∷◌, refl, sym, ap, subst, arith, Contains}
-use Rattle.std.proofs.lemmas.List.Elements.{Contains-append_cases, Contains-append_left, Contains-append_right}
+use Rattle.std.proofs.lemmas.List.Elements.{Contains-append_cases}
 use Rattle.std.proofs.lemmas.List.Sorted.{Contains-permutation}
 use Rattle.std.proofs.lemmas.Nat.{div-mul-add, mod-mul-add}
 use Rattle.wb_types.proofs.Lists.{Contains-first, Contains-behind, Contains-one}
@@ -8,7 +8,7 @@ use Rattle.wb_types.specs.declared.extent.Extent.{Extent}
 use Rattle.wb_types.specs.declared.number.OBlock.{OBlock}
 use Rattle.wb_types.specs.Extents.{rising, sectors_in, sectors_of, IsCutInto}
 use Rattle.wb_tasks.specs.Tables.{whole_block}
-use Rattle.wb_link.specs.World.{Covers}
+use Rattle.wb_link.specs.World.{AreIn, Covers}
 use Rattle.wb_refines.specs.Translation.{offsets, offsets_in}
 use Rattle.wb_runs.proofs.Extents.{Within, AllWithin, cut_within}
 use Rattle.wb_simulation.specs.Steps.{IsOfBlock, IsPart}
@@ -52,7 +52,7 @@ module _ (size : ℕ) (block : OBlock) (some : 0 < size) where
     | inr r ↦ each_of_block xs w.1 e r
   ]
 
-  offset_there : (cut : List Extent) (o : ℕ) → AllWithin (whole_block size block) cut → Contains (sectors_of cut) (block.0 * size + o) → Contains (offsets size cut) o
+  offset_there : (cut : List Extent) (o : ℕ) → AllWithin (whole_block size block) cut → Contains (sectors_of cut) (block.0 * size + o) → AreIn (offsets size cut) o
   offset_there [] o w c = absurd (omega (arith, c.1))
   offset_there (e ∷ es) o w c = elim (Contains-append_cases (sectors_in e) (sectors_of es) (block.0 * size + o) c) [
     | inl here ↦
@@ -62,8 +62,8 @@ module _ (size : ℕ) (block : OBlock) (some : 0 < size) where
         let from = w.0.from in
         let at = k.2 in
         let same : e.first % size + k.0 ≡ o = omega (arith, offset, from, at) in
-        subst (λ (n : ℕ). Contains (offsets size (e ∷ es)) n) same (Contains-append_left (offsets_in size e) (offsets size es) (e.first % size + k.0) (rising_has (e.first % size) e.count k.0 k.1))
-    | inr there ↦ Contains-append_right (offsets_in size e) (offsets size es) o (offset_there es o w.1 there)
+        inl (subst (λ (n : ℕ). Contains (offsets_in size e) n) same (rising_has (e.first % size) e.count k.0 k.1))
+    | inr there ↦ inr (offset_there es o w.1 there)
   ]
 
   module _ (cut : List Extent) (i : IsCutInto (whole_block size block) cut) where

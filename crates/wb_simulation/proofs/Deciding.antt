@@ -10,7 +10,7 @@ use Rattle.wb_words.specs.declared.step.CellStep.TheVariants.{Release}
 use Rattle.wb_policy.specs.declared.order.Order.{Order}
 use Rattle.wb_tasks.specs.Tables.{Migrating, BlockRange}
 use Rattle.wb_tasks.specs.Plan.{Plan}
-use Rattle.wb_tasks.specs.Ready.{Has, Suits, IsRest, source_of}
+use Rattle.wb_tasks.specs.Ready.{Has, Suits, IsRest}
 use Rattle.wb_tasks.specs.declared.step.Answer.TheVariants.{Refused as Refuses}
 use Rattle.wb_tasks.specs.declared.step.DeskStep.TheVariants.{Map, Unmap, ReleaseOrder}
 use Rattle.wb_tasks.specs.declared.step.Migration.{Migration}
@@ -47,7 +47,6 @@ use Rattle.wb_simulation.specs.Carried.{held, is_at, replacement_there, order_th
 use Rattle.wb_simulation.specs.Migrating.{LeavesFrom, TurnsOrder, Carried, EndsOrder}
 use Rattle.wb_simulation.proofs.Carrying.{stands_there, IsOn, is_done, carry_over, carried_job, carried_order}
 use Rattle.wb_tasks.specs.declared.step.Answer.{Answer}
-use Rattle.wb_devices.specs.Moving.{device_in}
 use Rattle.wb_refines.specs.Going.{gone}
 use Rattle.wb_simulation.specs.Steps.{IsTail}
 use Rattle.wb_simulation.proofs.Orders.{GoesOn, carried_again, CarriesOthers, carried_beside, carries_same, goes_so, turns_so}
@@ -86,7 +85,7 @@ still_held b orders awaiting o t r h = Contains-append_right (dropped b orders) 
 
 module _ (size most blocks : ℕ) (words : Words) (committing : Bool) (orders : List (Option Order)) (devices : Devices (List History)) (actors : List Actor) (a : ℕ) (x : Actor) (s : World) (y : AbstractActor) (g : Agrees size most words committing orders devices actors s) (ex : slice_get actors a ≡ Some x) (ey : slice_get s.actors a ≡ Some y)
     (migration : Migration) (block : OBlock) (part : BlockRange) (ws : List Want) (answer : Answer) where
-  abbrev os : List ℕ
+  abbrev os : List (List ℕ)
   os = offsets size part.extents
 
   abbrev left : Plan
@@ -133,7 +132,7 @@ module _ (size most blocks : ℕ) (words : Words) (committing : Bool) (orders : 
     over_here : slice_get (slice_set orders f.c.0 None) f.c.0 ≡ Some None
     over_here = get_set_same orders f.c.0 (Some f.order) None its
 
-    pub ends_order : ((d : ℕ) (o : Option Order) → d ≢ f.c.0 → slice_get orders d ≡ Some o → live_there t.mapping d o ≡ live_there s.shared.mapping d o) → IsMigrationAt part f.c f.next migration None left x.card z → IsTail ws → GoesOn size own migration part ws (device_in (source_of migration) devices) x.buffer →
+    pub ends_order : ((d : ℕ) (o : Option Order) → d ≢ f.c.0 → slice_get orders d ≡ Some o → live_there t.mapping d o ≡ live_there s.shared.mapping d o) → IsMigrationAt part f.c f.next migration None left x.card z → IsTail ws → GoesOn size part ws x.buffer z.buffer →
         EndsOrder turn f.c.0 size most a s words committing orders devices actors x left_over f.order
     ends_order turns at tail on =
         let none : z.order ≡ None = ap (λ (v : AbstractActor). v.order) at.is in
@@ -179,7 +178,7 @@ module _ (size most blocks : ℕ) (words : Words) (committing : Bool) (orders : 
         goes.may goes.shared goes.is
         (at_again size most blocks words committing orders devices actors a x s y g ex ey migration block part (Desk (Map part.block c)) ws answer f z back AnsweredFailed f.at.buffer f.kept (Refuses refusal)
         (λ i. record z { held = sym (ap held_of suits_now.0) i; order = sym (live_is size most blocks words committing orders devices actors a x s y g ex ey migration block part (Desk (Map part.block c)) ws answer f (λ n. n)) i }) (λ n. absurd (cc)) tt)
-        (record { of_block = tt; paired = (tt, (tt, tt)); copies = tt; read = tt })
+        (record { of_block = tt; paired = (tt, (tt, tt)); read = tt })
         g.words_agree g.origin g.cache (same_images s.shared) (carries_same size orders devices actors s a)
 
     -- the block is mapped, and the order is over
@@ -195,7 +194,7 @@ module _ (size most blocks : ℕ) (words : Words) (committing : Bool) (orders : 
         (record { fail = g.words_agree.fail; seals = g.words_agree.seals }) refl refl refl refl refl (refl, refl, refl) (refl, refl) (λ d o n e. map_elsewhere s.shared.mapping part.block.0 f.c.0 d o n free)
         (at_again size most blocks words committing orders devices actors a x s y g ex ey migration block part (Desk (Map part.block c)) ws answer f z ws f.at.answer f.at.buffer None answer
         (λ i. record z { held = sym (held_plain ws x.card plain ∙ ap held_of suits_now.0) i }) f.at.alike (saw_plain left ws x.card plain))
-        f.paired.0 (record { of_block = f.of_block; paired = f.paired.2; copies = f.copies; read = no_write_read size _ _ ws x.buffer f.paired.1 })
+        f.paired.0 (record { of_block = f.of_block; paired = f.paired.2; read = no_write_read size ws x.buffer _ f.paired.1 })
 
   module _ (f : IsCarried size orders devices migration block part (Desk (Unmap part.block) ∷ ws) answer x y) (suits : Suits blocks (plan_of (Migrating migration part) (Desk (Unmap part.block) ∷ ws) answer) x.card) where
     suits_away : Has (Migrating migration part) x.card (Desk (Unmap part.block) ∷ ws)
@@ -231,8 +230,8 @@ module _ (size most blocks : ℕ) (words : Words) (committing : Bool) (orders : 
         at_again size most blocks words committing orders devices actors a x s y g ex ey migration block part (Desk (Unmap part.block)) ws answer f z_away ws f.at.answer f.at.buffer kept answer
         (λ i. record z_away { held = sym (held_plain ws x.card plain ∙ ap held_of suits_away.0) i; order = e i }) f.at.alike (saw_plain left ws x.card plain)
 
-    on_away : GoesOn size own_away migration part ws (device_in (source_of migration) devices) x.buffer
-    on_away = record { of_block = f.of_block; paired = f.paired.2; copies = f.copies; read = no_write_read size _ _ ws x.buffer f.paired.1 }
+    on_away : GoesOn size part ws x.buffer z_away.buffer
+    on_away = record { of_block = f.of_block; paired = f.paired.2; read = no_write_read size ws x.buffer _ f.paired.1 }
 
     its_away : slice_get orders f.c.0 ≡ Some (Some f.order)
     its_away = lives size most blocks words committing orders devices actors a x s y g ex ey migration block part (Desk (Unmap part.block)) ws answer f (λ n. n)
@@ -297,4 +296,4 @@ module _ (size most blocks : ℕ) (words : Words) (committing : Bool) (orders : 
         (record { fail = g.words_agree.fail; seals = g.words_agree.seals }) refl refl refl refl refl (refl, refl, refl) (refl, refl) (λ d o n e. refl)
         (at_again size most blocks words committing orders devices actors a x s y g ex ey migration block part (Desk (ReleaseOrder part.block)) ws answer f z ws f.at.answer f.at.buffer None answer
         (λ i. record z { held = sym (ap (λ (us : List Want). held_for us x.card) nothing ∙ ap held_of suits.1.0) i }) f.at.alike (subst (λ (us : List Want). SawSeal left us x.card) (sym nothing) tt))
-        (subst (λ (us : List Want). IsTail us) (sym nothing) tt) (record { of_block = f.of_block; paired = f.paired.1; copies = f.copies; read = no_write_read size _ _ ws x.buffer f.paired.0 })
+        (subst (λ (us : List Want). IsTail us) (sym nothing) tt) (record { of_block = f.of_block; paired = f.paired.1; read = no_write_read size ws x.buffer _ f.paired.0 })

@@ -44,8 +44,6 @@ use Rattle.wb_simulation.specs.Laws.{turn_of, went, IsOnlyOf}
 use Rattle.wb_simulation.proofs.Telling.{unnoted_none, quiet_are_unnoted}
 use Rattle.wb_types.specs.declared.number.OBlock.{OBlock}
 use Rattle.wb_simulation.proofs.Orders.{does_none, carries_same}
-use Rattle.wb_disk.proofs.FailedSyncs.{partly_synced as partly_synced_list}
-use Rattle.wb_disk.proofs.Leaving.{newest-synced, read-partly}
 use Rattle.wb_simulation.proofs.Among.{goes_on, goes_leading, stays_there}
 use Rattle.wb_simulation.proofs.Releasing.{released_there}
 use Rattle.wb_simulation.proofs.Steps.{finds_failed}
@@ -73,11 +71,11 @@ module _ (size most : ℕ) (serves : List OBlock) (words : Words) (committing : 
       On (with_device device devices (synced (device_in device devices))) (after (flushing serves most (Device (Sync device) ∷ later) answer) Done)
   syncs Cache h (Device (Sync Origin) ∷ ws) answer o is =
       goes size most serves words committing orders devices actors a x s y ex ey g Stays (with_device Cache devices (synced devices.cache)) (Device (Sync Cache)) (Device (Sync Origin) ∷ ws) answer _ _ is (λ e. absurd (cc)) (followed_alone.syncs_cache size serves most [] s.actors a s.shared y (Device (Sync Origin) ∷ ws) answer is) refl o refl (λ n. absurd (cc))
-      (record { fail = g.words_agree.fail; seals = g.words_agree.seals }) g.origin (ap all_synced g.cache ∙ sym (sync_is_act size zeros devices.cache)) refl refl refl (refl, refl, refl) (refl, refl) refl refl (newest-synced devices.cache)
+      (record { fail = g.words_agree.fail; seals = g.words_agree.seals }) g.origin (ap all_synced g.cache ∙ sym (sync_is_act size zeros devices.cache)) refl refl refl (refl, refl, refl) (refl, refl) refl
   syncs Cache h later answer o is = absurd o
   syncs Origin h later answer o is =
       goes size most serves words committing orders devices actors a x s y ex ey g Stays (with_device Origin devices (synced devices.origin)) (Device (Sync Origin)) later answer (flushing serves most later answer) (record s.shared { origin = all_synced s.shared.origin }) is (λ e. absurd (cc)) (followed_alone.syncs_origin size serves most [] s.actors a s.shared y later answer is) refl (commits_on most later o).0 (commits_on most later o).1 (some_on later o)
-      (record { fail = g.words_agree.fail; seals = g.words_agree.seals }) (ap all_synced g.origin ∙ sym (sync_is_act size zeros devices.origin)) g.cache refl refl refl (refl, refl, refl) (refl, refl) refl (newest-synced devices.origin) refl
+      (record { fail = g.words_agree.fail; seals = g.words_agree.seals }) (ap all_synced g.origin ∙ sym (sync_is_act size zeros devices.origin)) g.cache refl refl refl (refl, refl, refl) (refl, refl) refl
   syncs Metadata h later answer o is = absurd h
 
   pub sync_falls : (lands : ℕ → Bool) (device : Dev) → HoldsBlocks device → (later : List Want) (answer : Answer) → IsFlushing size [] (flushing serves most (Device (Sync device) ∷ later) answer) true y →
@@ -85,18 +83,18 @@ module _ (size most : ℕ) (serves : List OBlock) (words : Words) (committing : 
   sync_falls lands Cache h later answer is =
       goes size most serves words committing orders devices actors a x s y ex ey g Stays (with_device Cache devices (synced_where lands devices.cache)) (Device (Sync Cache)) later answer (after (flushing serves most (Device (Sync Cache) ∷ later) answer) Fault) (record s.shared { cache = partly_synced (λ b o. lands (b * size + o)) s.shared.cache }) is (λ e. absurd (cc))
       (followed_alone.fails_cache size serves most [] s.actors a s.shared y later answer (λ b o. lands (b * size + o)) is) refl refl refl (λ n. absurd (cc))
-      (record { fail = g.words_agree.fail; seals = g.words_agree.seals }) g.origin (ap (partly_synced (λ b o. lands (b * size + o))) g.cache ∙ sym (failed_sync_is_act size zeros lands devices.cache)) refl refl refl (refl, refl, refl) (refl, refl) refl refl (read-partly devices.cache (synced_where lands devices.cache) (partly_synced_list lands devices.cache))
+      (record { fail = g.words_agree.fail; seals = g.words_agree.seals }) g.origin (ap (partly_synced (λ b o. lands (b * size + o))) g.cache ∙ sym (failed_sync_is_act size zeros lands devices.cache)) refl refl refl (refl, refl, refl) (refl, refl) refl
   sync_falls lands Origin h later answer is =
       goes size most serves words committing orders devices actors a x s y ex ey g Stays (with_device Origin devices (synced_where lands devices.origin)) (Device (Sync Origin)) later answer (after (flushing serves most (Device (Sync Origin) ∷ later) answer) Fault) (record s.shared { origin = partly_synced (λ b o. lands (b * size + o)) s.shared.origin }) is (λ e. absurd (cc))
       (followed_alone.fails_origin size serves most [] s.actors a s.shared y later answer (λ b o. lands (b * size + o)) is) refl refl refl (λ n. absurd (cc))
-      (record { fail = g.words_agree.fail; seals = g.words_agree.seals }) (ap (partly_synced (λ b o. lands (b * size + o))) g.origin ∙ sym (failed_sync_is_act size zeros lands devices.origin)) g.cache refl refl refl (refl, refl, refl) (refl, refl) refl (read-partly devices.origin (synced_where lands devices.origin) (partly_synced_list lands devices.origin)) refl
+      (record { fail = g.words_agree.fail; seals = g.words_agree.seals }) (ap (partly_synced (λ b o. lands (b * size + o))) g.origin ∙ sym (failed_sync_is_act size zeros lands devices.origin)) g.cache refl refl refl (refl, refl, refl) (refl, refl) refl
   sync_falls lands Metadata h later answer is = absurd h
 
   -- a step on the metadata is done, or fails; the data devices are as they were
   metadata_goes : (turn : Turn) (metadata : List History) (step : DeviceStep) (later : List Want) (answer : Answer) (t : Shared) → IsOnMetadata (Device step ∷ later) → IsOnMetadata later → IsFlushing size [] (flushing serves most (Device step ∷ later) answer) true y → Leads size [] s.actors a s.shared y t (flushing serves most later answer) true →
       WordsAgree words t → t.origin ≡ s.shared.origin → t.cache ≡ s.shared.cache → t.mode ≡ s.shared.mode → t.committing ≡ s.shared.committing → t.broken ≡ s.shared.broken → TurnedTo turn s.shared t → DeskTurnedTo turn s.shared t → t.mapping ≡ s.shared.mapping → OnBy turn (with_device Metadata devices metadata) (flushing serves most later answer)
   metadata_goes turn metadata step later answer t on m is l w og ca mo co br turned desk same_map =
-      goes size most serves words committing orders devices actors a x s y ex ey g turn (with_device Metadata devices metadata) (Device step) later answer (flushing serves most later answer) t is (has_wants size (Device step ∷ later) on) l refl (commits_on most later m).0 (commits_on most later m).1 (some_on later m) w (og ∙ g.origin) (ca ∙ g.cache) mo co br turned desk same_map refl refl
+      goes size most serves words committing orders devices actors a x s y ex ey g turn (with_device Metadata devices metadata) (Device step) later answer (flushing serves most later answer) t is (has_wants size (Device step ∷ later) on) l refl (commits_on most later m).0 (commits_on most later m).1 (some_on later m) w (og ∙ g.origin) (ca ∙ g.cache) mo co br turned desk same_map
 
   pub metadata_done : (metadata : List History) (step : DeviceStep) (later : List Want) (answer : Answer) → device_of step ≡ Metadata → IsOfFlush most (Device step ∷ later) → IsFlushing size [] (flushing serves most (Device step ∷ later) answer) true y → OnBy (turn_of step) (with_device Metadata devices metadata) (after (flushing serves most (Device step ∷ later) answer) Done)
   metadata_done metadata (WriteNode number) later answer d o is = metadata_goes Stays metadata (WriteNode number) later answer s.shared o o is (followed_alone.nodes size serves most number [] s.actors a s.shared y later answer is) g.words_agree refl refl refl refl refl (refl, refl, refl) (refl, refl) refl
@@ -112,7 +110,7 @@ module _ (size most : ℕ) (serves : List OBlock) (words : Words) (committing : 
         l.0,
         l.1,
         goes size most serves words committing orders devices actors a x s y ex ey g (Puts l.0) (with_device Metadata devices metadata) (Device step) later answer (after (flushing serves most (Device step ∷ later) answer) Fault) (record s.shared { root_written = l.0 }) is (has_wants size (Device step ∷ later) m) l.2 refl refl refl (λ n. absurd (cc))
-            (record { fail = g.words_agree.fail; seals = g.words_agree.seals }) g.origin g.cache refl refl refl (refl, refl, refl) (refl, refl) refl refl refl,
+            (record { fail = g.words_agree.fail; seals = g.words_agree.seals }) g.origin g.cache refl refl refl (refl, refl, refl) (refl, refl) refl,
       )
 
   pub is_on_metadata : (step : DeviceStep) (later : List Want) → device_of step ≡ Metadata → IsOfFlush most (Device step ∷ later) → IsOnMetadata (Device step ∷ later)
@@ -176,7 +174,7 @@ module _ (size most : ℕ) (serves : List OBlock) (words : Words) (committing : 
       let plan' = after (flushing serves most (Desk (BeginCommit false most) ∷ []) answer) (Began nodes) in
       let none : s.shared.committing ≡ false = g.commits ∙ quiet in
       let l = followed_alone.begins size serves most nodes [] s.actors a s.shared y [] answer none (by_broken s.shared.broken refl) is in
-      goes_leading size most words words (λ f. f) committing orders devices actors a x (record x { task = Some (Flush, plan') }) s y g ex ey Begins true l.results (effect s.shared (FlushingFor None) [] (Begin None) DoneThere) (l.results, quiet_are_unnoted y.task l.results l.quiet, refl) l.may l.shared
+      goes_leading size most words words (λ f. f) committing orders devices actors a x (record x { task = Some (Flush, plan') }) s y g ex ey Begins true l.results (effect s.shared (FlushingFor None) (λ o. []) (Begin None) DoneThere) (l.results, quiet_are_unnoted y.task l.results l.quiet, refl) l.may l.shared
       (stands size most serves words committing orders devices actors a x s y ex ey g words plan' x.card true (gone y y.task l.results) refl (nodes_on_metadata nodes 0) refl (λ e n. absurd (cc)) l.at)
       (record { fail = g.words_agree.fail; seals = g.words_agree.seals }) refl refl refl refl (λ e. refl) (λ b v n ev k. runs (g.led b v ev k)) (λ k. (refl, λ u. by_broken s.shared.broken refl)) (refl, refl, refl) (refl, refl) (ap (λ (v : AbstractActor). v.order) l.at.is ∙ sym (ap (λ (v : AbstractActor). v.order) is.is)) refl refl tt
     where
@@ -195,7 +193,7 @@ module _ (size most : ℕ) (serves : List OBlock) (words : Words) (committing : 
       let lead : y.leads ≡ true = ap (λ (v : AbstractActor). v.leads) is.is in
       let some : wants_of size (FlushingFor None) (Desk EndCommit ∷ []) ≢ [] = (λ e. absurd (cc)) in
       let whole : s.shared.broken ≡ false = g.whole a y ey lead (subst (λ (v : AbstractActor). IsUnfinished v.task) (sym is.is) some) in
-      goes_leading size most words words (λ f. f) committing orders devices actors a x (record x { task = Some (Flush, plan') }) s y g ex ey Ends false l.results (effect s.shared (FlushingFor None) [] End_running DoneThere) (l.results, quiet_are_unnoted y.task l.results l.quiet, refl) l.may l.shared
+      goes_leading size most words words (λ f. f) committing orders devices actors a x (record x { task = Some (Flush, plan') }) s y g ex ey Ends false l.results (effect s.shared (FlushingFor None) (λ o. []) End_running DoneThere) (l.results, quiet_are_unnoted y.task l.results l.quiet, refl) l.may l.shared
       (stands size most serves words committing orders devices actors a x s y ex ey g words plan' x.card false (gone y y.task l.results) refl tt tt (λ e n. absurd (cc)) l.at)
       (record { fail = g.words_agree.fail; seals = g.words_agree.seals }) refl refl refl refl (λ e. let bad : true ≡ false = sym e ∙ whole in absurd (cc)) (leads_alone size most serves words committing orders devices actors a x s y ex ey g lead)
       (λ k. let bad : true ≡ false = sym k ∙ ap (λ (v : AbstractActor). v.leads) l.at.is in absurd (cc)) (refl, refl) (refl, refl) (ap (λ (v : AbstractActor). v.order) l.at.is ∙ sym (ap (λ (v : AbstractActor). v.order) is.is)) refl refl tt

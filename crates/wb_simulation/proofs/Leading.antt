@@ -1,7 +1,7 @@
 -- An actor that leads a commit goes on, and nobody else leads one.
-use Rattle.std.proofs.Common.{◌≡◌, ◌≢◌, ◌∙◌, inl, inr, ℕ, zero, suc, Bool, true, List, [], ◌∷◌, ◌++◌, Some, None, map, refl, sym, ap, subst, slice_get, slice_set, Option}
+use Rattle.std.proofs.Common.{◌≡◌, ◌≢◌, ◌∙◌, inl, inr, ℕ, zero, suc, Bool, true, List, [], ◌∷◌, ◌++◌, Some, None, refl, sym, ap, subst, slice_get, slice_set, Option}
 use Rattle.wb_types.specs.declared.mode.Dev.TheVariants.{Metadata}
-use Rattle.wb_disk.specs.Device.{History, newest}
+use Rattle.wb_disk.specs.Device.{History}
 use Rattle.wb_contents.specs.Devices.{by_block}
 use Rattle.wb_words.specs.SharedWords.{Words, flag}
 use Rattle.wb_words.specs.declared.card.Card.{Card}
@@ -27,9 +27,8 @@ use Rattle.wb_simulation.specs.Actors.{IsFlushAt, IsOfFlush, LeadsAt, StandsFor}
 use Rattle.wb_simulation.specs.Telling.{Quietly}
 use Rattle.wb_simulation.specs.Worlds.{zeros, Agrees, Turn, TurnedTo, DeskTurnedTo, FollowsBy, IsUnfinished}
 use Rattle.wb_simulation.proofs.Telling.{quiet_are_unnoted}
-use Rattle.wb_simulation.proofs.Orders.{does_none}
+use Rattle.wb_simulation.proofs.Orders.{carries_on, does_none}
 use Rattle.wb_simulation.proofs.Among.{goes_by}
-use Rattle.wb_simulation.proofs.Beside.{carries_newest}
 use Rattle.wb_types.specs.declared.number.OBlock.{OBlock}
 use Rattle.wb_simulation.proofs.Followed.{first, IsWithin, never_late}
 
@@ -80,7 +79,7 @@ module _ (size most : ℕ) (serves : List OBlock) (words : Words) (committing : 
   -- a flush that leads goes on by a step on a device, and its commit stays whole
   pub goes : (turn : Turn) (devices' : Devices (List History)) (next : Want) (later : List Want) (answer : Answer) (plan' : Plan) (t : Shared) → IsFlushing size [] (flushing serves most (next ∷ later) answer) true y → wants_of size (FlushingFor None) (next ∷ later) ≢ [] → Leads size [] s.actors a s.shared y t plan' true →
       plan'.job ≡ Flushing serves most → IsOfFlush most plan'.steps → LeadsAt true plan'.steps → (plan'.steps ≢ []) → WordsAgree words t → t.origin ≡ by_block size zeros devices'.origin → t.cache ≡ by_block size zeros devices'.cache → t.mode ≡ s.shared.mode → t.committing ≡ s.shared.committing → t.broken ≡ s.shared.broken → TurnedTo turn s.shared t → DeskTurnedTo turn s.shared t → t.mapping ≡ s.shared.mapping →
-      map newest devices'.origin ≡ map newest devices.origin → map newest devices'.cache ≡ map newest devices.cache → FollowsBy turn Quietly size most a s words committing orders devices' (slice_set actors a (record x { task = Some (Flush, plan') }))
-  goes turn devices' next later answer plan' t is some l j o at unfinished w og ca mo co br turned desk same_map nor nca = goes_by size most words words (λ f. f) committing orders devices actors a x (record x { task = Some (Flush, plan') }) s y g ex ey turn Quietly devices' l.results t (l.results, quiet_are_unnoted y.task l.results l.quiet, refl) l.may l.shared
+      FollowsBy turn Quietly size most a s words committing orders devices' (slice_set actors a (record x { task = Some (Flush, plan') }))
+  goes turn devices' next later answer plan' t is some l j o at unfinished w og ca mo co br turned desk same_map = goes_by size most words words (λ f. f) committing orders devices actors a x (record x { task = Some (Flush, plan') }) s y g ex ey turn Quietly devices' l.results t (l.results, quiet_are_unnoted y.task l.results l.quiet, refl) l.may l.shared
       (stands words plan' x.card true (gone y y.task l.results) j o at (λ e n. absurd (unfinished n)) l.at) (λ k. (ap (λ (v : AbstractActor). v.leads) is.is, λ more. subst (λ (v : AbstractActor). IsUnfinished v.task) (sym is.is) some)) w og ca mo co br turned desk
-      (ap (λ (v : AbstractActor). v.order) l.at.is ∙ sym (ap (λ (v : AbstractActor). v.order) is.is)) (λ o h. h) same_map (carries_newest size devices devices' orders actors s a nor nca) (does_none _ _ _ _ _ _ tt)
+      (ap (λ (v : AbstractActor). v.order) l.at.is ∙ sym (ap (λ (v : AbstractActor). v.order) is.is)) (λ o h. h) same_map (carries_on size orders devices devices' actors s a) (does_none _ _ _ _ _ _ tt)

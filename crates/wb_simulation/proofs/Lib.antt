@@ -4,7 +4,6 @@ pub mod Orders
 mod Telling
 mod Cells
 mod Among
-mod Beside
 pub mod Followed
 pub mod Moving
 pub mod Starting

@@ -25,7 +25,7 @@ use Rattle.wb_tasks.specs.declared.step.Want.TheVariants.{Cell}
 use Rattle.wb_devices.specs.declared.devices.Devices.{Devices}
 use Rattle.wb_link.specs.World.{World, Actor as AbstractActor}
 use Rattle.wb_refines.specs.Models.{plan_of}
-use Rattle.wb_refines.specs.Migrations.{order_on, source, IsWhere}
+use Rattle.wb_refines.specs.Migrations.{order_on, IsWhere}
 use Rattle.wb_refines.specs.Roles.{Role, IsAs}
 use Rattle.wb_refines.specs.Carried.{migration_role}
 use Rattle.wb_refines.proofs.Roles.{migrations_play}
@@ -33,7 +33,7 @@ use Rattle.wb_runs.specs.declared.job.Job.TheVariants.{Migrate}
 use Rattle.wb_runs.specs.States.{Actor}
 use Rattle.wb_runs.specs.Holding.{cards_of}
 use Rattle.wb_simulation.specs.Steps.{IsTail}
-use Rattle.wb_simulation.specs.Carried.{order_there, target, IsCarried, HasEnded}
+use Rattle.wb_simulation.specs.Carried.{order_there, IsCarried, HasEnded}
 use Rattle.wb_simulation.specs.Worlds.{Agrees, Stays}
 use Rattle.wb_simulation.specs.Laws.{went}
 use Rattle.wb_simulation.specs.Migrating.{SealTells, SeesWhere, Carried}
@@ -58,12 +58,6 @@ module _ (size most blocks : ℕ) (words : Words) (committing : Bool) (orders : 
     (rule : LockRule blocks words (cards_of actors)) (ex : slice_get actors a ≡ Some x) (ey : slice_get s.actors a ≡ Some y) (m : Migration) (block : OBlock) (part : BlockRange) (ws : List Want) (answer : Answer) (f : IsCarried size orders devices m block part (Cell step ∷ ws) answer x y) (suits : Suits blocks (plan_of (Migrating m part) (Cell step ∷ ws) answer) x.card) (sees : SeesWhere words orders s.shared.mapping m block step) where
   abbrev cache : CBlock
   cache = f.c
-
-  abbrev from : Option ℕ
-  from = source (order_on part cache f.next) m
-
-  abbrev to : Option ℕ
-  to = target (order_on part cache f.next) m
 
   abbrev plan : Plan
   plan = plan_of (Migrating m part) (Cell step ∷ ws) answer
@@ -97,11 +91,11 @@ module _ (size most blocks : ℕ) (words : Words) (committing : Bool) (orders : 
   seen_where b e = tells_where (subst (λ (v : CellStep). ¬ IsTail (Cell v ∷ ws)) (sym e) (λ t. t)) (subst (λ (v : CellStep). SeesWhere words orders s.shared.mapping m block v) e sees) b ((subst (λ (v : CellStep). Has (Migrating m part) x.card (Cell v ∷ ws)) e suits.1).1 ∙ f.block_is)
 
   -- what is left is of the block, and each extent is written once it was read
-  copies : AreCopies size part.block.0 from to plan'.steps
+  copies : AreCopies size part.block.0 plan'.steps
   copies =
       let t = tells size part.block.0 step ws f.of_block in
-      after_cell (AreCopies size part.block.0 from to) (OnBlock (Migrating m part)) words step ws answer (tt, tt, tt, tt) (t.1, f.paired.1, f.paired.0, f.copies) (λ seen. (tt, (tt, (tt, tt)), tt, tt))
-      (λ b is. let w = migration_works size part f.is_part m cache f.next f.fills f.small (word_at words.seals b) (seen_where b is) in (w.0, (w.2, w.1), tt, w.3)) (tt, (tt, tt), tt, tt)
+      after_cell (AreCopies size part.block.0) (OnBlock (Migrating m part)) words step ws answer (tt, tt, tt) (t.1, f.paired.1, f.paired.0) (λ seen. (tt, (tt, (tt, tt)), tt))
+      (λ b is. let w = migration_works size part f.is_part m cache f.fills f.small (word_at words.seals b) (seen_where b is) in (w.0, (w.2, w.1), tt)) (tt, (tt, tt), tt)
 
   -- the number of a block is looked at with its seal known
   finds : (b : OBlock) → step ≡ Look (Number b) → (seal : ℕ) → x.card.seal ≡ Some seal → IsWhere m cache (place_in seal)
@@ -120,7 +114,7 @@ module _ (size most blocks : ℕ) (words : Words) (committing : Bool) (orders : 
   pub is_carried : (z : AbstractActor) → IsAs role plan' card' z → IsCarried size orders devices m block part plan'.steps plan'.answer x' z
   is_carried z i = carried_again size orders orders devices devices m block part (Cell step ∷ ws) plan'.steps answer plan'.answer x x' y z f f.kept (elim f.has [ inl l ↦ inl l | inr t ↦ inr (tail_after words part m step ws answer t) ])
       (subst (λ (p : Plan). IsAs role p card' z) (λ k. record { job = job_stays plan (got_of (result_of words step)) k; steps = plan'.steps; answer = plan'.answer }) i)
-      (record { of_block = copies.0; paired = copies.1; copies = copies.3; read = no_write_read size _ _ plan'.steps x.buffer copies.2 })
+      (record { of_block = copies.0; paired = copies.1; read = no_write_read size plan'.steps x.buffer _ copies.2 })
 
 -- ---- any step of a migration on the words
 

@@ -14,7 +14,7 @@ use Rattle.wb_words.specs.Rule.{LockRule}
 use Rattle.wb_words.specs.declared.card.Hold.TheVariants.{Nothing as HoldsNothing}
 use Rattle.wb_tasks.specs.Tables.{BlockRange, Migrating, OnBlock}
 use Rattle.wb_tasks.specs.Plan.{Plan, want, after}
-use Rattle.wb_tasks.specs.Ready.{Suits, IsRest, target_of}
+use Rattle.wb_tasks.specs.Ready.{Suits}
 use Rattle.wb_tasks.specs.declared.step.Answer.{Answer}
 use Rattle.wb_tasks.specs.declared.step.DeviceStep.TheVariants.{Read, Write}
 use Rattle.wb_tasks.specs.declared.step.DeskStep.TheVariants.{Map, Unmap, ReleaseOrder}
@@ -32,15 +32,13 @@ use Rattle.wb_runs.specs.declared.job.Job.TheVariants.{Migrate}
 use Rattle.wb_runs.specs.Effects.{contents_at, dropped, replacing}
 use Rattle.wb_runs.specs.States.{Actor, with_device}
 use Rattle.wb_runs.specs.Holding.{cards_of, AllSuited}
-use Rattle.wb_simulation.specs.Steps.{IsWrittenNext}
 use Rattle.wb_simulation.specs.Worlds.{Agrees, Stays, Maps, Unmaps, GivesUp}
 use Rattle.wb_simulation.specs.Laws.{after_step}
 use Rattle.wb_simulation.specs.Migrating.{MigrationsFollowed, Carried, EndsOrder, TurnsOrder, LeavesFrom, Goes}
 use Rattle.wb_simulation.proofs.Followed.{first, answers_by, IsWithin, never_late, never_over}
 use Rattle.wb_simulation.proofs.Ending.{IsOver, IsNothingLeft, stopped_over, late_over, answers}
-use Rattle.wb_simulation.proofs.Moving.{same_device}
 use Rattle.wb_simulation.proofs.Migrating.{cells}
-use Rattle.wb_simulation.proofs.Copying.{reads, writes, write_falls, read_falls, writes_blocks}
+use Rattle.wb_simulation.proofs.Copying.{reads, writes, write_falls, read_falls}
 use Rattle.wb_simulation.proofs.Ordering.{starts, again}
 use Rattle.wb_simulation.specs.Actors.{IsLate}
 use Rattle.wb_simulation.specs.Carried.{IsOrderFor, IsCarried, HasEnded, IsAtMigration}
@@ -48,11 +46,6 @@ use Rattle.wb_simulation.specs.Telling.{Rests, Rested}
 use Rattle.wb_simulation.proofs.Among.{own_there}
 use Rattle.wb_simulation.proofs.Carrying.{carried_leads, under_migrates}
 use Rattle.wb_simulation.proofs.Deciding.{map_refused, mapped, unmapped, turned_over, given_up}
-
--- a read is followed by a write
-written_after : (size block : ℕ) (e : Extent) (ws : List Want) → IsWrittenNext size e ws → (device : Dev) × (w : Extent) × (rest : List Want) × (ws ≡ Device (Write device w) ∷ rest)
-written_after size block e (Device (Write device w) ∷ rest) n = (device, w, rest, refl)
-written_after size block e ws n = absurd n
 
 module _ (size most blocks : ℕ) (words : Words) (committing : Bool) (orders : List (Option Order)) (devices : Devices (List History)) (actors : List Actor) (a : ℕ) (x : Actor) (migration : Migration) (block : OBlock) (plan : Plan) (s : World) (ex : slice_get actors a ≡ Some x) (task : x.task ≡ Some (Migrate migration block, plan))
     (suits : Suits blocks plan x.card) (g : Agrees size most words committing orders devices actors s) where
@@ -82,20 +75,15 @@ module _ (size most blocks : ℕ) (words : Words) (committing : Bool) (orders : 
 
     write_is_done : LockRule blocks words (cards_of actors) → AllSuited blocks actors → want plan ≡ Device (Write device e) → e.first + e.count ≤ length (device_in device devices) → Carried Stays size most a s words committing orders (with_device device devices (written_each (device_in device devices) e.first x.buffer)) actors (after_step (Migrate migration block) plan Done x)
     write_is_done rule suited asked room = found (Device (Write device e)) asked tt (λ p. Carried Stays size most a s words committing orders (with_device device devices (written_each (device_in device devices) e.first x.buffer)) actors (after_step (Migrate migration block) p Done x))
-        (λ part later f has. writes size most blocks words committing orders devices actors a x s its.0 g ex its.1 migration block part device e plan.answer has.1.1.1.0 later f has room rule suited)
+        (λ part later f has. writes size most blocks words committing orders devices actors a x s its.0 g ex its.1 migration block part device e plan.answer later f has room)
 
     write_has_failed : LockRule blocks words (cards_of actors) → AllSuited blocks actors → (lands : ℕ → Bool) → want plan ≡ Device (Write device e) → e.first + e.count ≤ length (device_in device devices) → Carried Stays size most a s words committing orders (with_device device devices (written_where lands (device_in device devices) e.first x.buffer)) actors (after_step (Migrate migration block) plan Fault x)
     write_has_failed rule suited lands asked room = found (Device (Write device e)) asked tt (λ p. Carried Stays size most a s words committing orders (with_device device devices (written_where lands (device_in device devices) e.first x.buffer)) actors (after_step (Migrate migration block) p Fault x))
-        (λ part later f has. write_falls size most blocks words committing orders devices actors a x s its.0 g ex its.1 migration block part device e plan.answer has.1.1.1.0 later f has room rule suited lands)
+        (λ part later f has. write_falls size most blocks words committing orders devices actors a x s its.0 g ex its.1 migration block part device e plan.answer later f has room lands)
 
     read_has_failed : want plan ≡ Device (Read device e) → Carried Stays size most a s words committing orders devices actors (after_step (Migrate migration block) plan Fault x)
-    read_has_failed asked = found (Device (Read device e)) asked tt (λ p. Carried Stays size most a s words committing orders devices actors (after_step (Migrate migration block) p Fault x)) (λ part later f has.
-        let w = written_after size block.0 e later f.paired.0 in
-        let on_target : w.0 ≡ target_of migration = (subst (λ (us : List Want). IsRest (Migrating migration part) has.1.1.0 us) w.3 has.1.1.1.1).0 in
-        subst (λ (ds : Devices (List History)). Carried Stays size most a s words committing orders ds actors (after_step (Migrate migration block) (plan_of (Migrating migration part) (Device (Read device e) ∷ later) plan.answer) Fault x)) (same_device w.0 devices (writes_blocks migration w.0 on_target))
-        (read_falls size most blocks words committing orders devices actors a x s its.0 g ex its.1 migration block part w.0 w.1 plan.answer on_target device e w.2
-        (subst (λ (us : List Want). IsCarried size orders devices migration block part (Device (Read device e) ∷ us) plan.answer x its.0) w.3 f)
-        (subst (λ (us : List Want). Suits blocks (plan_of (Migrating migration part) (Device (Read device e) ∷ us) plan.answer) x.card) w.3 has)))
+    read_has_failed asked = found (Device (Read device e)) asked tt (λ p. Carried Stays size most a s words committing orders devices actors (after_step (Migrate migration block) p Fault x))
+        (λ part later f has. read_falls size most blocks words committing orders devices actors a x s its.0 g ex its.1 migration block part device e plan.answer later f has)
 
   -- the actor once its order is over, with this left
   abbrev left_so : Plan → OBlock → Actor

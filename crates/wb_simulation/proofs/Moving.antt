@@ -1,17 +1,17 @@
 -- Each step of a read or a write on an extent of a device is followed.
-use Rattle.std.proofs.Common.{None, arith, zero, suc, Some, ◌<◌, ◌%◌, length, replicate, map, ◌≡◌, ◌≤◌, ◌+◌, ◌∙◌, ◌⊎◌, inl, inr, ℕ, Bool, true, false, List, [], ◌∷◌, Option, refl, sym, ap, subst, slice_get, slice_set}
+use Rattle.std.proofs.Common.{None, zero, suc, Some, ◌%◌, length, replicate, map, ◌≡◌, ◌≤◌, ◌+◌, ◌∙◌, ◌⊎◌, inl, inr, ℕ, Bool, true, false, List, [], ◌∷◌, Option, refl, sym, ap, subst, slice_get, slice_set}
 use Rattle.wb_types.specs.declared.extent.Extent.{Extent}
 use Rattle.wb_types.specs.declared.mode.Dev.{Dev}
+use Rattle.wb_types.specs.declared.refusal.Refusal.TheVariants.{Io}
 use Rattle.wb_types.specs.declared.mode.Dev.TheVariants.{Metadata, Cache, Origin}
 use Rattle.wb_disk.specs.Device.{Content, History}
 use Rattle.wb_disk.specs.Extents.{GivesEach, written_each, written_where}
 use Rattle.wb_contents.specs.Devices.{by_block}
 use Rattle.wb_words.specs.SharedWords.{Words, word_at}
-use Rattle.wb_words.specs.Rule.{LockRule}
 use Rattle.wb_words.specs.declared.card.Card.{Card}
 use Rattle.wb_policy.specs.declared.order.Order.{Order}
 use Rattle.wb_tasks.specs.Tables.{BlockRange, BlockJob, Reading, Writing, TaskJob, OnBlock, range_of}
-use Rattle.wb_tasks.specs.Plan.{Plan, want, after, first_step}
+use Rattle.wb_tasks.specs.Plan.{Plan, want, after, first_step, device_of}
 use Rattle.wb_tasks.specs.Ready.{Suits, HoldsBlocks}
 use Rattle.wb_tasks.specs.declared.step.Answer.{Answer}
 use Rattle.wb_tasks.specs.declared.step.DeviceStep.{DeviceStep}
@@ -22,34 +22,25 @@ use Rattle.wb_tasks.specs.declared.step.Got.{Got}
 use Rattle.wb_tasks.specs.declared.step.Got.TheVariants.{Done, Fault}
 use Rattle.wb_devices.specs.declared.devices.Devices.{Devices}
 use Rattle.wb_devices.specs.Moving.{device_in}
-use Rattle.wb_link.specs.Tables.{Seal, Gave, Got as AbstractGot, Done as DoneThere, read_each}
-use Rattle.wb_link.specs.World.{World, Shared, Actor as AbstractActor, is_alone}
-use Rattle.wb_refines.specs.Going.{records, shared_after, gone}
-use Rattle.wb_refines.specs.Translation.{location_at, wants_of, job_for, answer_for, offsets}
-use Rattle.wb_refines.specs.Data.{IsSide, SameBeside, Moves, faults, read_fault}
+use Rattle.wb_link.specs.Tables.{Seal, Script, Read_all, Gave, Got as AbstractGot, Done as DoneThere}
+use Rattle.wb_link.specs.World.{World, Shared, Actor as AbstractActor, newest_at, is_alone}
+use Rattle.wb_refines.specs.Going.{records, shared_after}
+use Rattle.wb_refines.specs.Translation.{location_at, wants_of, job_for, script_for, answer_for, offsets, offsets_in}
+use Rattle.wb_refines.specs.Data.{IsSide, SameBeside, Moves, read_fault, write_fault}
 use Rattle.wb_refines.specs.Models.{IsAt, HasStopped, plan_of, SealAgrees, WordsAgree}
 use Rattle.wb_refines.proofs.Locks.{has_no_more}
-use Rattle.wb_refines.proofs.Moving.{extent_steps_followed as followed_alone}
+use Rattle.wb_refines.proofs.Followed.{rest_plain}
+use Rattle.wb_refines.proofs.Moving.{goes_on_at, extents_followed}
 use Rattle.wb_runs.specs.declared.job.Job.{Job}
 use Rattle.wb_runs.specs.declared.job.Job.TheVariants.{Read, Write}
 use Rattle.wb_runs.specs.States.{Actor, with_device}
-use Rattle.wb_runs.specs.Holding.{cards_of, AllSuited}
 use Rattle.wb_types.specs.Extents.{rising}
-use Rattle.wb_simulation.proofs.Telling.{done_are_writes, faults_are_writes}
 use Rattle.wb_simulation.specs.Steps.{IsPart, AreOfBlock}
-use Rattle.wb_simulation.specs.Actors.{IsLate, IsRequestAt, IsDoing}
-use Rattle.wb_simulation.specs.Telling.{Telling, IsTold, Quietly, Reads, Writes, reading as reading_script, AreUnnoted, AreWrites}
+use Rattle.wb_simulation.specs.Actors.{IsLate, IsRequestAt, IsDoing, StandsFor}
+use Rattle.wb_simulation.specs.Telling.{Telling, IsTold, Quietly, Reads, Writes, reading as reading_script, AreUnnoted}
 use Rattle.wb_simulation.specs.Worlds.{zeros, Agrees, Follows}
-use Rattle.wb_simulation.specs.Laws.{ExtentStepsFollowed, IsFrom, IsBesideOrders, after_step}
-use Rattle.wb_types.specs.declared.number.OBlock.{OBlock}
-use Rattle.wb_policy.specs.declared.order.Order.TheVariants.{Replace}
-use Rattle.wb_tasks.specs.Ready.{source_of}
-use Rattle.wb_simulation.specs.Carried.{IsOrderFor}
-use Rattle.wb_tasks.specs.declared.step.Migration.{Migration}
-use Rattle.wb_tasks.specs.declared.step.Migration.TheVariants.{Promote, Demote, Clean}
-use Rattle.std.proofs.lemmas.List.{length-replicate}
-use Rattle.wb_simulation.proofs.Orders.{MigratesNot, does_none, CarriesOthers, carries_same}
-use Rattle.wb_simulation.proofs.Beside.{IsBesideCopies, carries_written}
+use Rattle.wb_simulation.specs.Laws.{ExtentStepsFollowed, after_step}
+use Rattle.wb_simulation.proofs.Orders.{MigratesNot, does_none, carries_on}
 use Rattle.wb_simulation.proofs.Among.{own_there, goes_on}
 use Rattle.wb_simulation.proofs.Followed.{doing_of, begins_by}
 
@@ -83,16 +74,17 @@ module _ (size most : ℕ) (words : Words) (committing : Bool) (orders : List (O
   sides Metadata e h list t side beside = absurd h
 
   -- an actor of a request has moved an extent, and its device is this list now
-  moved : (telling : Telling) (job : Job) (content : Content) (job_on : BlockRange → BlockJob) (plan : Plan) (device : Dev) (e : Extent) (results : List AbstractGot) (list : List History) → IsTold telling a y.task (records a y.task results) → HoldsBlocks device →
-      Moves size zeros content s.actors a s.shared y (location_at size device e) results list plan x.card → is_alone (gone y y.task results).task ≡ false → IsDoing size most words job plan x.card (gone y y.task results) →
-      y.order ≡ None → MigratesNot job → CarriesOthers size orders orders devices (with_device device devices list) actors s a → Follows telling size most a s words committing orders (with_device device devices list) (slice_set actors a (record x { task = Some (job, plan) }))
-  moved telling job content job_on plan device e results list told h m alone doing own other carries =
-      let t = shared_after s.shared y y.task results in
+  moved : (telling : Telling) (job : Job) (content : Content) (job_on : BlockRange → BlockJob) (plan : Plan) (device : Dev) (e : Extent) (got : AbstractGot) (list : List History) (z : AbstractActor) → IsTold telling a y.task (records a y.task (got ∷ [])) → HoldsBlocks device →
+      Moves size zeros s.actors a s.shared y y.task (location_at size device e) got list z → IsAt size content plan x.card z → is_alone z.task ≡ false → IsDoing size most words job plan x.card z →
+      y.order ≡ None → MigratesNot job → Follows telling size most a s words committing orders (with_device device devices list) (slice_set actors a (record x { task = Some (job, plan) }))
+  moved telling job content job_on plan device e got list z told h m at alone doing own other =
+      let t = shared_after s.shared y y.task (got ∷ []) in
       let k = m.beside.images in
       let now = sides device e h list t m.side_is m.beside in
-      goes_on size most words words (λ f. f) committing orders devices actors a x (record x { task = Some (job, plan) }) s y g ex ey telling (with_device device devices list) results t told m.may refl
-      (record { at = doing; below = has_no_more size content plan x.card (gone y y.task results) m.at; among_others = alone }) (λ l. let bad : true ≡ false = sym l ∙ ap (λ (v : AbstractActor). v.leads) m.at.is in absurd (cc)) (words_beside words (location_at size device e) s.shared t m.beside g.words_agree)
-      now.0 now.1 k.mode k.committing k.broken (k.committed, k.running, k.root_written) (k.mapping, k.blocks) (ap (λ (v : AbstractActor). v.order) m.at.is ∙ sym own) (λ o h. h) carries (does_none _ _ _ _ _ _ other)
+      goes_on size most words words (λ f. f) committing orders devices actors a x (record x { task = Some (job, plan) }) s y g ex ey telling (with_device device devices list) (got ∷ []) t told m.may refl
+      (subst (λ (v : AbstractActor). StandsFor size most words (record x { task = Some (job, plan) }) v) (sym m.is) (record { at = doing; below = has_no_more size content plan x.card z at; among_others = alone }))
+      (λ l. let bad : true ≡ false = sym l ∙ ap (λ (v : AbstractActor). v.leads) (m.is ∙ at.is) in absurd (cc)) (words_beside words (location_at size device e) s.shared t m.beside g.words_agree)
+      now.0 now.1 k.mode k.committing k.broken (k.committed, k.running, k.root_written) (k.mapping, k.blocks) (ap (λ (v : AbstractActor). v.order) (m.is ∙ at.is) ∙ sym own) (λ o h. h) (carries_on size orders devices (with_device device devices list) actors s a) (does_none _ _ _ _ _ _ other)
 
 pub same_device : (device : Dev) (devices : Devices (List History)) → HoldsBlocks device → with_device device devices (device_in device devices) ≡ devices
 same_device Cache devices h = refl
@@ -113,87 +105,71 @@ module _ (size most blocks : ℕ) (words : Words) (committing : Bool) (orders : 
   abbrev list : List History
   list = device_in device devices
 
-  unmoved : CarriesOthers size orders orders devices (with_device device devices list) actors s a
-  unmoved = subst (λ (ds : Devices (List History)). CarriesOthers size orders orders devices ds actors s a) (sym (same_device device devices h)) (carries_same size orders devices actors s a)
+  side : IsSide size zeros (location_at size device e) list s.shared
+  side = side_of size most words committing orders devices actors a x s y ex ey g device e h
 
-  -- an order out of whose cache block something is copied is from its block
-  of_from : (m : Migration) (other : OBlock) (next : Option ℕ) (o : Order) → source_of m ≡ Cache → IsOrderFor m other next o → IsFrom part.block o → other ≡ part.block
-  of_from (Promote k) other next o from is f = absurd (cc)
-  of_from Demote other next o from (inl is) f = subst (λ (q : Order). IsFrom part.block q) is.0 f
-  of_from Demote other next (Replace old new c) from (inr is) f = sym is.0 ∙ f
-  of_from Demote other next o from (inr is) f = absurd is
-  of_from Clean other next o from (inl is) f = subst (λ (q : Order). IsFrom part.block q) is.0 f
-  of_from Clean other next o from (inr is) f = absurd is
+  -- what it does there, whose task this is
+  by_task : (content : Content) (plan : Plan) (got : AbstractGot) (list : List History) (z : AbstractActor) → IsAt size content plan x.card y → Moves size zeros s.actors a s.shared y (Some (script_for size content plan)) (location_at size device e) got list z → Moves size zeros s.actors a s.shared y y.task (location_at size device e) got list z
+  by_task content plan got list z is m = subst (λ (task : Option Script). Moves size zeros s.actors a s.shared y task (location_at size device e) got list z) (sym (ap (λ (v : AbstractActor). v.task) is.is)) m
 
-  beside_copies : (d : Dev) → IsBesideOrders size orders part.block d e → IsBesideCopies size orders devices s a part.block d e
-  beside_copies Cache b d z u m other pt steps told n eu k no_tail on from away same = elim k.has [
-    | inl l ↦ away (ap (λ (v : OBlock). v.0) (k.block_is ∙ of_from m other k.next k.order from k.of (b k.c.0 k.order l.0 (sym same))))
-    | inr t ↦ absurd (no_tail t)
-  ]
-  beside_copies device' b d z u m other pt steps told n eu k no_tail on from away same = absurd (cc)
-
-  -- its block is its own, whichever sectors land
-  moves_own : LockRule blocks words (cards_of actors) → AllSuited blocks actors → Suits blocks writing x.card → AreOfBlock size part.block.0 (Device (WriteExtent device e) ∷ ws) → IsBesideOrders size orders part.block device e → (lands : ℕ → Bool) (content : Content) →
-      CarriesOthers size orders orders devices (with_device device devices (written_where lands list e.first (replicate e.count content))) actors s a
-  moves_own rule suited suits o b lands content = carries_written size blocks words devices orders actors s a x part.block device e lands (replicate e.count content) rule suited ex suits.0 suits.1.0 o.0 (length-replicate e.count content) h (beside_copies device b)
-
-  -- what it is told as: its next steps are these sectors
-  read_told : (contents : List Content) → length contents ≡ e.count → IsAt size [] reading x.card y → IsTold (Reads part.block.0 (e.first % size) contents) a y.task (records a y.task (map Gave contents))
-  read_told contents n is = record {
-    location = location_at size device e;
-    all = offsets size part.extents;
-    rest = wants_of size (job_for size [] (OnBlock (Reading part))) ws;
-    answer = answer_for (job_for size [] (OnBlock (Reading part))) answer;
-    at = ap (λ (v : AbstractActor). v.task) is.is ∙ ap (λ (k : ℕ). Some (reading_script part.block.0 (offsets size part.extents) (read_each (location_at size device e) part.block.0 (rising (e.first % size) k) (wants_of size (job_for size [] (OnBlock (Reading part))) ws)) (answer_for (job_for size [] (OnBlock (Reading part))) answer))) (sym n);
-    told_is = refl;
-  }
-
-  fails_told : AreOfBlock size part.block.0 (Device (ReadExtent device e) ∷ ws) → IsAt size [] reading x.card y → IsTold Quietly a y.task (records a y.task read_fault)
-  fails_told o is = (read_fault, subst (λ (v : AbstractActor). AreUnnoted v.task read_fault) (sym is.is) (by_count e.count o.0.some), refl)
+  read_done : (extent : Extent) (contents : List Content) → AreOfBlock size part.block.0 (Device (ReadExtent device e) ∷ ws) → Suits blocks reading x.card → length contents ≡ e.count → GivesEach list e.first contents → IsAt size [] reading x.card y → Then (Reads part.block.0 (e.first % size) contents) devices (Read extent) reading Done
+  read_done extent contents o suits n given is =
+      let there = newest_at s.shared (location_at size device e) part.block.0 in
+      let at = goes_on_at size [] (Reading part) (ReadExtent device e) ws answer x.card y there (rest_plain (Reading part) suits.1.1.0 ws suits.1.1.1.1) is in
+      subst (λ (ds : Devices (List History)). Then (Reads part.block.0 (e.first % size) contents) ds (Read extent) reading Done) (same_device device devices h)
+      (moved size most words committing orders devices actors a x s y ex ey g (Reads part.block.0 (e.first % size) contents) (Read extent) [] Reading (after reading Done) device e (Gave there) list _
+      (record { location = location_at size device e; all = offsets size part.extents; rest = wants_of size (job_for size [] (OnBlock (Reading part))) ws; answer = answer_for (job_for size [] (OnBlock (Reading part))) answer; there = there; given = told_so there; at = ap (λ (v : AbstractActor). v.task) is.is ∙ ap counted (sym n); told_is = refl })
+      h (by_task [] reading (Gave there) list _ is (extents_followed.read_done size zeros s.actors a s.shared y _ (location_at size device e) part.block.0 (offsets_in size e) _ _ list side)) at refl
+      (record { part = part; job = refl; is_part = is_part; of_block = o.1; at = inl at }) (ap (λ (v : AbstractActor). v.order) is.is) tt)
     where
-      by_count : (k : ℕ) → 0 < k → AreUnnoted (Some (reading_script part.block.0 (offsets size part.extents) (read_each (location_at size device e) part.block.0 (rising (e.first % size) k) (wants_of size (job_for size [] (OnBlock (Reading part))) ws)) (answer_for (job_for size [] (OnBlock (Reading part))) answer))) read_fault
-      by_count zero l = absurd (omega (arith, l))
-      by_count (suc k) l = (tt, tt)
+      told_so : (there : ℕ → Content) → contents ≡ map (newest_at s.shared (location_at size device e) part.block.0) (rising (e.first % size) (length contents))
+      told_so there = extents_followed.reads size zeros s.shared part.block.0 device e list contents o.0 side n given ∙ (λ i. map (newest_at s.shared (location_at size device e) part.block.0) (rising (e.first % size) (sym n i)))
 
-  write_told : (content : Content) (results : List AbstractGot) → AreWrites e.count results → IsAt size content writing x.card y → IsTold (Writes part.block.0 (e.first % size) e.count content) a y.task (records a y.task results)
-  write_told content results are is = record {
+      counted : ℕ → Option Script
+      counted k = Some (reading_script part.block.0 (offsets size part.extents) (Read_all (location_at size device e) part.block.0 (rising (e.first % size) k) ∷ wants_of size (job_for size [] (OnBlock (Reading part))) ws) (answer_for (job_for size [] (OnBlock (Reading part))) answer))
+
+  read_fails : (extent : Extent) → AreOfBlock size part.block.0 (Device (ReadExtent device e) ∷ ws) → IsAt size [] reading x.card y → Then Quietly devices (Read extent) reading Fault
+  read_fails extent o is =
+      let at : IsAt size [] (after reading Fault) x.card (record y { task = Some (script_for size [] (after reading Fault)) }) = record { buffer = is.buffer; is = ap (λ (v : AbstractActor). record v { task = Some (script_for size [] (after reading Fault)) }) is.is; saw = tt } in
+      subst (λ (ds : Devices (List History)). Then Quietly ds (Read extent) reading Fault) (same_device device devices h)
+      (moved size most words committing orders devices actors a x s y ex ey g Quietly (Read extent) [] Reading (after reading Fault) device e read_fault list _ (read_fault ∷ [], subst (λ (v : AbstractActor). AreUnnoted v.task (read_fault ∷ [])) (sym is.is) (tt, tt), refl)
+      h (by_task [] reading read_fault list _ is (extents_followed.read_fails size zeros s.actors a s.shared y _ (location_at size device e) part.block.0 (offsets_in size e) _ _ list side)) at refl
+      (record { part = part; job = refl; is_part = is_part; of_block = tt; at = inl at }) (ap (λ (v : AbstractActor). v.order) is.is) tt)
+
+  -- what it is told as, whatever comes of it
+  write_told : (content : Content) (got : AbstractGot) → IsAt size content writing x.card y → IsTold (Writes part.block.0 (e.first % size) e.count content) a y.task (records a y.task (got ∷ []))
+  write_told content got is = record {
     location = location_at size device e;
     all = offsets size part.extents;
     rest = wants_of size (job_for size content (OnBlock (Writing part))) ws;
     answer = answer_for (job_for size content (OnBlock (Writing part))) answer;
-    results = results;
-    are = are;
+    got = got;
     at = ap (λ (v : AbstractActor). v.task) is.is;
     told_is = refl;
   }
 
-  read_done : (extent : Extent) (contents : List Content) → AreOfBlock size part.block.0 (Device (ReadExtent device e) ∷ ws) → Suits blocks reading x.card → length contents ≡ e.count → GivesEach list e.first contents → IsAt size [] reading x.card y → Then (Reads part.block.0 (e.first % size) contents) devices (Read extent) reading Done
-  read_done extent contents o suits n given is =
-      let m = followed_alone.read_done size zeros [] s.actors a x.card s.shared y part device e ws answer list contents o.0 (suits.1.1.0, suits.1.1.1.1) (side_of size most words committing orders devices actors a x s y ex ey g device e h) n given is in
-      subst (λ (ds : Devices (List History)). Then (Reads part.block.0 (e.first % size) contents) ds (Read extent) reading Done) (same_device device devices h)
-      (moved size most words committing orders devices actors a x s y ex ey g (Reads part.block.0 (e.first % size) contents) (Read extent) [] Reading (after reading Done) device e (map Gave contents) list (read_told contents n is) h m (ap (λ (v : AbstractActor). is_alone v.task) m.at.is)
-      (record { part = part; job = refl; is_part = is_part; of_block = o.1; at = inl m.at }) (ap (λ (v : AbstractActor). v.order) is.is) tt unmoved)
+  one_content : (content : Content) (count o : ℕ) → map (λ (i : ℕ). content) (rising o count) ≡ replicate count content
+  one_content content zero o = refl
+  one_content content (suc count) o = ap (λ cs. content ∷ cs) (one_content content count (o + 1))
 
-  read_fails : (extent : Extent) → AreOfBlock size part.block.0 (Device (ReadExtent device e) ∷ ws) → IsAt size [] reading x.card y → Then Quietly devices (Read extent) reading Fault
-  read_fails extent o is =
-      let m = followed_alone.read_fails size zeros [] s.actors a x.card s.shared y part device e ws answer list o.0 (side_of size most words committing orders devices actors a x s y ex ey g device e h) is in
-      subst (λ (ds : Devices (List History)). Then Quietly ds (Read extent) reading Fault) (same_device device devices h)
-      (moved size most words committing orders devices actors a x s y ex ey g Quietly (Read extent) [] Reading (after reading Fault) device e read_fault list (fails_told o is) h m (ap (λ (v : AbstractActor). is_alone v.task) m.at.is)
-      (record { part = part; job = refl; is_part = is_part; of_block = tt; at = inl m.at }) (ap (λ (v : AbstractActor). v.order) is.is) tt unmoved)
-
-  write_done : (extent : Extent) (content : Content) → LockRule blocks words (cards_of actors) → AllSuited blocks actors → IsBesideOrders size orders part.block device e → AreOfBlock size part.block.0 (Device (WriteExtent device e) ∷ ws) → Suits blocks writing x.card → e.first + e.count ≤ length list → IsAt size content writing x.card y →
+  write_done : (extent : Extent) (content : Content) → AreOfBlock size part.block.0 (Device (WriteExtent device e) ∷ ws) → Suits blocks writing x.card → e.first + e.count ≤ length list → IsAt size content writing x.card y →
       Then (Writes part.block.0 (e.first % size) e.count content) (with_device device devices (written_each list e.first (replicate e.count content))) (Write extent content) writing Done
-  write_done extent content rule suited b o suits room is =
-      let m = followed_alone.write_done size zeros content s.actors a x.card s.shared y part device e ws answer list o.0 (suits.1.1.0, suits.1.1.1.1) (side_of size most words committing orders devices actors a x s y ex ey g device e h) room is in
-      moved size most words committing orders devices actors a x s y ex ey g (Writes part.block.0 (e.first % size) e.count content) (Write extent content) content Writing (after writing Done) device e (replicate e.count DoneThere) (written_each list e.first (replicate e.count content)) (write_told content (replicate e.count DoneThere) (done_are_writes e.count) is) h m (ap (λ (v : AbstractActor). is_alone v.task) m.at.is)
-      (record { part = part; job = refl; is_part = is_part; of_block = o.1; at = inl m.at }) (ap (λ (v : AbstractActor). v.order) is.is) tt (moves_own rule suited suits o b (λ at. true) content)
+  write_done extent content o suits room is =
+      let at = goes_on_at size content (Writing part) (WriteExtent device e) ws answer x.card y y.buffer (rest_plain (Writing part) suits.1.1.0 ws suits.1.1.1.1) is in
+      subst (λ (cs : List Content). Then (Writes part.block.0 (e.first % size) e.count content) (with_device device devices (written_each list e.first cs)) (Write extent content) writing Done) (one_content content e.count (e.first % size))
+      (moved size most words committing orders devices actors a x s y ex ey g (Writes part.block.0 (e.first % size) e.count content) (Write extent content) content Writing (after writing Done) device e DoneThere _ _ (write_told content DoneThere is)
+      h (by_task content writing DoneThere _ _ is (extents_followed.write_done size zeros s.actors a s.shared y _ part.block.0 device e _ _ list o.0 side room)) at refl
+      (record { part = part; job = refl; is_part = is_part; of_block = o.1; at = inl at }) (ap (λ (v : AbstractActor). v.order) is.is) tt)
 
-  write_fails : (extent : Extent) (content : Content) (lands : ℕ → Bool) → LockRule blocks words (cards_of actors) → AllSuited blocks actors → IsBesideOrders size orders part.block device e → AreOfBlock size part.block.0 (Device (WriteExtent device e) ∷ ws) → Suits blocks writing x.card → e.first + e.count ≤ length list → IsAt size content writing x.card y →
+  write_fails : (extent : Extent) (content : Content) (lands : ℕ → Bool) → AreOfBlock size part.block.0 (Device (WriteExtent device e) ∷ ws) → e.first + e.count ≤ length list → IsAt size content writing x.card y →
       Then (Writes part.block.0 (e.first % size) e.count content) (with_device device devices (written_where lands list e.first (replicate e.count content))) (Write extent content) writing Fault
-  write_fails extent content lands rule suited b o suits room is =
-      let m = followed_alone.write_fails size zeros content s.actors a x.card s.shared y part device e ws answer list lands o.0 (side_of size most words committing orders devices actors a x s y ex ey g device e h) room is in
-      moved size most words committing orders devices actors a x s y ex ey g (Writes part.block.0 (e.first % size) e.count content) (Write extent content) content Writing (after writing Fault) device e (faults lands e.first e.count) (written_where lands list e.first (replicate e.count content)) (write_told content (faults lands e.first e.count) (faults_are_writes lands e.first e.count) is) h m (ap (λ (v : AbstractActor). is_alone v.task) m.at.is)
-      (record { part = part; job = refl; is_part = is_part; of_block = tt; at = inl m.at }) (ap (λ (v : AbstractActor). v.order) is.is) tt (moves_own rule suited suits o b lands content)
+  write_fails extent content lands o room is =
+      let fault = write_fault size (location_at size device e) part.block.0 lands in
+      let at : IsAt size content (after writing Fault) x.card (record y { task = Some (script_for size content (after writing Fault)) }) = record { buffer = is.buffer; is = ap (λ (v : AbstractActor). record v { task = Some (script_for size content (after writing Fault)) }) is.is; saw = (Io (device_of (WriteExtent device e)), refl) } in
+      subst (λ (cs : List Content). Then (Writes part.block.0 (e.first % size) e.count content) (with_device device devices (written_where lands list e.first cs)) (Write extent content) writing Fault) (one_content content e.count (e.first % size))
+      (moved size most words committing orders devices actors a x s y ex ey g (Writes part.block.0 (e.first % size) e.count content) (Write extent content) content Writing (after writing Fault) device e fault _ _ (write_told content fault is)
+      h (by_task content writing fault _ _ is (extents_followed.write_fails size zeros s.actors a s.shared y _ part.block.0 device e _ _ list lands o.0 side room)) at refl
+      (record { part = part; job = refl; is_part = is_part; of_block = tt; at = inl at }) (ap (λ (v : AbstractActor). v.order) is.is) tt)
 
 -- a request of this part whose next step is on a device, as it is there
 pub record HasStep (size : ℕ) (content : Content) (words : Words) (job_on : BlockRange → BlockJob) (part : BlockRange) (step : DeviceStep) (plan : Plan) (card : Card) (y : AbstractActor) : Type 0 where
@@ -245,10 +221,10 @@ extent_steps_followed = record {
       let y = own_there size most words committing orders devices actors s g a x ex in
       let k = has_step size content words Writing (λ p. refl) part (WriteExtent device e) plan x.card y.0 next of_part (doing_of size most words x y.0 (Write extent content) plan (g.each a x y.0 ex y.1) task) in
       subst (λ (p : Plan). Follows (Writes part.block.0 (e.first % size) e.count content) size most a s words committing orders (with_device device devices (written_each (device_in device devices) e.first (replicate e.count content))) (slice_set actors a (after_step (Write extent content) p Done x))) (sym k.is)
-      (write_done size most blocks words committing orders devices actors a x s y.0 ex y.1 g part k.is_part device e k.later plan.answer h extent content rule suited beside k.of_block (subst (λ (p : Plan). Suits blocks p x.card) k.is suits) room k.at);
+      (write_done size most blocks words committing orders devices actors a x s y.0 ex y.1 g part k.is_part device e k.later plan.answer h extent content k.of_block (subst (λ (p : Plan). Suits blocks p x.card) k.is suits) room k.at);
   write_fails = λ size most blocks words committing orders devices actors a x extent content part plan device e lands s rule suited ex task of_part suits next h room beside g.
       let y = own_there size most words committing orders devices actors s g a x ex in
       let k = has_step size content words Writing (λ p. refl) part (WriteExtent device e) plan x.card y.0 next of_part (doing_of size most words x y.0 (Write extent content) plan (g.each a x y.0 ex y.1) task) in
       subst (λ (p : Plan). Follows (Writes part.block.0 (e.first % size) e.count content) size most a s words committing orders (with_device device devices (written_where lands (device_in device devices) e.first (replicate e.count content))) (slice_set actors a (after_step (Write extent content) p Fault x))) (sym k.is)
-      (write_fails size most blocks words committing orders devices actors a x s y.0 ex y.1 g part k.is_part device e k.later plan.answer h extent content lands rule suited beside k.of_block (subst (λ (p : Plan). Suits blocks p x.card) k.is suits) room k.at);
+      (write_fails size most blocks words committing orders devices actors a x s y.0 ex y.1 g part k.is_part device e k.later plan.answer h extent content lands k.of_block room k.at);
 }

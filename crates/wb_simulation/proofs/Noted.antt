@@ -9,7 +9,7 @@ use Rattle.wb_disk.specs.Device.{Content, History, only}
 use Rattle.wb_contents.specs.Volume.{changed}
 use Rattle.wb_contents.specs.Devices.{by_block}
 use Rattle.wb_contents.proofs.Positions.{changed_same, changed_other}
-use Rattle.wb_link.specs.Tables.{Script, Job as AbstractJob, Reading, Writing, Writing_through, Promoting, Returning, Flushing, Suspending, Want, Write_at, End, Got, Gave, Fault, Done, Answer as AbstractAnswer, Finished as AnsweredDone, want, after, table, read_each, write_each, Flag, Order as AbstractOrder}
+use Rattle.wb_link.specs.Tables.{Script, Job as AbstractJob, Reading, Writing, Writing_through, Promoting, Returning, Flushing, Suspending, Want, Write_all, End, Got, Gave, Done, Answer as AbstractAnswer, Finished as AnsweredDone, want, after, table, Flag, Order as AbstractOrder}
 use Rattle.wb_link.specs.World.{Release, release_order, World, Shared, Record, Start, Again, Actor as AbstractActor, resting, after_all, after_record, actor_after, task_after, start_actor, again_actor, reserved, given, aside, taken, order_of}
 use Rattle.wb_link.specs.Clerk.{Notes as AbstractNotes, Entry, histories_after, entered_after, finished_after, floors_after, job_noted, note, noted_step, opened, raised as raised_there}
 use Rattle.wb_link.specs.Openings.{On, AllRight}
@@ -22,12 +22,11 @@ use Rattle.wb_runs.specs.Clerk.{Notes, Doing, Position, Entering, begins, begun,
 use Rattle.wb_simulation.specs.Noting.{counts_by_block, AreEntries, DoesAlike, IsNotedSo, NotesAgree}
 use Rattle.wb_simulation.specs.Noted.{told, AreNewest, NotesFollowed}
 use Rattle.std.proofs.lemmas.Option.{slice_get_within}
-use Rattle.wb_simulation.specs.Telling.{IsMigrating, IsResumed, Given, Kept, Failing, Nowhere, Rested, AreCarried, IsNoEnd, AreUnnoted, AreWrites, AnswersSo, reading, writing}
+use Rattle.wb_simulation.specs.Telling.{IsMigrating, IsResumed, Given, Kept, Failing, Nowhere, Rested, AreCarried, IsNoEnd, AreUnnoted, AnswersSo, reading, writing}
 use Rattle.wb_simulation.specs.Worlds.{zeros}
 use Rattle.wb_simulation.proofs.Counts.{everywhere, all_raised-length, no_entries_alike, greater_counts, greater-length}
-use Rattle.wb_simulation.proofs.Telling.{reads_unnoted}
 use Rattle.wb_link.proofs.Actors.{job_on}
-use Rattle.wb_simulation.proofs.Told.{until_written, IsJob, untold, reads_newest, Wrote, writes_told, length-written, changed_nothing}
+use Rattle.wb_simulation.proofs.Told.{IsJob, untold, reads_newest, Wrote, writes_told, length-written, changed_nothing}
 
 -- ---- where an actor's own steps lead
 
@@ -37,7 +36,7 @@ AreGoing (Some script) [] = Unit {0}
 AreGoing (Some script) (got ∷ gots) = IsNoEnd (want script) × AreGoing (task_after script (want script) got) gots
 
 unnoted_goes : (next : Want) → Rattle.wb_simulation.specs.Telling.IsUnnoted next → IsNoEnd next
-unnoted_goes (Write_at location b o) u = absurd u
+unnoted_goes (Write_all location b os) u = absurd u
 unnoted_goes (End answer) u = u
 unnoted_goes next u = tt
 
@@ -167,41 +166,25 @@ module _ (size a : ℕ) (s : World) (y : AbstractActor) (n : Notes) (m : Abstrac
 
   -- ---- a write
 
-  writes_go : (location : Option ℕ) (b : ℕ) (all : List ℕ) (content : Content) (rest : List Want) (answer : AbstractAnswer) (count : ℕ) (gots : List Got) (o : ℕ) → AreWrites count gots → AreGoing (Some (writing b all content (write_each location b (rising o count) rest) answer)) gots
-  writes_go location b all content rest answer zero [] o w = tt
-  writes_go location b all content rest answer zero (got ∷ gots) o w = absurd w
-  writes_go location b all content rest answer (suc count) [] o w = tt
-  writes_go location b all content rest answer (suc count) (Done ∷ gots) o w = (tt, writes_go location b all content rest answer count gots (o + 1) w)
-  writes_go location b all content rest answer (suc zero) (Fault choice ∷ []) o w = (tt, tt)
-  writes_go location b all content rest answer (suc zero) (Fault choice ∷ got ∷ gots) o w = absurd w.1
-  writes_go location b all content rest answer (suc (suc count)) (Fault choice ∷ gots) o w =
-      let k = suc count in (
-        tt,
-        subst (λ (ws : List Want). AreGoing (Some (writing b all content ws Rattle.wb_link.specs.Tables.Io)) gots)
-            (sym (ap (λ (t : Bool). Rattle.wb_link.specs.Tables.steps_after_fault (Writing false b all content) t (write_each location b (rising (o + 1) k) rest)) w.0 ∙ until_written location b (rising (o + 1) k) rest))
-            (writes_go location b all content (Rattle.wb_link.specs.Tables.until_failed rest) Rattle.wb_link.specs.Tables.Io k gots (o + 1) w.1),
-      )
-  writes_go location b all content rest answer (suc count) (got ∷ gots) o w = absurd w
-
   entering_length : (content : Content) (sectors : List ℕ) (e : Entering) → length (enter_each content sectors e).histories ≡ length e.histories
   entering_length content [] e = refl
   entering_length content (at ∷ sectors) e = entering_length content sectors (enter content at e) ∙ length-written e.histories at content
 
-  write_after : (block offset count : ℕ) (content : Content) (location : Option ℕ) (all : List ℕ) (rest : List Want) (answer : AbstractAnswer) (gots : List Got) (doing : Doing) → AreWrites count gots → y.task ≡ Some (writing block all content (write_each location block (rising offset count) rest) answer) →
-      slice_get n.doings a ≡ Some (Some doing) → offset + count ≤ size → block * size + offset + count ≤ length n.histories → After gots (write_note n a doing (enter_each content (rising (block * size + offset) count) (entering n doing)))
-  write_after block offset count content location all rest answer gots doing are at here l inside =
-      let script = writing block all content (write_each location block (rising offset count) rest) answer in
+  write_after : (block offset count : ℕ) (content : Content) (location : Option ℕ) (all : List (List ℕ)) (rest : List Want) (answer : AbstractAnswer) (got : Got) (doing : Doing) → y.task ≡ Some (writing block all content (Write_all location block (rising offset count) ∷ rest) answer) →
+      slice_get n.doings a ≡ Some (Some doing) → offset + count ≤ size → block * size + offset + count ≤ length n.histories → After (got ∷ []) (write_note n a doing (enter_each content (rising (block * size + offset) count) (entering n doing)))
+  write_after block offset count content location all rest answer got doing at here l inside =
+      let script = writing block all content (Write_all location block (rising offset count) ∷ rest) answer in
       let d : DoesAlike size (length n.histories) doing (Writing false block all content) a m = subst (λ (t : Option Script). IsNotedSo size (length n.histories) t (Some (Some doing)) a m) at (subst (λ (o : Option (Option Doing)). IsNotedSo size (length n.histories) y.task o a m) here (g.each a y among ey)) in
       let e = enter_each content (rising (block * size + offset) count) (entering n doing) in
-      let m' = told m (records a y.task gots) in
-      let w : Wrote size (length n.histories) a m m' e = subst (λ (t : Option Script). Wrote size (length n.histories) a m (told m (records a t gots)) e) (sym at)
-      (writes_told size location block all content a count gots rest answer offset m n.histories doing.entered are d.job_is g.histories d.entered l inside) in
+      let m' = told m (records a y.task (got ∷ [])) in
+      let w : Wrote size (length n.histories) a m m' e = subst (λ (t : Option Script). Wrote size (length n.histories) a m (told m (records a t (got ∷ []))) e) (sym at)
+      (writes_told size location block all content a count got offset m n.histories doing.entered d.job_is g.histories d.entered l inside) in
       let doing' : Doing = record doing { entered = e.entered } in
-      to_world gots (write_note n a doing e) (agree_after s.waiting (write_note n a doing e) m' (shared_after s.shared y y.task gots) (gone y y.task gots) w.histories (w.finished ∙ g.finished) (w.floors ∙ g.floors)
+      to_world (got ∷ []) (write_note n a doing e) (agree_after s.waiting (write_note n a doing e) m' (shared_after s.shared y y.task (got ∷ [])) (gone y y.task (got ∷ [])) w.histories (w.finished ∙ g.finished) (w.floors ∙ g.floors)
       (entering_length content (rising (block * size + offset) count) (entering n doing)) refl refl (put_others (Some doing')) (length-set n.doings a (Some doing')) (λ b ne. ap (λ (f : ℕ → Option AbstractJob). f b) w.jobs) w.others (λ b ne. ap (λ (f : ℕ → ℕ → ℕ → ℕ). f b) w.asked)
-      (subst (λ (o : Option (Option Doing)). IsNotedSo size (length n.histories) (gone y y.task gots).task o a m') (sym (set_here (Some doing') (Some doing) here))
-      (noted_job size (length n.histories) (Some script) (gone y y.task gots).task (Some (Some doing')) a m'
-      (subst (λ (t : Option Script). SameJob (Some script) (gone y t gots).task) (sym at) (gone_job gots y (Some script) at (writes_go location block all content rest answer count gots offset are)))
+      (subst (λ (o : Option (Option Doing)). IsNotedSo size (length n.histories) (gone y y.task (got ∷ [])).task o a m') (sym (set_here (Some doing') (Some doing) here))
+      (noted_job size (length n.histories) (Some script) (gone y y.task (got ∷ [])).task (Some (Some doing')) a m'
+      (subst (λ (t : Option Script). SameJob (Some script) (gone y t (got ∷ [])).task) (sym at) (gone_job (got ∷ []) y (Some script) at (tt, tt)))
       (record { job_is = ap (λ (f : ℕ → Option AbstractJob). f a) w.jobs ∙ d.job_is; entered = w.entered; asked = ap (λ (f : ℕ → ℕ → ℕ → ℕ). f a) w.asked ∙ d.asked }))))
 
   -- ---- answers
@@ -228,7 +211,7 @@ module _ (size a : ℕ) (s : World) (y : AbstractActor) (n : Notes) (m : Abstrac
   abbrev over : AbstractActor
   over = record y { task = None }
 
-  read_answers : (block : ℕ) (os : List ℕ) (script : Script) → y.task ≡ Some script → script.steps ≡ [] → script.answer ≡ AnsweredDone → script.job ≡ Reading false block os → After (Done ∷ []) (put n a None)
+  read_answers : (block : ℕ) (os : List (List ℕ)) (script : Script) → y.task ≡ Some script → script.steps ≡ [] → script.answer ≡ AnsweredDone → script.job ≡ Reading false block os → After (Done ∷ []) (put n a None)
   read_answers block os script at none ans is = answered (put n a None) script (Reading false block os) AnsweredDone at none ans is
       (agree_after s.waiting (put n a None) (noted_step m a (Some (Reading false block os)) (End AnsweredDone)) s.shared over g.histories g.finished g.floors refl refl refl (put_others None) (length-set n.doings a None) (λ b ne. changed_other m.jobs a b None ne) (λ b ne. changed_other m.entered a b (m.entered a) ne) (λ b ne. refl) tt)
 
@@ -236,7 +219,7 @@ module _ (size a : ℕ) (s : World) (y : AbstractActor) (n : Notes) (m : Abstrac
   does_alike job script doing at is here = subst (λ (j : AbstractJob). DoesAlike size (length n.histories) doing j a m) is
       (subst (λ (t : Option Script). IsNotedSo size (length n.histories) t (Some (Some doing)) a m) at (subst (λ (o : Option (Option Doing)). IsNotedSo size (length n.histories) y.task o a m) here (g.each a y among ey)))
 
-  write_answers : (block : ℕ) (os : List ℕ) (content : Content) (script : Script) (doing : Doing) → y.task ≡ Some script → script.steps ≡ [] → script.answer ≡ AnsweredDone → script.job ≡ Writing false block os content → slice_get n.doings a ≡ Some (Some doing) →
+  write_answers : (block : ℕ) (os : List (List ℕ)) (content : Content) (script : Script) (doing : Doing) → y.task ≡ Some script → script.steps ≡ [] → script.answer ≡ AnsweredDone → script.job ≡ Writing false block os content → slice_get n.doings a ≡ Some (Some doing) →
       After (Done ∷ []) (put (record n { finished = all_raised n.finished doing.entered }) a None)
   write_answers block os content script doing at none ans is here =
       let d = does_alike (Writing false block os content) script doing at is here in
@@ -414,12 +397,12 @@ notes_followed = record {
   read = λ block offset contents turn size most a s words committing orders devices actors f y n m ey among g.
       let t = f.told y ey in
       subst (λ (rs : List Record). NotesAgree size n (after_all s rs) (told m rs)) (sym t.told_is)
-      (unnoted_after size a s y n m ey among g (map Gave contents) (subst (λ (k : Option Script). AreUnnoted k (map Gave contents)) (sym t.at) (reads_unnoted t.location block t.all t.rest t.answer contents offset)));
+      (unnoted_after size a s y n m ey among g (Gave t.there ∷ []) (subst (λ (k : Option Script). AreUnnoted k (Gave t.there ∷ [])) (sym t.at) (tt, tt)));
   write = λ block offset count content turn size most a s words committing orders devices actors f y n m ey among g doing here l inside.
       let t = f.told y ey in
       let n' = write_note n a doing (enter_each content (rising (block * size + offset) count) (entering n doing)) in
       subst (λ (rs : List Record). NotesAgree size n' (after_all s rs) (told m rs)) (sym t.told_is)
-      (write_after size a s y n m ey among g block offset count content t.location t.all t.rest t.answer t.results doing t.are t.at here l inside);
+      (write_after size a s y n m ey among g block offset count content t.location t.all t.rest t.answer t.got doing t.at here l inside);
   read_answered = λ block os turn size most a s words committing orders devices actors f y n m ey among g.
       let t = f.told y ey in let k = script_of (Reading false block os) y.task t.0 in
       subst (λ (rs : List Record). NotesAgree size (put n a None) (after_all s rs) (told m rs)) (sym t.1) (read_answers size a s y n m ey among g block os k.script k.at k.none k.done k.is);
@@ -482,8 +465,8 @@ notes_followed = record {
       let t = f.told y ey in
       let job = subst (λ (k : Option Script). IsJob m a k) t.at (is_job size (length n.histories) y.task (slice_get n.doings a) a m (g.each a y among ey)) in
       subst (λ (h : ℕ → ℕ → History). AreNewest h block offset contents) g.histories
-      (reads_newest t.location block t.all t.rest t.answer contents offset m a job
-      (subst (λ (k : Option Script). AllRight m (map (λ (r : Record). On r) (records a k (map Gave contents)))) t.at (subst (λ (rs : List Record). AllRight m (map (λ (r : Record). On r) rs)) t.told_is right)));
+      (reads_newest t.location block t.all contents t.there offset m a job t.given
+      (subst (λ (k : Option Script). AllRight m (map (λ (r : Record). On r) (records a k (Gave t.there ∷ [])))) t.at (subst (λ (rs : List Record). AllRight m (map (λ (r : Record). On r) rs)) t.told_is right)).0);
 }
   where
     script_of : (job : AbstractJob) (task : Option Script) → AnswersSo job Finished task → IsOver job task

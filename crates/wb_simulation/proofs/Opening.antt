@@ -15,7 +15,6 @@ use Rattle.wb_contents.specs.Volume.{at_location}
 use Rattle.wb_types.specs.declared.mode.Mode.TheVariants.{Writeback}
 use Rattle.wb_runs.specs.Headline.{place_of}
 use Rattle.wb_devices.specs.declared.devices.Devices.{Devices}
-use Rattle.wb_link.specs.Tables.{Choice}
 use Rattle.wb_link.specs.World.{Shared}
 use Rattle.wb_link.specs.Openings.{Site, Phase, Gone, Opens, Learnt, Stage, Settling, Caching, Basing, Looking, Rooting, Renewing, Answering, Stopping, Outcome, Settled, Fine, Learns, Refused, Broke, Shown, Stopped, Begins, Advances, Yields, advance, advanced, next_phase, decided}
 use Rattle.wb_simulation.specs.Sites.{IsRunning, ImagesAgree, DevicesAgree, LeadsTo, LeadsToOne, OpeningsFollowed, ImagesFollowed}
@@ -95,12 +94,6 @@ module _ (geometry : Geometry) (size : ℕ) (committed : Stored) (later : Option
       stopping : Stopping
       stopping = record { origin = λ b i. newest (by_block size zeros devices'.origin b i); cache = λ b i. newest (by_block size zeros devices'.cache b i); new_root = d.new_root }
 
-abbrev fault : (ℕ → ℕ → Bool) → Choice
-fault settled = record { landed = false; more = false; settled = settled }
-
-abbrev no_fault : Choice
-no_fault = fault (λ b o. false)
-
 pub openings_followed : OpeningsFollowed
 openings_followed = record {
   crashes = λ geometry size committed later w devices devices' g m c o. crashes geometry size committed later w devices devices' g m c o;
@@ -109,15 +102,15 @@ openings_followed = record {
       let d = decides geometry committed later devices.metadata (synced devices.metadata) w.world.shared g.images (sync_decides geometry committed later devices.metadata g.images.read) in
       record { state = d.state; one_of = d.one_of; leads = advances geometry size d.state None mode Settling (Settled d.new_root) w (record devices { metadata = synced devices.metadata }) at d.written (record { origin = g.origin; cache = g.cache; images = d.images }); settled = d.settled };
   settling_fails = λ geometry size committed later mode w devices at g metadata partly.
-      advances geometry size committed later mode Settling (Broke no_fault) w (record devices { metadata = metadata }) at tt
+      advances geometry size committed later mode Settling (Broke (λ b o. false)) w (record devices { metadata = metadata }) at tt
       (record { origin = g.origin; cache = g.cache; images = record { read = failed_sync_leaves geometry committed later devices.metadata metadata g.images.read partly; committed_is = g.images.committed_is; later_is = g.images.later_is } });
   syncs_cache = λ geometry size committed later mode w devices at g. advances geometry size committed later mode Caching Fine w (record devices { cache = synced devices.cache }) at tt
       (record { origin = g.origin; cache = ap all_synced g.cache ∙ sym (sync_is_act size zeros devices.cache); images = same_images geometry committed later devices.metadata w.world.shared _ refl refl refl g.images });
-  cache_fails = λ geometry size committed later mode w devices at g lands. advances geometry size committed later mode Caching (Broke (fault (λ b o. lands (b * size + o)))) w (record devices { cache = synced_where lands devices.cache }) at tt
+  cache_fails = λ geometry size committed later mode w devices at g lands. advances geometry size committed later mode Caching (Broke (λ b o. lands (b * size + o))) w (record devices { cache = synced_where lands devices.cache }) at tt
       (record { origin = g.origin; cache = ap (partly_synced (λ b o. lands (b * size + o))) g.cache ∙ sym (failed_sync_is_act size zeros lands devices.cache); images = same_images geometry committed later devices.metadata w.world.shared _ refl refl refl g.images });
   syncs_origin = λ geometry size committed later mode w devices at g. advances geometry size committed later mode Basing Fine w (record devices { origin = synced devices.origin }) at tt
       (record { origin = ap all_synced g.origin ∙ sym (sync_is_act size zeros devices.origin); cache = g.cache; images = same_images geometry committed later devices.metadata w.world.shared _ refl refl refl g.images });
-  origin_fails = λ geometry size committed later mode w devices at g lands. advances geometry size committed later mode Basing (Broke (fault (λ b o. lands (b * size + o)))) w (record devices { origin = synced_where lands devices.origin }) at tt
+  origin_fails = λ geometry size committed later mode w devices at g lands. advances geometry size committed later mode Basing (Broke (λ b o. lands (b * size + o))) w (record devices { origin = synced_where lands devices.origin }) at tt
       (record { origin = ap (partly_synced (λ b o. lands (b * size + o))) g.origin ∙ sym (failed_sync_is_act size zeros lands devices.origin); cache = g.cache; images = same_images geometry committed later devices.metadata w.world.shared _ refl refl refl g.images });
   learns = λ geometry size committed w devices root tree used at g settled represents fits.
       let learnt : Learnt = record { locations = w.world.shared.committed; clean = w.world.shared.committed_clean } in
@@ -126,11 +119,11 @@ openings_followed = record {
   look_stops = λ geometry size committed later mode w devices at g. advances geometry size committed later mode Looking Refused w devices at tt g;
   roots = λ learnt new metadata same geometry size committed later mode w devices at g read. advances geometry size committed (Some new) mode (Rooting learnt) Fine w (record devices { metadata = metadata }) at tt
       (record { origin = g.origin; cache = g.cache; images = record { read = read; committed_is = g.images.committed_is; later_is = (refl, same) } });
-  root_fails = λ learnt new metadata same geometry size committed later mode w devices at g read. advances geometry size committed (Some new) mode (Rooting learnt) (Broke no_fault) w (record devices { metadata = metadata }) at tt
+  root_fails = λ learnt new metadata same geometry size committed later mode w devices at g read. advances geometry size committed (Some new) mode (Rooting learnt) (Broke (λ b o. false)) w (record devices { metadata = metadata }) at tt
       (record { origin = g.origin; cache = g.cache; images = record { read = read; committed_is = g.images.committed_is; later_is = (refl, same) } });
   renews = λ learnt metadata geometry size committed later mode w devices at g read. advances geometry size committed later mode (Renewing learnt) Fine w (record devices { metadata = metadata }) at tt
       (record { origin = g.origin; cache = g.cache; images = record { read = read; committed_is = g.images.committed_is; later_is = g.images.later_is } });
-  renewing_fails = λ learnt metadata geometry size committed later mode w devices at g read. advances geometry size committed later mode (Renewing learnt) (Broke no_fault) w (record devices { metadata = metadata }) at tt
+  renewing_fails = λ learnt metadata geometry size committed later mode w devices at g read. advances geometry size committed later mode (Renewing learnt) (Broke (λ b o. false)) w (record devices { metadata = metadata }) at tt
       (record { origin = g.origin; cache = g.cache; images = record { read = read; committed_is = g.images.committed_is; later_is = g.images.later_is } });
   answers = λ learnt new blocks same free geometry size committed later mode w devices at g read.
       advances geometry size new None mode (Answering learnt) (Shown blocks (λ b o. newest (at_location w.world.shared.origin w.world.shared.cache (learnt.locations b) b o))) w devices at (free, λ b o. refl)

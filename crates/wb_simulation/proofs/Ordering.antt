@@ -131,8 +131,7 @@ module _ (size most : ℕ) (words : Words) (committing : Bool) (orders : List (O
     kept = Some own;
     has = inl (slot, refl, its_own);
     at = record { answer = AnsweredDone; buffer = y.buffer; is = λ i. record begun_there { held = held_of (sym hold i) }; alike = refl; saw = tt };
-    copies = tt;
-    buffer = tt;
+    read = tt;
   }
 
   -- a target in write-back mode is in no other

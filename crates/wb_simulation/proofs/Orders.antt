@@ -10,18 +10,15 @@ use Rattle.wb_policy.specs.declared.order.Order.{Order}
 use Rattle.wb_policy.specs.declared.order.Order.TheVariants.{Promote, Replace, Demote, Clean}
 use Rattle.wb_tasks.specs.Tables.{BlockRange, Migrating, OnBlock}
 use Rattle.wb_tasks.specs.Plan.{Plan}
-use Rattle.wb_tasks.specs.Ready.{source_of}
 use Rattle.wb_tasks.specs.declared.step.Answer.{Answer}
 use Rattle.wb_tasks.specs.declared.step.Migration.{Migration}
 use Rattle.wb_tasks.specs.declared.step.Want.{Want}
 use Rattle.wb_devices.specs.declared.devices.Devices.{Devices}
-use Rattle.wb_devices.specs.Moving.{device_in}
 use Rattle.wb_link.specs.Tables.{Order as AbstractOrder}
 use Rattle.wb_link.specs.World.{aside, World, Shared, Actor as AbstractActor}
 use Rattle.wb_link.proofs.Aside.{aside_cases}
 use Rattle.wb_link.proofs.Lists.{get_set_same, get_set_other}
-use Rattle.wb_refines.specs.Migrations.{order_on, source}
-use Rattle.wb_refines.specs.Data.{row}
+use Rattle.wb_refines.specs.Migrations.{order_on}
 use Rattle.wb_refines.specs.Models.{plan_of}
 use Rattle.wb_refines.specs.Carried.{IsMigrationAt}
 use Rattle.wb_refines.proofs.Going.{with_own}
@@ -29,7 +26,7 @@ use Rattle.wb_runs.specs.declared.job.Job.{Job}
 use Rattle.wb_runs.specs.declared.job.Job.TheVariants.{Migrate}
 use Rattle.wb_runs.specs.States.{Actor}
 use Rattle.wb_simulation.specs.Steps.{AreOfBlock, ArePaired}
-use Rattle.wb_simulation.specs.Carried.{HasRead, IsUnder, AreCopiedAt, target, held, is_at, replacement_there, order_there, live_there, IsOf, IsCarried, IsAtMigration}
+use Rattle.wb_simulation.specs.Carried.{HasRead, IsUnder, held, is_at, replacement_there, order_there, live_there, IsOf, IsCarried, IsAtMigration}
 use Rattle.wb_simulation.specs.Worlds.{IsThere, OrdersAgree}
 use Rattle.wb_simulation.specs.Telling.{IsMigrating}
 use Rattle.wb_simulation.proofs.Kept.{late_on, ended_on}
@@ -100,16 +97,19 @@ pub carries_same : (size : ℕ) (orders : List (Option Order)) (devices : Device
 carries_same size orders devices actors s a b z u migration block part plan n ez eu task job k = k
 
 -- what a migration has still to do is its own, and nothing was written that it has not read
-pub record GoesOn (size : ℕ) (own : AbstractOrder) (migration : Migration) (part : BlockRange) (us : List Want) (list : List History) (buffer : List Content) : Type 0 where
+pub record GoesOn (size : ℕ) (part : BlockRange) (us : List Want) (buffer : List Content) (there : ℕ → Content) : Type 0 where
   pub of_block : AreOfBlock size part.block.0 us
   pub paired : ArePaired size us
-  pub copies : AreCopiedAt size (source own migration) (target own migration) us
-  pub read : HasRead size list (row (source own migration) part.block.0) us buffer
+  pub read : HasRead size us buffer there
 
 -- a migration that is carried has this left now
 pub carried_again : (size : ℕ) (orders orders' : List (Option Order)) (devices devices' : Devices (List History)) (migration : Migration) (block : OBlock) (part : BlockRange) (steps us : List Want) (answer then_answer : Answer) (x x' : Actor) (y z : AbstractActor) (k : IsCarried size orders devices migration block part steps answer x y) (kept : Option AbstractOrder) →
-    IsUnder (slice_get orders' k.c.0) k.order (order_on part k.c k.next) kept x'.orders us → IsMigrationAt part k.c k.next migration kept (plan_of (Migrating migration part) us then_answer) x'.card z → GoesOn size (order_on part k.c k.next) migration part us (device_in (source_of migration) devices') x'.buffer → IsCarried size orders' devices' migration block part us then_answer x' z
-carried_again size orders orders' devices devices' migration block part steps us answer then_answer x x' y z k kept has at on = record { block_is = k.block_is; is_part = k.is_part; c = k.c; small = k.small; fills = k.fills; of_block = on.of_block; paired = on.paired; next = k.next; order = k.order; of = k.of; kept = kept; has = has; at = at; copies = on.copies; buffer = on.read }
+    IsUnder (slice_get orders' k.c.0) k.order (order_on part k.c k.next) kept x'.orders us → IsMigrationAt part k.c k.next migration kept (plan_of (Migrating migration part) us then_answer) x'.card z → GoesOn size part us x'.buffer z.buffer → IsCarried size orders' devices' migration block part us then_answer x' z
+carried_again size orders orders' devices devices' migration block part steps us answer then_answer x x' y z k kept has at on = record { block_is = k.block_is; is_part = k.is_part; c = k.c; small = k.small; fills = k.fills; of_block = on.of_block; paired = on.paired; next = k.next; order = k.order; of = k.of; kept = kept; has = has; at = at; read = on.read }
+
+-- whatever becomes of the devices
+pub carries_on : (size : ℕ) (orders : List (Option Order)) (devices devices' : Devices (List History)) (actors : List Actor) (s : World) (a : ℕ) → CarriesOthers size orders orders devices devices' actors s a
+carries_on size orders devices devices' actors s a b z u migration block part plan n ez eu task job k = carried_again size orders orders devices devices' migration block part plan.steps plan.steps plan.answer plan.answer z z u u k k.kept k.has k.at (record { of_block = k.of_block; paired = k.paired; read = k.read })
 
 -- it is so still where its own order's cache block has what it had
 pub carried_beside : (size : ℕ) (orders orders' : List (Option Order)) (devices : Devices (List History)) (migration : Migration) (block : OBlock) (part : BlockRange) (steps : List Want) (answer : Answer) (x : Actor) (y : AbstractActor) → ((p : AbstractOrder) → y.order ≡ Some p → slice_get orders' p.cache ≡ slice_get orders p.cache) →
@@ -119,7 +119,7 @@ carried_beside size orders orders' devices migration block part steps answer x y
       | inl l ↦ inl (beside (order_on part k.c k.next) (ap (λ (v : AbstractActor). v.order) k.at.is ∙ l.1) ∙ l.0, l.1, l.2)
       | inr tail ↦ inr tail
     ])
-    k.at (record { of_block = k.of_block; paired = k.paired; copies = k.copies; read = k.buffer })
+    k.at (record { of_block = k.of_block; paired = k.paired; read = k.read })
 
 -- what its actor is at from now on
 abbrev pub IsDone : (size : ℕ) → Words → List (Option Order) → Devices (List History) → Actor → AbstractActor → Type 0

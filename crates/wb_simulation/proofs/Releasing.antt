@@ -1,24 +1,20 @@
 -- An order that is aside is given up.
 use Rattle.std.proofs.Common.{◌≡◌, ◌≢◌, ◌∙◌, inl, inr, ℕ, Bool, List, [], ◌∷◌, Option, Some, None, Contains, refl, sym, ap, subst, slice_get, slice_set}
 use Rattle.std.proofs.lemmas.Bool.{cases_eq}
-use Rattle.wb_types.specs.declared.number.OBlock.{OBlock}
 use Rattle.wb_disk.specs.Device.{History}
 use Rattle.wb_contents.specs.Volume.{changed}
 use Rattle.wb_contents.proofs.Positions.{changed_same, changed_other}
 use Rattle.wb_words.specs.SharedWords.{Words}
 use Rattle.wb_policy.specs.declared.order.Order.{Order}
-use Rattle.wb_tasks.specs.Plan.{Plan}
-use Rattle.wb_tasks.specs.declared.step.Migration.{Migration}
 use Rattle.wb_devices.specs.declared.devices.Devices.{Devices}
 use Rattle.wb_link.specs.Tables.{Order as AbstractOrder}
 use Rattle.wb_link.specs.World.{World, Shared, Release, release_order, given_back, aside, after_record, Actor as AbstractActor}
 use Rattle.wb_link.proofs.Lists.{get_set_same, get_set_other}
-use Rattle.wb_runs.specs.declared.job.Job.TheVariants.{Migrate}
 use Rattle.wb_runs.specs.States.{Actor}
 use Rattle.wb_simulation.specs.Actors.{StandsFor}
-use Rattle.wb_simulation.specs.Carried.{held, live_there, order_there, IsOf, IsAtMigration}
+use Rattle.wb_simulation.specs.Carried.{held, live_there, order_there}
 use Rattle.wb_simulation.specs.Telling.{Releases}
-use Rattle.wb_simulation.specs.Worlds.{Agrees, OrdersAgree, GivesUp, TurnedTo, DeskTurnedTo, FollowsBy}
+use Rattle.wb_simulation.specs.Worlds.{Agrees, OrdersAgree, GivesUp, FollowsBy}
 use Rattle.wb_simulation.specs.Laws.{IsOnlyOf}
 use Rattle.wb_refines.proofs.Going.{set_same}
 use Rattle.wb_simulation.proofs.Starting.{begins}

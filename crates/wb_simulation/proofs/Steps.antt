@@ -24,13 +24,10 @@ use Rattle.wb_words.specs.declared.word.Access.TheVariants.{Shared, Owned}
 use Rattle.wb_words.specs.declared.step.CellStep.{CellStep}
 use Rattle.wb_words.specs.declared.step.CellStep.TheVariants.{Look, Take, Release, Finish}
 use Rattle.wb_refines.specs.Data.{IsInBlock}
-use Rattle.wb_refines.specs.Translation.{location_at}
-use Rattle.wb_refines.proofs.Tables.{at_place}
-use Rattle.wb_refines.specs.Migrations.{order_on, source, Fills, IsWhere}
+use Rattle.wb_refines.specs.Migrations.{Fills, IsWhere}
 use Rattle.wb_tasks.specs.declared.step.Got.TheVariants.{Word}
 use Rattle.wb_tasks.specs.declared.step.Answer.TheVariants.{Refused as Refuses}
 use Rattle.wb_refines.proofs.Cells.{flag_of}
-use Rattle.wb_simulation.specs.Carried.{target, AreCopiedAt}
 use Rattle.wb_simulation.specs.Steps.{IsOfBlock, IsPart, AreOfBlock, ArePaired, IsNoWrite}
 
 -- a seal of a cache block tells it
@@ -104,9 +101,9 @@ module _ (size : ℕ) (part : BlockRange) (is : IsPart size part) where
 
 -- ---- what a migration has still to do
 
--- It is of the block, at these places, and each extent is written once it was read, the next step being no write.
-abbrev pub AreCopies : ℕ → ℕ → (from to : Option ℕ) → List Want → Type 0
-AreCopies size block from to steps = AreOfBlock size block steps × ArePaired size steps × IsNoWrite steps × AreCopiedAt size from to steps
+-- It is of the block, and each extent is written once it was read, the next step being no write.
+abbrev pub AreCopies : ℕ → ℕ → List Want → Type 0
+AreCopies size block steps = AreOfBlock size block steps × ArePaired size steps × IsNoWrite steps
 
 -- What is left after a step on the words is what was left, or one of these.
 pub after_cell : (P : List Want → Type 0) (job : TaskJob) (words : Words) (step : CellStep) (ws : List Want) (answer : Answer) → P [] → P ws → ((seen : ℕ) → P (exchange job seen)) → ((block : OBlock) → step ≡ Look (SealWord block) → P (Cell (Look (Number block)) ∷ work_of job (word_at words.seals block))) → P (gives_back job) →
@@ -143,8 +140,8 @@ finds_failed words job ws answer f = by_test (words.fail == 0) (flag_of words.fa
     by_test false e = refl
 
 module _ (size : ℕ) (part : BlockRange) (is : IsPart size part) where
-  abbrev Copies : (from to : Option ℕ) → List Want → Type 0
-  Copies from to ws = AreCopies size part.block.0 from to ws
+  abbrev Copies : List Want → Type 0
+  Copies ws = AreCopies size part.block.0 ws
 
   abbrev AreOf : List Extent → Type 0
   AreOf es = (e : Extent) → Contains es e → IsOfBlock size part.block.0 e
@@ -153,38 +150,30 @@ module _ (size : ℕ) (part : BlockRange) (is : IsPart size part) where
   paired_extent : (c : CBlock) (e : Extent) → (cache_extent part c e).first % size ≡ e.first % size
   paired_extent c e = ap (λ n. (c.0 * n + e.first % n) % size) (sym is.sized) ∙ mod-mul-add c.0 size (e.first % size) (mod-lt e.first is.some)
 
-  cached_extent : (c : CBlock) (e : Extent) → location_at size Cache (cache_extent part c e) ≡ Some c.0
-  cached_extent c e = subst (λ (n : ℕ). location_at n Cache (cache_extent part c e) ≡ Some c.0) (sym is.sized) (at_place part (subst (λ (n : ℕ). 0 < n) is.sized is.some) c e)
-
-  copied_in : (c : CBlock) (es : List Extent) (ws : List Want) → AreOf es → Copies None (Some c.0) ws → Copies None (Some c.0) (copies part None (Some c) es ++ ws)
+  copied_in : (c : CBlock) (es : List Extent) (ws : List Want) → AreOf es → Copies ws → Copies (copies part None (Some c) es ++ ws)
   copied_in c [] ws each w = w
   copied_in c (e ∷ es) ws each w =
       let later = copied_in c es ws (λ f m. each f (Contains-behind e es f m)) w in
       let mine = each e (Contains-first e es) in
-      ((on_origin size part is e mine, (on_cache size part is c e mine, later.0)), ((refl, paired_extent c e), (later.2, later.1)), tt, (refl, (cached_extent c e, later.3)))
+      ((on_origin size part is e mine, (on_cache size part is c e mine, later.0)), ((refl, paired_extent c e), (later.2, later.1)), tt)
 
-  copied_home : (c : CBlock) (es : List Extent) (ws : List Want) → AreOf es → Copies (Some c.0) None ws → Copies (Some c.0) None (copies part (Some c) None es ++ ws)
+  copied_home : (c : CBlock) (es : List Extent) (ws : List Want) → AreOf es → Copies ws → Copies (copies part (Some c) None es ++ ws)
   copied_home c [] ws each w = w
   copied_home c (e ∷ es) ws each w =
       let later = copied_home c es ws (λ f m. each f (Contains-behind e es f m)) w in
       let mine = each e (Contains-first e es) in
-      ((on_cache size part is c e mine, (on_origin size part is e mine, later.0)), ((refl, sym (paired_extent c e)), (later.2, later.1)), tt, (cached_extent c e, (refl, later.3)))
+      ((on_cache size part is c e mine, (on_origin size part is e mine, later.0)), ((refl, sym (paired_extent c e)), (later.2, later.1)), tt)
 
-  promotion_works : (c : CBlock) → c.0 < 2 ^ 32 → (place : Option CBlock) (dirty : Bool) → Copies None (Some c.0) (work (Migrating (Promote c) part) place dirty)
-  promotion_works c small place dirty = copied_in c part.extents (ending (Promote c) part.block place) is.each ((place_told c.0 false small, tt), (tt, tt, (tt, (tt, tt))), tt, tt)
+  demotion_works : (c : CBlock) (dirty : Bool) → Copies (work (Migrating Demote part) (Some c) dirty)
+  demotion_works c true = copied_home c part.extents (ending Demote part.block (Some c)) is.each ((refl, tt), (tt, tt, (tt, (tt, tt))), tt)
+  demotion_works c false = ((refl, tt), (tt, tt, (tt, (tt, tt))), tt)
 
-  demotion_works : (c : CBlock) (dirty : Bool) → Copies (Some c.0) None (work (Migrating Demote part) (Some c) dirty)
-  demotion_works c true = copied_home c part.extents (ending Demote part.block (Some c)) is.each ((refl, tt), (tt, tt, (tt, (tt, tt))), tt, tt)
-  demotion_works c false = ((refl, tt), (tt, tt, (tt, (tt, tt))), tt, tt)
-
-  cleaning_works : (c : CBlock) → c.0 < 2 ^ 32 → (dirty : Bool) → Copies (Some c.0) None (work (Migrating Clean part) (Some c) dirty)
-  cleaning_works c small true = copied_home c part.extents (ending Clean part.block (Some c)) is.each ((place_told c.0 false small, tt), (tt, (tt, (tt, tt))), tt, tt)
-  cleaning_works c small false = ((place_told c.0 false small, tt), (tt, (tt, (tt, tt))), tt, tt)
+  cleaning_works : (c : CBlock) → c.0 < 2 ^ 32 → (dirty : Bool) → Copies (work (Migrating Clean part) (Some c) dirty)
+  cleaning_works c small true = copied_home c part.extents (ending Clean part.block (Some c)) is.each ((place_told c.0 false small, tt), (tt, (tt, (tt, tt))), tt)
+  cleaning_works c small false = ((place_told c.0 false small, tt), (tt, (tt, (tt, tt))), tt)
 
   -- what a migration does once it has its block, where it is to find it
-  pub migration_works : (migration : Migration) (c : CBlock) (next : Option ℕ) → Fills migration c → c.0 < 2 ^ 32 → (seal : ℕ) → IsWhere migration c (place_in seal) →
-      Copies (source (order_on part c next) migration) (target (order_on part c next) migration) (work_of (OnBlock (Migrating migration part)) seal)
-  migration_works (Promote k) c next fills small seal where_is = subst (λ (v : ℕ). Copies None (Some v) (work (Migrating (Promote k) part) (place_in seal) (dirty_in seal))) (ap (λ (v : CBlock). v.0) fills)
-      (promotion_works k (subst (λ (v : CBlock). v.0 < 2 ^ 32) (sym fills) small) (place_in seal) (dirty_in seal))
-  migration_works Demote c next fills small seal where_is = subst (λ (place : Option CBlock). Copies (Some c.0) None (work (Migrating Demote part) place (dirty_in seal))) (sym where_is) (demotion_works c (dirty_in seal))
-  migration_works Clean c next fills small seal where_is = subst (λ (place : Option CBlock). Copies (Some c.0) None (work (Migrating Clean part) place (dirty_in seal))) (sym where_is) (cleaning_works c small (dirty_in seal))
+  pub migration_works : (migration : Migration) (c : CBlock) → Fills migration c → c.0 < 2 ^ 32 → (seal : ℕ) → IsWhere migration c (place_in seal) → Copies (work_of (OnBlock (Migrating migration part)) seal)
+  migration_works (Promote k) c fills small seal where_is = copied_in k part.extents (ending (Promote k) part.block (place_in seal)) is.each ((place_told k.0 false (subst (λ (v : CBlock). v.0 < 2 ^ 32) (sym fills) small), tt), (tt, tt, (tt, (tt, tt))), tt)
+  migration_works Demote c fills small seal where_is = subst (λ (place : Option CBlock). Copies (work (Migrating Demote part) place (dirty_in seal))) (sym where_is) (demotion_works c (dirty_in seal))
+  migration_works Clean c fills small seal where_is = subst (λ (place : Option CBlock). Copies (work (Migrating Clean part) place (dirty_in seal))) (sym where_is) (cleaning_works c small (dirty_in seal))

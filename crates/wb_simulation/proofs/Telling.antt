@@ -1,6 +1,5 @@
 -- What steps of an actor are told as.
-use Rattle.std.proofs.Common.{◌+◌, ◌≡◌, ◌≢◌, inl, inr, sym, subst, ℕ, zero, suc, Bool, List, [], ◌∷◌, Option, Some, None, length, map, replicate, refl}
-use Rattle.wb_types.specs.Extents.{rising}
+use Rattle.std.proofs.Common.{◌≡◌, ◌≢◌, inl, inr, sym, subst, ℕ, List, [], ◌∷◌, Option, Some, None, refl}
 use Rattle.wb_disk.specs.Device.{Content}
 use Rattle.wb_words.specs.SharedWords.{Words}
 use Rattle.wb_words.specs.declared.card.Card.{Card}
@@ -8,22 +7,21 @@ use Rattle.wb_tasks.specs.Tables.{TaskJob}
 use Rattle.wb_tasks.specs.Plan.{Plan, table}
 use Rattle.wb_tasks.specs.declared.step.Answer.{Answer}
 use Rattle.wb_tasks.specs.declared.step.Answer.TheVariants.{Done as Finished, Refused as Refuses}
-use Rattle.wb_link.specs.Tables.{Job as AbstractJob, Script, Want, Write_at, End, Got, Gave, Done, Answer as AbstractAnswer, want, read_each}
+use Rattle.wb_link.specs.Tables.{Job as AbstractJob, Script, Want, Write_all, End, Got, want}
 use Rattle.wb_link.specs.World.{Actor as AbstractActor, task_after}
-use Rattle.wb_refines.specs.Data.{faults}
 use Rattle.wb_refines.specs.Going.{records, IsQuiet, AreQuiet}
 use Rattle.wb_refines.specs.Translation.{script_for, job_for}
 use Rattle.wb_refines.specs.Models.{HasStopped}
 use Rattle.wb_refines.proofs.Cells.{refused_undone}
 use Rattle.wb_simulation.specs.Actors.{IsLate}
-use Rattle.wb_simulation.specs.Telling.{IsUnnoted, AreUnnoted, AreWrites, AnswersSo, reading}
+use Rattle.wb_simulation.specs.Telling.{IsUnnoted, AreUnnoted, AnswersSo}
 
 pub unnoted_none : (task : Option Script) → AreUnnoted task []
 unnoted_none None = tt
 unnoted_none (Some script) = tt
 
 quiet_unnoted : (next : Want) → IsQuiet next → IsUnnoted next
-quiet_unnoted (Write_at location block offset) q = q
+quiet_unnoted (Write_all location block os) q = q
 quiet_unnoted (End answer) q = q
 quiet_unnoted next q = tt
 
@@ -37,20 +35,6 @@ quiet_are_unnoted (Some script) (got ∷ gots) q = (quiet_unnoted (want script) 
 pub nothing_told : (a : ℕ) (task : Option Script) (results : List Got) → task ≡ None → records a task [] ≡ records a task results
 nothing_told a None results e = refl
 nothing_told a (Some script) results e = absurd (cc)
-
--- what a read is given is not noted
-pub reads_unnoted : (location : Option ℕ) (b : ℕ) (all : List ℕ) (rest : List Want) (answer : AbstractAnswer) (contents : List Content) (o : ℕ) →
-    AreUnnoted (Some (reading b all (read_each location b (rising o (length contents)) rest) answer)) (map Gave contents)
-reads_unnoted location b all rest answer [] o = tt
-reads_unnoted location b all rest answer (c ∷ contents) o = (tt, reads_unnoted location b all rest answer contents (o + 1))
-
-pub done_are_writes : (count : ℕ) → AreWrites count (replicate count Done)
-done_are_writes zero = tt
-done_are_writes (suc count) = done_are_writes count
-
-pub faults_are_writes : (lands : ℕ → Bool) (at count : ℕ) → AreWrites count (faults lands at count)
-faults_are_writes lands at zero = tt
-faults_are_writes lands at (suc count) = (refl, faults_are_writes lands (suc at) count)
 
 -- ---- answers
 

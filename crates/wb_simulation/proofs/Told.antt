@@ -3,21 +3,20 @@ use Rattle.std.proofs.Common.{◌≡◌, ◌≢◌, ◌<◌, ◌≤◌, ◌+◌,
 use Rattle.std.proofs.lemmas.Bool.{cases_eq, lt-ltb}
 use Rattle.std.proofs.lemmas.Option.{slice_get-get_or}
 use Rattle.wb_types.specs.Extents.{rising}
-use Rattle.wb_disk.specs.Device.{Content, History, added, only, written, grown}
+use Rattle.wb_disk.specs.Device.{Content, History, added, newest, only, written, grown}
 use Rattle.wb_contents.specs.Volume.{changed, changed_at}
 use Rattle.wb_contents.specs.Devices.{by_block}
 use Rattle.wb_contents.proofs.Devices.{write_is_act}
 use Rattle.wb_contents.proofs.Positions.{changed_same, changed_other}
-use Rattle.wb_link.specs.Tables.{Script, Job, Reading, Writing, Writing_through, Flushing, Suspending, Want, Read_at, Write_at, End, Got, Gave, Fault, Done, Answer, Io, want, after, steps_after_fault, write_each, read_each, until_failed}
-use Rattle.wb_link.specs.World.{Record, Step, task_after}
-use Rattle.wb_link.specs.Clerk.{Notes, Entry, note, noted_step, histories_after, entered_after, finished_after, floors_after, job_noted, GivesLatest}
-use Rattle.wb_link.specs.Openings.{On, AllRight}
+use Rattle.wb_link.specs.Tables.{Script, Job, Reading, Writing, Writing_through, Flushing, Suspending, Want, Read_all, Write_all, End, Got, Gave, want, after}
+use Rattle.wb_link.specs.World.{AreAlike, Step, task_after}
+use Rattle.wb_link.specs.Clerk.{Notes, Entry, entry, added_each, entered_each, note, noted_step, histories_after, entered_after, finished_after, floors_after, job_noted, GivesLatest}
 use Rattle.wb_refines.specs.Going.{records}
 use Rattle.wb_runs.specs.Clerk.{Position, Entering, enter, enter_each, next_position}
 use Rattle.wb_link.proofs.Actors.{job_on}
 use Rattle.wb_simulation.specs.Noting.{AreEntries}
 use Rattle.wb_simulation.specs.Noted.{told, AreNewest}
-use Rattle.wb_simulation.specs.Telling.{IsUnnoted, AreUnnoted, AreWrites, reading, writing}
+use Rattle.wb_simulation.specs.Telling.{IsUnnoted, AreUnnoted}
 use Rattle.wb_simulation.specs.Worlds.{zeros}
 use Rattle.wb_simulation.proofs.Counts.{one_entry_more}
 
@@ -34,18 +33,18 @@ changed_nothing f a v e = λ i b. at b i
 -- ---- steps of which nothing is noted
 
 histories_stay : (h : ℕ → ℕ → History) (job : Job) (w : Want) → IsUnnoted w → histories_after h job w ≡ h
-histories_stay h (Writing past b os c) (Write_at location b' o) u = absurd u
-histories_stay h (Writing_through b os c) (Write_at location b' o) u = absurd u
+histories_stay h (Writing past b all c) (Write_all location b' os) u = absurd u
+histories_stay h (Writing_through b all c) (Write_all location b' os) u = absurd u
 histories_stay h job w u = refl
 
 entered_stay : (h : ℕ → ℕ → History) (job : Job) (w : Want) (es : List Entry) → IsUnnoted w → entered_after h job w es ≡ es
-entered_stay h (Writing past b os c) (Write_at location b' o) es u = absurd u
-entered_stay h (Writing_through b os c) (Write_at location b' o) es u = absurd u
+entered_stay h (Writing past b all c) (Write_all location b' os) es u = absurd u
+entered_stay h (Writing_through b all c) (Write_all location b' os) es u = absurd u
 entered_stay h job w es u = refl
 
 finished_stay : (job : Job) (w : Want) (es : List Entry) (f : ℕ → ℕ → ℕ) → IsUnnoted w → finished_after job w es f ≡ f
-finished_stay (Writing past b os c) (End answer) es f u = absurd u
-finished_stay (Writing_through b os c) (End answer) es f u = absurd u
+finished_stay (Writing past b all c) (End answer) es f u = absurd u
+finished_stay (Writing_through b all c) (End answer) es f u = absurd u
 finished_stay job w es f u = refl
 
 floors_stay : (job : Job) (w : Want) (asked floors : ℕ → ℕ → ℕ) → IsUnnoted w → (b o : ℕ) → floors_after job w asked floors b o ≡ floors b o
@@ -87,15 +86,13 @@ untold (got ∷ gots) (Some script) m a j u =
 -- ---- reads
 
 -- what a read is given is right, each sector by itself
-pub reads_newest : (location : Option ℕ) (b : ℕ) (all : List ℕ) (rest : List Want) (answer : Answer) (contents : List Content) (o : ℕ) (m : Notes) (a : ℕ) → m.jobs a ≡ Some (Reading false b all) →
-    AllRight m (map (λ (r : Record). On r) (records a (Some (reading b all (read_each location b (rising o (length contents)) rest) answer)) (map Gave contents))) → AreNewest m.histories b o contents
-reads_newest location b all rest answer [] o m a j r = tt
-reads_newest location b all rest answer (c ∷ contents) o m a j r = (
-  subst (λ (k : Option Job). GivesLatest m.histories k (Read_at location b o) (Gave c)) j r.0,
-  reads_newest location b all rest answer contents (o + 1) m a j
-      (subst (λ (k : Notes). AllRight k (map (λ (r : Record). On r) (records a (Some (reading b all (read_each location b (rising (o + 1) (length contents)) rest) answer)) (map Gave contents))))
-      (unnoted m a (Reading false b all) (Read_at location b o) (Gave c) j tt) r.1),
-)
+alike_newest : (histories : ℕ → ℕ → History) (b : ℕ) (there : ℕ → Content) (count o : ℕ) → AreAlike (rising o count) there (λ i. newest (histories b i)) → AreNewest histories b o (map there (rising o count))
+alike_newest histories b there zero o k = tt
+alike_newest histories b there (suc count) o k = (k.0, alike_newest histories b there count (o + 1) k.1)
+
+pub reads_newest : (location : Option ℕ) (b : ℕ) (all : List (List ℕ)) (contents : List Content) (there : ℕ → Content) (o : ℕ) (m : Notes) (a : ℕ) → m.jobs a ≡ Some (Reading false b all) → contents ≡ map there (rising o (length contents)) →
+    GivesLatest m.histories (m.jobs a) (Read_all location b (rising o (length contents))) (Gave there) → AreNewest m.histories b o contents
+reads_newest location b all contents there o m a j is r = subst (λ (cs : List Content). AreNewest m.histories b o cs) (sym is) (alike_newest m.histories b there (length contents) o (subst (λ (k : Option Job). GivesLatest m.histories k (Read_all location b (rising o (length contents))) (Gave there)) j r))
 
 -- ---- writes
 
@@ -116,10 +113,6 @@ pub record Wrote (size sectors a : ℕ) (m m' : Notes) (e : Entering) : Type 0 w
   pub finished : m'.finished ≡ m.finished
   pub floors : m'.floors ≡ m.floors
 
-pub until_written : (to : Option ℕ) (b : ℕ) (os : List ℕ) (rest : List Want) → until_failed (write_each to b os rest) ≡ write_each to b os (until_failed rest)
-until_written to b [] rest = refl
-until_written to b (o ∷ os) rest = ap (λ ws. Write_at to b o ∷ ws) (until_written to b os rest)
-
 pub length-written : (h : List History) (at : ℕ) (c : Content) → length (written h at c) ≡ length h
 length-written [] at c = refl
 length-written (x ∷ xs) zero c = refl
@@ -129,85 +122,39 @@ length-written (x ∷ xs) (suc at) c = by (slice_get xs at) (length-written xs a
     by None e = refl
     by (Some h) e = ap suc e
 
--- the notes after one sector's write, whatever came of it
-one_written : (size : ℕ) (to : Option ℕ) (b : ℕ) (all : List ℕ) (c : Content) (o : ℕ) (got : Got) (m : Notes) (a : ℕ) (h : List History) (entered : List Position) → m.jobs a ≡ Some (Writing false b all c) → m.histories ≡ by_block size zeros h → AreEntries size (length h) entered (m.entered a) →
-    o < size → b * size + o < length h → Wrote size (length h) a m (note m (Step a (Write_at to b o) got)) (enter c (b * size + o) (record { histories = h; entered = entered }))
-one_written size to b all c o got m a h entered j here are l inside = subst (λ (m' : Notes). Wrote size (length h) a m m' (enter c (b * size + o) (record { histories = h; entered = entered }))) (sym (ap (λ (k : Option Job). noted_step m a k (Write_at to b o)) j)) (record {
-  histories = ap (λ (f : ℕ → ℕ → History). changed_at f b o (added (f b o) c)) here ∙ sym (write_is_act size zeros h b o c l inside);
-  entered = subst (λ (es : List Entry). AreEntries size (length h) (entered ++ record { sector = b * size + o; position = next_position (slice_get h (b * size + o)) } ∷ []) es) (sym (changed_same m.entered a (entered_after m.histories (Writing false b all c) (Write_at to b o) (m.entered a))))
-      (subst (λ (p : ℕ). AreEntries size (length h) (entered ++ record { sector = b * size + o; position = next_position (slice_get h (b * size + o)) } ∷ []) (record { block = b; offset = o; position = p } ∷ m.entered a))
-      (sym (ap (λ (f : ℕ → ℕ → History). length (f b o).later + 1) here ∙ next_there size h b o l inside))
-      (one_entry_more size (length h) b o (next_position (slice_get h (b * size + o))) entered (m.entered a) l inside are));
-  others = λ k n. changed_other m.entered a k (entered_after m.histories (Writing false b all c) (Write_at to b o) (m.entered a)) n;
+-- an extent's sectors, one after the other
+each_written : (size b : ℕ) (c : Content) (count o : ℕ) (f : ℕ → ℕ → History) (es : List Entry) (h : List History) (entered : List Position) → f ≡ by_block size zeros h → AreEntries size (length h) entered es → o + count ≤ size → b * size + o + count ≤ length h →
+    (added_each f b (rising o count) c ≡ by_block size zeros (enter_each c (rising (b * size + o) count) (record { histories = h; entered = entered })).histories)
+    × AreEntries size (length h) (enter_each c (rising (b * size + o) count) (record { histories = h; entered = entered })).entered (entered_each f b (rising o count) c es)
+each_written size b c zero o f es h entered here are l inside = (here, are)
+each_written size b c (suc count) o f es h entered here are l inside =
+    let at = b * size + o in
+    let as_long : length (written h at c) ≡ length h = length-written h at c in
+    let next : b * size + (o + 1) ≡ at + 1 = omega arith in
+    let position = next_position (slice_get h at) in
+    let one = subst (λ (p : ℕ). AreEntries size (length h) (entered ++ record { sector = at; position = position } ∷ []) (record { block = b; offset = o; position = p } ∷ es)) (sym (ap (λ (g : ℕ → ℕ → History). length (g b o).later + 1) here ∙ next_there size h b o (omega (arith, l)) (omega (arith, inside))))
+    (one_entry_more size (length h) b o position entered es (omega (arith, l)) (omega (arith, inside)) are) in
+    let later = each_written size b c count (o + 1) (changed_at f b o (added (f b o) c)) (entry f b o ∷ es) (written h at c) (entered ++ record { sector = at; position = position } ∷ [])
+    (ap (λ (g : ℕ → ℕ → History). changed_at g b o (added (g b o) c)) here ∙ sym (write_is_act size zeros h b o c (omega (arith, l)) (omega (arith, inside))))
+    (subst (λ (k : ℕ). AreEntries size k (entered ++ record { sector = at; position = position } ∷ []) (entry f b o ∷ es)) (sym as_long) one) (omega (arith, l)) (omega (arith, inside, as_long)) in
+    let there = subst (λ (k : ℕ). (added_each (changed_at f b o (added (f b o) c)) b (rising (o + 1) count) c ≡ by_block size zeros (enter_each c (rising k count) (enter c at (record { histories = h; entered = entered }))).histories)
+    × AreEntries size (length (written h at c)) (enter_each c (rising k count) (enter c at (record { histories = h; entered = entered }))).entered (entered_each (changed_at f b o (added (f b o) c)) b (rising (o + 1) count) c (entry f b o ∷ es))) next later in
+    (there.0, subst (λ (k : ℕ). AreEntries size k (enter_each c (rising at (suc count)) (record { histories = h; entered = entered })).entered (entered_each f b (rising o (suc count)) c es)) as_long there.1)
+
+-- the notes after a write's step, whatever came of it
+pub writes_told : (size : ℕ) (to : Option ℕ) (b : ℕ) (all : List (List ℕ)) (c : Content) (a count : ℕ) (got : Got) (o : ℕ) (m : Notes) (h : List History) (entered : List Position) →
+    m.jobs a ≡ Some (Writing false b all c) → m.histories ≡ by_block size zeros h → AreEntries size (length h) entered (m.entered a) → o + count ≤ size → b * size + o + count ≤ length h →
+    Wrote size (length h) a m (note m (Step a (Write_all to b (rising o count)) got)) (enter_each c (rising (b * size + o) count) (record { histories = h; entered = entered }))
+writes_told size to b all c a count got o m h entered j here are l inside = subst (λ (m' : Notes). Wrote size (length h) a m m' (enter_each c (rising (b * size + o) count) (record { histories = h; entered = entered }))) (sym (ap (λ (k : Option Job). noted_step m a k (Write_all to b (rising o count))) j)) (record {
+  histories = each.0;
+  entered = subst (λ (es : List Entry). AreEntries size (length h) (enter_each c (rising (b * size + o) count) (record { histories = h; entered = entered })).entered es) (sym (changed_same m.entered a (entered_each m.histories b (rising o count) c (m.entered a)))) each.1;
+  others = λ k n. changed_other m.entered a k (entered_each m.histories b (rising o count) c (m.entered a)) n;
   jobs = changed_nothing m.jobs a (Some (Writing false b all c)) j;
   asked = refl;
   finished = refl;
   floors = refl;
 })
-
-both_written : (size sectors a : ℕ) (m m' m'' : Notes) (e e' : Entering) → Wrote size sectors a m m' e → Wrote size sectors a m' m'' e' → Wrote size sectors a m m'' e'
-both_written size sectors a m m' m'' e e' v w = record {
-  histories = w.histories;
-  entered = w.entered;
-  others = λ b n. w.others b n ∙ v.others b n;
-  jobs = w.jobs ∙ v.jobs;
-  asked = w.asked ∙ v.asked;
-  finished = w.finished ∙ v.finished;
-  floors = w.floors ∙ v.floors;
-}
-
--- one sector, and then those after it
-module _ (size : ℕ) (to : Option ℕ) (b : ℕ) (all : List ℕ) (c : Content) (a o count : ℕ) (got : Got) (m : Notes) (h : List History) (entered : List Position) (j : m.jobs a ≡ Some (Writing false b all c)) (here : m.histories ≡ by_block size zeros h) (are : AreEntries size (length h) entered (m.entered a))
-    (l : o + suc count ≤ size) (inside : b * size + o + suc count ≤ length h) where
-  abbrev m1 : Notes
-  m1 = note m (Step a (Write_at to b o) got)
-
-  abbrev e1 : Entering
-  e1 = enter c (b * size + o) (record { histories = h; entered = entered })
-
-  one : Wrote size (length h) a m m1 e1
-  one = one_written size to b all c o got m a h entered j here are (omega (arith, l)) (omega (arith, inside))
-
-  as_long : length e1.histories ≡ length h
-  as_long = length-written h (b * size + o) c
-
-  job_then : m1.jobs a ≡ Some (Writing false b all c)
-  job_then = ap (λ (f : ℕ → Option Job). f a) one.jobs ∙ j
-
-  entries_then : AreEntries size (length e1.histories) e1.entered (m1.entered a)
-  entries_then = subst (λ (k : ℕ). AreEntries size k e1.entered (m1.entered a)) (sym as_long) one.entered
-
-  room_then : b * size + (o + 1) + count ≤ length e1.histories
-  room_then = let e = as_long in omega (arith, inside, e)
-
-  after_one : (m2 : Notes) → Wrote size (length e1.histories) a m1 m2 (enter_each c (rising (b * size + (o + 1)) count) e1) → Wrote size (length h) a m m2 (enter_each c (rising (b * size + o) (suc count)) (record { histories = h; entered = entered }))
-  after_one m2 w =
-      let next : b * size + (o + 1) ≡ b * size + o + 1 = omega arith in
-      both_written size (length h) a m m1 m2 e1 _ one
-      (subst (λ (k : ℕ). Wrote size (length h) a m1 m2 (enter_each c (rising k count) e1)) next (subst (λ (k : ℕ). Wrote size k a m1 m2 (enter_each c (rising (b * size + (o + 1)) count) e1)) as_long w))
-
-pub writes_told : (size : ℕ) (to : Option ℕ) (b : ℕ) (all : List ℕ) (c : Content) (a : ℕ) (count : ℕ) (gots : List Got) (rest : List Want) (answer : Answer) (o : ℕ) (m : Notes) (h : List History) (entered : List Position) → AreWrites count gots →
-    m.jobs a ≡ Some (Writing false b all c) → m.histories ≡ by_block size zeros h → AreEntries size (length h) entered (m.entered a) → o + count ≤ size → b * size + o + count ≤ length h →
-    Wrote size (length h) a m (told m (records a (Some (writing b all c (write_each to b (rising o count) rest) answer)) gots)) (enter_each c (rising (b * size + o) count) (record { histories = h; entered = entered }))
-writes_told size to b all c a zero [] rest answer o m h entered w j here are l inside = record { histories = here; entered = are; others = λ k n. refl; jobs = refl; asked = refl; finished = refl; floors = refl }
-writes_told size to b all c a zero (got ∷ gots) rest answer o m h entered w j here are l inside = absurd w
-writes_told size to b all c a (suc count) [] rest answer o m h entered w j here are l inside = absurd w
-writes_told size to b all c a (suc count) (Done ∷ gots) rest answer o m h entered w j here are l inside =
-    after_one size to b all c a o count Done m h entered j here are l inside _
-    (writes_told size to b all c a count gots rest answer (o + 1) (m1 size to b all c a o count Done m h entered j here are l inside) (e1 size to b all c a o count Done m h entered j here are l inside).histories (e1 size to b all c a o count Done m h entered j here are l inside).entered w
-    (job_then size to b all c a o count Done m h entered j here are l inside) (one size to b all c a o count Done m h entered j here are l inside).histories (entries_then size to b all c a o count Done m h entered j here are l inside) (omega (arith, l)) (room_then size to b all c a o count Done m h entered j here are l inside))
-writes_told size to b all c a (suc zero) (Fault choice ∷ []) rest answer o m h entered w j here are l inside =
-    let g = Fault choice in
-    after_one size to b all c a o zero g m h entered j here are l inside _
-    (writes_told size to b all c a zero [] rest answer (o + 1) (m1 size to b all c a o zero g m h entered j here are l inside) (e1 size to b all c a o zero g m h entered j here are l inside).histories (e1 size to b all c a o zero g m h entered j here are l inside).entered tt
-    (job_then size to b all c a o zero g m h entered j here are l inside) (one size to b all c a o zero g m h entered j here are l inside).histories (entries_then size to b all c a o zero g m h entered j here are l inside) (omega (arith, l)) (room_then size to b all c a o zero g m h entered j here are l inside))
-writes_told size to b all c a (suc zero) (Fault choice ∷ got ∷ gots) rest answer o m h entered w j here are l inside = absurd w.1
-writes_told size to b all c a (suc (suc count)) (Fault choice ∷ gots) rest answer o m h entered w j here are l inside =
-    let g = Fault choice in
-    let k = suc count in
-    let steps_are : steps_after_fault (Writing false b all c) choice.more (write_each to b (rising (o + 1) k) rest) ≡ write_each to b (rising (o + 1) k) (until_failed rest) = ap (λ (t : Bool). steps_after_fault (Writing false b all c) t (write_each to b (rising (o + 1) k) rest)) w.0 ∙ until_written to b (rising (o + 1) k) rest in
-    subst (λ (ws : List Want). Wrote size (length h) a m (told (note m (Step a (Write_at to b o) g)) (records a (Some (writing b all c ws Io)) gots)) (enter_each c (rising (b * size + o) (suc k)) (record { histories = h; entered = entered }))) (sym steps_are)
-    (after_one size to b all c a o k g m h entered j here are l inside _
-    (writes_told size to b all c a k gots (until_failed rest) Io (o + 1) (m1 size to b all c a o k g m h entered j here are l inside) (e1 size to b all c a o k g m h entered j here are l inside).histories (e1 size to b all c a o k g m h entered j here are l inside).entered w.1
-    (job_then size to b all c a o k g m h entered j here are l inside) (one size to b all c a o k g m h entered j here are l inside).histories (entries_then size to b all c a o k g m h entered j here are l inside) (omega (arith, l)) (room_then size to b all c a o k g m h entered j here are l inside)))
-writes_told size to b all c a (suc count) (got ∷ gots) rest answer o m h entered w j here are l inside = absurd w
+  where
+    each : (added_each m.histories b (rising o count) c ≡ by_block size zeros (enter_each c (rising (b * size + o) count) (record { histories = h; entered = entered })).histories)
+        × AreEntries size (length h) (enter_each c (rising (b * size + o) count) (record { histories = h; entered = entered })).entered (entered_each m.histories b (rising o count) c (m.entered a))
+    each = each_written size b c count o m.histories (m.entered a) h entered here are l inside

@@ -1,36 +1,32 @@
 -- The orders of the desk as they are in the abstract world, and when a migration of the run's actor is at the same there, under one of them.
-use Rattle.std.specs.Prelude.{◌==◌, ◌++◌, Bool, false, ◌≡◌, ◌⊎◌, ◌<◌, ◌+◌, ◌*◌, ◌%◌, ◌^◌, ℕ, true, List, [], ◌∷◌, Option, Some, None, Contains, length, slice_get}
+use Rattle.std.specs.Prelude.{◌==◌, ◌++◌, Bool, false, ◌≡◌, ◌⊎◌, ◌<◌, ◌^◌, ℕ, true, List, ◌∷◌, Option, Some, None, Contains, map, slice_get}
 use Rattle.wb_types.specs.declared.number.CBlock.{CBlock}
 use Rattle.wb_types.specs.declared.number.OBlock.{OBlock}
 use Rattle.wb_disk.specs.Device.{Content, History}
 use Rattle.wb_contents.specs.Volume.{Locations}
-use Rattle.wb_disk.specs.Extents.{GivesEach}
 use Rattle.wb_words.specs.SharedWords.{Words}
 use Rattle.wb_policy.specs.declared.order.Order.{Order}
 use Rattle.wb_policy.specs.declared.order.Order.TheVariants.{Promote, Replace, Demote, Clean}
 use Rattle.wb_tasks.specs.Tables.{BlockRange, Migrating, OnBlock}
 use Rattle.wb_tasks.specs.Plan.{Plan}
-use Rattle.wb_tasks.specs.Ready.{source_of}
 use Rattle.wb_tasks.specs.declared.step.Answer.{Answer}
-use Rattle.wb_tasks.specs.declared.step.DeviceStep.TheVariants.{Read, Write}
+use Rattle.wb_tasks.specs.declared.step.DeviceStep.TheVariants.{Write}
 use Rattle.wb_tasks.specs.declared.step.Migration.{Migration}
 use Rattle.wb_tasks.specs.declared.step.Migration.TheVariants.{Promote as PromoteInto, Demote as DemoteOne}
 use Rattle.wb_tasks.specs.declared.step.Want.{Want}
 use Rattle.wb_tasks.specs.declared.step.Want.TheVariants.{Device}
 use Rattle.wb_devices.specs.declared.devices.Devices.{Devices}
-use Rattle.wb_devices.specs.Moving.{device_in}
 use Rattle.wb_link.specs.Tables.{Order as AbstractOrder}
 use Rattle.wb_link.specs.World.{Actor as AbstractActor}
-use Rattle.wb_refines.specs.Data.{row}
-use Rattle.wb_refines.specs.Translation.{location_at}
+use Rattle.wb_refines.specs.Translation.{offsets_in}
 use Rattle.wb_refines.specs.Models.{HasStopped, plan_of}
-use Rattle.wb_refines.specs.Migrations.{order_on, source, Fills}
+use Rattle.wb_refines.specs.Migrations.{order_on, Fills}
 use Rattle.wb_refines.specs.Carried.{IsMigrationAt}
 use Rattle.wb_runs.specs.States.{Actor}
 use Rattle.wb_runs.specs.Happenings.{order_for}
 use Rattle.wb_simulation.specs.Actors.{IsLate}
-use Rattle.wb_simulation.specs.Steps.{IsPart, AreOfBlock, ArePaired, IsTail}
 use Rattle.wb_simulation.specs.Telling.{IsMigrating}
+use Rattle.wb_simulation.specs.Steps.{IsPart, AreOfBlock, ArePaired, IsTail}
 
 -- the block stands on this cache block
 abbrev pub is_at : Option ℕ → ℕ → Bool
@@ -76,22 +72,10 @@ IsOf orders own p = (order : Order) × (slice_get orders p.cache ≡ Some (Some 
 abbrev pub IsUnder : Option (Option Order) → Order → AbstractOrder → Option AbstractOrder → List Order → List Want → Type 0
 IsUnder live order own kept orders steps = ((live ≡ Some (Some order)) × (kept ≡ Some own) × Contains orders order) ⊎ IsTail steps
 
--- Where an extent is written next, this is what its source has now, from that row on.
-abbrev pub HasRead : ℕ → List History → ℕ → List Want → List Content → Type 0
-HasRead size list at (Device (Write device e) ∷ later) buffer = (length buffer ≡ e.count) × GivesEach list (at * size + e.first % size) buffer
-HasRead size list at steps buffer = Unit {0}
-
--- where a migration's sectors are written
-abbrev pub target : AbstractOrder → Migration → Option ℕ
-target order (PromoteInto c) = Some order.cache
-target order migration = None
-
--- what is still to be read and written is at these places
-abbrev pub AreCopiedAt : ℕ → (from to : Option ℕ) → List Want → Type 0
-AreCopiedAt size from to [] = Unit {0}
-AreCopiedAt size from to (Device (Read device e) ∷ later) = (location_at size device e ≡ from) × AreCopiedAt size from to later
-AreCopiedAt size from to (Device (Write device e) ∷ later) = (location_at size device e ≡ to) × AreCopiedAt size from to later
-AreCopiedAt size from to (next ∷ later) = AreCopiedAt size from to later
+-- Where an extent is written next, the actor there has read the same.
+abbrev pub HasRead : ℕ → List Want → List Content → (ℕ → Content) → Type 0
+HasRead size (Device (Write device e) ∷ later) buffer there = buffer ≡ map there (offsets_in size e)
+HasRead size steps buffer there = Unit {0}
 
 -- These steps of a migration are left there too, under the same order, with what the actor's card counts.
 pub record IsCarried (size : ℕ) (orders : List (Option Order)) (devices : Devices (List History)) (migration : Migration) (block : OBlock) (part : BlockRange) (steps : List Want) (answer : Answer) (x : Actor) (y : AbstractActor) : Type 0 where
@@ -108,8 +92,7 @@ pub record IsCarried (size : ℕ) (orders : List (Option Order)) (devices : Devi
   pub kept : Option AbstractOrder
   pub has : IsUnder (slice_get orders c.0) order (order_on part c next) kept x.orders steps
   pub at : IsMigrationAt part c next migration kept (plan_of (Migrating migration part) steps answer) x.card y
-  pub copies : AreCopiedAt size (source (order_on part c next) migration) (target (order_on part c next) migration) steps
-  pub buffer : HasRead size (device_in (source_of migration) devices) (row (source (order_on part c next) migration) part.block.0) steps x.buffer
+  pub read : HasRead size steps x.buffer y.buffer
 
 -- it has kept what it has at a failure, and has only to answer
 abbrev pub HasEnded : Words → Plan → Actor → AbstractActor → Type 0

@@ -42,8 +42,8 @@ pub record NotesFollowed : Type 0 where
   pub write : (block offset count : ℕ) (content : Content) → Kept (Writes block offset count content) (λ size n a y Then. (doing : Doing) → slice_get n.doings a ≡ Some (Some doing) → offset + count ≤ size → block * size + offset + count ≤ length n.histories →
       Then (write_note n a doing (enter_each content (rising (block * size + offset) count) (entering n doing))))
   -- what a write entered is finished when it is answered done, and what was finished when a flush began is durable then
-  pub read_answered : (block : ℕ) (os : List ℕ) → Kept (Answers (Reading false block os) Finished) (λ size n a y Then. Then (put n a None))
-  pub write_answered : (block : ℕ) (os : List ℕ) (content : Content) → Kept (Answers (Writing false block os content) Finished) (λ size n a y Then. (doing : Doing) → slice_get n.doings a ≡ Some (Some doing) → Then (put (record n { finished = all_raised n.finished doing.entered }) a None))
+  pub read_answered : (block : ℕ) (os : List (List ℕ)) → Kept (Answers (Reading false block os) Finished) (λ size n a y Then. Then (put n a None))
+  pub write_answered : (block : ℕ) (os : List (List ℕ)) (content : Content) → Kept (Answers (Writing false block os content) Finished) (λ size n a y Then. (doing : Doing) → slice_get n.doings a ≡ Some (Some doing) → Then (put (record n { finished = all_raised n.finished doing.entered }) a None))
   pub flush_answered : Kept (Answers (Flushing None) Finished) (λ size n a y Then. (doing : Doing) → slice_get n.doings a ≡ Some (Some doing) → length doing.then_finished ≡ length n.floors → Then (put (record n { floors = greater_of n.floors doing.then_finished }) a None))
   pub refused : (job : AbstractJob) (refusal : Refusal) → Kept (Answers job (Refuses refusal)) (λ size n a y Then. Then (put n a None))
   -- who starts, or starts late, is noted to have entered nothing

@@ -1,17 +1,16 @@
 -- What the abstract world's clerk is told, who sees the records of one actor.
-use Rattle.std.specs.Prelude.{false, true, ◌≡◌, ◌≢◌, ℕ, zero, suc, List, [], ◌∷◌, Option, Some, None, length, map}
+use Rattle.std.specs.Prelude.{false, true, ◌≡◌, ◌≢◌, ℕ, List, [], ◌∷◌, Option, Some, None, length, map}
 use Rattle.wb_types.specs.Extents.{rising}
 use Rattle.wb_disk.specs.Device.{Content}
-use Rattle.wb_words.specs.SharedWords.{flag}
 use Rattle.wb_tasks.specs.declared.step.Answer.{Answer}
 use Rattle.wb_tasks.specs.declared.step.Answer.TheVariants.{Done as Finished, Refused as Refuses}
-use Rattle.wb_link.specs.Tables.{Script, Flag, table, Job, Reading, Writing, Promoting, Returning, Want, Write_at, End, Got, Gave, Done, Fault, Finished as AnsweredDone, Answer as AbstractAnswer, want, read_each, write_each}
+use Rattle.wb_link.specs.Tables.{Script, Flag, table, Job, Reading, Writing, Promoting, Returning, Want, Read_all, Write_all, End, Got, Gave, Done, Finished as AnsweredDone, Answer as AbstractAnswer, want}
 use Rattle.wb_link.specs.World.{Release, Record, Start, Again, task_after}
 use Rattle.wb_refines.specs.Going.{records}
 
 -- A step of which nothing is noted: no write, and no answer.
 abbrev pub IsUnnoted : Want → Type 0
-IsUnnoted (Write_at location block offset) = ⊥
+IsUnnoted (Write_all location block os) = ⊥
 IsUnnoted (End answer) = ⊥
 IsUnnoted next = Unit {0}
 
@@ -21,18 +20,11 @@ AreUnnoted None gots = Unit {0}
 AreUnnoted (Some script) [] = Unit {0}
 AreUnnoted (Some script) (got ∷ gots) = IsUnnoted (want script) × AreUnnoted (task_after script (want script) got) gots
 
--- So many sectors are written, each done or failing; one that fails goes on with the next.
-abbrev pub AreWrites : ℕ → List Got → Type 0
-AreWrites zero [] = Unit {0}
-AreWrites (suc count) (Done ∷ gots) = AreWrites count gots
-AreWrites (suc count) (Fault choice ∷ gots) = (choice.more ≡ flag count) × AreWrites count gots
-AreWrites count gots = ⊥
-
 -- a job of one block
-abbrev pub reading : ℕ → List ℕ → List Want → AbstractAnswer → Script
+abbrev pub reading : ℕ → List (List ℕ) → List Want → AbstractAnswer → Script
 reading block all steps answer = record { job = Reading false block all; steps = steps; answer = answer }
 
-abbrev pub writing : ℕ → List ℕ → Content → List Want → AbstractAnswer → Script
+abbrev pub writing : ℕ → List (List ℕ) → Content → List Want → AbstractAnswer → Script
 writing block all content steps answer = record { job = Writing false block all content; steps = steps; answer = answer }
 
 -- a job of which nothing is noted: a migration writes nothing new, and its answer makes nothing finished or durable
@@ -66,25 +58,26 @@ pub data Telling : Type 0 where
   Rests : Telling
   Releases : Telling
 
--- the next steps of a read are these
+-- the next step of a read is this
 pub record IsReading (a block offset : ℕ) (contents : List Content) (task : Option Script) (told : List Record) : Type 0 where
   pub location : Option ℕ
-  pub all : List ℕ
+  pub all : List (List ℕ)
   pub rest : List Want
   pub answer : AbstractAnswer
-  pub at : task ≡ Some (reading block all (read_each location block (rising offset (length contents)) rest) answer)
-  pub told_is : told ≡ records a task (map Gave contents)
+  pub there : ℕ → Content
+  pub given : contents ≡ map there (rising offset (length contents))
+  pub at : task ≡ Some (reading block all (Read_all location block (rising offset (length contents)) ∷ rest) answer)
+  pub told_is : told ≡ records a task (Gave there ∷ [])
 
--- and those of a write
+-- and that of a write
 pub record IsWriting (a block offset count : ℕ) (content : Content) (task : Option Script) (told : List Record) : Type 0 where
   pub location : Option ℕ
-  pub all : List ℕ
+  pub all : List (List ℕ)
   pub rest : List Want
   pub answer : AbstractAnswer
-  pub results : List Got
-  pub are : AreWrites count results
-  pub at : task ≡ Some (writing block all content (write_each location block (rising offset count) rest) answer)
-  pub told_is : told ≡ records a task results
+  pub got : Got
+  pub at : task ≡ Some (writing block all content (Write_all location block (rising offset count) ∷ rest) answer)
+  pub told_is : told ≡ records a task (got ∷ [])
 
 -- nothing is left but the answer: this job is done there too, or some job is not; who is late has no task there
 abbrev pub AnswersSo : Job → Answer → Option Script → Type 0
