@@ -1,5 +1,5 @@
 -- Where a migration of the run is carried in the abstract world: whoever is past its look at the fail word, and has not only to answer.
-use Rattle.std.proofs.Common.{◌≡◌, ◌≢◌, ◌∙◌, ◌<◌, inl, inr, ℕ, Bool, List, [], ◌∷◌, Option, Some, sym, ap, subst, slice_get}
+use Rattle.std.proofs.Common.{◌≡◌, ◌∙◌, ◌<◌, inl, inr, ℕ, Bool, List, ◌∷◌, Option, Some, refl, sym, ap, subst, slice_get}
 use Rattle.std.proofs.lemmas.Option.{slice_get_within}
 use Rattle.wb_types.specs.declared.number.OBlock.{OBlock}
 use Rattle.wb_disk.specs.Device.{History}
@@ -10,20 +10,19 @@ use Rattle.wb_words.specs.declared.card.Hold.TheVariants.{Held}
 use Rattle.wb_words.specs.declared.step.CellStep.TheVariants.{Look}
 use Rattle.wb_policy.specs.declared.order.Order.{Order}
 use Rattle.wb_tasks.specs.Tables.{BlockRange, Migrating, OnBlock, TaskJob}
-use Rattle.wb_tasks.specs.Plan.{Plan, want, table}
+use Rattle.wb_tasks.specs.Plan.{Plan, want}
 use Rattle.wb_tasks.specs.Ready.{Has, Suits, SuitsJob, IsOwnStep}
 use Rattle.wb_tasks.proofs.Readiness.{is_own_step}
-use Rattle.wb_tasks.specs.declared.step.Answer.{Answer}
 use Rattle.wb_tasks.specs.declared.step.Migration.{Migration}
 use Rattle.wb_tasks.specs.declared.step.Want.{Want}
-use Rattle.wb_tasks.specs.declared.step.Want.TheVariants.{Cell, End}
+use Rattle.wb_tasks.specs.declared.step.Want.TheVariants.{Cell}
 use Rattle.wb_devices.specs.declared.devices.Devices.{Devices}
 use Rattle.wb_link.specs.World.{World}
 use Rattle.wb_runs.specs.declared.job.Job.TheVariants.{Migrate}
 use Rattle.wb_runs.specs.States.{Actor}
-use Rattle.wb_simulation.specs.Steps.{AreOfBlock, IsOutside}
+use Rattle.wb_simulation.specs.Steps.{AreOfBlock}
 use Rattle.wb_simulation.specs.Worlds.{Agrees}
-use Rattle.wb_simulation.proofs.Followed.{begins_by}
+use Rattle.wb_simulation.proofs.Followed.{begins_by, IsWithin, never_late, never_over}
 use Rattle.wb_headline.proofs.Showing.{there}
 
 module _ (size most blocks : ℕ) (words : Words) (committing : Bool) (orders : List (Option Order)) (devices : Devices (List History)) (actors : List Actor) (s : World) (g : Agrees size most words committing orders devices actors s)
@@ -36,9 +35,9 @@ module _ (size most blocks : ℕ) (words : Words) (committing : Bool) (orders : 
     pub block_is : part.block ≡ block
     pub of_block : AreOfBlock size part.block.0 plan.steps
 
-  module _ (next : Want) (e : next ≡ want plan) (not : (answer : Answer) → next ≢ End answer) (out : (ws : List Want) → IsOutside (next ∷ ws) → ⊥) where
+  module _ (next : Want) (e : next ≡ want plan) (within : IsWithin next) where
     abbrev first : (ws : List Want) × (plan.steps ≡ next ∷ ws)
-    first = begins_by plan next (sym e) not
+    first = begins_by plan next (sym e) (λ answer q. subst IsWithin q within)
 
     pub carried : Carried
     carried =
@@ -47,13 +46,7 @@ module _ (size most blocks : ℕ) (words : Words) (committing : Bool) (orders : 
         let d = g.orders_agree.carried a x y.0 migration block plan ex y.1 xt in
         elim d.at [
           | inl k ↦ record { kind = migration; part = d.part; job = d.job; block_is = k.block_is; of_block = k.of_block }
-          | inr o ↦ elim o [
-            | inl h ↦ absurd (let bad : [] ≡ next ∷ first.0 = sym h.is.over ∙ first.1 in cc)
-            | inr l ↦ elim l.at [
-              | inl t ↦ absurd (out [] (subst (λ (v : Want). IsOutside (v ∷ [])) (sym (e ∙ ap (λ (p : Plan). want p) (t ∙ ap (λ j. table j) d.job))) tt))
-              | inr n ↦ absurd (let bad : [] ≡ next ∷ first.0 = sym n.0 ∙ first.1 in cc)
-            ]
-          ]
+          | inr o ↦ absurd (elim o [ inl h ↦ never_over plan next (sym e) within h.0.over | inr l ↦ never_late words plan (OnBlock (Migrating migration d.part)) next y.0 d.job refl (sym e) within l ])
         ]
 
     -- so the step is one of its own
@@ -66,7 +59,7 @@ module _ (size most blocks : ℕ) (words : Words) (committing : Bool) (orders : 
 
   -- where it looks at its block's seal or number, it owns the block
   pub looks_seal : (b : OBlock) → Cell (Look (SealWord b)) ≡ want plan → x.card.hold ≡ Held Owned block
-  looks_seal b e = let c = carried (Cell (Look (SealWord b))) e (λ v q. absurd (cc)) (λ ws o. o) in (has (Cell (Look (SealWord b))) e (λ v q. absurd (cc)) (λ ws o. o)).0 ∙ ap (λ (k : OBlock). Held Owned k) c.block_is
+  looks_seal b e = let c = carried (Cell (Look (SealWord b))) e tt in (has (Cell (Look (SealWord b))) e tt).0 ∙ ap (λ (k : OBlock). Held Owned k) c.block_is
 
   pub looks_number : (b : OBlock) → Cell (Look (Number b)) ≡ want plan → x.card.hold ≡ Held Owned block
-  looks_number b e = let c = carried (Cell (Look (Number b))) e (λ v q. absurd (cc)) (λ ws o. o) in (has (Cell (Look (Number b))) e (λ v q. absurd (cc)) (λ ws o. o)).0 ∙ ap (λ (k : OBlock). Held Owned k) c.block_is
+  looks_number b e = let c = carried (Cell (Look (Number b))) e tt in (has (Cell (Look (Number b))) e tt).0 ∙ ap (λ (k : OBlock). Held Owned k) c.block_is

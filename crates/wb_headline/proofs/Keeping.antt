@@ -291,7 +291,7 @@ module _ (P A : Type 0) (shape : Shape) (images : Images) (t : Target P) (commit
           by_job Flush jt = (let r = doing Flush jt in absurd (own (Flushing r.serves (most P A shape)) (Cell (Seal b place dirty)) r.job is_seal))
           by_job (Open mode) jt = absurd (doing (Open mode) jt)
           by_job (Migrate m block) jt =
-              let c = carried (size P A shape) (most P A shape) shape.geometry.origin_blocks t.words t.desk.space.committing slots devices actors f.site.world f.phase.agrees a x m block plan ex jt suits (Cell (Seal b place dirty)) is_seal (λ v q. absurd (cc)) (λ ws o. o) in
+              let c = carried (size P A shape) (most P A shape) shape.geometry.origin_blocks t.words t.desk.space.committing slots devices actors f.site.world f.phase.agrees a x m block plan ex jt suits (Cell (Seal b place dirty)) is_seal tt in
               of_it c.part.block.0 c.of_block
           by_job (Replace old new) jt = absurd (doing (Replace old new) jt)
 

@@ -1,5 +1,5 @@
 -- Whatever comes of a promotion, a demotion or a write-back is followed: on the words, on a device, at the desk, and its answer.
-use Rattle.std.proofs.Common.{◌≡◌, ◌∙◌, ◌<◌, ◌≤◌, ◌+◌, ℕ, Bool, List, [], Option, Some, None, refl, sym, subst, length, slice_get, slice_set, ◌≢◌, if◌then◌else◌, false, inl, inr, true, ◌∷◌, ◌++◌, ap, arith, Contains}
+use Rattle.std.proofs.Common.{◌≡◌, ◌∙◌, ◌<◌, ◌≤◌, ◌+◌, ℕ, Bool, List, [], Option, Some, None, refl, sym, subst, length, slice_get, slice_set, ◌≢◌, if◌then◌else◌, false, inl, inr, true, ◌++◌, ap, arith, Contains}
 use Rattle.std.proofs.lemmas.List.{length-set}
 use Rattle.wb_types.specs.declared.extent.Extent.{Extent}
 use Rattle.wb_types.specs.declared.mode.Dev.{Dev}
@@ -74,7 +74,7 @@ use Rattle.wb_runs.specs.Headline.{place_of}
 use Rattle.wb_runs.specs.Inside.{StepInside}
 use Rattle.wb_runs.proofs.Desks.{mapped_stands, unmapped_stands, released_for}
 use Rattle.wb_runs.proofs.InsideRuns.{PlanInside, want_inside}
-use Rattle.wb_simulation.specs.Steps.{IsOutside}
+use Rattle.wb_simulation.proofs.Followed.{IsWithin}
 use Rattle.wb_simulation.proofs.Moving.{same_device}
 use Rattle.wb_simulation.proofs.Opening.{images_followed}
 use Rattle.wb_policy.specs.Law.{IsMappedAt}
@@ -220,8 +220,8 @@ module _ (P A : Type 0) (shape : Shape) (t : Target P) (commit : Option RunningC
   kept = b.goes.known.is.kept
 
   -- a step on a device or at the desk is a migration's own
-  own_step : (next : Want) → next ≡ want plan → ((answer : Answer) → next ≢ End answer) → ((ws : List Want) → IsOutside (next ∷ ws) → ⊥) → (m : Migration) × (part : BlockRange) × IsOwnStep (OnBlock (Migrating m part)) next
-  own_step next e not out = own (size P A shape) (most P A shape) shape.geometry.origin_blocks t.words t.desk.space.committing slots devices actors f.site.world agrees a x migration block plan ex xt suits next e not out
+  own_step : (next : Want) → next ≡ want plan → IsWithin next → (m : Migration) × (part : BlockRange) × IsOwnStep (OnBlock (Migrating m part)) next
+  own_step next e within = own (size P A shape) (most P A shape) shape.geometry.origin_blocks t.words t.desk.space.committing slots devices actors f.site.world agrees a x migration block plan ex xt suits next e within
 
   -- where it looks at a seal or a number, the seal tells where its order has the block
   sees : (step : CellStep) → Cell step ≡ want plan → SeesWhere t.words slots f.site.world.shared.mapping migration block step
@@ -370,7 +370,7 @@ module _ (P A : Type 0) (shape : Shape) (t : Target P) (commit : Option RunningC
   any_step (End answer) got read chosen e g = subst (λ (v : Got). To (End answer) v read chosen) (sym g.1) (subst (λ (c : Chosen P A). To (End answer) Done read c) (sym g.0.1)
       (answers P A shape b.goes.images t commit devices actors n b.goes.known f a x ex migration block plan xt suits doing noted job_is answer _ read e))
   any_step (Desk (Unmap bl)) got read chosen e g = subst (λ (v : Got). To (Desk (Unmap bl)) v read chosen) (sym g.1) (by_unmap bl read chosen e g.2)
-  any_step next got read chosen e g = absurd ((own_step next e (λ v q. absurd (cc)) (λ ws o. o)).2)
+  any_step next got read chosen e g = absurd ((own_step next e tt).2)
 
   room : (d : Dev) (ext : Extent) → HoldsBlocks d → StepInside shape (Device (WriteExtent d ext)) → ext.first + ext.count ≤ length (Rattle.wb_devices.specs.Moving.device_in d devices)
   room Cache ext h i = subst (λ (k : ℕ). ext.first + ext.count ≤ k) (sym b.inside.cache) i
@@ -387,5 +387,5 @@ module _ (P A : Type 0) (shape : Shape) (t : Target P) (commit : Option RunningC
       (read_fails P A shape b.goes.images t commit devices actors n b.goes.known f a x ex migration block plan xt suits doing noted job_is d ext read e))
   any_fault choice (Device (WriteExtent d ext)) read chosen e m g = subst (λ (c : Chosen P A). Fails choice (Device (WriteExtent d ext)) read c) (sym g.0)
       (write_fails P A shape b.goes.images t commit devices actors n b.goes.known f a x ex migration block plan xt suits doing noted job_is d ext read (lands d choice) g.1 e (room d ext g.1 (inside (Device (WriteExtent d ext)) e)))
-  any_fault choice (Device step) read chosen e m g = absurd ((own_step (Device step) e (λ v q. absurd (cc)) (λ ws o. o)).2)
+  any_fault choice (Device step) read chosen e m g = absurd ((own_step (Device step) e tt).2)
   any_fault choice next read chosen e m g = absurd m

@@ -8,7 +8,7 @@ use Rattle.wb_disk.specs.Device.{Content}
 use Rattle.wb_words.specs.declared.word.Word.TheVariants.{Fail}
 use Rattle.wb_words.specs.declared.step.CellStep.TheVariants.{Look, SetFailed}
 use Rattle.wb_words.specs.SharedWords.{flag}
-use Rattle.wb_tasks.specs.Plan.{Plan, after, node_writes, root_steps}
+use Rattle.wb_tasks.specs.Plan.{Plan, after, node_writes, root_steps, release_orders}
 use Rattle.wb_tasks.specs.declared.step.Answer.{Answer}
 use Rattle.wb_tasks.specs.declared.step.Answer.TheVariants.{Refused as Refuses}
 use Rattle.wb_tasks.specs.declared.step.DeviceStep.{DeviceStep}
@@ -23,7 +23,6 @@ use Rattle.wb_refines.specs.Translation.{wants_of, answer_for}
 use Rattle.wb_refines.specs.Going.{AreQuiet, shared_after, gone}
 use Rattle.wb_refines.specs.Flushes.{flushing, Leads, IsOnMetadata, IsNoBegin, IsWrittenAfter, FlushStepsFollowed}
 use Rattle.wb_types.specs.declared.number.OBlock.{OBlock}
-use Rattle.wb_tasks.specs.Plan.{release_orders}
 use Rattle.wb_refines.proofs.Cells.{flag_of}
 
 -- nodes are nothing in the abstract world

@@ -8,7 +8,6 @@ pub mod Extents
 pub mod Moving
 pub mod Flushing
 pub mod Tasks
-pub mod Openings
 pub mod Migrating
 pub mod Carrying
-pub mod Carried
+pub mod Roles

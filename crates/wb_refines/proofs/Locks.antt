@@ -1,6 +1,7 @@
 -- What the rule of the shared words tells of abstract actors: who has a block by its card wins it there.
 use Rattle.std.proofs.Common.{◌≡◌, ◌≢◌, ◌<◌, ◌≤◌, ◌+◌, ◌∙◌, ◌⊎◌, inl, inr, ℕ, zero, suc, List, [], ◌∷◌, Some, refl, sym, ap, arith, slice_get}
 use Rattle.wb_types.specs.declared.number.OBlock.{OBlock}
+use Rattle.wb_words.specs.declared.word.Access.{Access}
 use Rattle.wb_words.specs.declared.word.Access.TheVariants.{Shared as Sharing, Owned}
 use Rattle.wb_words.specs.declared.card.Hold.{Hold}
 use Rattle.wb_words.specs.declared.card.Hold.TheVariants.{Held as HoldsBlock}
@@ -9,11 +10,12 @@ use Rattle.wb_words.specs.SharedWords.{Words}
 use Rattle.wb_words.specs.Cards.{total, owns, shares, owners, sharers}
 use Rattle.wb_words.specs.Rule.{LockRule}
 use Rattle.wb_words.proofs.Totals.{total_at, at_slice}
-use Rattle.wb_link.specs.Tables.{Share, Own, Done}
+use Rattle.wb_link.specs.Tables.{Done}
 use Rattle.wb_link.specs.World.{Nothing, Shares, Owns, Actor}
 use Rattle.wb_refines.proofs.Holding.{is_one, owns_there, shares_there}
 use Rattle.wb_refines.specs.Going.{WinsBeside}
 use Rattle.wb_refines.specs.Models.{BelowBeside, IsBelow, held_of, held_for}
+use Rattle.wb_refines.specs.Roles.{claim}
 use Rattle.wb_refines.specs.Laws.{HasNoMore}
 use Rattle.wb_words.specs.declared.word.Word.TheVariants.{Seal as SealWord, Number}
 use Rattle.wb_words.specs.declared.step.CellStep.TheVariants.{Look}
@@ -28,36 +30,34 @@ total_two f (z ∷ xs) zero (suc j) x y n e g = let same : z ≡ x = cc in let i
 total_two f (z ∷ xs) (suc i) zero x y n e g = let same : z ≡ y = cc in let is : f z ≡ f y = ap f same in let l = total_at f xs i x (at_slice xs i x e) in omega (arith, is, l)
 total_two f (z ∷ xs) (suc i) (suc j) x y n e g = let l = total_two f xs i j x y (λ s. n (ap suc s)) e g in omega (arith, l)
 
-module _ (blocks : ℕ) (words : Words) (cards : List Card) (actors : List Actor) (there a : ℕ) (card : Card) (block : OBlock) (rule : LockRule blocks words cards) (inside : block.0 < blocks) (here : slice_get cards a ≡ Some card) (below : BelowBeside actors cards there a) where
-  pub share_wins : card.hold ≡ HoldsBlock Sharing block → WinsBeside actors there Nothing (Share block.0) Done
-  share_wins h = (
+module _ (blocks : ℕ) (words : Words) (cards : List Card) (actors : List Actor) (a : ℕ) (card : Card) (block : OBlock) (rule : LockRule blocks words cards) (inside : block.0 < blocks) (here : slice_get cards a ≡ Some card) (below : BelowBeside actors cards a) where
+  pub wins : (access : Access) → card.hold ≡ HoldsBlock access block → WinsBeside actors a Nothing (claim access block) Done
+  wins Sharing h = (
     refl,
     λ c x n g k.
         let other = below c x n g (λ e. let bad : Nothing ≡ Owns block.0 = sym e ∙ k in absurd (cc)) in
         let lock = rule.cells block.0 inside in
         let mine : sharers block.0 card ≡ 1 = ap (λ (v : Hold). shares block.0 v) h ∙ is_one block in
         let l = total_at (sharers block.0) cards a card (at_slice cards a card here) in
-        let m = total_at (owners block.0) cards other.0 other.1 (at_slice cards other.0 other.1 other.3) in
-        let o = other.4.owned block.0 k in
+        let m = total_at (owners block.0) cards c other.0 (at_slice cards c other.0 other.1) in
+        let o = other.2.owned block.0 k in
         let none = lock.apart (omega (arith, m, o)) in
         omega (arith, mine, l, none),
   )
-
-  pub own_wins : card.hold ≡ HoldsBlock Owned block → WinsBeside actors there Nothing (Own block.0) Done
-  own_wins h = (
+  wins Owned h = (
     refl,
     λ c x n g.
         let lock = rule.cells block.0 inside in
         let mine : owns block.0 card.hold ≡ 1 = ap (λ (v : Hold). owns block.0 v) h ∙ is_one block in
         let l = total_at (owners block.0) cards a card (at_slice cards a card here) in (
           λ k. let other = below c x n g (λ e. let bad : Nothing ≡ Owns block.0 = sym e ∙ k in absurd (cc)) in
-              let two = total_two (owners block.0) cards a other.0 card other.1 (λ s. other.2 (sym s)) here other.3 in
-              let o = other.4.owned block.0 k in
+              let two = total_two (owners block.0) cards a c card other.0 (λ s. n (sym s)) here other.1 in
+              let o = other.2.owned block.0 k in
               let one = lock.one in
               omega (arith, mine, two, o, one),
           λ k. let other = below c x n g (λ e. let bad : Nothing ≡ Shares block.0 = sym e ∙ k in absurd (cc)) in
-              let m = total_at (sharers block.0) cards other.0 other.1 (at_slice cards other.0 other.1 other.3) in
-              let o = other.4.shared block.0 k in
+              let m = total_at (sharers block.0) cards c other.0 (at_slice cards c other.0 other.1) in
+              let o = other.2.shared block.0 k in
               let none = lock.apart (omega (arith, mine, l)) in
               omega (arith, m, o, none),
         ),

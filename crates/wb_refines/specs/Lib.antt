@@ -1,11 +1,11 @@
 pub mod Translation
 pub mod Going
 pub mod Models
+pub mod Roles
 pub mod Data
 pub mod Laws
 pub mod Flushes
 pub mod Tasks
-pub mod Openings
 pub mod Migrations
 pub mod Copies
 pub mod Carrying

@@ -19,11 +19,9 @@ use Rattle.wb_tasks.specs.declared.step.Answer.{Answer}
 use Rattle.wb_tasks.specs.declared.step.Want.{Want}
 use Rattle.wb_tasks.specs.declared.step.Want.TheVariants.{Cell}
 use Rattle.wb_tasks.specs.declared.step.Answer.TheVariants.{Done as Finished, Refused as Refuses}
-use Rattle.wb_link.specs.Tables.{Seal, Script, Got, Finished as AnsweredDone}
-use Rattle.wb_link.specs.World.{job_alone}
-use Rattle.wb_link.specs.World.{Shared, Held, Nothing, Shares, Owns, Actor}
+use Rattle.wb_link.specs.Tables.{Seal, Script, Finished as AnsweredDone}
+use Rattle.wb_link.specs.World.{job_alone, Shared, Held, Nothing, Shares, Owns, Actor}
 use Rattle.wb_refines.specs.Translation.{number_of, script_for}
-use Rattle.wb_refines.specs.Going.{AreQuiet, shared_after, gone, MayGo}
 
 -- a read or a write
 abbrev pub IsRequest : BlockJob → Type 0
@@ -94,7 +92,6 @@ pub record HasStopped (words : Words) (plan : Plan) (card : Card) (y : Actor) : 
   pub nothing : script.steps ≡ []
   pub undone : script.answer ≢ AnsweredDone
   pub among_others : job_alone script.job ≡ false
-  pub order : y.order ≡ None
   pub leads : y.leads ≡ false
   pub below : IsBelow y card
   pub free : IsFree words plan.steps y
@@ -121,26 +118,11 @@ pub record SameElse (s t : Shared) : Type 0 where
   pub cache : t.cache ≡ s.cache
   pub images : SameImages s t
 
--- What an actor did on the words, which are these now, the abstract actor can do too, and both are at the same then.
-pub record Follows (size : ℕ) (content : Content) (actors : List Actor) (a : ℕ) (s : Shared) (y : Actor) (words : Words) (plan : Plan) (card : Card) : Type 0 where
-  pub results : List Got
-  pub may : MayGo actors a s y y.task results
-  pub quiet : AreQuiet y.task results
-  pub words_agree : WordsAgree words (shared_after s y y.task results)
-  pub same : SameElse s (shared_after s y y.task results)
-  pub at : IsAt size content plan card (gone y y.task results) ⊎ HasStopped words plan card (gone y y.task results)
-
--- Whoever holds a block there beside the actor at one place has a card beside this one, which counts what it holds. An abstract actor need
--- not stand where its card does: one card may be that of several, of which one at most holds a block.
-abbrev pub BelowBeside : List Actor → List Card → (there a : ℕ) → Type 0
-BelowBeside actors cards there a = (c : ℕ) (y : Actor) → c ≢ there → slice_get actors c ≡ Some y → y.held ≢ Nothing → (b : ℕ) × (card : Card) × (b ≢ a) × (slice_get cards b ≡ Some card) × IsBelow y card
+-- Whoever holds a block there beside this actor has a card that counts what it holds.
+abbrev pub BelowBeside : List Actor → List Card → ℕ → Type 0
+BelowBeside actors cards a = (b : ℕ) (y : Actor) → b ≢ a → slice_get actors b ≡ Some y → y.held ≢ Nothing → (card : Card) × (slice_get cards b ≡ Some card) × IsBelow y card
 
 -- a seal that is stored tells the place that it was made of
 abbrev pub TellsPlace : CellStep → Type 0
 TellsPlace (SealBlock block place dirty) = place_in (seal_word place dirty) ≡ place
 TellsPlace step = Unit {0}
-
--- That holds where a step looks at a number: there the block is taken.
-abbrev pub TakesBeside : CellStep → List Actor → List Card → (there a : ℕ) → Type 0
-TakesBeside (Look (Number block)) actors cards there a = BelowBeside actors cards there a
-TakesBeside step actors cards there a = Unit {0}

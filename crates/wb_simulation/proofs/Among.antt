@@ -1,7 +1,7 @@
 -- One actor goes on, and all others are as they were.
-use Rattle.std.proofs.Common.{Contains, ◌<◌, zero, suc, [], ◌∷◌, bit_or, ◌≡◌, ◌+◌, ◌==◌, ◌∙◌, inl, inr, cond, if◌then◌else◌, ℕ, Bool, true, false, List, Option, Some, refl, sym, ap, subst, arith, length, slice_get, slice_set}
-use Rattle.std.proofs.lemmas.Bool.{cases_eq}
+use Rattle.std.proofs.Common.{Contains, ◌≢◌, ◌<◌, zero, suc, [], ◌∷◌, bit_or, ◌≡◌, ◌+◌, ◌==◌, ◌∙◌, inl, inr, cond, if◌then◌else◌, ℕ, Bool, true, false, List, Option, Some, refl, sym, ap, subst, arith, length, slice_get, slice_set}
 use Rattle.std.proofs.lemmas.List.{length-set}
+use Rattle.std.proofs.lemmas.Option.{slice_get_within}
 use Rattle.wb_disk.specs.Device.{History}
 use Rattle.wb_contents.specs.Devices.{by_block}
 use Rattle.wb_words.specs.declared.word.Word.TheVariants.{Number}
@@ -12,22 +12,24 @@ use Rattle.wb_words.specs.declared.step.CellStep.{CellStep}
 use Rattle.wb_words.specs.declared.step.CellStep.TheVariants.{Look, Take, Count, SetFailed, SetSuspended}
 use Rattle.wb_policy.specs.declared.order.Order.{Order}
 use Rattle.wb_devices.specs.declared.devices.Devices.{Devices}
-use Rattle.wb_link.specs.Tables.{Got}
-use Rattle.wb_link.specs.World.{World, Shared, Actor as AbstractActor, is_alone}
-use Rattle.wb_link.proofs.Lists.{get_set_same, get_set_other}
+use Rattle.wb_types.specs.declared.number.OBlock.{OBlock}
+use Rattle.wb_words.specs.declared.card.Card.{Card}
+use Rattle.wb_link.specs.Tables.{Order as AbstractOrder, Got}
+use Rattle.wb_link.specs.World.{World, Shared, Record, IsRun, Actor as AbstractActor, is_alone, after_all}
 use Rattle.wb_refines.specs.Going.{records, shared_after, gone, MayGo}
-use Rattle.wb_refines.specs.Models.{TakesBeside, WordsAgree, BelowBeside}
+use Rattle.wb_refines.specs.Models.{WordsAgree}
+use Rattle.wb_refines.specs.Roles.{Role, TakesBeside}
 use Rattle.wb_refines.proofs.Cells.{failed_flag}
 use Rattle.wb_refines.proofs.Going.{goes, with_own}
 use Rattle.wb_runs.specs.States.{Actor}
 use Rattle.wb_runs.specs.Holding.{cards_of}
 use Rattle.wb_simulation.specs.Actors.{StandsFor}
-use Rattle.wb_simulation.specs.Telling.{Telling, IsTold}
+use Rattle.wb_simulation.specs.Telling.{Telling, Quietly, IsTold}
 use Rattle.wb_simulation.specs.Carried.{held}
 use Rattle.wb_simulation.specs.Worlds.{zeros, Agrees, OrdersAgree, Turn, Stays, TurnedTo, DeskTurnedTo, FollowsBy, Follows, IsUnfinished}
-use Rattle.wb_simulation.proofs.Cells.{shared_stays, gone_nowhere}
+use Rattle.wb_simulation.proofs.Cells.{Leading, shared_stays, gone_nowhere}
 use Rattle.wb_simulation.proofs.Kept.{stands_on}
-use Rattle.wb_simulation.proofs.Orders.{by_pair, CarriesOthers, IsDone, orders_on, carries_same}
+use Rattle.wb_simulation.proofs.Orders.{who, by_pair, CarriesOthers, IsDone, IsNoMigration, does_none, orders_on, carries_same}
 
 -- the failed bit is never cleared
 pub failed_stays : (words : Words) (step : CellStep) (failures suspensions : ℕ) → words.fail ≡ fail_word failures suspensions → flag words.fail ≡ true → flag (words_after words step).fail ≡ true
@@ -52,11 +54,6 @@ failed_stays words step f z e t = t
 
 -- ---- who is there
 
-pub is_inside : {X : Type 0} (xs : List X) (i : ℕ) (x : X) → slice_get xs i ≡ Some x → i < length xs
-is_inside [] i x e = absurd (cc)
-is_inside (y ∷ ys) zero x e = omega arith
-is_inside (y ∷ ys) (suc i) x e = let l = is_inside ys i x e in omega (arith, l)
-
 pub there_is : {X : Type 0} (xs : List X) (i : ℕ) → i < length xs → (x : X) × (slice_get xs i ≡ Some x)
 there_is [] i l = absurd (omega (arith, l))
 there_is (x ∷ xs) zero l = (x, refl)
@@ -70,104 +67,110 @@ card_there (z ∷ xs) (suc a) x e = card_there xs a x e
 module _ (size most : ℕ) (words : Words) (committing : Bool) (orders : List (Option Order)) (devices : Devices (List History)) (actors : List Actor) (s : World) (g : Agrees size most words committing orders devices actors s) where
   -- each of the run's actors is there, and nobody else
   pub own_there : (a : ℕ) (x : Actor) → slice_get actors a ≡ Some x → (y : AbstractActor) × (slice_get s.actors a ≡ Some y)
-  own_there a x e = there_is s.actors a (let l = is_inside actors a x e in let many = g.many in omega (arith, l, many))
+  own_there a x e = there_is s.actors a (let l = slice_get_within actors a x e in let many = g.many in omega (arith, l, many))
 
   pub whose : (b : ℕ) (y : AbstractActor) → slice_get s.actors b ≡ Some y → (x : Actor) × (slice_get actors b ≡ Some x)
-  whose b y e = there_is actors b (let l = is_inside s.actors b y e in let many = g.many in omega (arith, l, many))
+  whose b y e = there_is actors b (let l = slice_get_within s.actors b y e in let many = g.many in omega (arith, l, many))
 
   pub nobody_alone : (b : ℕ) (z : AbstractActor) → slice_get s.actors b ≡ Some z → is_alone z.task ≡ false
   nobody_alone b z e = let x = whose b z e in (g.each b x.0 z x.1 e).among_others
 
-  -- whoever holds a block beside this one has a card that counts it
-  below_beside : (a : ℕ) → BelowBeside s.actors (cards_of actors) a a
-  below_beside a b y n e held = let x = whose b y e in (b, x.0.card, n, card_there actors b x.0 x.1, (g.each b x.0 y x.1 e).below)
-
-  -- so where it takes its block, no other one counts on its card
-  pub takes : (a : ℕ) (step : CellStep) → TakesBeside step s.actors (cards_of actors) a a
-  takes a (Look (Number b)) = below_beside a
-  takes a step = tt
+  -- So where it takes its block, whoever holds one beside it has a card that counts it.
+  pub takes : (role : Role) (a : ℕ) (card : Card) (step : CellStep) → ((block : OBlock) → step ≡ Look (Number block) → (seal : ℕ) → card.seal ≡ Some seal → role.finds seal) → TakesBeside role step s.actors (cards_of actors) a card
+  takes role a card (Look (Number block)) finds = ((λ b y n e held. let x = whose b y e in (x.0.card, card_there actors b x.0 x.1, (g.each b x.0 y x.1 e).below)), finds block refl)
+  takes role a card step finds = tt
 
 -- ---- one goes on
 
 module _ (size most : ℕ) (words words' : Words) (up : flag words.fail ≡ true → flag words'.fail ≡ true) (committing : Bool) (orders : List (Option Order)) (devices : Devices (List History)) (actors : List Actor) (a : ℕ) (x x' : Actor) (s : World) (y : AbstractActor)
     (g : Agrees size most words committing orders devices actors s) (ex : slice_get actors a ≡ Some x) (ey : slice_get s.actors a ≡ Some y) where
-  pub each_on : (y' : AbstractActor) → StandsFor size most words' x' y' → (b : ℕ) (z : Actor) (v : AbstractActor) → slice_get (slice_set actors a x') b ≡ Some z → slice_get (slice_set s.actors a y') b ≡ Some v → StandsFor size most words' z v
-  each_on y' st = by_pair actors s.actors a x x' y y' ex ey (λ b z v. StandsFor size most words' z v) st (λ b z v n ez ev. stands_on size most words words' up v z (g.each b z v ez ev))
-
-  -- who leads a commit after it is as it was before, if the one that went on leads none unless it is as it was
-  old_lead : (y' : AbstractActor) → (y'.leads ≡ true → y' ≡ y) → (b : ℕ) (v : AbstractActor) → slice_get (slice_set s.actors a y') b ≡ Some v → v.leads ≡ true → slice_get s.actors b ≡ Some v
-  old_lead y' keeps b v ev l = elim (cases_eq b a) [
-    | inl e ↦
-        let there : Some y' ≡ Some v = sym (get_set_same s.actors a y y' ey) ∙ ap (λ k. slice_get (slice_set s.actors a y') k) (sym e) ∙ ev in
-        let same : y' ≡ v = cc in
-        ap (λ k. slice_get s.actors k) e ∙ ey ∙ ap (λ (q : AbstractActor). Some q) (sym (keeps (ap (λ (q : AbstractActor). q.leads) same ∙ l)) ∙ same)
-    | inr n ↦ sym (get_set_other s.actors a b y' n) ∙ ev
-  ]
-
-  -- it goes on by these results, which lead to this
-  pub goes_with : (turn : Turn) (telling : Telling) (committing' : Bool) (orders' : List (Option Order)) (devices' : Devices (List History)) (results : List Got) (t : Shared) → IsTold telling a y.task (records a y.task results) → MayGo s.actors a s.shared y y.task results → shared_after s.shared y y.task results ≡ t → StandsFor size most words' x' (gone y y.task results) → WordsAgree words' t →
-      t.origin ≡ by_block size zeros devices'.origin → t.cache ≡ by_block size zeros devices'.cache → t.mode ≡ s.shared.mode → t.committing ≡ committing' → (t.broken ≡ true → t.committing ≡ true) →
-      ((b : ℕ) (v : AbstractActor) → slice_get (slice_set s.actors a (gone y y.task results)) b ≡ Some v → v.leads ≡ true → t.committing ≡ true) →
-      ((b : ℕ) (v : AbstractActor) → slice_get (slice_set s.actors a (gone y y.task results)) b ≡ Some v → v.leads ≡ true → IsUnfinished v.task → t.broken ≡ false) →
-      ((b c : ℕ) (v u : AbstractActor) → slice_get (slice_set s.actors a (gone y y.task results)) b ≡ Some v → slice_get (slice_set s.actors a (gone y y.task results)) c ≡ Some u → v.leads ≡ true → u.leads ≡ true → b ≡ c) → TurnedTo turn s.shared t → DeskTurnedTo turn s.shared t →
-      OrdersAgree size words' orders' devices' (slice_set actors a x') (with_own s a t (gone y y.task results)) → FollowsBy turn telling size most a s words' committing' orders' devices' (slice_set actors a x')
-  goes_with turn telling committing' orders' devices' results t told may is st w o c m k b led whole one turned desk ordered =
-      let went = goes size results s a y y.task ey refl may in
-      record {
-        records = records a y.task results;
-        run = went.run;
-        agrees = subst (λ (v : World). Agrees size most words' committing' orders' devices' (slice_set actors a x') v) (sym went.is)
-            (subst (λ (v : Shared). Agrees size most words' committing' orders' devices' (slice_set actors a x') (with_own s a v (gone y y.task results))) (sym is) (record {
-              words_agree = w;
-              origin = o;
-              cache = c;
-              mode = m ∙ g.mode;
-              commits = k;
-              broken = b;
-              led = led;
-              whole = whole;
-              one_leads = one;
-              many = length-set s.actors a (gone y y.task results) ∙ g.many ∙ sym (length-set actors a x');
-              each = each_on (gone y y.task results) st;
-              orders_agree = ordered;
-            }));
-        turned = subst (λ (v : World). TurnedTo turn s.shared v.shared) (sym went.is) (subst (λ (v : Shared). TurnedTo turn s.shared v) (sym is) turned);
-        desk = subst (λ (v : World). DeskTurnedTo turn s.shared v.shared) (sym went.is) (subst (λ (v : Shared). DeskTurnedTo turn s.shared v) (sym is) desk);
-        told = λ z ez. let both : Some y ≡ Some z = sym ey ∙ ez in let same : y ≡ z = cc in subst (λ (v : AbstractActor). IsTold telling a v.task (records a y.task results)) same told;
-      }
-
-  -- its orders stay
-  pub goes_leading : (turn : Turn) (telling : Telling) (committing' : Bool) (devices' : Devices (List History)) (results : List Got) (t : Shared) → IsTold telling a y.task (records a y.task results) → MayGo s.actors a s.shared y y.task results → shared_after s.shared y y.task results ≡ t → StandsFor size most words' x' (gone y y.task results) → WordsAgree words' t →
-      t.origin ≡ by_block size zeros devices'.origin → t.cache ≡ by_block size zeros devices'.cache → t.mode ≡ s.shared.mode → t.committing ≡ committing' → (t.broken ≡ true → t.committing ≡ true) →
-      ((b : ℕ) (v : AbstractActor) → slice_get (slice_set s.actors a (gone y y.task results)) b ≡ Some v → v.leads ≡ true → t.committing ≡ true) →
-      ((b : ℕ) (v : AbstractActor) → slice_get (slice_set s.actors a (gone y y.task results)) b ≡ Some v → v.leads ≡ true → IsUnfinished v.task → t.broken ≡ false) →
-      ((b c : ℕ) (v u : AbstractActor) → slice_get (slice_set s.actors a (gone y y.task results)) b ≡ Some v → slice_get (slice_set s.actors a (gone y y.task results)) c ≡ Some u → v.leads ≡ true → u.leads ≡ true → b ≡ c) → TurnedTo turn s.shared t → DeskTurnedTo turn s.shared t →
-      (gone y y.task results).order ≡ y.order → ((o : Order) → Contains (held x) o → Contains (held x') o) → t.mapping ≡ s.shared.mapping → CarriesOthers size orders orders devices devices' actors s a → IsDone size words' orders devices' x' (gone y y.task results) → FollowsBy turn telling size most a s words' committing' orders devices' (slice_set actors a x')
-  goes_leading turn telling committing' devices' results t told may is st w o c m k b led whole one turned desk same own same_map carries its = goes_with turn telling committing' orders devices' results t told may is st w o c m k b led whole one turned desk
-      (orders_on size words words' up orders devices devices' actors a x x' s y (gone y y.task results) t ex ey g.orders_agree same own same_map carries its)
-
-  module _ (y' : AbstractActor) (keeps : y'.leads ≡ true → y' ≡ y) where
-    pub led_on : (t : Shared) → t.committing ≡ s.shared.committing → (b : ℕ) (v : AbstractActor) → slice_get (slice_set s.actors a y') b ≡ Some v → v.leads ≡ true → t.committing ≡ true
-    led_on t c b v ev l = c ∙ g.led b v (old_lead y' keeps b v ev l) l
-
-    pub whole_on : (t : Shared) → t.broken ≡ s.shared.broken → (b : ℕ) (v : AbstractActor) → slice_get (slice_set s.actors a y') b ≡ Some v → v.leads ≡ true → IsUnfinished v.task → t.broken ≡ false
-    whole_on t c b v ev l u = c ∙ g.whole b v (old_lead y' keeps b v ev l) l u
-
-    pub one_on : (b c : ℕ) (v u : AbstractActor) → slice_get (slice_set s.actors a y') b ≡ Some v → slice_get (slice_set s.actors a y') c ≡ Some u → v.leads ≡ true → u.leads ≡ true → b ≡ c
-    one_on b c v u ev eu l m = g.one_leads b c v u (old_lead y' keeps b v ev l) (old_lead y' keeps c u eu m) l m
+  -- The whole state agrees where this is shared and this is aside, and the actor is this one there.
+  module _ (committing' : Bool) (orders' : List (Option Order)) (devices' : Devices (List History)) (waiting : ℕ → Option AbstractOrder) (t : Shared) (y' : AbstractActor) (st : StandsFor size most words' x' y') (w : WordsAgree words' t) (o : t.origin ≡ by_block size zeros devices'.origin) (c : t.cache ≡ by_block size zeros devices'.cache) (m : t.mode ≡ s.shared.mode)
+      (ordered : OrdersAgree size words' orders' devices' (slice_set actors a x') (record { shared = t; actors = slice_set s.actors a y'; waiting = waiting })) where
+    agrees_with : t.committing ≡ committing' → (t.broken ≡ true → t.committing ≡ true) → ((b : ℕ) (v : AbstractActor) → slice_get (slice_set s.actors a y') b ≡ Some v → v.leads ≡ true → t.committing ≡ true) → ((b : ℕ) (v : AbstractActor) → slice_get (slice_set s.actors a y') b ≡ Some v → v.leads ≡ true → IsUnfinished v.task → t.broken ≡ false) →
+        ((b d : ℕ) (v u : AbstractActor) → slice_get (slice_set s.actors a y') b ≡ Some v → slice_get (slice_set s.actors a y') d ≡ Some u → v.leads ≡ true → u.leads ≡ true → b ≡ d) → Agrees size most words' committing' orders' devices' (slice_set actors a x') (record { shared = t; actors = slice_set s.actors a y'; waiting = waiting })
+    agrees_with k b led whole one = record {
+      words_agree = w;
+      origin = o;
+      cache = c;
+      mode = m ∙ g.mode;
+      commits = k;
+      broken = b;
+      led = led;
+      whole = whole;
+      one_leads = one;
+      many = length-set s.actors a y' ∙ g.many ∙ sym (length-set actors a x');
+      each = by_pair actors s.actors a x x' y y' ex ey (λ b z v. StandsFor size most words' z v) st (λ b z v n ez ev. stands_on size most words words' up v z (g.each b z v ez ev));
+      orders_agree = ordered;
+    }
 
   -- no commit begins, ends or is broken by it
-  pub goes_on : (telling : Telling) (devices' : Devices (List History)) (results : List Got) (t : Shared) → IsTold telling a y.task (records a y.task results) → MayGo s.actors a s.shared y y.task results → shared_after s.shared y y.task results ≡ t → StandsFor size most words' x' (gone y y.task results) → ((gone y y.task results).leads ≡ true → gone y y.task results ≡ y) → WordsAgree words' t →
+  pub agrees_on : (orders' : List (Option Order)) (devices' : Devices (List History)) (waiting : ℕ → Option AbstractOrder) (t : Shared) (y' : AbstractActor) → Leading y y' → StandsFor size most words' x' y' → WordsAgree words' t → t.origin ≡ by_block size zeros devices'.origin → t.cache ≡ by_block size zeros devices'.cache → t.mode ≡ s.shared.mode → t.committing ≡ s.shared.committing → t.broken ≡ s.shared.broken →
+      OrdersAgree size words' orders' devices' (slice_set actors a x') (record { shared = t; actors = slice_set s.actors a y'; waiting = waiting }) → Agrees size most words' committing orders' devices' (slice_set actors a x') (record { shared = t; actors = slice_set s.actors a y'; waiting = waiting })
+  agrees_on orders' devices' waiting t y' leading st w o c m k b ordered = agrees_with committing orders' devices' waiting t y' st w o c m ordered (k ∙ g.commits) (λ e. k ∙ g.broken (sym b ∙ e))
+      (λ d v ev l. let u = was d v ev l in k ∙ g.led d u.0 u.1 u.2.0) (λ d v ev l more. let u = was d v ev l in b ∙ g.whole d u.0 u.1 u.2.0 (u.2.1 more)) (λ d e v u ev eu l n. let p = was d v ev l in let q = was e u eu n in g.one_leads d e p.0 q.0 p.1 q.1 p.2.0 q.2.0)
+    where
+      was : (d : ℕ) (v : AbstractActor) → slice_get (slice_set s.actors a y') d ≡ Some v → v.leads ≡ true → (u : AbstractActor) × (slice_get s.actors d ≡ Some u) × ((u.leads ≡ true) × (IsUnfinished v.task → IsUnfinished u.task))
+      was d v ev l = elim (who s.actors a y y' ey d v ev) [ inl one ↦ (y, ap (slice_get s.actors) one.0 ∙ ey, subst (Leading y) one.1 leading l) | inr one ↦ (v, one.1, (l, λ more. more)) ]
+
+  -- the world goes on by these records, of which it is told, to where all agrees
+  pub follows_by : (turn : Turn) (telling : Telling) (committing' : Bool) (orders' : List (Option Order)) (devices' : Devices (List History)) (rs : List Record) (w : World) → IsRun size s rs → after_all s rs ≡ w → IsTold telling a y.task rs → Agrees size most words' committing' orders' devices' (slice_set actors a x') w → TurnedTo turn s.shared w.shared → DeskTurnedTo turn s.shared w.shared →
+      FollowsBy turn telling size most a s words' committing' orders' devices' (slice_set actors a x')
+  follows_by turn telling committing' orders' devices' rs w run is told agrees turned desk = record {
+    records = rs;
+    run = run;
+    agrees = subst (λ (v : World). Agrees size most words' committing' orders' devices' (slice_set actors a x') v) (sym is) agrees;
+    turned = subst (λ (v : World). TurnedTo turn s.shared v.shared) (sym is) turned;
+    desk = subst (λ (v : World). DeskTurnedTo turn s.shared v.shared) (sym is) desk;
+    told = λ z ez. let both : Some y ≡ Some z = sym ey ∙ ez in let same : y ≡ z = cc in subst (λ (v : AbstractActor). IsTold telling a v.task rs) same told;
+  }
+
+  -- it goes on by these results, which lead to this
+  goes_to : (turn : Turn) (telling : Telling) (committing' : Bool) (orders' : List (Option Order)) (devices' : Devices (List History)) (results : List Got) (t : Shared) → IsTold telling a y.task (records a y.task results) → MayGo s.actors a s.shared y y.task results → shared_after s.shared y y.task results ≡ t →
+      Agrees size most words' committing' orders' devices' (slice_set actors a x') (with_own s a t (gone y y.task results)) → TurnedTo turn s.shared t → DeskTurnedTo turn s.shared t → FollowsBy turn telling size most a s words' committing' orders' devices' (slice_set actors a x')
+  goes_to turn telling committing' orders' devices' results t told may is agrees turned desk =
+      let went = goes size results s a y y.task ey refl may in
+      follows_by turn telling committing' orders' devices' (records a y.task results) (with_own s a t (gone y y.task results)) went.run (went.is ∙ ap (λ (v : Shared). with_own s a v (gone y y.task results)) is) told agrees turned desk
+
+  pub goes_with : (turn : Turn) (telling : Telling) (orders' : List (Option Order)) (devices' : Devices (List History)) (results : List Got) (t : Shared) → IsTold telling a y.task (records a y.task results) → MayGo s.actors a s.shared y y.task results → shared_after s.shared y y.task results ≡ t → StandsFor size most words' x' (gone y y.task results) → Leading y (gone y y.task results) → WordsAgree words' t →
+      t.origin ≡ by_block size zeros devices'.origin → t.cache ≡ by_block size zeros devices'.cache → t.mode ≡ s.shared.mode → t.committing ≡ s.shared.committing → t.broken ≡ s.shared.broken → TurnedTo turn s.shared t → DeskTurnedTo turn s.shared t →
+      OrdersAgree size words' orders' devices' (slice_set actors a x') (with_own s a t (gone y y.task results)) → FollowsBy turn telling size most a s words' committing orders' devices' (slice_set actors a x')
+  goes_with turn telling orders' devices' results t told may is st leading w o c m k b turned desk ordered = goes_to turn telling committing orders' devices' results t told may is (agrees_on orders' devices' s.waiting t (gone y y.task results) leading st w o c m k b ordered) turned desk
+
+  -- its orders stay, and so do the desk's entries
+  pub goes_by : (turn : Turn) (telling : Telling) (devices' : Devices (List History)) (results : List Got) (t : Shared) → IsTold telling a y.task (records a y.task results) → MayGo s.actors a s.shared y y.task results → shared_after s.shared y y.task results ≡ t → StandsFor size most words' x' (gone y y.task results) → Leading y (gone y y.task results) → WordsAgree words' t →
+      t.origin ≡ by_block size zeros devices'.origin → t.cache ≡ by_block size zeros devices'.cache → t.mode ≡ s.shared.mode → t.committing ≡ s.shared.committing → t.broken ≡ s.shared.broken → TurnedTo turn s.shared t → DeskTurnedTo turn s.shared t →
+      (gone y y.task results).order ≡ y.order → ((o : Order) → Contains (held x) o → Contains (held x') o) → t.mapping ≡ s.shared.mapping → CarriesOthers size orders orders devices devices' actors s a → IsDone size words' orders devices' x' (gone y y.task results) → FollowsBy turn telling size most a s words' committing orders devices' (slice_set actors a x')
+  goes_by turn telling devices' results t told may is st leading w o c m k b turned desk same own same_map carries its = goes_with turn telling orders devices' results t told may is st leading w o c m k b turned desk
+      (orders_on size words words' up orders devices devices' actors a x x' s y (gone y y.task results) t ex ey g.orders_agree same own same_map carries its)
+
+  pub goes_on : (telling : Telling) (devices' : Devices (List History)) (results : List Got) (t : Shared) → IsTold telling a y.task (records a y.task results) → MayGo s.actors a s.shared y y.task results → shared_after s.shared y y.task results ≡ t → StandsFor size most words' x' (gone y y.task results) → Leading y (gone y y.task results) → WordsAgree words' t →
       t.origin ≡ by_block size zeros devices'.origin → t.cache ≡ by_block size zeros devices'.cache → t.mode ≡ s.shared.mode → t.committing ≡ s.shared.committing → t.broken ≡ s.shared.broken → TurnedTo Stays s.shared t → DeskTurnedTo Stays s.shared t →
       (gone y y.task results).order ≡ y.order → ((o : Order) → Contains (held x) o → Contains (held x') o) → CarriesOthers size orders orders devices devices' actors s a → IsDone size words' orders devices' x' (gone y y.task results) → Follows telling size most a s words' committing orders devices' (slice_set actors a x')
-  goes_on telling devices' results t told may is st keeps w o c m k b turned desk same own carries its = goes_leading Stays telling committing devices' results t told may is st w o c m (k ∙ g.commits) (λ e. k ∙ g.broken (sym b ∙ e))
-      (led_on (gone y y.task results) keeps t k) (whole_on (gone y y.task results) keeps t b) (one_on (gone y y.task results) keeps) turned desk same own desk.0 carries its
+  goes_on telling devices' results t told may is st leading w o c m k b turned desk same own carries its = goes_by Stays telling devices' results t told may is st leading w o c m k b turned desk same own desk.0 carries its
+
+  -- a commit of which it is told here begins, ends or is broken, and it alone leads one
+  pub goes_leading : (turn : Turn) (committing' : Bool) (results : List Got) (t : Shared) → IsTold Quietly a y.task (records a y.task results) → MayGo s.actors a s.shared y y.task results → shared_after s.shared y y.task results ≡ t → StandsFor size most words' x' (gone y y.task results) → WordsAgree words' t →
+      t.origin ≡ s.shared.origin → t.cache ≡ s.shared.cache → t.mode ≡ s.shared.mode → t.committing ≡ committing' → (t.broken ≡ true → t.committing ≡ true) → ((b : ℕ) (v : AbstractActor) → b ≢ a → slice_get s.actors b ≡ Some v → v.leads ≢ true) →
+      ((gone y y.task results).leads ≡ true → (t.committing ≡ true) × (IsUnfinished (gone y y.task results).task → t.broken ≡ false)) → TurnedTo turn s.shared t → DeskTurnedTo turn s.shared t → (gone y y.task results).order ≡ y.order → held x ≡ held x' → t.mapping ≡ s.shared.mapping → IsNoMigration x'.task →
+      FollowsBy turn Quietly size most a s words' committing' orders devices (slice_set actors a x')
+  goes_leading turn committing' results t told may is st w o c m k b others here turned desk same own same_map other = goes_to turn Quietly committing' orders devices results t told may is
+      (agrees_with committing' orders devices s.waiting t z st w (o ∙ g.origin) (c ∙ g.cache) m ordered k b (λ d v ev l. (this d v ev l).1.0) (λ d v ev l. (this d v ev l).1.1) (λ d e v u ev eu l n. (this d v ev l).0 ∙ sym (this e u eu n).0)) turned desk
+    where
+      z : AbstractActor
+      z = gone y y.task results
+
+      ordered : OrdersAgree size words' orders devices (slice_set actors a x') (with_own s a t z)
+      ordered = orders_on size words words' up orders devices devices actors a x x' s y z t ex ey g.orders_agree same (λ o h. subst (λ (os : List Order). Contains os o) own h) same_map (carries_same size orders devices actors s a) (does_none _ _ _ _ _ _ other)
+
+      this : (d : ℕ) (v : AbstractActor) → slice_get (slice_set s.actors a z) d ≡ Some v → v.leads ≡ true → (d ≡ a) × ((t.committing ≡ true) × (IsUnfinished v.task → t.broken ≡ false))
+      this d v ev l = elim (who s.actors a y z ey d v ev) [ inl one ↦ (one.0, subst (λ (u : AbstractActor). u.leads ≡ true → (t.committing ≡ true) × (IsUnfinished u.task → t.broken ≡ false)) one.1 here l) | inr one ↦ absurd (others d v one.0 one.1 l) ]
 
 -- one does nothing there
 module _ (size most : ℕ) (words : Words) (committing : Bool) (orders : List (Option Order)) (devices : Devices (List History)) (actors : List Actor) (a : ℕ) (x x' : Actor) (s : World) (y : AbstractActor) (g : Agrees size most words committing orders devices actors s) (ex : slice_get actors a ≡ Some x) (ey : slice_get s.actors a ≡ Some y) where
   pub stays_there : (telling : Telling) → IsTold telling a y.task (records a y.task []) → StandsFor size most words x' y → ((o : Order) → Contains (held x) o → Contains (held x') o) → IsDone size words orders devices x' y → Follows telling size most a s words committing orders devices (slice_set actors a x')
   stays_there telling told st own its = goes_on size most words words (λ f. f) committing orders devices actors a x x' s y g ex ey telling devices [] s.shared told tt (shared_stays s.shared y y.task)
-      (subst (λ (z : AbstractActor). StandsFor size most words x' z) (sym nowhere) st) (λ l. nowhere) g.words_agree g.origin g.cache refl refl refl (refl, refl, refl) (refl, refl) (ap (λ (v : AbstractActor). v.order) nowhere) own (carries_same size orders devices actors s a)
+      (subst (λ (z : AbstractActor). StandsFor size most words x' z) (sym nowhere) st) (subst (Leading y) (sym nowhere) (λ l. (l, λ more. more))) g.words_agree g.origin g.cache refl refl refl (refl, refl, refl) (refl, refl) (ap (λ (v : AbstractActor). v.order) nowhere) own (carries_same size orders devices actors s a)
       (subst (λ (z : AbstractActor). IsDone size words orders devices x' z) (sym nowhere) its)
     where
       nowhere : gone y y.task [] ≡ y

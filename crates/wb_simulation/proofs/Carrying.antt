@@ -16,7 +16,7 @@ use Rattle.wb_tasks.specs.declared.step.Want.{Want}
 use Rattle.wb_devices.specs.declared.devices.Devices.{Devices}
 use Rattle.wb_link.specs.Tables.{Script, Got, Order as AbstractOrder, Want as AbstractWant, End, after, want}
 use Rattle.wb_link.specs.World.{World, Shared, actor_after, task_after, is_alone, job_alone, Actor as AbstractActor}
-use Rattle.wb_refines.specs.Going.{shared_after, gone, MayGo}
+use Rattle.wb_refines.specs.Going.{shared_after, gone, MayGo, IsQuiet, AreQuiet}
 use Rattle.wb_refines.specs.Migrations.{order_on, job_under}
 use Rattle.wb_refines.specs.Models.{WordsAgree, SameImages, IsBelow}
 use Rattle.wb_refines.proofs.Going.{with_own}
@@ -30,7 +30,7 @@ use Rattle.wb_simulation.specs.Telling.{Carries, IsMigrating, IsNoEnd, AreCarrie
 use Rattle.wb_simulation.specs.Worlds.{zeros, Agrees, OrdersAgree, Turn, Stays, TurnedTo, DeskTurnedTo, FollowsBy}
 use Rattle.wb_simulation.proofs.Orders.{CarriesOthers, IsDone}
 use Rattle.wb_link.proofs.Actors.{job_on}
-use Rattle.wb_simulation.proofs.Among.{goes_on, goes_with, led_on, whole_on, one_on}
+use Rattle.wb_simulation.proofs.Among.{goes_on, goes_with}
 
 -- ---- what is told
 
@@ -52,6 +52,16 @@ going (got ∷ gots) y (Some script) h m = let r = by (want script) h (λ u i. g
     by (End answer) h rest = absurd h
     by next h rest = (tt, rest (actor_after y script next got) h)
 
+-- nor has one by steps that touch no device and answer nothing
+pub quiet_are_carried : (results : List Got) (task : Option Script) → IsMigratingOf task → AreQuiet task results → AreCarried task results
+quiet_are_carried results None m q = tt
+quiet_are_carried [] (Some script) m q = tt
+quiet_are_carried (got ∷ gots) (Some script) m q = let r = by (want script) q.0 q.1 (λ p. quiet_are_carried gots (Some (after script got)) (subst IsMigrating (sym (job_on script got)) m) p) in (m, r.0, r.1)
+  where
+    by : (next : AbstractWant) → IsQuiet next → AreQuiet (task_after script next got) gots → (AreQuiet (Some (after script got)) gots → AreCarried (Some (after script got)) gots) → IsNoEnd next × AreCarried (task_after script next got) gots
+    by (End answer) i q later = absurd i
+    by next i q later = (tt, later q)
+
 pub under_migrates : (order : AbstractOrder) (os : List (List ℕ)) (migration : Migration) → IsMigrating (job_under order os migration)
 under_migrates order os (Promote c) = tt
 under_migrates order os migration = tt
@@ -69,7 +79,7 @@ abbrev AtTask : (size : ℕ) → Words → List (Option Order) → Devices (List
 AtTask size words orders devices x y None = Unit {0}
 AtTask size words orders devices x y (Some doing) = At size words orders devices x y doing.0 doing.1
 
-at_it : (size : ℕ) (words : Words) (orders : List (Option Order)) (devices : Devices (List History)) (x : Actor) (y : AbstractActor) (migration : Migration) (block : OBlock) (plan : Plan) (m : Migration) (b : OBlock) (p : Plan) → IsAtMigration size words orders devices migration block plan x y →
+pub at_it : (size : ℕ) (words : Words) (orders : List (Option Order)) (devices : Devices (List History)) (x : Actor) (y : AbstractActor) (migration : Migration) (block : OBlock) (plan : Plan) (m : Migration) (b : OBlock) (p : Plan) → IsAtMigration size words orders devices migration block plan x y →
     ◌≡◌ {A = Option (Job × Plan)} (Some (Migrate migration block, plan)) (Some (Migrate m b, p)) → IsAtMigration size words orders devices m b p x y
 at_it size words orders devices x y migration block plan m b p h e = subst (AtTask size words orders devices x y) e h
 
@@ -116,15 +126,15 @@ module _ (size : ℕ) (orders : List (Option Order)) (devices : Devices (List Hi
 module _ (size : ℕ) (words : Words) (orders : List (Option Order)) (devices : Devices (List History)) (migration : Migration) (block : OBlock) (part : BlockRange) (plan : Plan) (x : Actor) (y : AbstractActor) where
   -- it is at it still, or has only to answer
   abbrev pub IsOn : Type 0
-  IsOn = IsCarried size orders devices migration block part plan.steps plan.answer x y ⊎ HasEnded words migration part plan x y
+  IsOn = IsCarried size orders devices migration block part plan.steps plan.answer x y ⊎ HasEnded words plan x y
 
   on_leads : IsOn → y.leads ≡ false
   on_leads (inl k) = carried_leads size orders devices migration block part plan.steps plan.answer x y k
-  on_leads (inr e) = e.is.leads
+  on_leads (inr e) = e.0.leads
 
   on_task : IsOn → HasTask y.task
   on_task (inl k) = carried_task size orders devices migration block part plan.steps plan.answer x y k
-  on_task (inr e) = subst HasTask (sym e.is.task) tt
+  on_task (inr e) = subst HasTask (sym e.0.task) tt
 
   pub on_stands : (most : ℕ) → IsOn → x.task ≡ Some (Migrate migration block, plan) → StandsFor size most words x y
   on_stands most (inl k) task = record {
@@ -134,8 +144,8 @@ module _ (size : ℕ) (words : Words) (orders : List (Option Order)) (devices : 
   }
   on_stands most (inr e) task = record {
     at = subst (λ (t : Option (Job × Plan)). IsBusyAt size most words t x.card y) (sym task) tt;
-    below = e.is.below;
-    among_others = ap is_alone e.is.task ∙ ap job_alone e.is.job ∙ under_among (order_on part e.c e.next) _ migration;
+    below = e.0.below;
+    among_others = ap is_alone e.0.task ∙ e.0.among_others;
   }
 
   pub is_done : plan.job ≡ OnBlock (Migrating migration part) → IsOn → x.task ≡ Some (Migrate migration block, plan) → IsDone size words orders devices x y
@@ -162,8 +172,5 @@ module _ (size most : ℕ) (words words' : Words) (up : flag words.fail ≡ true
   -- its order is over
   pub carry_over : (turn : Turn) (orders' : List (Option Order)) → IsOn size words' orders' devices' migration block part plan x' z → t.mode ≡ s.shared.mode → t.committing ≡ s.shared.committing → t.broken ≡ s.shared.broken → TurnedTo turn s.shared t → DeskTurnedTo turn s.shared t →
       OrdersAgree size words' orders' devices' (slice_set actors a x') (with_own s a t z) → FollowsBy turn Carries size most a s words' committing orders' devices' (slice_set actors a x')
-  carry_over turn orders' on mode commits broken turned desk ordered =
-      let keeps : (z.leads ≡ true → z ≡ y) = (λ l. let bad : true ≡ false = sym l ∙ on_leads size words' orders' devices' migration block part plan x' z on in absurd (cc)) in
-      goes_with size most words words' up committing orders devices actors a x x' s y g ex ey turn Carries committing orders' devices' results t (results, going results y y.task (on_task size words' orders' devices' migration block part plan x' z on) migrates, refl) may is
-      (on_stands size words' orders' devices' migration block part plan x' z most on task) words_agree origin cache mode (commits ∙ g.commits) (λ e. commits ∙ g.broken (sym broken ∙ e))
-      (led_on size most words words' up committing orders devices actors a x x' s y g ex ey z keeps t commits) (whole_on size most words words' up committing orders devices actors a x x' s y g ex ey z keeps t broken) (one_on size most words words' up committing orders devices actors a x x' s y g ex ey z keeps) turned desk ordered
+  carry_over turn orders' on mode commits broken turned desk ordered = goes_with size most words words' up committing orders devices actors a x x' s y g ex ey turn Carries orders' devices' results t (results, going results y y.task (on_task size words' orders' devices' migration block part plan x' z on) migrates, refl) may is
+      (on_stands size words' orders' devices' migration block part plan x' z most on task) (λ l. let bad : true ≡ false = sym l ∙ on_leads size words' orders' devices' migration block part plan x' z on in absurd (cc)) words_agree origin cache mode commits broken turned desk ordered

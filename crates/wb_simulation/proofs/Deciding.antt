@@ -1,5 +1,5 @@
 -- What a migration asks of the desk is followed.
-use Rattle.std.proofs.Common.{◌≡◌, ◌≢◌, ◌∙◌, inl, inr, ℕ, Bool, true, List, [], ◌∷◌, Option, Some, None, refl, sym, ap, subst, Contains, slice_get, slice_set}
+use Rattle.std.proofs.Common.{◌≡◌, ◌≢◌, ◌∙◌, inl, inr, ℕ, Bool, true, List, [], ◌∷◌, Option, Some, None, refl, sym, ap, subst, Contains, slice_get, slice_set, false, eq-eqb, if◌then◌else◌, ◌&&◌, ◌||◌, ◌++◌}
 use Rattle.wb_types.specs.declared.number.CBlock.{CBlock}
 use Rattle.wb_types.specs.declared.number.OBlock.{OBlock}
 use Rattle.wb_types.specs.declared.refusal.Refusal.{Refusal}
@@ -8,7 +8,7 @@ use Rattle.wb_words.specs.SharedWords.{Words}
 use Rattle.wb_words.specs.declared.word.Access.TheVariants.{Owned}
 use Rattle.wb_words.specs.declared.step.CellStep.TheVariants.{Release}
 use Rattle.wb_policy.specs.declared.order.Order.{Order}
-use Rattle.wb_tasks.specs.Tables.{Migrating}
+use Rattle.wb_tasks.specs.Tables.{Migrating, BlockRange}
 use Rattle.wb_tasks.specs.Plan.{Plan}
 use Rattle.wb_tasks.specs.Ready.{Has, Suits, IsRest}
 use Rattle.wb_tasks.specs.declared.step.Answer.TheVariants.{Refused as Refuses}
@@ -20,10 +20,10 @@ use Rattle.wb_tasks.specs.declared.step.Want.TheVariants.{Cell, Desk}
 use Rattle.wb_stage.specs.Asking.{is_of}
 use Rattle.wb_devices.specs.declared.devices.Devices.{Devices}
 use Rattle.wb_link.specs.Tables.{Order as AbstractOrder, Got, Done as DoneThere, Short, Map_to, Unmap_from, Give_up, Promoting, Returning, Failed as AnsweredFailed}
-use Rattle.wb_link.specs.World.{World, Shared, Nothing, effect, Actor as AbstractActor}
+use Rattle.wb_link.specs.World.{World, Shared, Nothing, effect, Actor as AbstractActor, following}
 use Rattle.wb_link.proofs.Lists.{get_set_same, get_set_other}
 use Rattle.wb_refines.specs.Translation.{offsets}
-use Rattle.wb_refines.specs.Models.{WordsAgree, plan_of, held_of}
+use Rattle.wb_refines.specs.Models.{WordsAgree, plan_of, held_of, SawSeal, held_for}
 use Rattle.wb_refines.specs.Migrations.{order_on, job_under}
 use Rattle.wb_refines.specs.Copies.{migrating}
 use Rattle.wb_refines.specs.Carrying.{GoesTo, without_block, under}
@@ -32,34 +32,24 @@ use Rattle.wb_refines.proofs.Carrying.{carrying_followed}
 use Rattle.wb_refines.proofs.Cells.{held_plain, saw_plain, same_images}
 use Rattle.wb_refines.proofs.Followed.{rest_plain}
 use Rattle.wb_runs.specs.declared.job.Job.TheVariants.{Migrate}
-use Rattle.wb_runs.specs.Effects.{dropped}
+use Rattle.wb_runs.specs.Effects.{dropped, replacing}
 use Rattle.wb_runs.specs.States.{Actor}
 use Rattle.wb_simulation.specs.Worlds.{Agrees, Turn, Stays, Maps, Unmaps, GivesUp, TurnedTo, DeskTurnedTo}
-use Rattle.std.proofs.Common.{Bool, true, false, eq-eqb, if◌then◌else◌, ◌&&◌, ◌||◌, ◌++◌}
-use Rattle.std.proofs.lemmas.Bool.{ne_eqb}
+use Rattle.std.proofs.lemmas.Bool.{ne_eqb, cases_eq}
 use Rattle.std.proofs.lemmas.List.Elements.{Contains-append_cases, Contains-append_left, Contains-append_right}
 use Rattle.wb_types.proofs.Lists.{Contains-first, Contains-behind}
 use Rattle.wb_runs.proofs.Lists.{first_or}
-use Rattle.wb_runs.specs.Effects.{replacing}
 use Rattle.wb_desk.specs.Entries.{is_replacement}
 use Rattle.wb_contents.specs.Volume.{Locations, changed}
 use Rattle.wb_contents.proofs.Positions.{changed_same, changed_other}
 use Rattle.wb_policy.specs.declared.order.Order.TheVariants.{Replace, Demote as DemoteOrder}
-use Rattle.wb_link.specs.World.{following}
-use Rattle.wb_simulation.specs.Carried.{held, is_at, replacement_there, order_there, live_there, IsOrderFor}
-use Rattle.wb_simulation.specs.Migrating.{LeavesFrom, TurnsOrder}
-use Rattle.wb_simulation.proofs.Carrying.{stands_there}
-use Rattle.std.proofs.lemmas.Bool.{cases_eq}
-use Rattle.wb_types.specs.declared.number.CBlock.{CBlock}
-use Rattle.wb_tasks.specs.Tables.{BlockRange}
+use Rattle.wb_simulation.specs.Carried.{held, is_at, replacement_there, order_there, live_there, IsOrderFor, IsCarried}
+use Rattle.wb_simulation.specs.Migrating.{LeavesFrom, TurnsOrder, Carried, EndsOrder}
+use Rattle.wb_simulation.proofs.Carrying.{stands_there, IsOn, is_done, carry_over, carried_job, carried_order}
 use Rattle.wb_tasks.specs.declared.step.Answer.{Answer}
 use Rattle.wb_refines.specs.Going.{gone}
-use Rattle.wb_refines.specs.Models.{SawSeal, held_for}
-use Rattle.wb_simulation.specs.Carried.{IsCarried}
 use Rattle.wb_simulation.specs.Steps.{IsTail}
-use Rattle.wb_simulation.specs.Migrating.{Carried, EndsOrder}
 use Rattle.wb_simulation.proofs.Orders.{GoesOn, carried_again, CarriesOthers, carried_beside, carries_same, goes_so, turns_so}
-use Rattle.wb_simulation.proofs.Carrying.{IsOn, is_done, carry_over, carried_job, carried_order}
 use Rattle.wb_simulation.proofs.Copying.{carry_so, at_again, y_is, y_has, its_own, lives, live_is, no_write_read}
 
 -- ---- what lives on other cache blocks

@@ -1,7 +1,8 @@
--- Answers of reads and writes are followed.
-use Rattle.std.proofs.Common.{◌≡◌, ◌∙◌, ◌⊎◌, inl, inr, ℕ, Bool, true, false, List, [], ◌∷◌, Option, Some, None, refl, sym, ap, subst, slice_get, slice_set}
+-- Answers are followed.
+use Rattle.std.proofs.Common.{◌≡◌, ◌∙◌, ◌⊎◌, ◌++◌, inl, inr, ℕ, Bool, true, false, List, [], ◌∷◌, Option, Some, None, refl, sym, ap, subst, slice_get, slice_set, Contains}
 use Rattle.wb_disk.specs.Device.{Content, History}
 use Rattle.wb_words.specs.SharedWords.{Words, flag}
+use Rattle.wb_words.specs.declared.card.Card.{Card}
 use Rattle.wb_words.specs.declared.card.Hold.TheVariants.{Nothing as HoldsNothing}
 use Rattle.wb_policy.specs.declared.order.Order.{Order}
 use Rattle.wb_tasks.specs.Tables.{BlockRange, BlockJob, Reading, Writing, OnBlock}
@@ -11,72 +12,90 @@ use Rattle.wb_tasks.specs.declared.step.Answer.{Answer}
 use Rattle.wb_tasks.specs.declared.step.Want.{Want}
 use Rattle.wb_tasks.specs.declared.step.Want.TheVariants.{End}
 use Rattle.wb_devices.specs.declared.devices.Devices.{Devices}
-use Rattle.wb_link.specs.Tables.{Script, Job as AbstractJob, Done as DoneThere, want as want_there, first_of_steps}
-use Rattle.wb_link.specs.World.{World, Actor as AbstractActor, is_alone, actor_after, task_after, order_after}
-use Rattle.wb_refines.specs.Going.{gone}
+use Rattle.wb_link.specs.Tables.{Script, Done as DoneThere}
+use Rattle.wb_link.specs.World.{World, Nothing, Record, Actor as AbstractActor}
+use Rattle.wb_refines.specs.Going.{records, shared_after, gone, MayGo}
 use Rattle.wb_refines.specs.Translation.{job_for}
-use Rattle.wb_refines.specs.Models.{IsAt, HasStopped, IsBelow, plan_of}
-use Rattle.wb_refines.specs.Tasks.{IsResting, IsIdle, IsAnswered}
-use Rattle.wb_refines.proofs.Holding.{holds_nothing}
-use Rattle.wb_refines.proofs.Tasks.{tasks_end}
+use Rattle.wb_refines.specs.Models.{IsAt, HasStopped, IsFree, held_of}
+use Rattle.wb_refines.specs.Tasks.{IsResting}
 use Rattle.wb_runs.specs.declared.job.Job.{Job}
 use Rattle.wb_runs.specs.declared.job.Job.TheVariants.{Read, Write}
 use Rattle.wb_runs.specs.States.{Actor}
-use Rattle.wb_simulation.specs.Actors.{IsLate, IsRequestAt, StandsFor}
-use Rattle.wb_simulation.specs.Telling.{Answers, AnswersSo}
+use Rattle.wb_simulation.specs.Actors.{IsLate, IsRequestAt, IsDoing, StandsFor}
+use Rattle.wb_simulation.specs.Carried.{held}
+use Rattle.wb_simulation.specs.Telling.{Telling, Answers, IsTold}
 use Rattle.wb_simulation.specs.Worlds.{Agrees, Follows}
 use Rattle.wb_simulation.specs.Laws.{AnswersFollowed, IsRequestJob, content_of}
-use Rattle.wb_simulation.proofs.Cells.{gone_nowhere}
+use Rattle.wb_simulation.proofs.Cells.{Leading}
 use Rattle.wb_simulation.proofs.Telling.{nothing_told, answers_at, stopped_answers, late_answers_so}
 use Rattle.wb_simulation.proofs.Orders.{does_none, carries_same}
 use Rattle.wb_simulation.proofs.Among.{own_there, goes_on, stays_there}
 use Rattle.wb_simulation.proofs.Followed.{doing_of, answers_by}
 
--- an answer leaves an actor with no order, if it had none
-answered_order : (y : AbstractActor) (script : Script) → y.task ≡ Some script → script.steps ≡ [] → y.order ≡ None → (gone y y.task (DoneThere ∷ [])).order ≡ None
-answered_order y script task nothing order = subst (λ (t : Option Script). (gone y t (DoneThere ∷ [])).order ≡ None) (sym task)
-    (ap (λ (v : AbstractActor). v.order) (gone_nowhere (actor_after y script (want_there script) DoneThere) (task_after script (want_there script) DoneThere)) ∙ ap (λ ws. order_after y.order (first_of_steps ws script.answer)) nothing ∙ order)
+abbrev pub IsNothingLeft : Option Script → Type 0
+IsNothingLeft None = Unit {0}
+IsNothingLeft (Some script) = script.steps ≡ []
 
-module _ (size most blocks : ℕ) (words : Words) (committing : Bool) (orders : List (Option Order)) (devices : Devices (List History)) (actors : List Actor) (a : ℕ) (x : Actor) (s : World) (y : AbstractActor) (ex : slice_get actors a ≡ Some x) (ey : slice_get s.actors a ≡ Some y) (g : Agrees size most words committing orders devices actors s) (st : StandsFor size most words x y) where
-  rested : (z : AbstractActor) → IsIdle z ⊎ (flag words.fail ≡ true) → IsResting z ⊎ (flag words.fail ≡ true)
-  rested z (inl i) = inl (record { task = i.task; held = i.held; leads = i.leads })
-  rested z (inr f) = inr f
+-- Nothing is left of its task there but the answer, or it has none; and it has nothing, or the target has failed.
+pub record IsOver (words : Words) (y : AbstractActor) : Type 0 where
+  pub steps : IsNothingLeft y.task
+  pub free : ((y.held ≡ Nothing) × (y.leads ≡ false)) ⊎ (flag words.fail ≡ true)
 
-  abbrev Goal : AbstractJob → Answer → Type 0
-  Goal abstract answer = Follows (Answers abstract answer) size most a s words committing orders devices (slice_set actors a (record x { task = None }))
+-- so it is where it was stopped, or is late
+pub stopped_over : (words : Words) (plan : Plan) (card : Card) (y : AbstractActor) → plan.steps ≡ [] → HasStopped words plan card y → IsOver words y
+stopped_over words plan card y e k = record { steps = subst IsNothingLeft (sym k.task) k.nothing; free = elim (subst (λ (ws : List Want). IsFree words ws y) e k.free) [ inl h ↦ inl (h, k.leads) | inr f ↦ inr f ] }
 
-  -- it answers there, too
-  answers : (abstract : AbstractJob) (answer : Answer) → AnswersSo abstract answer y.task → IsAnswered s.actors a s.shared y → IsBelow (gone y y.task (DoneThere ∷ [])) x.card → (gone y y.task (DoneThere ∷ [])).order ≡ y.order → (gone y y.task (DoneThere ∷ [])).leads ≡ false → (IsIdle (gone y y.task (DoneThere ∷ [])) ⊎ (flag words.fail ≡ true)) → Goal abstract answer
-  answers abstract answer so w below order leads rest = goes_on size most words words (λ f. f) committing orders devices actors a x (record x { task = None }) s y g ex ey (Answers abstract answer) devices (DoneThere ∷ []) s.shared (so, refl) w.may w.shared
-      (record { at = (w.over, rested _ rest); below = below; among_others = ap is_alone w.over }) (λ l. let bad : true ≡ false = sym l ∙ leads in absurd (cc)) g.words_agree g.origin g.cache refl refl refl (refl, refl, refl) (refl, refl) order (λ o h. h) (carries_same size orders devices actors s a) (does_none _ _ _ _ _ _ tt)
+pub late_over : (words : Words) (plan : Plan) (y : AbstractActor) → IsLate words plan y → IsOver words y
+late_over words plan y l = record { steps = subst IsNothingLeft (sym l.nothing) tt; free = inr l.failed }
 
-  -- it has no task there
-  answers_late : (abstract : AbstractJob) (answer : Answer) → AnswersSo abstract answer y.task → y.task ≡ None → flag words.fail ≡ true → Goal abstract answer
-  answers_late abstract answer so none failed = stays_there size most words committing orders devices actors a x (record x { task = None }) s y g ex ey (Answers abstract answer) (so, nothing_told a y.task (DoneThere ∷ []) none) (record { at = (none, inr failed); below = st.below; among_others = st.among_others }) (λ o h. h) (does_none _ _ _ _ _ _ tt)
+module _ (size most : ℕ) (words : Words) (committing : Bool) (orders : List (Option Order)) (devices : Devices (List History)) (actors : List Actor) (a : ℕ) (x : Actor) (s : World) (y : AbstractActor) (ex : slice_get actors a ≡ Some x) (ey : slice_get s.actors a ≡ Some y) (g : Agrees size most words committing orders devices actors s) (st : StandsFor size most words x y) where
+  -- It answers there, too, or has no task there; its orders it may put in another place.
+  module _ (orders' awaiting' : List Order) (keeps : (o : Order) → Contains (held x) o → Contains (orders' ++ awaiting') o) where
+    abbrev over : Actor
+    over = record x { task = None; orders = orders'; awaiting = awaiting' }
 
-  request_answers : (content : Content) (job_on : BlockRange → BlockJob) (part : BlockRange) (answer : Answer) → x.card.hold ≡ HoldsNothing →
-      IsAt size content (plan_of (job_on part) [] answer) x.card y ⊎ HasStopped words (plan_of (job_on part) [] answer) x.card y ⊎ IsLate words (plan_of (job_on part) [] answer) y → Goal (job_for size content (OnBlock (job_on part))) answer
-  request_answers content job_on part answer h (inl i) = let d = tasks_end.done size content s.actors a s.shared y (job_on part) answer x.card h i in answers (job_for size content (OnBlock (job_on part))) answer (answers_at size content (OnBlock (job_on part)) answer y (ap (λ (v : AbstractActor). v.task) i.is)) d.0 (holds_nothing _ x.card d.1.held) (d.1.order ∙ sym (ap (λ (v : AbstractActor). v.order) i.is)) d.1.leads (inl d.1)
-  request_answers content job_on part answer h (inr (inl k)) = let d = tasks_end.stopped s.actors a s.shared y words answer (OnBlock (job_on part)) x.card k in answers (job_for size content (OnBlock (job_on part))) answer (stopped_answers (job_for size content (OnBlock (job_on part))) words (plan_of (job_on part) [] answer) x.card answer y refl k) d.0 d.1 (answered_order y k.script k.task k.nothing k.order ∙ sym k.order) d.2 d.3
-  request_answers content job_on part answer h (inr (inr l)) = answers_late (job_for size content (OnBlock (job_on part))) answer (late_answers_so (job_for size content (OnBlock (job_on part))) words (plan_of (job_on part) [] answer) answer y refl (λ t. let bad = ap (λ (p : Plan). p.steps) t in absurd (cc)) l) l.nothing l.failed
+    pub answers : (telling : Telling) → IsTold telling a y.task (records a y.task (DoneThere ∷ [])) → IsOver words y → Follows telling size most a s words committing orders devices (slice_set actors a over)
+    answers telling told o = by y.task refl
+      where
+        rests : IsResting (record y { task = None }) ⊎ (flag words.fail ≡ true)
+        rests = elim o.free [ inl h ↦ inl (record { task = refl; held = h.0; leads = h.1 }) | inr f ↦ inr f ]
 
-  of_plan : (content : Content) (job_on : BlockRange → BlockJob) (plan : Plan) (answer : Answer) → want plan ≡ End answer → Suits blocks plan x.card → IsRequestAt size content words job_on plan x.card y → Goal (job_for size content plan.job) answer
-  of_plan content job_on plan answer e suits r =
-      let over = answers_by plan answer e (λ later k. (subst (λ (p : Plan). Suits blocks p x.card) (with_steps (End answer ∷ later) k) suits).1.1.1) in
-      subst (λ (abstract : AbstractJob). Goal abstract answer) (ap (job_for size content) (sym r.job)) (subst (Goal (job_for size content (OnBlock (job_on r.part)))) over.1 (request_answers content job_on r.part plan.answer (subst (λ (p : Plan). Suits blocks p x.card) (with_steps [] over.0) suits).1 (subst At (with_steps [] over.0) r.at)))
+        by : (task : Option Script) → y.task ≡ task → Follows telling size most a s words committing orders devices (slice_set actors a over)
+        by None e = stays_there size most words committing orders devices actors a x over s y g ex ey telling (subst (λ (rs : List Record). IsTold telling a y.task rs) (sym (nothing_told a y.task (DoneThere ∷ []) e)) told)
+            (record { at = (e, elim rests [ inl r ↦ inl (record { task = e; held = r.held; leads = r.leads }) | inr f ↦ inr f ]); below = st.below; among_others = st.among_others }) keeps (does_none _ _ _ _ _ _ tt)
+        by (Some script) e =
+            let is : y.task ≡ Some (record { job = script.job; steps = []; answer = script.answer }) = e ∙ ap (λ (ws : List _). Some (record { job = script.job; steps = ws; answer = script.answer })) (subst IsNothingLeft e o.steps) in
+            let gone_is : gone y y.task (DoneThere ∷ []) ≡ record y { task = None } = ap (λ (t : Option Script). gone y t (DoneThere ∷ [])) is in
+            goes_on size most words words (λ f. f) committing orders devices actors a x over s y g ex ey telling devices (DoneThere ∷ []) s.shared told (subst (λ (t : Option Script). MayGo s.actors a s.shared y t (DoneThere ∷ [])) (sym is) (tt, tt, tt)) (ap (λ (t : Option Script). shared_after s.shared y t (DoneThere ∷ [])) is)
+            (subst (λ (z : AbstractActor). StandsFor size most words over z) (sym gone_is) (record { at = (refl, rests); below = record { owned = st.below.owned; shared = st.below.shared }; among_others = refl })) (subst (Leading y) (sym gone_is) (λ l. (l, λ more. absurd more)))
+            g.words_agree g.origin g.cache refl refl refl (refl, refl, refl) (refl, refl) (ap (λ (z : AbstractActor). z.order) gone_is) keeps (carries_same size orders devices actors s a) (does_none _ _ _ _ _ _ tt)
+
+  abbrev Goal : Plan → Content → Answer → Type 0
+  Goal plan content answer = Follows (Answers (job_for size content plan.job) answer) size most a s words committing orders devices (slice_set actors a (record x { task = None }))
+
+  of_request : (blocks : ℕ) (content : Content) (job_on : BlockRange → BlockJob) (plan : Plan) (answer : Answer) → want plan ≡ End answer → Suits blocks plan x.card → IsRequestAt size content words job_on plan x.card y → Goal plan content answer
+  of_request blocks content job_on plan answer e suits r = answers_by plan (OnBlock (job_on r.part)) answer r.job e (λ later k. (subst (λ (p : Plan). Suits blocks p x.card) (λ i. record { job = r.job i; steps = k i; answer = plan.answer }) suits).1.1.1)
+      (λ p. Suits blocks p x.card → At p → Goal p content answer) (λ suits at. by suits.1 at) suits r.at
     where
       At : Plan → Type 0
       At p = IsAt size content p x.card y ⊎ HasStopped words p x.card y ⊎ IsLate words p y
 
-      with_steps : (steps : List Want) → plan.steps ≡ steps → plan ≡ plan_of (job_on r.part) steps plan.answer
-      with_steps steps k = λ i. record { job = r.job i; steps = k i; answer = plan.answer }
+      p : Plan
+      p = record { job = OnBlock (job_on r.part); steps = []; answer = answer }
 
-  followed : (job : Job) (plan : Plan) (answer : Answer) → IsRequestJob job → x.task ≡ Some (job, plan) → want plan ≡ End answer → Suits blocks plan x.card → Goal (job_for size (content_of job) plan.job) answer
-  followed (Read extent) plan answer q e next suits = of_plan [] Reading plan answer next suits (doing_of size most words x y (Read extent) plan st e)
-  followed (Write extent content) plan answer q e next suits = of_plan content Writing plan answer next suits (doing_of size most words x y (Write extent content) plan st e)
-  followed job plan answer q e next suits = absurd q
+      by : x.card.hold ≡ HoldsNothing → At p → Goal p content answer
+      by h (inl i) = answers x.orders x.awaiting (λ o c. c) (Answers (job_for size content p.job) answer) (answers_at size content p.job answer y (ap (λ (v : AbstractActor). v.task) i.is), refl)
+          (record { steps = subst (λ (v : AbstractActor). IsNothingLeft v.task) (sym i.is) refl; free = inl (ap (λ (v : AbstractActor). v.held) i.is ∙ ap held_of h, ap (λ (v : AbstractActor). v.leads) i.is) })
+      by h (inr (inl k)) = answers x.orders x.awaiting (λ o c. c) (Answers (job_for size content p.job) answer) (stopped_answers (job_for size content p.job) words p x.card answer y refl k, refl) (stopped_over words p x.card y refl k)
+      by h (inr (inr l)) = answers x.orders x.awaiting (λ o c. c) (Answers (job_for size content p.job) answer) (late_answers_so (job_for size content p.job) words p answer y refl (λ t. let bad = ap (λ (q : Plan). q.steps) t in absurd (cc)) l, refl) (late_over words p y l)
+
+  followed : (blocks : ℕ) (job : Job) (plan : Plan) (answer : Answer) → IsRequestJob job → want plan ≡ End answer → Suits blocks plan x.card → IsDoing size most words job plan x.card y → Goal plan (content_of job) answer
+  followed blocks (Read extent) plan answer q next suits d = of_request blocks [] Reading plan answer next suits d
+  followed blocks (Write extent content) plan answer q next suits d = of_request blocks content Writing plan answer next suits d
+  followed blocks job plan answer q next suits d = absurd q
 
 pub answers_followed : AnswersFollowed
 answers_followed size most blocks words committing orders devices actors a x job plan answer s q ex task suits next g =
     let y = own_there size most words committing orders devices actors s g a x ex in
-    followed size most blocks words committing orders devices actors a x s y.0 ex y.1 g (g.each a x y.0 ex y.1) job plan answer q task next suits
+    let st = g.each a x y.0 ex y.1 in
+    followed size most words committing orders devices actors a x s y.0 ex y.1 g st blocks job plan answer q next suits (doing_of size most words x y.0 job plan st task)

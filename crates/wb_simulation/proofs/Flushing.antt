@@ -1,12 +1,11 @@
 -- Each step of a flush is followed.
-use Rattle.std.proofs.Common.{Contains, ◌++◌, ◌≡◌, ◌≢◌, ◌+◌, ◌*◌, ◌==◌, ◌∙◌, inl, inr, if◌then◌else◌, ℕ, Bool, true, false, List, [], ◌∷◌, Some, None, refl, sym, ap, subst, slice_get, slice_set, Option}
+use Rattle.std.proofs.Common.{◌≡◌, ◌≢◌, ◌+◌, ◌*◌, ◌==◌, ◌∙◌, inr, if◌then◌else◌, ℕ, Bool, true, false, List, [], ◌∷◌, Some, None, refl, sym, ap, subst, slice_get, slice_set, Option}
 use Rattle.wb_types.specs.declared.mode.Dev.{Dev}
 use Rattle.wb_types.specs.declared.mode.Dev.TheVariants.{Metadata, Cache, Origin}
 use Rattle.wb_types.specs.declared.refusal.Refusal.{Refusal}
 use Rattle.wb_types.specs.declared.refusal.Refusal.TheVariants.{Failed, Busy, Memory, GenerationEnd}
 use Rattle.wb_disk.specs.Device.{History, synced}
 use Rattle.wb_disk.specs.Failing.{synced_where}
-use Rattle.wb_contents.specs.Devices.{by_block}
 use Rattle.wb_contents.proofs.Devices.{sync_is_act, failed_sync_is_act}
 use Rattle.wb_contents.specs.Acts.{all_synced, partly_synced}
 use Rattle.wb_words.specs.SharedWords.{Words, flag, fail_word}
@@ -16,54 +15,45 @@ use Rattle.wb_words.specs.declared.step.CellStep.TheVariants.{Look, SetFailed}
 use Rattle.wb_words.specs.declared.word.Word.TheVariants.{Fail}
 use Rattle.wb_policy.specs.declared.order.Order.{Order}
 use Rattle.wb_tasks.specs.Tables.{Flushing}
-use Rattle.wb_tasks.specs.Plan.{Plan, want, after, device_of, first_step, onward, refused, table}
+use Rattle.wb_tasks.specs.Plan.{Plan, after, device_of, onward, refused, release_orders, lets_go_unless_busy}
 use Rattle.wb_tasks.specs.declared.step.Answer.{Answer}
 use Rattle.wb_tasks.specs.declared.step.Answer.TheVariants.{Refused as Refuses}
 use Rattle.wb_tasks.specs.declared.step.DeviceStep.{DeviceStep}
 use Rattle.wb_tasks.specs.declared.step.DeviceStep.TheVariants.{Sync, WriteNode, WriteRoot}
-use Rattle.wb_tasks.specs.declared.step.DeskStep.TheVariants.{BeginCommit, EndCommit}
+use Rattle.wb_tasks.specs.declared.step.DeskStep.TheVariants.{BeginCommit, EndCommit, ReleaseOrder}
 use Rattle.wb_tasks.specs.declared.step.Want.{Want}
-use Rattle.wb_tasks.specs.declared.step.Want.TheVariants.{Cell, Device, Desk, End}
+use Rattle.wb_tasks.specs.declared.step.Want.TheVariants.{Cell, Device, Desk}
 use Rattle.wb_tasks.specs.declared.step.Got.TheVariants.{Done, Fault, Word, Began, Refused}
 use Rattle.wb_devices.specs.declared.devices.Devices.{Devices}
-use Rattle.std.proofs.lemmas.Bool.{cases_eq}
 use Rattle.wb_devices.specs.Moving.{device_in}
 use Rattle.wb_tasks.specs.Ready.{HoldsBlocks}
-use Rattle.wb_link.proofs.Lists.{get_set_other}
 use Rattle.wb_link.specs.Tables.{Begin, End_running, Done as DoneThere, Flushing as FlushingFor}
-use Rattle.wb_link.specs.World.{World, Shared, Nothing, Actor as AbstractActor, effect, is_alone}
-use Rattle.wb_refines.specs.Going.{gone}
+use Rattle.wb_link.specs.World.{World, Shared, Actor as AbstractActor, effect}
+use Rattle.wb_refines.specs.Going.{gone, AreQuiet, shared_after}
 use Rattle.wb_refines.specs.Translation.{wants_of}
 use Rattle.wb_refines.specs.Models.{WordsAgree}
 use Rattle.wb_refines.specs.Flushes.{IsFlushing, IsOnMetadata, IsNoBegin, IsWrittenAfter, flushing, Leads}
 use Rattle.wb_refines.proofs.Cells.{failed_flag}
 use Rattle.wb_refines.proofs.Flushing.{flush_steps_followed as followed_alone}
-use Rattle.wb_refines.proofs.Holding.{holds_nothing}
-use Rattle.wb_refines.proofs.Tasks.{tasks_end}
 use Rattle.wb_runs.specs.declared.job.Job.TheVariants.{Flush}
 use Rattle.wb_runs.specs.States.{Actor, with_device}
-use Rattle.wb_simulation.specs.Actors.{IsLate, IsOfFlush, LeadsAt, StandsFor}
-use Rattle.wb_simulation.specs.Carried.{held}
-use Rattle.wb_simulation.specs.Telling.{Quietly, Answers, Releases}
+use Rattle.wb_simulation.specs.Actors.{IsLate, IsOfFlush, LeadsAt, StandsFor, AreReleases}
+use Rattle.wb_simulation.specs.Telling.{Quietly, Releases}
 use Rattle.wb_simulation.specs.Worlds.{zeros, Agrees, Turn, Stays, Begins, Puts, Ends, GivesUp, TurnedTo, DeskTurnedTo, FollowsBy, Follows, IsUnfinished}
 use Rattle.wb_simulation.specs.Laws.{turn_of, went, IsOnlyOf}
-use Rattle.wb_simulation.proofs.Telling.{answers_at, late_answers_so, unnoted_none, nothing_told, quiet_are_unnoted}
+use Rattle.wb_simulation.proofs.Telling.{unnoted_none, quiet_are_unnoted}
 use Rattle.wb_types.specs.declared.number.OBlock.{OBlock}
-use Rattle.wb_tasks.specs.Plan.{release_orders, lets_go_unless_busy}
-use Rattle.wb_tasks.specs.declared.step.DeskStep.TheVariants.{ReleaseOrder}
-use Rattle.wb_refines.specs.Going.{AreQuiet, shared_after}
-use Rattle.wb_simulation.specs.Actors.{AreReleases}
-use Rattle.wb_simulation.proofs.Orders.{carries_on, does_none, carries_same}
+use Rattle.wb_simulation.proofs.Orders.{does_none, carries_same}
 use Rattle.wb_simulation.proofs.Among.{goes_on, goes_leading, stays_there}
 use Rattle.wb_simulation.proofs.Releasing.{released_there}
 use Rattle.wb_simulation.proofs.Steps.{finds_failed}
-use Rattle.wb_simulation.proofs.Leading.{nodes_on_metadata, commits_on, has_wants, stands, one_here, is_here, leads_on}
+use Rattle.wb_simulation.proofs.Leading.{nodes_on_metadata, commits_on, has_wants, stands, leads_alone, goes}
 
 some_on : (steps : List Want) → IsOnMetadata steps → steps ≢ []
 some_on [] m = absurd m
 some_on (v ∷ ws) m = λ e. absurd (cc)
 
-module _ (size most : ℕ) (serves : List OBlock) (words : Words) (committing : Bool) (orders : List (Option Order)) (devices : Devices (List History)) (actors : List Actor) (a : ℕ) (x : Actor) (plan : Plan) (s : World) (y : AbstractActor) (ex : slice_get actors a ≡ Some x) (ey : slice_get s.actors a ≡ Some y) (g : Agrees size most words committing orders devices actors s) where
+module _ (size most : ℕ) (serves : List OBlock) (words : Words) (committing : Bool) (orders : List (Option Order)) (devices : Devices (List History)) (actors : List Actor) (a : ℕ) (x : Actor) (s : World) (y : AbstractActor) (ex : slice_get actors a ≡ Some x) (ey : slice_get s.actors a ≡ Some y) (g : Agrees size most words committing orders devices actors s) where
   -- a step on a device, done, with this left
   abbrev OnBy : Turn → Devices (List History) → Plan → Type 0
   OnBy turn devices' plan' = FollowsBy turn Quietly size most a s words committing orders devices' (slice_set actors a (record x { task = Some (Flush, plan') }))
@@ -71,13 +61,6 @@ module _ (size most : ℕ) (serves : List OBlock) (words : Words) (committing : 
   -- and the images stay
   abbrev On : Devices (List History) → Plan → Type 0
   On devices' plan' = Follows Quietly size most a s words committing orders devices' (slice_set actors a (record x { task = Some (Flush, plan') }))
-
-  -- the same on whatever it leads to there
-  goes : (turn : Turn) (devices' : Devices (List History)) (next : Want) (later : List Want) (answer : Answer) (plan' : Plan) (t : Shared) → IsFlushing size [] (flushing serves most (next ∷ later) answer) true y → wants_of size (FlushingFor None) (next ∷ later) ≢ [] → Leads size [] s.actors a s.shared y t plan' true →
-      plan'.job ≡ Flushing serves most → IsOfFlush most plan'.steps → LeadsAt true plan'.steps → (plan'.steps ≢ []) → WordsAgree words t → t.origin ≡ by_block size zeros devices'.origin → t.cache ≡ by_block size zeros devices'.cache → t.mode ≡ s.shared.mode → t.committing ≡ s.shared.committing → t.broken ≡ s.shared.broken → TurnedTo turn s.shared t → DeskTurnedTo turn s.shared t → t.mapping ≡ s.shared.mapping →
-      OnBy turn devices' plan'
-  goes turn devices' next later answer plan' t is some l j o at unfinished w og ca mo co br turned desk same_map =
-      leads_on size most serves words committing orders devices actors a x s y ex ey g turn words (λ f. f) devices' (flushing serves most (next ∷ later) answer) plan' x.card t next later answer is some l j o at (λ e n. absurd (unfinished n)) w og ca mo co br turned desk same_map (carries_on size orders devices devices' actors s a)
 
   -- who leads, where that is known of the step
   pub leading : (next : Want) (later : List Want) (answer : Answer) (leads : Bool) → leads ≡ true → IsFlushing size [] (flushing serves most (next ∷ later) answer) leads y → IsFlushing size [] (flushing serves most (next ∷ later) answer) true y
@@ -87,22 +70,22 @@ module _ (size most : ℕ) (serves : List OBlock) (words : Words) (committing : 
   pub syncs : (device : Dev) → HoldsBlocks device → (later : List Want) (answer : Answer) → IsOfFlush most (Device (Sync device) ∷ later) → IsFlushing size [] (flushing serves most (Device (Sync device) ∷ later) answer) true y →
       On (with_device device devices (synced (device_in device devices))) (after (flushing serves most (Device (Sync device) ∷ later) answer) Done)
   syncs Cache h (Device (Sync Origin) ∷ ws) answer o is =
-      goes Stays (with_device Cache devices (synced devices.cache)) (Device (Sync Cache)) (Device (Sync Origin) ∷ ws) answer _ _ is (λ e. absurd (cc)) (followed_alone.syncs_cache size serves most [] s.actors a s.shared y (Device (Sync Origin) ∷ ws) answer is) refl o refl (λ n. absurd (cc))
+      goes size most serves words committing orders devices actors a x s y ex ey g Stays (with_device Cache devices (synced devices.cache)) (Device (Sync Cache)) (Device (Sync Origin) ∷ ws) answer _ _ is (λ e. absurd (cc)) (followed_alone.syncs_cache size serves most [] s.actors a s.shared y (Device (Sync Origin) ∷ ws) answer is) refl o refl (λ n. absurd (cc))
       (record { fail = g.words_agree.fail; seals = g.words_agree.seals }) g.origin (ap all_synced g.cache ∙ sym (sync_is_act size zeros devices.cache)) refl refl refl (refl, refl, refl) (refl, refl) refl
   syncs Cache h later answer o is = absurd o
   syncs Origin h later answer o is =
-      goes Stays (with_device Origin devices (synced devices.origin)) (Device (Sync Origin)) later answer (flushing serves most later answer) (record s.shared { origin = all_synced s.shared.origin }) is (λ e. absurd (cc)) (followed_alone.syncs_origin size serves most [] s.actors a s.shared y later answer is) refl (commits_on most later o).0 (commits_on most later o).1 (some_on later o)
+      goes size most serves words committing orders devices actors a x s y ex ey g Stays (with_device Origin devices (synced devices.origin)) (Device (Sync Origin)) later answer (flushing serves most later answer) (record s.shared { origin = all_synced s.shared.origin }) is (λ e. absurd (cc)) (followed_alone.syncs_origin size serves most [] s.actors a s.shared y later answer is) refl (commits_on most later o).0 (commits_on most later o).1 (some_on later o)
       (record { fail = g.words_agree.fail; seals = g.words_agree.seals }) (ap all_synced g.origin ∙ sym (sync_is_act size zeros devices.origin)) g.cache refl refl refl (refl, refl, refl) (refl, refl) refl
   syncs Metadata h later answer o is = absurd h
 
   pub sync_falls : (lands : ℕ → Bool) (device : Dev) → HoldsBlocks device → (later : List Want) (answer : Answer) → IsFlushing size [] (flushing serves most (Device (Sync device) ∷ later) answer) true y →
       On (with_device device devices (synced_where lands (device_in device devices))) (after (flushing serves most (Device (Sync device) ∷ later) answer) Fault)
   sync_falls lands Cache h later answer is =
-      goes Stays (with_device Cache devices (synced_where lands devices.cache)) (Device (Sync Cache)) later answer (after (flushing serves most (Device (Sync Cache) ∷ later) answer) Fault) (record s.shared { cache = partly_synced (λ b o. lands (b * size + o)) s.shared.cache }) is (λ e. absurd (cc))
+      goes size most serves words committing orders devices actors a x s y ex ey g Stays (with_device Cache devices (synced_where lands devices.cache)) (Device (Sync Cache)) later answer (after (flushing serves most (Device (Sync Cache) ∷ later) answer) Fault) (record s.shared { cache = partly_synced (λ b o. lands (b * size + o)) s.shared.cache }) is (λ e. absurd (cc))
       (followed_alone.fails_cache size serves most [] s.actors a s.shared y later answer (λ b o. lands (b * size + o)) is) refl refl refl (λ n. absurd (cc))
       (record { fail = g.words_agree.fail; seals = g.words_agree.seals }) g.origin (ap (partly_synced (λ b o. lands (b * size + o))) g.cache ∙ sym (failed_sync_is_act size zeros lands devices.cache)) refl refl refl (refl, refl, refl) (refl, refl) refl
   sync_falls lands Origin h later answer is =
-      goes Stays (with_device Origin devices (synced_where lands devices.origin)) (Device (Sync Origin)) later answer (after (flushing serves most (Device (Sync Origin) ∷ later) answer) Fault) (record s.shared { origin = partly_synced (λ b o. lands (b * size + o)) s.shared.origin }) is (λ e. absurd (cc))
+      goes size most serves words committing orders devices actors a x s y ex ey g Stays (with_device Origin devices (synced_where lands devices.origin)) (Device (Sync Origin)) later answer (after (flushing serves most (Device (Sync Origin) ∷ later) answer) Fault) (record s.shared { origin = partly_synced (λ b o. lands (b * size + o)) s.shared.origin }) is (λ e. absurd (cc))
       (followed_alone.fails_origin size serves most [] s.actors a s.shared y later answer (λ b o. lands (b * size + o)) is) refl refl refl (λ n. absurd (cc))
       (record { fail = g.words_agree.fail; seals = g.words_agree.seals }) (ap (partly_synced (λ b o. lands (b * size + o))) g.origin ∙ sym (failed_sync_is_act size zeros lands devices.origin)) g.cache refl refl refl (refl, refl, refl) (refl, refl) refl
   sync_falls lands Metadata h later answer is = absurd h
@@ -111,7 +94,7 @@ module _ (size most : ℕ) (serves : List OBlock) (words : Words) (committing : 
   metadata_goes : (turn : Turn) (metadata : List History) (step : DeviceStep) (later : List Want) (answer : Answer) (t : Shared) → IsOnMetadata (Device step ∷ later) → IsOnMetadata later → IsFlushing size [] (flushing serves most (Device step ∷ later) answer) true y → Leads size [] s.actors a s.shared y t (flushing serves most later answer) true →
       WordsAgree words t → t.origin ≡ s.shared.origin → t.cache ≡ s.shared.cache → t.mode ≡ s.shared.mode → t.committing ≡ s.shared.committing → t.broken ≡ s.shared.broken → TurnedTo turn s.shared t → DeskTurnedTo turn s.shared t → t.mapping ≡ s.shared.mapping → OnBy turn (with_device Metadata devices metadata) (flushing serves most later answer)
   metadata_goes turn metadata step later answer t on m is l w og ca mo co br turned desk same_map =
-      goes turn (with_device Metadata devices metadata) (Device step) later answer (flushing serves most later answer) t is (has_wants size (Device step ∷ later) on) l refl (commits_on most later m).0 (commits_on most later m).1 (some_on later m) w (og ∙ g.origin) (ca ∙ g.cache) mo co br turned desk same_map
+      goes size most serves words committing orders devices actors a x s y ex ey g turn (with_device Metadata devices metadata) (Device step) later answer (flushing serves most later answer) t is (has_wants size (Device step ∷ later) on) l refl (commits_on most later m).0 (commits_on most later m).1 (some_on later m) w (og ∙ g.origin) (ca ∙ g.cache) mo co br turned desk same_map
 
   pub metadata_done : (metadata : List History) (step : DeviceStep) (later : List Want) (answer : Answer) → device_of step ≡ Metadata → IsOfFlush most (Device step ∷ later) → IsFlushing size [] (flushing serves most (Device step ∷ later) answer) true y → OnBy (turn_of step) (with_device Metadata devices metadata) (after (flushing serves most (Device step ∷ later) answer) Done)
   metadata_done metadata (WriteNode number) later answer d o is = metadata_goes Stays metadata (WriteNode number) later answer s.shared o o is (followed_alone.nodes size serves most number [] s.actors a s.shared y later answer is) g.words_agree refl refl refl refl refl (refl, refl, refl) (refl, refl) refl
@@ -126,7 +109,7 @@ module _ (size most : ℕ) (serves : List OBlock) (words : Words) (committing : 
       let l = followed_alone.fails_metadata size serves most step [] s.actors a s.shared y later answer m is in (
         l.0,
         l.1,
-        goes (Puts l.0) (with_device Metadata devices metadata) (Device step) later answer (after (flushing serves most (Device step ∷ later) answer) Fault) (record s.shared { root_written = l.0 }) is (has_wants size (Device step ∷ later) m) l.2 refl refl refl (λ n. absurd (cc))
+        goes size most serves words committing orders devices actors a x s y ex ey g (Puts l.0) (with_device Metadata devices metadata) (Device step) later answer (after (flushing serves most (Device step ∷ later) answer) Fault) (record s.shared { root_written = l.0 }) is (has_wants size (Device step ∷ later) m) l.2 refl refl refl (λ n. absurd (cc))
             (record { fail = g.words_agree.fail; seals = g.words_agree.seals }) g.origin g.cache refl refl refl (refl, refl, refl) (refl, refl) refl,
       )
 
@@ -191,10 +174,9 @@ module _ (size most : ℕ) (serves : List OBlock) (words : Words) (committing : 
       let plan' = after (flushing serves most (Desk (BeginCommit false most) ∷ []) answer) (Began nodes) in
       let none : s.shared.committing ≡ false = g.commits ∙ quiet in
       let l = followed_alone.begins size serves most nodes [] s.actors a s.shared y [] answer none (by_broken s.shared.broken refl) is in
-      goes_leading size most words words (λ f. f) committing orders devices actors a x (record x { task = Some (Flush, plan') }) s y g ex ey Begins Quietly true devices l.results (effect s.shared (FlushingFor None) (λ o. []) (Begin None) DoneThere) (l.results, quiet_are_unnoted y.task l.results l.quiet, refl) l.may l.shared
+      goes_leading size most words words (λ f. f) committing orders devices actors a x (record x { task = Some (Flush, plan') }) s y g ex ey Begins true l.results (effect s.shared (FlushingFor None) (λ o. []) (Begin None) DoneThere) (l.results, quiet_are_unnoted y.task l.results l.quiet, refl) l.may l.shared
       (stands size most serves words committing orders devices actors a x s y ex ey g words plan' x.card true (gone y y.task l.results) refl (nodes_on_metadata nodes 0) refl (λ e n. absurd (cc)) l.at)
-      (record { fail = g.words_agree.fail; seals = g.words_agree.seals }) g.origin g.cache refl refl (λ e. refl) (λ b v ev k. refl) (λ b v ev k u. by_broken s.shared.broken refl)
-      (λ b c v u ev eu k m. only b v (gone y y.task l.results) ev k ∙ sym (only c u (gone y y.task l.results) eu m)) (refl, refl, refl) (refl, refl) (ap (λ (v : AbstractActor). v.order) l.at.is ∙ sym (ap (λ (v : AbstractActor). v.order) is.is)) (λ o h. h) refl (carries_same size orders devices actors s a) (does_none _ _ _ _ _ _ tt)
+      (record { fail = g.words_agree.fail; seals = g.words_agree.seals }) refl refl refl refl (λ e. refl) (λ b v n ev k. runs (g.led b v ev k)) (λ k. (refl, λ u. by_broken s.shared.broken refl)) (refl, refl, refl) (refl, refl) (ap (λ (v : AbstractActor). v.order) l.at.is ∙ sym (ap (λ (v : AbstractActor). v.order) is.is)) refl refl tt
     where
       runs : s.shared.committing ≡ true → ⊥
       runs e = let bad : true ≡ false = sym e ∙ g.commits ∙ quiet in absurd (cc)
@@ -202,9 +184,6 @@ module _ (size most : ℕ) (serves : List OBlock) (words : Words) (committing : 
       by_broken : (t : Bool) → s.shared.broken ≡ t → s.shared.broken ≡ false
       by_broken false e = e
       by_broken true e = absurd (runs (g.broken e))
-
-      only : (b : ℕ) (v y' : AbstractActor) → slice_get (slice_set s.actors a y') b ≡ Some v → v.leads ≡ true → b ≡ a
-      only b v y' ev k = elim (cases_eq b a) [ inl e ↦ e | inr n ↦ absurd (runs (g.led b v (sym (get_set_other s.actors a b y' n) ∙ ev) k)) ]
 
   -- the commit ends, and nobody leads one
   pub ends : (answer : Answer) → IsFlushing size [] (flushing serves most (Desk EndCommit ∷ []) answer) true y → FollowsBy Ends Quietly size most a s words false orders devices (slice_set actors a (record x { task = Some (Flush, after (flushing serves most (Desk EndCommit ∷ []) answer) Done) }))
@@ -214,15 +193,10 @@ module _ (size most : ℕ) (serves : List OBlock) (words : Words) (committing : 
       let lead : y.leads ≡ true = ap (λ (v : AbstractActor). v.leads) is.is in
       let some : wants_of size (FlushingFor None) (Desk EndCommit ∷ []) ≢ [] = (λ e. absurd (cc)) in
       let whole : s.shared.broken ≡ false = g.whole a y ey lead (subst (λ (v : AbstractActor). IsUnfinished v.task) (sym is.is) some) in
-      goes_leading size most words words (λ f. f) committing orders devices actors a x (record x { task = Some (Flush, plan') }) s y g ex ey Ends Quietly false devices l.results (effect s.shared (FlushingFor None) (λ o. []) End_running DoneThere) (l.results, quiet_are_unnoted y.task l.results l.quiet, refl) l.may l.shared
+      goes_leading size most words words (λ f. f) committing orders devices actors a x (record x { task = Some (Flush, plan') }) s y g ex ey Ends false l.results (effect s.shared (FlushingFor None) (λ o. []) End_running DoneThere) (l.results, quiet_are_unnoted y.task l.results l.quiet, refl) l.may l.shared
       (stands size most serves words committing orders devices actors a x s y ex ey g words plan' x.card false (gone y y.task l.results) refl tt tt (λ e n. absurd (cc)) l.at)
-      (record { fail = g.words_agree.fail; seals = g.words_agree.seals }) g.origin g.cache refl refl (λ e. let bad : true ≡ false = sym e ∙ whole in absurd (cc))
-      (λ b v ev k. absurd (nobody l b v ev k)) (λ b v ev k u. whole) (λ b c v u ev eu k m. absurd (nobody l b v ev k)) (refl, refl) (refl, refl) (ap (λ (v : AbstractActor). v.order) l.at.is ∙ sym (ap (λ (v : AbstractActor). v.order) is.is)) (λ o h. h) refl (carries_same size orders devices actors s a) (does_none _ _ _ _ _ _ tt)
-    where
-      nobody : (l : Leads size [] s.actors a s.shared y (effect s.shared (FlushingFor None) (λ o. []) End_running DoneThere) (after (flushing serves most (Desk EndCommit ∷ []) answer) Done) false) (b : ℕ) (v : AbstractActor) → slice_get (slice_set s.actors a (gone y y.task l.results)) b ≡ Some v → v.leads ≡ true → ⊥
-      nobody l b v ev k =
-          let here = is_here size most serves words committing orders devices actors a x s y ex ey g (ap (λ (z : AbstractActor). z.leads) is.is) (gone y y.task l.results) b v ev k in
-          let bad : true ≡ false = sym k ∙ ap (λ (z : AbstractActor). z.leads) (here ∙ l.at.is) in absurd (cc)
+      (record { fail = g.words_agree.fail; seals = g.words_agree.seals }) refl refl refl refl (λ e. let bad : true ≡ false = sym e ∙ whole in absurd (cc)) (leads_alone size most serves words committing orders devices actors a x s y ex ey g lead)
+      (λ k. let bad : true ≡ false = sym k ∙ ap (λ (v : AbstractActor). v.leads) l.at.is in absurd (cc)) (refl, refl) (refl, refl) (ap (λ (v : AbstractActor). v.order) l.at.is ∙ sym (ap (λ (v : AbstractActor). v.order) is.is)) refl refl tt
 
   -- the failed bit is set, and the commit is broken
   pub fails : (failures suspensions : ℕ) (answer : Answer) → words.fail ≡ fail_word failures suspensions → IsFlushing size [] (flushing serves most (Cell SetFailed ∷ []) answer) true y →
@@ -232,13 +206,11 @@ module _ (size most : ℕ) (serves : List OBlock) (words : Words) (committing : 
       let failed : flag (words_after words SetFailed).fail ≡ true = failed_flag words.fail f z e in
       let l = followed_alone.fails size serves most [] s.actors a s.shared y answer is in
       let lead : y.leads ≡ true = ap (λ (v : AbstractActor). v.leads) is.is in
-      let y' = gone y y.task l.results in
       let runs = g.led a y ey lead in
-      goes_leading size most words (words_after words SetFailed) (λ k. failed) committing orders devices actors a x (record x { task = Some (Flush, plan'); card = card_after words SetFailed x.card }) s y g ex ey Stays Quietly committing devices l.results (record s.shared { fail = true; broken = true }) (l.results, quiet_are_unnoted y.task l.results l.quiet, refl) l.may l.shared
-      (stands size most serves words committing orders devices actors a x s y ex ey g (words_after words SetFailed) plan' (card_after words SetFailed x.card) true y' refl tt tt (λ k n. failed) l.at)
-      (record { fail = sym failed; seals = g.words_agree.seals }) g.origin g.cache refl g.commits (λ k. runs) (λ b v ev k. runs)
-      (λ b v ev k u. absurd (subst (λ (w : AbstractActor). IsUnfinished w.task) (is_here size most serves words committing orders devices actors a x s y ex ey g lead y' b v ev k ∙ l.at.is) u refl))
-      (one_here size most serves words committing orders devices actors a x s y ex ey g lead y') (refl, refl, refl) (refl, refl) (ap (λ (v : AbstractActor). v.order) l.at.is ∙ sym (ap (λ (v : AbstractActor). v.order) is.is)) (λ o h. h) refl (carries_same size orders devices actors s a) (does_none _ _ _ _ _ _ tt)
+      goes_leading size most words (words_after words SetFailed) (λ k. failed) committing orders devices actors a x (record x { task = Some (Flush, plan'); card = card_after words SetFailed x.card }) s y g ex ey Stays committing l.results (record s.shared { fail = true; broken = true }) (l.results, quiet_are_unnoted y.task l.results l.quiet, refl) l.may l.shared
+      (stands size most serves words committing orders devices actors a x s y ex ey g (words_after words SetFailed) plan' (card_after words SetFailed x.card) true (gone y y.task l.results) refl tt tt (λ k n. failed) l.at)
+      (record { fail = sym failed; seals = g.words_agree.seals }) refl refl refl g.commits (λ k. runs) (leads_alone size most serves words committing orders devices actors a x s y ex ey g lead) (λ k. (runs, λ u. absurd (subst (λ (v : AbstractActor). IsUnfinished v.task) l.at.is u refl)))
+      (refl, refl, refl) (refl, refl) (ap (λ (v : AbstractActor). v.order) l.at.is ∙ sym (ap (λ (v : AbstractActor). v.order) is.is)) refl refl tt
 
   -- ---- its look at the fail word, and its answer
 
@@ -263,36 +235,9 @@ module _ (size most : ℕ) (serves : List OBlock) (words : Words) (committing : 
       by_test true = ((refl, refl, refl), refl, refl)
       by_test false = (tt, tt, refl)
 
-  -- it answers; one that leads a commit still has failed
-  pub answers : (orders' awaiting' : List Order) → ((o : Order) → Contains (held x) o → Contains (orders' ++ awaiting') o) → (answer : Answer) (leads : Bool) → (leads ≡ true → flag words.fail ≡ true) → IsFlushing size [] (flushing serves most [] answer) leads y → Follows (Answers (FlushingFor None) answer) size most a s words committing orders devices (slice_set actors a (record x { task = None; orders = orders'; awaiting = awaiting' }))
-  answers orders' awaiting' keeps answer false f is =
-      let d = tasks_end.flush size serves most [] s.actors a s.shared y answer false is in
-      let idle = d.2 refl in
-      goes_on size most words words (λ k. k) committing orders devices actors a x (record x { task = None; orders = orders'; awaiting = awaiting' }) s y g ex ey (Answers (FlushingFor None) answer) devices (DoneThere ∷ []) s.shared (answers_at size [] (Flushing serves most) answer y (ap (λ (v : AbstractActor). v.task) is.is), refl) d.0.may d.0.shared
-      (record { at = (d.0.over, inl (record { task = idle.task; held = idle.held; leads = idle.leads })); below = holds_nothing _ x.card idle.held; among_others = ap is_alone d.0.over }) (λ k. let bad : true ≡ false = sym k ∙ idle.leads in absurd (cc)) g.words_agree g.origin g.cache refl refl refl (refl, refl, refl) (refl, refl) (idle.order ∙ sym (ap (λ (v : AbstractActor). v.order) is.is)) keeps (carries_same size orders devices actors s a) (does_none _ _ _ _ _ _ tt)
-  answers orders' awaiting' keeps answer true f is =
-      let d = tasks_end.flush size serves most [] s.actors a s.shared y answer true is in
-      let lead : y.leads ≡ true = ap (λ (v : AbstractActor). v.leads) is.is in
-      let y' = gone y y.task (DoneThere ∷ []) in
-      let held : y'.held ≡ Nothing = subst (λ (v : AbstractActor). (gone v v.task (DoneThere ∷ [])).held ≡ Nothing) (sym is.is) refl in
-      let runs = g.led a y ey lead in
-      goes_leading size most words words (λ k. k) committing orders devices actors a x (record x { task = None; orders = orders'; awaiting = awaiting' }) s y g ex ey Stays (Answers (FlushingFor None) answer) committing devices (DoneThere ∷ []) s.shared (answers_at size [] (Flushing serves most) answer y (ap (λ (v : AbstractActor). v.task) is.is), refl) d.0.may d.0.shared
-      (record { at = (d.0.over, inr (f refl)); below = holds_nothing y' x.card held; among_others = ap is_alone d.0.over }) g.words_agree g.origin g.cache refl g.commits g.broken (λ b v ev k. runs)
-      (λ b v ev k u. absurd (subst (λ t. IsUnfinished t) (ap (λ (v : AbstractActor). v.task) (is_here size most serves words committing orders devices actors a x s y ex ey g lead y' b v ev k) ∙ d.0.over) u))
-      (one_here size most serves words committing orders devices actors a x s y ex ey g lead y') (refl, refl, refl) (refl, refl) (subst (λ (v : AbstractActor). (gone v v.task (DoneThere ∷ [])).order ≡ None) (sym is.is) refl ∙ sym (ap (λ (v : AbstractActor). v.order) is.is)) keeps refl (carries_same size orders devices actors s a) (does_none _ _ _ _ _ _ tt)
-
-  -- one that is late has no task there
-  pub late_looks : IsLate words plan y → StandsFor size most words x y → plan.job ≡ Flushing serves most → want plan ≡ Cell (Look Fail) → Follows Quietly size most a s words committing orders devices (slice_set actors a (went words Flush plan (Look Fail) x))
-  late_looks l st j e = elim l.at [
-    | inl t ↦
-        let over : Plan = flushing serves most [] (Refuses Failed) in
-        let is : after plan (Word words.fail) ≡ over = ap (λ (p : Plan). after p (Word words.fail)) (t ∙ ap (λ k. table k) j) ∙ finds_failed words (Flushing serves most) _ _ l.failed in
-        subst (λ (p : Plan). Follows Quietly size most a s words committing orders devices (slice_set actors a (record x { task = Some (Flush, p); card = card_after words (Look Fail) x.card }))) (sym is)
-        (stays_there size most words committing orders devices actors a x (record x { task = Some (Flush, over); card = card_after words (Look Fail) x.card }) s y g ex ey Quietly ([], unnoted_none y.task, refl)
-        (record { at = record { serves = serves; job = refl; steps = tt; at = inr (record { failed = l.failed; nothing = l.nothing; at = inr (refl, λ e. absurd (cc)) }) }; below = record { owned = st.below.owned; shared = st.below.shared }; among_others = st.among_others }) (λ o h. h) (does_none _ _ _ _ _ _ tt))
-    | inr n ↦ absurd (let end : want plan ≡ End plan.answer = ap (λ (ws : List Want). first_step ws plan.answer) n.0 in let bad : Cell (Look Fail) ≡ End plan.answer = sym e ∙ end in cc)
-  ]
-
-  pub late_answers : (orders' awaiting' : List Order) → ((o : Order) → Contains (held x) o → Contains (orders' ++ awaiting') o) → IsLate words plan y → plan.job ≡ Flushing serves most → plan.steps ≡ [] → StandsFor size most words x y → Follows (Answers (FlushingFor None) plan.answer) size most a s words committing orders devices (slice_set actors a (record x { task = None; orders = orders'; awaiting = awaiting' }))
-  late_answers orders' awaiting' keeps l j none st = stays_there size most words committing orders devices actors a x (record x { task = None; orders = orders'; awaiting = awaiting' }) s y g ex ey (Answers (FlushingFor None) plan.answer) (late_answers_so (FlushingFor None) words plan plan.answer y refl (λ t. let bad : [] ≡ Cell (Look Fail) ∷ Desk (BeginCommit false most) ∷ [] = sym none ∙ ap (λ (p : Plan). p.steps) t ∙ ap (λ k. (table k).steps) j in absurd (cc)) l, nothing_told a y.task (DoneThere ∷ []) l.nothing)
-      (record { at = (l.nothing, inr l.failed); below = st.below; among_others = st.among_others }) keeps (does_none _ _ _ _ _ _ tt)
+-- one that is late has no task there
+pub late_looks : (size most : ℕ) (serves : List OBlock) (words : Words) (committing : Bool) (orders : List (Option Order)) (devices : Devices (List History)) (actors : List Actor) (a : ℕ) (x : Actor) (s : World) (y : AbstractActor) → slice_get actors a ≡ Some x → slice_get s.actors a ≡ Some y → Agrees size most words committing orders devices actors s →
+    (later : List Want) (answer : Answer) → IsLate words (flushing serves most (Cell (Look Fail) ∷ later) answer) y → StandsFor size most words x y → Follows Quietly size most a s words committing orders devices (slice_set actors a (went words Flush (flushing serves most (Cell (Look Fail) ∷ later) answer) (Look Fail) x))
+late_looks size most serves words committing orders devices actors a x s y ex ey g later answer l st = subst (λ (p : Plan). Follows Quietly size most a s words committing orders devices (slice_set actors a (record x { task = Some (Flush, p); card = card_after words (Look Fail) x.card }))) (sym (finds_failed words (Flushing serves most) later answer l.failed))
+    (stays_there size most words committing orders devices actors a x (record x { task = Some (Flush, flushing serves most [] (Refuses Failed)); card = card_after words (Look Fail) x.card }) s y g ex ey Quietly ([], unnoted_none y.task, refl)
+    (record { at = record { serves = serves; job = refl; steps = tt; at = inr (record { failed = l.failed; nothing = l.nothing; at = inr (refl, λ e. absurd (cc)) }) }; below = record { owned = st.below.owned; shared = st.below.shared }; among_others = st.among_others }) (λ o h. h) (does_none _ _ _ _ _ _ tt))

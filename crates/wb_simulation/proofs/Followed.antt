@@ -1,100 +1,155 @@
 -- Each step of a read or a write on the shared words is followed.
-use Rattle.std.proofs.Common.{◌≡◌, ◌≢◌, ◌∙◌, ◌⊎◌, inl, inr, ℕ, Bool, false, List, [], ◌∷◌, Option, Some, refl, sym, ap, subst, slice_get, slice_set}
+use Rattle.std.proofs.Common.{◌≡◌, ◌≢◌, ◌∙◌, ◌⊎◌, inl, inr, ℕ, Bool, List, [], ◌∷◌, Option, Some, refl, sym, ap, subst, slice_get, slice_set}
 use Rattle.wb_disk.specs.Device.{Content, History}
-use Rattle.wb_words.specs.SharedWords.{Words}
+use Rattle.wb_words.specs.SharedWords.{Words, word_at}
 use Rattle.wb_words.specs.Rule.{LockRule}
 use Rattle.wb_words.specs.Effects.{result_of, words_after, card_after}
+use Rattle.wb_words.specs.declared.card.Card.{Card}
 use Rattle.wb_words.specs.declared.step.CellStep.{CellStep}
+use Rattle.wb_words.specs.declared.step.CellStep.TheVariants.{Look, Release}
+use Rattle.wb_words.specs.declared.word.Word.TheVariants.{Fail}
 use Rattle.wb_policy.specs.declared.order.Order.{Order}
-use Rattle.wb_tasks.specs.Tables.{BlockRange, BlockJob, Reading, Writing, OnBlock, range_of}
-use Rattle.wb_tasks.specs.Plan.{Plan, want, after, got_of, first_step, work_of}
+use Rattle.wb_tasks.specs.Tables.{BlockRange, BlockJob, TaskJob, Reading, Writing, OnBlock, range_of}
+use Rattle.wb_tasks.specs.Plan.{Plan, table, want, after, got_of, first_step, work_of}
 use Rattle.wb_tasks.specs.Ready.{Suits}
 use Rattle.wb_tasks.specs.declared.step.Want.{Want}
 use Rattle.wb_tasks.specs.declared.step.Answer.{Answer}
 use Rattle.wb_tasks.specs.declared.step.Want.TheVariants.{Cell, End}
+use Rattle.wb_tasks.proofs.Readiness.{job_stays}
 use Rattle.wb_devices.specs.declared.devices.Devices.{Devices}
-use Rattle.wb_link.specs.World.{World, Actor as AbstractActor, job_alone}
-use Rattle.wb_refines.specs.Going.{shared_after, gone}
-use Rattle.wb_refines.specs.Translation.{job_for}
-use Rattle.wb_refines.specs.Models.{IsRequest, IsAt, HasStopped, plan_of}
+use Rattle.wb_link.specs.Tables.{Job as AbstractJob}
+use Rattle.wb_link.specs.World.{World, Actor as AbstractActor}
+use Rattle.wb_refines.specs.Going.{records, shared_after, gone}
+use Rattle.wb_refines.specs.Models.{IsRequest, IsAt, HasStopped, OnlyParts, TellsPlace, plan_of}
+use Rattle.wb_refines.specs.Roles.{Role, IsAs, request_role}
+use Rattle.wb_refines.proofs.Roles.{requests_play, as_request, at_request}
 use Rattle.wb_runs.specs.declared.job.Job.{Job}
-use Rattle.wb_runs.specs.declared.job.Job.TheVariants.{Read, Write, Migrate}
+use Rattle.wb_runs.specs.declared.job.Job.TheVariants.{Read, Write}
 use Rattle.wb_runs.specs.States.{Actor}
 use Rattle.wb_runs.specs.Holding.{cards_of}
 use Rattle.wb_simulation.specs.Steps.{IsPart, AreOfBlock}
 use Rattle.wb_simulation.specs.Actors.{IsLate, IsRequestAt, IsDoing, IsBusyAt, StandsFor}
-use Rattle.wb_simulation.specs.Telling.{Quietly}
+use Rattle.wb_simulation.specs.Telling.{Telling, Quietly, IsTold}
 use Rattle.wb_simulation.specs.Worlds.{Agrees, Follows}
 use Rattle.wb_simulation.specs.Laws.{CellStepsFollowed, IsRequestJob, went}
 use Rattle.wb_simulation.proofs.Telling.{quiet_are_unnoted}
-use Rattle.wb_simulation.proofs.Steps.{read_of_block, write_of_block}
-use Rattle.wb_simulation.proofs.Cells.{Acted, acts_on_words}
-use Rattle.wb_simulation.proofs.Orders.{MigratesNot, does_none, carries_same}
+use Rattle.wb_simulation.proofs.Steps.{read_of_block, write_of_block, after_cell}
+use Rattle.wb_simulation.proofs.Cells.{Acted, acts_in_role, acts_over, tells}
+use Rattle.wb_simulation.proofs.Orders.{MigratesNot, IsDone, does_none, carries_same}
 use Rattle.wb_simulation.proofs.Among.{card_there, own_there, takes, failed_stays, goes_on}
 
 -- who does a read or write is at it
 pub doing_of : (size most : ℕ) (words : Words) (x : Actor) (y : AbstractActor) (job : Job) (plan : Plan) → StandsFor size most words x y → x.task ≡ Some (job, plan) → IsDoing size most words job plan x.card y
 doing_of size most words x y job plan st e = subst (λ (t : Option (Job × Plan)). IsBusyAt size most words t x.card y) e st.at
 
--- The next step is the first of what is left, or the answer where nothing is left.
-next_is : (plan : Plan) (next : Want) → want plan ≡ next → ((ws : List Want) × (plan.steps ≡ next ∷ ws)) ⊎ ((plan.steps ≡ []) × (End plan.answer ≡ next))
-next_is plan next e = by_steps plan.steps refl
+-- What holds of a plan of this job: with its next step first, for whatever comes after it; or with nothing left, where that is its answer.
+pub first : (plan : Plan) (job : TaskJob) (next : Want) → plan.job ≡ job → want plan ≡ next → (P : Plan → Type 0) → ((rest : List Want) → plan.steps ≡ next ∷ rest → P (record { job = job; steps = next ∷ rest; answer = plan.answer })) → (plan.steps ≡ [] → End plan.answer ≡ next → P (record { job = job; steps = []; answer = plan.answer })) → P plan
+first plan job next j e P some none = by plan.steps refl
   where
-    by_steps : (steps : List Want) → plan.steps ≡ steps → ((ws : List Want) × (plan.steps ≡ next ∷ ws)) ⊎ ((plan.steps ≡ []) × (End plan.answer ≡ next))
-    by_steps [] k = inr (k, sym (ap (λ (us : List Want). first_step us plan.answer) k) ∙ e)
-    by_steps (v ∷ ws) k = inl (ws, k ∙ ap (λ (u : Want). u ∷ ws) (sym (ap (λ (us : List Want). first_step us plan.answer) k) ∙ e))
+    is : (steps : List Want) → plan.steps ≡ steps → P (record { job = job; steps = steps; answer = plan.answer }) → P plan
+    is steps k h = subst P (λ i. record { job = sym j i; steps = sym k i; answer = plan.answer }) h
+
+    by : (steps : List Want) → plan.steps ≡ steps → P plan
+    by [] k = is [] k (none k (sym (ap (λ (us : List Want). first_step us plan.answer) k) ∙ e))
+    by (v ∷ ws) k = let now : plan.steps ≡ next ∷ ws = k ∙ ap (λ (u : Want). u ∷ ws) (sym (ap (λ (us : List Want). first_step us plan.answer) k) ∙ e) in is (next ∷ ws) now (some ws now)
 
 pub begins_by : (plan : Plan) (next : Want) → want plan ≡ next → ((answer : Answer) → next ≢ End answer) → (ws : List Want) × (plan.steps ≡ next ∷ ws)
-begins_by plan next e n = elim (next_is plan next e) [ inl b ↦ b | inr o ↦ absurd (n plan.answer (sym o.1)) ]
+begins_by plan next e n = first plan plan.job next refl e (λ p. (ws : List Want) × (p.steps ≡ next ∷ ws)) (λ rest k. (rest, refl)) (λ k is. absurd (n plan.answer (sym is)))
 
--- Nothing is left of a plan that answers, if no answer is among its steps.
-pub answers_by : (plan : Plan) (answer : Answer) → want plan ≡ End answer → ((ws : List Want) → plan.steps ≢ End answer ∷ ws) → (plan.steps ≡ []) × (plan.answer ≡ answer)
-answers_by plan answer e never = elim (next_is plan (End answer) e) [ inl b ↦ absurd (never b.0 b.1) | inr o ↦ (o.0, (let same : End plan.answer ≡ End answer = o.1 in cc)) ]
+-- a step that neither begins a task nor gives a block back, and no answer
+abbrev pub IsWithin : Want → Type 0
+IsWithin (Cell (Look Fail)) = ⊥
+IsWithin (Cell (Release access block)) = ⊥
+IsWithin (End answer) = ⊥
+IsWithin next = Unit {0}
 
--- a request is no migration
-no_request : (job : Job) → IsRequestJob job → MigratesNot job
-no_request (Migrate migration block) r = absurd r
-no_request job r = tt
+-- who is late takes none, nor who has only to answer
+pub never_late : (words : Words) (plan : Plan) (job : TaskJob) (next : Want) (y : AbstractActor) → plan.job ≡ job → want (table job) ≡ Cell (Look Fail) → want plan ≡ next → IsWithin next → IsLate words plan y → ⊥
+never_late words plan job next y j begins e within l = elim l.at [
+  | inl t ↦ subst IsWithin (sym e ∙ ap want (t ∙ ap (λ k. table k) j) ∙ begins) within
+  | inr n ↦ subst IsWithin (sym e ∙ ap (λ (ws : List Want). first_step ws plan.answer) n.0) within
+]
 
-module _ (size most blocks : ℕ) (words : Words) (committing : Bool) (orders : List (Option Order)) (devices : Devices (List History)) (actors : List Actor) (a : ℕ) (x : Actor) (plan : Plan) (step : CellStep) (s : World) (y : AbstractActor)
-    (rule : LockRule blocks words (cards_of actors)) (ex : slice_get actors a ≡ Some x) (ey : slice_get s.actors a ≡ Some y) (job : Job) (request_job : IsRequestJob job) (task : x.task ≡ Some (job, plan)) (suits : Suits blocks plan x.card) (next : want plan ≡ Cell step) (g : Agrees size most words committing orders devices actors s) (st : StandsFor size most words x y) where
-  -- a request's, by its actor alone
-  request_acts : (content : Content) (job_on : BlockRange → BlockJob) → ((part : BlockRange) → IsRequest (job_on part)) → ((part : BlockRange) → range_of (job_on part) ≡ part) →
-      ((part : BlockRange) → IsPart size part → (seal : ℕ) → AreOfBlock size part.block.0 (work_of (OnBlock (job_on part)) seal)) → ((part : BlockRange) → job_alone (job_for size content (OnBlock (job_on part))) ≡ false) →
-      IsRequestAt size content words job_on plan x.card y → Acted size content s.actors a s.shared y (words_after words step) job_on (after plan (got_of (result_of words step))) (card_after words step x.card)
-  request_acts content job_on request range works among r =
-      subst (λ (p : Plan). Acted size content s.actors a s.shared y (words_after words step) job_on (after p (got_of (result_of words step))) (card_after words step x.card)) (sym is)
-      (acts_on_words size content job_on request range works among r.part r.is_part blocks words s.actors a x.card s.shared y plan.answer g.words_agree (cards_of actors) step b.0 rule (card_there actors a x ex) (takes size most words committing orders devices actors s g a step) st.below st.among_others
-      (subst (λ (ws : List Want). AreOfBlock size r.part.block.0 ws) b.1 r.of_block) (subst (λ (p : Plan). Suits blocks p x.card) is suits) (subst (λ (p : Plan). IsAt size content p x.card y ⊎ HasStopped words p x.card y ⊎ IsLate words p y) is r.at))
-    where
-      b : (ws : List Want) × (plan.steps ≡ Cell step ∷ ws)
-      b = begins_by plan (Cell step) next (λ answer q. absurd (cc))
+pub never_over : (plan : Plan) (next : Want) → want plan ≡ next → IsWithin next → OnlyParts plan.steps → ⊥
+never_over plan next e within over = by plan.steps over (subst IsWithin (sym e) within)
+  where
+    by : (ws : List Want) → OnlyParts ws → IsWithin (first_step ws plan.answer) → ⊥
+    by [] o w = w
+    by (Cell (Release access b) ∷ []) o w = w
+    by ws o w = o
 
-      is : plan ≡ plan_of (job_on r.part) (Cell step ∷ b.0) plan.answer
-      is = λ i. record { job = r.job i; steps = b.1 i; answer = plan.answer }
+-- of one that answers if nothing is left, if no answer is among its steps
+pub answers_by : (plan : Plan) (job : TaskJob) (answer : Answer) → plan.job ≡ job → want plan ≡ End answer → ((ws : List Want) → plan.steps ≢ End answer ∷ ws) → (P : Plan → Type 0) → P (record { job = job; steps = []; answer = answer }) → P plan
+answers_by plan job answer j e never P h = first plan job (End answer) j e P (λ rest k. absurd (never rest k)) (λ k is. let same : answer ≡ plan.answer = cc in subst (λ (v : Answer). P (record { job = job; steps = []; answer = v })) same h)
 
-  -- among all others
-  among_all : (content : Content) (job_on : BlockRange → BlockJob) → (acted : Acted size content s.actors a s.shared y (words_after words step) job_on (after plan (got_of (result_of words step))) (card_after words step x.card)) →
-      IsDoing size most (words_after words step) job (after plan (got_of (result_of words step))) (card_after words step x.card) (gone y y.task acted.results) →
-      Follows Quietly size most a s (words_after words step) committing orders devices (slice_set actors a (went words job plan step x))
-  among_all content job_on acted doing =
-      let t = shared_after s.shared y y.task acted.results in
+module _ (size most blocks : ℕ) (words : Words) (committing : Bool) (orders : List (Option Order)) (devices : Devices (List History)) (actors : List Actor) (a : ℕ) (x : Actor) (job : Job) (step : CellStep) (s : World) (y : AbstractActor)
+    (rule : LockRule blocks words (cards_of actors)) (ex : slice_get actors a ≡ Some x) (ey : slice_get s.actors a ≡ Some y) (g : Agrees size most words committing orders devices actors s) where
+  -- what its actor did on the words, among all others
+  pub among_all : {At : AbstractActor → Type 0} {Is : AbstractJob → Type 0} (plan : Plan) (telling : Telling) (acted : Acted At Is s.actors a s.shared y (words_after words step) (after plan (got_of (result_of words step))) (card_after words step x.card)) → IsTold telling a y.task (records a y.task acted.results) →
+      IsDoing size most (words_after words step) job (after plan (got_of (result_of words step))) (card_after words step x.card) (gone y y.task acted.results) → IsDone size (words_after words step) orders devices (went words job plan step x) (gone y y.task acted.results) →
+      Follows telling size most a s (words_after words step) committing orders devices (slice_set actors a (went words job plan step x))
+  among_all plan telling acted told doing its =
       let k = acted.same.images in
-      goes_on size most words (words_after words step) (failed_stays words step _ _ rule.logs.fail) committing orders devices actors a x (went words job plan step x) s y g ex ey Quietly devices acted.results t (acted.results, quiet_are_unnoted y.task acted.results acted.quiet, refl) acted.may refl
-      (record { at = doing; below = acted.below; among_others = acted.among_others }) acted.leads acted.words_agree (acted.same.origin ∙ g.origin) (acted.same.cache ∙ g.cache) k.mode k.committing k.broken (k.committed, k.running, k.root_written) (k.mapping, k.blocks) acted.order (λ o h. h) (carries_same size orders devices actors s a) (does_none _ _ _ _ _ _ (no_request job request_job))
+      goes_on size most words (words_after words step) (failed_stays words step _ _ rule.logs.fail) committing orders devices actors a x (went words job plan step x) s y g ex ey telling devices acted.results (shared_after s.shared y y.task acted.results) told acted.may refl
+      (record { at = doing; below = acted.below; among_others = acted.among_others }) acted.leads acted.words_agree (acted.same.origin ∙ g.origin) (acted.same.cache ∙ g.cache) k.mode k.committing k.broken (k.committed, k.running, k.root_written) (k.mapping, k.blocks) acted.order (λ o h. h) (carries_same size orders devices actors s a) its
 
-followed : (size most blocks : ℕ) (words : Words) (committing : Bool) (orders : List (Option Order)) (devices : Devices (List History)) (actors : List Actor) (a : ℕ) (x : Actor) (plan : Plan) (step : CellStep) (s : World) (y : AbstractActor) →
-    LockRule blocks words (cards_of actors) → slice_get actors a ≡ Some x → slice_get s.actors a ≡ Some y → (job : Job) → IsRequestJob job → x.task ≡ Some (job, plan) → Suits blocks plan x.card → want plan ≡ Cell step → Agrees size most words committing orders devices actors s → StandsFor size most words x y →
+  abbrev Goal : Plan → Type 0
+  Goal plan = Follows Quietly size most a s (words_after words step) committing orders devices (slice_set actors a (went words job plan step x))
+
+  -- a request's
+  of_request : (content : Content) (job_on : BlockRange → BlockJob) → ((part : BlockRange) → IsRequest (job_on part) × (range_of (job_on part) ≡ part)) → ((part : BlockRange) → IsPart size part → (seal : ℕ) → AreOfBlock size part.block.0 (work_of (OnBlock (job_on part)) seal)) →
+      ((p : Plan) (card : Card) (z : AbstractActor) → IsRequestAt size content (words_after words step) job_on p card z → IsDoing size most (words_after words step) job p card z) → MigratesNot job → (plan : Plan) → Suits blocks plan x.card → want plan ≡ Cell step → StandsFor size most words x y → IsRequestAt size content words job_on plan x.card y → Goal plan
+  of_request content job_on request works does other plan suits next st r = first plan (OnBlock (job_on r.part)) (Cell step) r.job next (λ p. Suits blocks p x.card → AreOfBlock size r.part.block.0 p.steps → At p → Goal p)
+      (λ rest k suits of at. by rest suits (tells size r.part.block.0 step rest of) at) (λ k q. absurd (cc)) suits r.of_block r.at
+    where
+      At : Plan → Type 0
+      At p = IsAt size content p x.card y ⊎ HasStopped words p x.card y ⊎ IsLate words p y
+
+      sized : size ≡ (range_of (job_on r.part)).block_sectors
+      sized = r.is_part.sized ∙ ap (λ (p : BlockRange). p.block_sectors) (sym (request r.part).1)
+
+      by : (rest : List Want) → Suits blocks (plan_of (job_on r.part) (Cell step ∷ rest) plan.answer) x.card → TellsPlace step × AreOfBlock size r.part.block.0 rest → At (plan_of (job_on r.part) (Cell step ∷ rest) plan.answer) → Goal (plan_of (job_on r.part) (Cell step ∷ rest) plan.answer)
+      by rest suits t at = among_all of Quietly acted (acted.results, quiet_are_unnoted y.task acted.results acted.quiet, refl) (does then_plan then_card _ (record {
+        part = r.part;
+        job = same_job;
+        is_part = r.is_part;
+        of_block = after_cell (AreOfBlock size r.part.block.0) (OnBlock (job_on r.part)) words step rest plan.answer tt t.1 (λ seen. tt) (λ b e. works r.part r.is_part (word_at words.seals b)) tt;
+        at = elim acted.at [ inl i ↦ inl (at_request size content (job_on r.part) then_plan then_card _ same_job i) | inr o ↦ inr (elim o [ inl k ↦ inl k.0 | inr l ↦ inr l ]) ];
+      })) (does_none _ _ _ _ _ _ other)
+        where
+          of : Plan
+          of = plan_of (job_on r.part) (Cell step ∷ rest) plan.answer
+
+          then_plan : Plan
+          then_plan = after of (got_of (result_of words step))
+
+          then_card : Card
+          then_card = card_after words step x.card
+
+          same_job : then_plan.job ≡ OnBlock (job_on r.part)
+          same_job = job_stays of (got_of (result_of words step))
+
+          role : Role
+          role = request_role size content (job_on r.part)
+
+          acts : At of → Acted (IsAs role then_plan then_card) (λ j. Unit {0}) s.actors a s.shared y (words_after words step) then_plan then_card
+          acts (inl i) = acts_in_role (job_on r.part) (λ j. Unit {0}) words s.actors a x.card s.shared y plan.answer g.words_agree role (requests_play size content (job_on r.part) (request r.part).0 r.is_part.some sized) tt blocks (cards_of actors) step rest rule (card_there actors a x ex)
+              (takes size most words committing orders devices actors s g role a x.card step (λ b e seal k. tt)) t.0 suits (as_request size content (job_on r.part) (Cell step ∷ rest) plan.answer x.card y i)
+          acts (inr (inl k)) = acts_over (job_on r.part) (λ j. Unit {0}) words s.actors a x.card s.shared y plan.answer g.words_agree step rest st.below st.among_others (inl (k, tt))
+          acts (inr (inr l)) = acts_over (job_on r.part) (λ j. Unit {0}) words s.actors a x.card s.shared y plan.answer g.words_agree step rest st.below st.among_others (inr l)
+
+          acted : Acted (IsAs role then_plan then_card) (λ j. Unit {0}) s.actors a s.shared y (words_after words step) then_plan then_card
+          acted = acts at
+
+followed : (size most blocks : ℕ) (words : Words) (committing : Bool) (orders : List (Option Order)) (devices : Devices (List History)) (actors : List Actor) (a : ℕ) (x : Actor) (job : Job) (plan : Plan) (step : CellStep) (s : World) (y : AbstractActor) →
+    LockRule blocks words (cards_of actors) → slice_get actors a ≡ Some x → slice_get s.actors a ≡ Some y → IsRequestJob job → Suits blocks plan x.card → want plan ≡ Cell step → Agrees size most words committing orders devices actors s → StandsFor size most words x y → IsDoing size most words job plan x.card y →
     Follows Quietly size most a s (words_after words step) committing orders devices (slice_set actors a (went words job plan step x))
-followed size most blocks words committing orders devices actors a x plan step s y rule ex ey (Read extent) q e suits next g st =
-    let acted = request_acts size most blocks words committing orders devices actors a x plan step s y rule ex ey (Read extent) q e suits next g st [] Reading (λ part. tt) (λ part. refl) (read_of_block size) (λ part. refl) (doing_of size most words x y (Read extent) plan st e) in
-    among_all size most blocks words committing orders devices actors a x plan step s y rule ex ey (Read extent) q e suits next g st [] Reading acted acted.request
-followed size most blocks words committing orders devices actors a x plan step s y rule ex ey (Write extent content) q e suits next g st =
-    let acted = request_acts size most blocks words committing orders devices actors a x plan step s y rule ex ey (Write extent content) q e suits next g st content Writing (λ part. tt) (λ part. refl) (write_of_block size) (λ part. refl) (doing_of size most words x y (Write extent content) plan st e) in
-    among_all size most blocks words committing orders devices actors a x plan step s y rule ex ey (Write extent content) q e suits next g st content Writing acted acted.request
-followed size most blocks words committing orders devices actors a x plan step s y rule ex ey job q e suits next g st = absurd q
+followed size most blocks words committing orders devices actors a x (Read extent) plan step s y rule ex ey q suits next g st d = of_request size most blocks words committing orders devices actors a x (Read extent) step s y rule ex ey g [] Reading (λ part. (tt, refl)) (read_of_block size) (λ p card z r. r) tt plan suits next st d
+followed size most blocks words committing orders devices actors a x (Write extent content) plan step s y rule ex ey q suits next g st d = of_request size most blocks words committing orders devices actors a x (Write extent content) step s y rule ex ey g content Writing (λ part. (tt, refl)) (write_of_block size) (λ p card z r. r) tt plan suits next st d
+followed size most blocks words committing orders devices actors a x job plan step s y rule ex ey q suits next g st d = absurd q
 
 pub cell_steps_followed : CellStepsFollowed
 cell_steps_followed size most blocks words committing orders devices actors a x job plan step s q rule ex task suits next g =
     let y = own_there size most words committing orders devices actors s g a x ex in
-    followed size most blocks words committing orders devices actors a x plan step s y.0 rule ex y.1 job q task suits next g (g.each a x y.0 ex y.1)
+    let st = g.each a x y.0 ex y.1 in
+    followed size most blocks words committing orders devices actors a x job plan step s y.0 rule ex y.1 q suits next g st (doing_of size most words x y.0 job plan st task)

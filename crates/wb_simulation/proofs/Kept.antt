@@ -6,6 +6,7 @@ use Rattle.wb_words.specs.declared.card.Card.{Card}
 use Rattle.wb_tasks.specs.Tables.{BlockRange, BlockJob}
 use Rattle.wb_tasks.specs.Plan.{Plan}
 use Rattle.wb_tasks.specs.declared.step.Want.{Want}
+use Rattle.wb_link.specs.Tables.{Job as AbstractJob}
 use Rattle.wb_link.specs.World.{Actor as AbstractActor}
 use Rattle.wb_refines.specs.Models.{HasStopped, IsFree}
 use Rattle.wb_runs.specs.declared.job.Job.{Job}
@@ -21,20 +22,11 @@ module _ (size most : ℕ) (words words' : Words) (up : flag words.fail ≡ true
   free_on [] f = elim f [ inl h ↦ inl h | inr e ↦ inr (up e) ]
   free_on (w ∷ ws) f = f
 
-  stopped_on : (plan : Plan) (card : Card) → HasStopped words plan card y → HasStopped words' plan card y
-  stopped_on plan card k = record {
-    over = k.over;
-    refused = k.refused;
-    script = k.script;
-    task = k.task;
-    nothing = k.nothing;
-    undone = k.undone;
-    among_others = k.among_others;
-    order = k.order;
-    leads = k.leads;
-    below = k.below;
-    free = free_on plan.steps k.free;
-  }
+  -- whatever holds of its job there
+  pub ended_on : (Is : AbstractJob → Type 0) (plan : Plan) (card : Card) → (k : HasStopped words plan card y) × Is k.script.job → (k : HasStopped words' plan card y) × Is k.script.job
+  ended_on Is plan card e =
+      let k = e.0 in
+      (record { over = k.over; refused = k.refused; script = k.script; task = k.task; nothing = k.nothing; undone = k.undone; among_others = k.among_others; leads = k.leads; below = k.below; free = free_on plan.steps k.free }, e.1)
 
   request_on : (content : Content) (job_on : BlockRange → BlockJob) (plan : Plan) (card : Card) → IsRequestAt size content words job_on plan card y → IsRequestAt size content words' job_on plan card y
   request_on content job_on plan card r = record {
@@ -42,7 +34,7 @@ module _ (size most : ℕ) (words words' : Words) (up : flag words.fail ≡ true
     job = r.job;
     is_part = r.is_part;
     of_block = r.of_block;
-    at = elim r.at [ inl i ↦ inl i | inr o ↦ elim o [ inl k ↦ inr (inl (stopped_on plan card k)) | inr l ↦ inr (inr (late_on plan l)) ] ];
+    at = elim r.at [ inl i ↦ inl i | inr o ↦ elim o [ inl k ↦ inr (inl (ended_on (λ j. Unit {0}) plan card (k, tt)).0) | inr l ↦ inr (inr (late_on plan l)) ] ];
   }
 
   flush_on : (plan : Plan) → IsFlushAt size most words plan y → IsFlushAt size most words' plan y

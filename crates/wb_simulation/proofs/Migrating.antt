@@ -1,5 +1,5 @@
 -- A migration's steps on the shared words are followed.
-use Rattle.std.proofs.Common.{◌≡◌, ◌∙◌, inl, inr, ℕ, Bool, List, [], ◌∷◌, Option, Some, refl, sym, ap, subst, arith, slice_get, Contains}
+use Rattle.std.proofs.Common.{◌≡◌, ◌∙◌, ◌⊎◌, inl, inr, ℕ, Bool, List, ◌∷◌, Option, Some, refl, sym, subst, arith, slice_get, Contains}
 use Rattle.wb_types.specs.declared.number.OBlock.{OBlock}
 use Rattle.wb_types.specs.declared.number.CBlock.{CBlock}
 use Rattle.wb_disk.specs.Device.{History}
@@ -10,47 +10,41 @@ use Rattle.wb_words.proofs.Totals.{at_slice}
 use Rattle.wb_words.specs.declared.card.Card.{Card}
 use Rattle.wb_words.specs.declared.step.CellStep.{CellStep}
 use Rattle.wb_words.specs.declared.step.CellStep.TheVariants.{Look, Release, Seal}
-use Rattle.wb_words.specs.declared.word.Word.TheVariants.{Seal as SealWord, Number, Fail}
+use Rattle.wb_words.specs.declared.word.Word.TheVariants.{Seal as SealWord, Number}
 use Rattle.wb_policy.specs.declared.order.Order.{Order}
 use Rattle.wb_tasks.specs.Tables.{BlockRange, Migrating, OnBlock}
 use Rattle.wb_tasks.specs.Plan.{Plan, want, after, got_of}
 use Rattle.wb_tasks.specs.Ready.{Has, Suits}
-use Rattle.wb_types.specs.declared.refusal.Refusal.TheVariants.{Failed}
 use Rattle.wb_words.specs.declared.word.Access.TheVariants.{Owned}
 use Rattle.wb_tasks.proofs.Readiness.{job_stays}
-use Rattle.wb_simulation.proofs.Among.{card_there, own_there, takes, failed_stays, stays_there}
+use Rattle.wb_simulation.proofs.Among.{card_there, own_there, takes}
 use Rattle.wb_tasks.specs.declared.step.Answer.{Answer}
 use Rattle.wb_tasks.specs.declared.step.Migration.{Migration}
 use Rattle.wb_tasks.specs.declared.step.Want.{Want}
 use Rattle.wb_tasks.specs.declared.step.Want.TheVariants.{Cell}
 use Rattle.wb_devices.specs.declared.devices.Devices.{Devices}
 use Rattle.wb_link.specs.World.{World, Actor as AbstractActor}
-use Rattle.wb_refines.specs.Going.{shared_after, gone}
 use Rattle.wb_refines.specs.Models.{plan_of}
 use Rattle.wb_refines.specs.Migrations.{order_on, IsWhere}
-use Rattle.wb_refines.specs.Carried.{IsMigrationAt, FindsWhere, FollowsMigration}
-use Rattle.wb_refines.proofs.Carried.{migration_cells_followed}
+use Rattle.wb_refines.specs.Roles.{Role, IsAs}
+use Rattle.wb_refines.specs.Carried.{migration_role}
+use Rattle.wb_refines.proofs.Roles.{migrations_play}
 use Rattle.wb_runs.specs.declared.job.Job.TheVariants.{Migrate}
 use Rattle.wb_runs.specs.States.{Actor}
 use Rattle.wb_runs.specs.Holding.{cards_of}
 use Rattle.wb_simulation.specs.Steps.{IsTail}
-use Rattle.wb_simulation.specs.Carried.{order_there, IsCarried}
+use Rattle.wb_simulation.specs.Carried.{order_there, IsCarried, HasEnded}
 use Rattle.wb_simulation.specs.Worlds.{Agrees, Stays}
 use Rattle.wb_simulation.specs.Laws.{went}
 use Rattle.wb_simulation.specs.Migrating.{SealTells, SeesWhere, Carried}
-use Rattle.wb_simulation.proofs.Steps.{AreCopies, after_cell, finds_failed, migration_works}
-use Rattle.wb_simulation.proofs.Cells.{tells}
-use Rattle.wb_simulation.proofs.Followed.{begins_by}
-use Rattle.wb_simulation.proofs.Orders.{carried_again, carries_same}
-use Rattle.wb_simulation.proofs.Carrying.{IsOn, stands_there, carry_on, carried_job, carried_order, late_done}
+use Rattle.wb_simulation.proofs.Steps.{AreCopies, after_cell, migration_works}
+use Rattle.wb_simulation.proofs.Cells.{Acted, acts_in_role, acts_over, tells}
+use Rattle.wb_simulation.proofs.Followed.{first, among_all}
+use Rattle.wb_simulation.proofs.Orders.{carried_again}
+use Rattle.wb_simulation.proofs.Carrying.{IsMigratingOf, at_it, under_migrates, quiet_are_carried, stands_there, carried_job, carried_order}
 use Rattle.wb_simulation.proofs.Copying.{no_write_read}
-use Rattle.wb_simulation.specs.Telling.{Carries, AreCarried}
-use Rattle.wb_simulation.specs.Actors.{IsLate, StandsFor}
-use Rattle.wb_link.specs.Tables.{Script}
-use Rattle.wb_tasks.specs.declared.step.Got.TheVariants.{Word}
-use Rattle.wb_tasks.specs.Plan.{table}
-use Rattle.wb_tasks.specs.declared.step.Answer.TheVariants.{Refused as Refuses}
-use Rattle.wb_refines.specs.Carried.{IsMigrationAt}
+use Rattle.wb_simulation.specs.Telling.{Carries, IsMigrating}
+use Rattle.wb_simulation.specs.Actors.{IsLate}
 
 -- ---- a step on the words
 
@@ -104,68 +98,50 @@ module _ (size most blocks : ℕ) (words : Words) (committing : Bool) (orders : 
       (λ b is. let w = migration_works size part f.is_part m cache f.fills f.small (word_at words.seals b) (seen_where b is) in (w.0, (w.2, w.1), tt)) (tt, (tt, tt), tt)
 
   -- the number of a block is looked at with its seal known
-  finds_where : (q : CellStep) → step ≡ q → SeesWhere words orders s.shared.mapping m block q → Has (Migrating m part) x.card (Cell q ∷ ws) → FindsWhere q m cache x.card
-  finds_where (Look (Number b)) is seen has = λ seal known.
+  finds : (b : OBlock) → step ≡ Look (Number b) → (seal : ℕ) → x.card.seal ≡ Some seal → IsWhere m cache (place_in seal)
+  finds b is seal known =
+      let has : Has (Migrating m part) x.card (Cell (Look (Number b)) ∷ ws) = subst (λ (v : CellStep). Has (Migrating m part) x.card (Cell v ∷ ws)) is suits.1 in
       let told : word_at words.seals part.block ≡ seal = (rule.knows a x.card (at_slice (cards_of actors) a x.card (card_there actors a x ex))).seal Owned part.block seal has.0 known in
-      subst (λ (v : ℕ). IsWhere m cache (place_in v)) told (tells_where (subst (λ (v : CellStep). ¬ IsTail (Cell v ∷ ws)) (sym is) (λ t. t)) seen part.block f.block_is)
-  finds_where q is seen has = tt
+      subst (λ (v : ℕ). IsWhere m cache (place_in v)) told (tells_where (subst (λ (v : CellStep). ¬ IsTail (Cell v ∷ ws)) (sym is) (λ t. t)) (subst (λ (v : CellStep). SeesWhere words orders s.shared.mapping m block v) is sees) part.block f.block_is)
 
-  goes_there : FollowsMigration s.actors a s.shared y words' part cache f.next m f.kept plan' card'
-  goes_there = migration_cells_followed blocks words (cards_of actors) s.actors a a x.card s.shared y part cache f.next m f.kept step ws answer
-      (let some = f.is_part.some in let sized = f.is_part.sized in omega (arith, some, sized)) rule (card_there actors a x ex)
-      (takes size most words committing orders devices actors s g a step) g.words_agree (tells size part.block.0 step ws f.of_block).0 f.fills (finds_where step refl sees suits.1) suits f.at
+  abbrev role : Role
+  role = migration_role part cache f.next m f.kept
 
-  abbrev z : AbstractActor
-  z = gone y y.task goes_there.results
+  pub acts : Acted (IsAs role plan' card') IsMigrating s.actors a s.shared y words' plan' card'
+  acts = acts_in_role (Migrating m part) IsMigrating words s.actors a x.card s.shared y answer g.words_agree role (migrations_play part cache f.next m f.kept (let some = f.is_part.some in let sized = f.is_part.sized in omega (arith, some, sized)) f.fills) (under_migrates (order_on part cache f.next) _ m)
+      blocks (cards_of actors) step ws rule (card_there actors a x ex) (takes size most words committing orders devices actors s g role a x.card step finds) (tells size part.block.0 step ws f.of_block).0 suits f.at
 
-  on : IsOn size words' orders devices m block part plan' x' z
-  on = elim goes_there.at [
-    | inl i ↦ inl (carried_again size orders orders devices devices m block part (Cell step ∷ ws) plan'.steps answer plan'.answer x x' y z f f.kept (elim f.has [ inl l ↦ inl l | inr t ↦ inr (tail_after words part m step ws answer t) ])
-        (subst (λ (p : Plan). IsMigrationAt part cache f.next m f.kept p card' z) (λ k. record { job = job_stays plan (got_of (result_of words step)) k; steps = plan'.steps; answer = plan'.answer }) i)
-        (record { of_block = copies.0; paired = copies.1; read = no_write_read size plan'.steps x.buffer _ copies.2 }))
-    | inr k ↦ inr (record { failed = k.0; c = f.c; kept = f.kept; next = f.next; is = k.1 })
-  ]
-
-  pub cell_carried : Carried Stays size most a s words' committing orders devices actors x'
-  cell_carried =
-      let order : z.order ≡ f.kept = elim goes_there.at [ inl i ↦ ap (λ (v : AbstractActor). v.order) i.is | inr k ↦ k.1.order ] in
-      carry_on size most words words' (failed_stays words step _ _ rule.logs.fail) committing orders devices devices actors a x x' s y g ex ey m block part plan' refl (job_stays plan (got_of (result_of words step))) (carried_job size orders devices m block part (Cell step ∷ ws) answer x y f)
-      goes_there.results (shared_after s.shared y y.task goes_there.results) goes_there.may refl goes_there.words_agree (goes_there.same.origin ∙ g.origin) (goes_there.same.cache ∙ g.cache)
-      on (order ∙ sym (carried_order size orders devices m block part (Cell step ∷ ws) answer x y f)) (λ o h. h) goes_there.same.images (carries_same size orders devices actors s a)
+  pub is_carried : (z : AbstractActor) → IsAs role plan' card' z → IsCarried size orders devices m block part plan'.steps plan'.answer x' z
+  is_carried z i = carried_again size orders orders devices devices m block part (Cell step ∷ ws) plan'.steps answer plan'.answer x x' y z f f.kept (elim f.has [ inl l ↦ inl l | inr t ↦ inr (tail_after words part m step ws answer t) ])
+      (subst (λ (p : Plan). IsAs role p card' z) (λ k. record { job = job_stays plan (got_of (result_of words step)) k; steps = plan'.steps; answer = plan'.answer }) i)
+      (record { of_block = copies.0; paired = copies.1; read = no_write_read size plan'.steps x.buffer _ copies.2 })
 
 -- ---- any step of a migration on the words
-
-module _ (size most : ℕ) (words : Words) (committing : Bool) (orders : List (Option Order)) (devices : Devices (List History)) (actors : List Actor) (a : ℕ) (x : Actor) (migration : Migration) (block : OBlock) (part : BlockRange) (s : World) (y : AbstractActor) (g : Agrees size most words committing orders devices actors s) (ex : slice_get actors a ≡ Some x) (ey : slice_get s.actors a ≡ Some y) where
-  -- who is late finds that the target has failed
-  late_looks : (plan : Plan) → plan.job ≡ OnBlock (Migrating migration part) → IsLate words plan y → StandsFor size most words x y → plan ≡ table plan.job → Carried Stays size most a s words committing orders devices actors (went words (Migrate migration block) plan (Look Fail) x)
-  late_looks plan job l st t =
-      let over : Plan = plan_of (Migrating migration part) [] (Refuses Failed) in
-      let x' : Actor = record x { task = Some (Migrate migration block, over); card = card_after words (Look Fail) x.card } in
-      let is : after plan (Word words.fail) ≡ over = ap (λ (p : Plan). after p (Word words.fail)) (t ∙ ap (λ j. table j) job) ∙ finds_failed words (OnBlock (Migrating migration part)) _ _ l.failed in
-      subst (λ (p : Plan). Carried Stays size most a s words committing orders devices actors (record x { task = Some (Migrate migration block, p); card = card_after words (Look Fail) x.card })) (sym is)
-      (stays_there size most words committing orders devices actors a x x' s y g ex ey Carries ([], subst (λ (t : Option Script). AreCarried t []) (sym l.nothing) tt, refl) (record { at = tt; below = record { owned = st.below.owned; shared = st.below.shared }; among_others = st.among_others }) (λ o h. h)
-      (late_done size words orders devices migration block part over x' y refl refl (record { failed = l.failed; nothing = l.nothing; at = inr (refl, λ e. absurd (cc)) })))
 
 pub cells : (size most blocks : ℕ) (words : Words) (committing : Bool) (orders : List (Option Order)) (devices : Devices (List History)) (actors : List Actor) (a : ℕ) (x : Actor) (migration : Migration) (block : OBlock) (plan : Plan) (step : CellStep) (s : World) →
     LockRule blocks words (cards_of actors) → slice_get actors a ≡ Some x → x.task ≡ Some (Migrate migration block, plan) → Suits blocks plan x.card → want plan ≡ Cell step → SeesWhere words orders s.shared.mapping migration block step → Agrees size most words committing orders devices actors s →
     Carried Stays size most a s (words_after words step) committing orders devices actors (went words (Migrate migration block) plan step x)
 cells size most blocks words committing orders devices actors a x migration block plan step s rule ex task suits next sees g =
-    let b = begins_by plan (Cell step) next (λ answer q. absurd (cc)) in
     let y = own_there size most words committing orders devices actors s g a x ex in
     let d = g.orders_agree.carried a x y.0 migration block plan ex y.1 task in
-    let is : plan ≡ plan_of (Migrating migration d.part) (Cell step ∷ b.0) plan.answer = (λ i. record { job = d.job i; steps = b.1 i; answer = plan.answer }) in
-    elim d.at [
-      | inl k ↦ subst (λ (p : Plan). Carried Stays size most a s (words_after words step) committing orders devices actors (went words (Migrate migration block) p step x)) (sym is)
-          (cell_carried size most blocks words committing orders devices actors a x step s y.0 g rule ex y.1 migration block d.part b.0 plan.answer (subst (λ (us : List Want). IsCarried size orders devices migration block d.part us plan.answer x y.0) b.1 k) (subst (λ (p : Plan). Suits blocks p x.card) is suits) sees)
-      | inr o ↦ elim o [
-        | inl e ↦ absurd (let bad : [] ≡ Cell step ∷ b.0 = sym e.is.over ∙ b.1 in cc)
-        | inr l ↦ elim l.at [
-          | inl t ↦
-              let look : Cell step ≡ Cell (Look Fail) = sym next ∙ ap (λ (p : Plan). want p) (t ∙ ap (λ j. table j) d.job) in
-              let same : step ≡ Look Fail = cc in
-              subst (λ (q : CellStep). Carried Stays size most a s (words_after words q) committing orders devices actors (went words (Migrate migration block) plan q x)) (sym same)
-              (late_looks size most words committing orders devices actors a x migration block d.part s y.0 g ex y.1 plan d.job l (g.each a x y.0 ex y.1) t)
-          | inr n ↦ absurd (let bad : [] ≡ Cell step ∷ b.0 = sym n.0 ∙ b.1 in cc)
-        ]
-      ]
-    ]
+    let st = g.each a x y.0 ex y.1 in
+    first plan (OnBlock (Migrating migration d.part)) (Cell step) d.job next (λ p. Suits blocks p x.card → At d.part y.0 p → Goal p) (λ rest k suits at. elim at [
+      | inl f ↦ goes d.part y.0 y.1 rest (acts size most blocks words committing orders devices actors a x step s y.0 g rule ex y.1 migration block d.part rest plan.answer f suits sees) (is_carried size most blocks words committing orders devices actors a x step s y.0 g rule ex y.1 migration block d.part rest plan.answer f suits sees)
+          (carried_job size orders devices migration block d.part (Cell step ∷ rest) plan.answer x y.0 f)
+      | inr o ↦ goes d.part y.0 y.1 rest (acts_over (Migrating migration d.part) IsMigrating words s.actors a x.card s.shared y.0 plan.answer g.words_agree step rest st.below st.among_others o) (λ z (n : ⊥). absurd n)
+          (elim o [ inl e ↦ subst IsMigratingOf (sym e.0.task) e.1 | inr l ↦ subst IsMigratingOf (sym l.nothing) tt ])
+    ]) (λ k q. absurd (cc)) suits d.at
+  where
+    At : BlockRange → AbstractActor → Plan → Type 0
+    At part y p = IsCarried size orders devices migration block part p.steps p.answer x y ⊎ HasEnded words p x y ⊎ IsLate words p y
+
+    Goal : Plan → Type 0
+    Goal p = Carried Stays size most a s (words_after words step) committing orders devices actors (went words (Migrate migration block) p step x)
+
+    goes : (part : BlockRange) (y : AbstractActor) → slice_get s.actors a ≡ Some y → (rest : List Want) {At : AbstractActor → Type 0} (acted : Acted At IsMigrating s.actors a s.shared y (words_after words step) (after (plan_of (Migrating migration part) (Cell step ∷ rest) plan.answer) (got_of (result_of words step))) (card_after words step x.card)) →
+        ((z : AbstractActor) → At z → IsCarried size orders devices migration block part (after (plan_of (Migrating migration part) (Cell step ∷ rest) plan.answer) (got_of (result_of words step))).steps (after (plan_of (Migrating migration part) (Cell step ∷ rest) plan.answer) (got_of (result_of words step))).answer (went words (Migrate migration block) (plan_of (Migrating migration part) (Cell step ∷ rest) plan.answer) step x) z) →
+        IsMigratingOf y.task → Goal (plan_of (Migrating migration part) (Cell step ∷ rest) plan.answer)
+    goes part y ey rest acted carried migrates =
+        let of : Plan = plan_of (Migrating migration part) (Cell step ∷ rest) plan.answer in
+        among_all size most blocks words committing orders devices actors a x (Migrate migration block) step s y rule ex ey g of Carries acted (acted.results, quiet_are_carried acted.results y.task migrates acted.quiet, refl) tt
+        (λ m b p e. at_it size (words_after words step) orders devices (went words (Migrate migration block) of step x) _ migration block (after of (got_of (result_of words step))) m b p (record { part = part; job = job_stays of (got_of (result_of words step)); at = elim acted.at [ inl i ↦ inl (carried _ i) | inr o ↦ inr o ] }) e)

@@ -9,8 +9,8 @@ use Rattle.wb_disk.specs.Device.{Content, History, only}
 use Rattle.wb_contents.specs.Volume.{changed}
 use Rattle.wb_contents.specs.Devices.{by_block}
 use Rattle.wb_contents.proofs.Positions.{changed_same, changed_other}
-use Rattle.wb_link.specs.Tables.{Script, Job as AbstractJob, Reading, Writing, Writing_through, Promoting, Returning, Flushing, Suspending, Want, Write_all, End, Got, Gave, Done, Answer as AbstractAnswer, Finished as AnsweredDone, want, after, table}
-use Rattle.wb_link.specs.World.{Release, release_order, World, Shared, Record, Start, Again, Actor as AbstractActor, resting, after_all, after_record, actor_after, task_after, start_actor, again_actor, reserved, given}
+use Rattle.wb_link.specs.Tables.{Script, Job as AbstractJob, Reading, Writing, Writing_through, Promoting, Returning, Flushing, Suspending, Want, Write_all, End, Got, Gave, Done, Answer as AbstractAnswer, Finished as AnsweredDone, want, after, table, Flag, Order as AbstractOrder}
+use Rattle.wb_link.specs.World.{Release, release_order, World, Shared, Record, Start, Again, Actor as AbstractActor, resting, after_all, after_record, actor_after, task_after, start_actor, again_actor, reserved, given, aside, taken, order_of}
 use Rattle.wb_link.specs.Clerk.{Notes as AbstractNotes, Entry, histories_after, entered_after, finished_after, floors_after, job_noted, note, noted_step, opened, raised as raised_there}
 use Rattle.wb_link.specs.Openings.{On, AllRight}
 use Rattle.wb_link.proofs.Lists.{get_set_same, get_set_other, replicated}
@@ -21,10 +21,7 @@ use Rattle.wb_runs.specs.declared.job.Job.{Job}
 use Rattle.wb_runs.specs.Clerk.{Notes, Doing, Position, Entering, begins, begun, put, nobody, entering, enter, enter_each, write_note, all_raised, greater_of}
 use Rattle.wb_simulation.specs.Noting.{counts_by_block, AreEntries, DoesAlike, IsNotedSo, NotesAgree}
 use Rattle.wb_simulation.specs.Noted.{told, AreNewest, NotesFollowed}
-use Rattle.wb_simulation.proofs.Among.{is_inside}
-use Rattle.wb_link.specs.Tables.{Flag, Order as AbstractOrder}
-use Rattle.wb_link.specs.World.{Again, again_actor, after_record, aside, taken, order_of}
-use Rattle.std.proofs.Common.{true}
+use Rattle.std.proofs.lemmas.Option.{slice_get_within}
 use Rattle.wb_simulation.specs.Telling.{IsMigrating, IsResumed, Given, Kept, Failing, Nowhere, Rested, AreCarried, IsNoEnd, AreUnnoted, AnswersSo, reading, writing}
 use Rattle.wb_simulation.specs.Worlds.{zeros}
 use Rattle.wb_simulation.proofs.Counts.{everywhere, all_raised-length, no_entries_alike, greater_counts, greater-length}
@@ -444,7 +441,7 @@ notes_followed = record {
     each = λ b z l ez. elim (cases_eq b a) [
       | inl same ↦ subst (λ (k : ℕ). IsNotedSo size (length n.histories) z.task (slice_get (slice_set n.doings a (Some doing')) k) k m) (sym same)
           (subst (λ (o : Option (Option Doing)). IsNotedSo size (length n.histories) z.task o a m) (sym (get_set_same n.doings a (Some doing) (Some doing') here))
-          (redone_so size (length n.histories) z.task doing doing' a m e f (subst (λ (o : Option (Option Doing)). IsNotedSo size (length n.histories) z.task o a m) here (g.each a z (is_inside n.doings a (Some doing) here) (ap (slice_get s.actors) (sym same) ∙ ez)))))
+          (redone_so size (length n.histories) z.task doing doing' a m e f (subst (λ (o : Option (Option Doing)). IsNotedSo size (length n.histories) z.task o a m) here (g.each a z (slice_get_within n.doings a (Some doing) here) (ap (slice_get s.actors) (sym same) ∙ ez)))))
       | inr ne ↦ subst (λ (o : Option (Option Doing)). IsNotedSo size (length n.histories) z.task o b m) (sym (get_set_other n.doings a b (Some doing') ne)) (g.each b z (subst (λ (k : ℕ). b < k) (length-set n.doings a (Some doing')) l) ez)
     ];
   };

@@ -1,5 +1,5 @@
 -- The words of a target that an opening has made tell what the tree that it read has.
-use Rattle.std.proofs.Common.{◌≡◌, ◌≢◌, ◌<◌, ◌≤◌, ◌+◌, ◌^◌, ◌==◌, ◌∙◌, inl, ℕ, zero, suc, Bool, true, false, cond, if◌then◌else◌, List, [], ◌∷◌, Option, Some, None, length, replicate, refl, sym, ap, subst, arith, slice_get, slice_set, slice_index_or, unwrap_or}
+use Rattle.std.proofs.Common.{◌≡◌, ◌≢◌, ◌<◌, ◌≤◌, ◌+◌, ◌^◌, ◌==◌, ◌∙◌, inl, ℕ, zero, suc, Bool, true, false, cond, if◌then◌else◌, List, [], ◌∷◌, Option, Some, None, length, replicate, refl, sym, ap, subst, arith, slice_get, slice_set, slice_index_or, unwrap_or, inr}
 use Rattle.std.proofs.lemmas.Bool.{eqb-true, eq-eqb}
 use Rattle.std.proofs.lemmas.List.{length-replicate, length-set}
 use Rattle.wb_types.specs.declared.entry.Entry.{Entry}
@@ -23,8 +23,6 @@ use Rattle.wb_link.specs.Tables.{Order as AbstractOrder}
 use Rattle.wb_simulation.specs.Carried.{live_there}
 use Rattle.wb_simulation.specs.Worlds.{OrdersAgree, IsThere}
 use Rattle.wb_runs.specs.States.{Actor}
-use Rattle.wb_runs.specs.declared.job.Job.TheVariants.{Migrate}
-use Rattle.std.proofs.Common.{inr}
 use Rattle.wb_disk.specs.Device.{History}
 use Rattle.wb_devices.specs.declared.devices.Devices.{Devices}
 use Rattle.wb_link.specs.Openings.{opened_on}

@@ -1,7 +1,6 @@
 -- A migration's start is followed: under an order that is given, or once more under one that lives.
 use Rattle.std.proofs.Common.{◌++◌, false, ◌⊎◌, ◌≡◌, ◌≢◌, ◌<◌, ◌^◌, ◌∙◌, inl, inr, ℕ, Bool, true, List, [], ◌∷◌, Option, Some, None, refl, sym, ap, subst, slice_get, slice_set, Contains}
 use Rattle.std.proofs.lemmas.Bool.{cases_eq}
-use Rattle.std.proofs.lemmas.List.{length-set}
 use Rattle.wb_types.proofs.Lists.{Contains-first}
 use Rattle.wb_types.specs.declared.extent.Extent.{Extent}
 use Rattle.wb_types.specs.declared.number.OBlock.{OBlock}
@@ -17,37 +16,35 @@ use Rattle.wb_tasks.specs.Plan.{Plan}
 use Rattle.wb_tasks.specs.declared.step.Migration.{Migration}
 use Rattle.wb_tasks.specs.declared.step.Migration.TheVariants.{Promote}
 use Rattle.wb_devices.specs.declared.devices.Devices.{Devices}
-use Rattle.wb_link.specs.Tables.{Job as AbstractJob, Order as AbstractOrder, Finished as AnsweredDone}
-use Rattle.wb_link.specs.World.{IsRun, World, Shared, Start, Again, Apart, Ungiven, MayStart, MayAgain, Actor as AbstractActor, reserved}
+use Rattle.wb_link.specs.Tables.{Job as AbstractJob, Order as AbstractOrder, Finished as AnsweredDone, Script, Flag, Done as DoneThere, table as table_there}
+use Rattle.wb_link.specs.World.{IsRun, World, Shared, Start, Again, Apart, Ungiven, MayStart, MayAgain, Actor as AbstractActor, reserved, Record, order_of as order_of_job, aside, taken, given, after_all, start_actor, again_actor}
 use Rattle.wb_link.proofs.Lists.{get_set_same, get_set_other}
-use Rattle.wb_refines.specs.Tasks.{AllInBlocks}
-use Rattle.wb_refines.specs.Models.{held_of, WordsAgree}
+use Rattle.wb_refines.specs.Tasks.{AllInBlocks, IsResting}
+use Rattle.wb_refines.specs.Models.{held_of}
 use Rattle.wb_refines.specs.Translation.{offsets}
-use Rattle.wb_refines.specs.Migrations.{order_on, job_under, Fills}
+use Rattle.wb_refines.specs.Migrations.{order_on, job_under, migration_wants, Fills}
 use Rattle.wb_refines.specs.Copies.{migrating}
 use Rattle.wb_refines.specs.Carrying.{without_block}
-use Rattle.wb_refines.proofs.Carrying.{under_order, migrations_begin}
+use Rattle.wb_refines.proofs.Carrying.{under_order}
 use Rattle.wb_refines.proofs.Tasks.{within_offsets}
 use Rattle.wb_runs.specs.declared.job.Job.TheVariants.{Migrate}
 use Rattle.wb_runs.specs.States.{Actor}
-use Rattle.wb_simulation.specs.Actors.{IsBusyAt, StandsFor}
+use Rattle.wb_simulation.specs.Actors.{StandsFor}
 use Rattle.wb_simulation.proofs.Cut.{whole_part, whole_covered}
 use Rattle.wb_contents.proofs.Positions.{changed_same, changed_other}
-use Rattle.wb_link.specs.Tables.{Script, Flag, Done as DoneThere, table as table_there}
-use Rattle.wb_link.specs.World.{aside, taken, given, after_all, start_actor}
 use Rattle.wb_link.proofs.Aside.{aside_cases}
 use Rattle.wb_refines.specs.Going.{records, shared_after, gone, MayGo}
-use Rattle.wb_refines.specs.Tasks.{IsResting}
 use Rattle.wb_refines.proofs.Going.{goes, set_twice}
 use Rattle.wb_simulation.specs.Steps.{IsPart}
 use Rattle.wb_simulation.specs.Carried.{held, order_there, live_there, IsOf, IsOrderFor, IsCarried}
 use Rattle.wb_simulation.specs.Telling.{Resumes, IsResumed, Given, Kept, Failing, Nowhere}
-use Rattle.wb_simulation.specs.Worlds.{Agrees, OrdersAgree, IsThere, IsUnfinished, Stays, TurnedTo, DeskTurnedTo}
+use Rattle.wb_simulation.specs.Worlds.{Agrees, OrdersAgree, IsThere, Turn, Stays}
 use Rattle.wb_simulation.specs.Migrating.{order_of, Goes, IsUngiven, MayBeGiven, MayBeKept, given_by, migrates, begun}
 use Rattle.std.proofs.lemmas.List.Elements.{Contains-append_left}
 use Rattle.wb_simulation.specs.Laws.{IsOnlyOf}
-use Rattle.wb_simulation.proofs.Orders.{CarriesOthers, IsDone, carried_beside, begins_so, is_aside, who}
-use Rattle.wb_simulation.proofs.Among.{whose, nobody_alone, stays_there, each_on, led_on, whole_on, one_on}
+use Rattle.wb_simulation.proofs.Orders.{CarriesOthers, IsDone, carried_beside, begins_so, is_aside}
+use Rattle.wb_simulation.proofs.Among.{whose, nobody_alone, stays_there}
+use Rattle.wb_simulation.proofs.Starting.{IsGiven, given_nothing, begins, rests}
 use Rattle.wb_simulation.proofs.Carrying.{under_migrates, is_done, late_done, on_stands}
 
 -- ---- what lives there
@@ -109,6 +106,16 @@ module _ (size most : ℕ) (words : Words) (committing : Bool) (orders : List (O
   abbrev begun_there : AbstractActor
   begun_there = without_block (migrating size own (offsets size cut) migration plan.steps AnsweredDone y.buffer)
 
+  own_job : order_of_job job ≡ Some own
+  own_job = under_order own (offsets size cut) migration
+
+  given_is : IsResting y → given y job ≡ begun_there
+  given_is idle = λ i. record { task = Some (begins_as migration i); held = idle.held i; order = own_job i; leads = idle.leads i; buffer = y.buffer }
+    where
+      begins_as : (m : Migration) → table_there (job_under own (offsets size cut) m) ≡ record { job = job_under own (offsets size cut) m; steps = migration_wants size own (offsets size cut) m plan.steps; answer = AnsweredDone }
+      begins_as (Promote k) = refl
+      begins_as m = refl
+
   carried_then : (orders' : List (Option Order)) (its : List Order) → slice_get orders' c.0 ≡ Some (Some order) → Contains its order → Fills migration c → IsCarried size orders' devices migration block part plan.steps plan.answer (record x { task = Some (Migrate migration block, plan); orders = its }) begun_there
   carried_then orders' its slot its_own fills = record {
     block_is = refl;
@@ -148,29 +155,15 @@ module _ (size most : ℕ) (words : Words) (committing : Bool) (orders : List (O
   may_again m may = (within_offsets size cut inside, whole_covered size block some cut is_cut, may)
 
   -- an order that is given reserves a promotion's cache block, and is nothing else to what is shared
-  record IsGiven (m : Migration) (t : Shared) : Type 0 where
-    pub words_agree : WordsAgree words t
-    pub origin : t.origin ≡ s.shared.origin
-    pub cache : t.cache ≡ s.shared.cache
-    pub mode : t.mode ≡ s.shared.mode
-    pub commits : t.committing ≡ s.shared.committing
-    pub broken : t.broken ≡ s.shared.broken
-    pub turned : TurnedTo (given_by m c.0) s.shared t
-    pub desk : DeskTurnedTo (given_by m c.0) s.shared t
-
-  is_given : (m : Migration) → IsGiven m (reserved s.shared (job_under own (offsets size cut) m))
-  is_given (Promote k) = record { words_agree = record { fail = g.words_agree.fail; seals = g.words_agree.seals }; origin = refl; cache = refl; mode = refl; commits = refl; broken = refl; turned = (refl, refl, refl); desk = (refl, refl) }
-  is_given m = record { words_agree = g.words_agree; origin = refl; cache = refl; mode = refl; commits = refl; broken = refl; turned = (refl, refl, refl); desk = (refl, refl) }
-
-  map_given : (m : Migration) → (reserved s.shared (job_under own (offsets size cut) m)).mapping ≡ s.shared.mapping
-  map_given (Promote k) = refl
-  map_given m = refl
+  is_given : (m : Migration) → IsGiven words (given_by m c.0) s.shared (reserved s.shared (job_under own (offsets size cut) m))
+  is_given (Promote k) = record { words_agree = record { fail = g.words_agree.fail; seals = g.words_agree.seals }; origin = refl; cache = refl; mode = refl; commits = refl; broken = refl; mapping = refl; turned = (refl, refl, refl); desk = (refl, refl) }
+  is_given m = record { words_agree = g.words_agree; origin = refl; cache = refl; mode = refl; commits = refl; broken = refl; mapping = refl; turned = (refl, refl, refl); desk = (refl, refl) }
 
   st : StandsFor size most words x y
   st = g.each a x y ex ey
 
-  rests : (y.task ≡ None) × (IsResting y ⊎ (flag words.fail ≡ true))
-  rests = subst (λ t. IsBusyAt size most words t x.card y) none st.at
+  rest : (y.task ≡ None) × (IsResting y ⊎ (flag words.fail ≡ true))
+  rest = rests size most words x y st none
 
   -- The order is at the actor then, which lives on the cache block.
   module _ (orders' : List (Option Order)) (its : List Order) (slot : slice_get orders' c.0 ≡ Some (Some order)) (mine : Contains its order) (beside : (d : ℕ) → d ≢ c.0 → slice_get orders' d ≡ slice_get orders d) (waiting : ℕ → Option AbstractOrder) (put : (d : ℕ) → d ≢ c.0 → waiting d ≡ aside s.waiting y.order d) (gone_from : (d : ℕ) (p : AbstractOrder) → d ≡ c.0 → waiting d ≡ Some p → ⊥)
@@ -195,57 +188,18 @@ module _ (size most : ℕ) (words : Words) (committing : Bool) (orders : List (O
     done : Fills migration c → IsDone size words orders' devices x' begun_there
     done fills = is_done size words orders' devices migration block part plan x' begun_there refl (inl (carried_then orders' its slot mine fills)) refl
 
-    -- the whole state agrees, where it has begun there
-    agrees_then : Fills migration c → IsGiven migration t ⊎ (t ≡ s.shared) → Agrees size most words committing orders' devices (slice_set actors a x') (record { shared = t; actors = slice_set s.actors a begun_there; waiting = waiting })
-    agrees_then fills k = record {
-      words_agree = elim k [ inl i ↦ i.words_agree | inr e ↦ subst (λ (u : Shared). WordsAgree words u) (sym e) g.words_agree ];
-      origin = elim k [ inl i ↦ i.origin | inr e ↦ ap (λ (u : Shared). u.origin) e ] ∙ g.origin;
-      cache = elim k [ inl i ↦ i.cache | inr e ↦ ap (λ (u : Shared). u.cache) e ] ∙ g.cache;
-      mode = elim k [ inl i ↦ i.mode | inr e ↦ ap (λ (u : Shared). u.mode) e ] ∙ g.mode;
-      commits = commits ∙ g.commits;
-      broken = λ e. commits ∙ g.broken (sym broken ∙ e);
-      led = led_on size most words words (λ e. e) committing orders devices actors a x x' s y g ex ey begun_there (λ l. let bad : false ≡ true = l in absurd (cc)) t commits;
-      whole = whole_on size most words words (λ e. e) committing orders devices actors a x x' s y g ex ey begun_there (λ l. let bad : false ≡ true = l in absurd (cc)) t broken;
-      one_leads = one_on size most words words (λ e. e) committing orders devices actors a x x' s y g ex ey begun_there (λ l. let bad : false ≡ true = l in absurd (cc));
-      many = length-set s.actors a begun_there ∙ g.many ∙ sym (length-set actors a x');
-      each = each_on size most words words (λ e. e) committing orders devices actors a x x' s y g ex ey begun_there (on_stands size words orders' devices migration block part plan x' begun_there most (inl (carried_then orders' its slot mine fills)) refl);
-      orders_agree = ordered begun_there refl (done fills);
-    }
-      where
-        commits : t.committing ≡ s.shared.committing
-        commits = elim k [ inl i ↦ i.commits | inr e ↦ ap (λ (u : Shared). u.committing) e ]
-
-        broken : t.broken ≡ s.shared.broken
-        broken = elim k [ inl i ↦ i.broken | inr e ↦ ap (λ (u : Shared). u.broken) e ]
+    -- it has begun there, and then this is shared
+    begins_there : (turn : Turn) (rs : List Record) → Fills migration c → IsRun size s rs → after_all s rs ≡ record { shared = t; actors = slice_set s.actors a begun_there; waiting = waiting } → IsResumed a y.task rs → IsGiven words turn s.shared t → Goes Resumes turn size most a s words committing orders' devices actors x'
+    begins_there turn rs fills run is told i = begins size most words committing orders devices actors a x x' s y g ex ey turn Resumes orders' rs waiting t begun_there run is told i (λ l. let bad : false ≡ true = l in absurd (cc))
+        (on_stands size words orders' devices migration block part plan x' begun_there most (inl (carried_then orders' its slot mine fills)) refl) (ordered begun_there refl (done fills))
 
     -- one that has kept something has found there that the target has failed, and has the order
     abbrev fallen : AbstractActor
     fallen = record y { task = None; order = Some own }
 
-    fallen_was : (b : ℕ) (v : AbstractActor) → slice_get (slice_set s.actors a fallen) b ≡ Some v → v.leads ≡ true → (u : AbstractActor) × (slice_get s.actors b ≡ Some u) × (u.leads ≡ true)
-    fallen_was b v ev l = elim (who s.actors a y fallen ey b v ev) [
-      | inl one ↦ (y, ap (slice_get s.actors) one.0 ∙ ey, ap (λ (u : AbstractActor). u.leads) one.1 ∙ l)
-      | inr one ↦ (v, one.1, l)
-    ]
-
-    fallen_agrees : flag words.fail ≡ true → IsGiven migration t → Agrees size most words committing orders' devices (slice_set actors a x') (record { shared = t; actors = slice_set s.actors a fallen; waiting = waiting })
-    fallen_agrees failed i = record {
-      words_agree = i.words_agree;
-      origin = i.origin ∙ g.origin;
-      cache = i.cache ∙ g.cache;
-      mode = i.mode ∙ g.mode;
-      commits = i.commits ∙ g.commits;
-      broken = λ e. i.commits ∙ g.broken (sym i.broken ∙ e);
-      led = λ b v ev l. let u = fallen_was b v ev l in i.commits ∙ g.led b u.0 u.1 u.2;
-      whole = λ b v ev l unfinished. elim (who s.actors a y fallen ey b v ev) [
-        | inl one ↦ absurd (subst (λ (u : AbstractActor). IsUnfinished u.task) (sym one.1) unfinished)
-        | inr one ↦ i.broken ∙ g.whole b v one.1 l unfinished
-      ];
-      one_leads = λ b d v u ev eu l m. let p = fallen_was b v ev l in let q = fallen_was d u eu m in g.one_leads b d p.0 q.0 p.1 q.1 p.2 q.2;
-      many = length-set s.actors a fallen ∙ g.many ∙ sym (length-set actors a x');
-      each = each_on size most words words (λ e. e) committing orders devices actors a x x' s y g ex ey fallen (record { at = tt; below = record { owned = st.below.owned; shared = st.below.shared }; among_others = refl });
-      orders_agree = ordered fallen refl (late_done size words orders' devices migration block part plan x' fallen refl refl (record { failed = failed; nothing = refl; at = inl refl }));
-    }
+    falls_there : (turn : Turn) (rs : List Record) → flag words.fail ≡ true → IsRun size s rs → after_all s rs ≡ record { shared = t; actors = slice_set s.actors a fallen; waiting = waiting } → IsResumed a y.task rs → IsGiven words turn s.shared t → Goes Resumes turn size most a s words committing orders' devices actors x'
+    falls_there turn rs failed run is told i = begins size most words committing orders devices actors a x x' s y g ex ey turn Resumes orders' rs waiting t fallen run is told i (λ l. (l, λ more. absurd more))
+        (record { at = tt; below = record { owned = st.below.owned; shared = st.below.shared }; among_others = refl }) (ordered fallen refl (late_done size words orders' devices migration block part plan x' fallen refl refl (record { failed = failed; nothing = refl; at = inl refl })))
 
   falls : (ys : List AbstractActor) (m : Migration) (u : Shared) (v : AbstractActor) → u.fail ≡ true → MayGo ys a u v (Some (table_there (job_under own (offsets size cut) m))) (Flag true ∷ DoneThere ∷ []) × (shared_after u v (Some (table_there (job_under own (offsets size cut) m))) (Flag true ∷ DoneThere ∷ []) ≡ u) × (gone v (Some (table_there (job_under own (offsets size cut) m))) (Flag true ∷ DoneThere ∷ []) ≡ record v { task = None })
   falls ys (Promote k) u v f = ((sym f, tt, (tt, tt, tt)), refl, refl)
@@ -267,52 +221,36 @@ module _ (size most : ℕ) (words : Words) (committing : Bool) (orders : List (O
     alone : (b : ℕ) (v : AbstractActor) (p : AbstractOrder) → b ≢ a → slice_get s.actors b ≡ Some v → v.order ≡ Some p → p.cache ≡ c.0 → ⊥
     alone b v p n ev e at = nobody_has size most words committing orders devices actors s g c.0 no_order b v p ev e at
 
+    -- nor is it aside
+    aside_not : (d : ℕ) (p : AbstractOrder) → d ≡ c.0 → aside s.waiting y.order d ≡ Some p → ⊥
+    aside_not d p e w = not_aside size most words committing orders devices actors s g c.0 no_order a y ey d p e w
+
     starts_so : IsResting y → Goal
-    starts_so idle =
-        let k = is_given migration in
-        let start = migrations_begin.starts size s a y part c next migration ey idle (nobody_alone size most words committing orders devices actors s g) (may_start migration may free waits) in
-        record {
-          records = Start a job ∷ [];
-          run = (start.0, tt);
-          agrees = subst (λ (v : World). Agrees size most words committing orders_then devices (slice_set actors a starting) v) (sym start.1)
-              (agrees_then orders_then (order ∷ x.orders) (get_set_same orders c.0 None (Some order) no_order) (Contains-first order x.orders) (λ d n. get_set_other orders c.0 d (Some order) n) (aside s.waiting y.order) (λ d n. refl)
-              (λ d p e w. not_aside size most words committing orders devices actors s g c.0 no_order a y ey d p e w) alone (reserved s.shared job) (map_given migration) (fills_given migration may) (inl k));
-          turned = subst (λ (v : World). TurnedTo (given_by migration c.0) s.shared v.shared) (sym start.1) k.turned;
-          desk = subst (λ (v : World). DeskTurnedTo (given_by migration c.0) s.shared v.shared) (sym start.1) k.desk;
-          told = λ v e. Given job (under_migrates own (offsets size cut) migration) refl;
-        }
+    starts_so idle = begins_there orders_then (order ∷ x.orders) (get_set_same orders c.0 None (Some order) no_order) (Contains-first order x.orders) (λ d n. get_set_other orders c.0 d (Some order) n) (aside s.waiting y.order) (λ d n. refl) aside_not alone (reserved s.shared job) (is_given migration).mapping (given_by migration c.0) (Start a job ∷ []) (fills_given migration may)
+        ((y, record { actor = ey; task = idle.task; free = inl (idle.held, idle.leads); nobody_alone = nobody_alone size most words committing orders devices actors s g; may = may_start migration may free waits }), tt)
+        (ap (λ (o : Option AbstractActor). start_actor s a o job) ey ∙ (λ i. record { shared = reserved s.shared job; actors = slice_set s.actors a (given_is idle i); waiting = aside s.waiting y.order })) (Given job (under_migrates own (offsets size cut) migration) refl) (is_given migration)
 
     -- it has kept something at a failure, and is refused there at once
     starts_failing : flag words.fail ≡ true → Goal
     starts_failing failed =
-        let k = is_given migration in
         let t = reserved s.shared job in
         let y1 = given y job in
         let results = Flag true ∷ DoneThere ∷ [] in
         let w1 : World = record { shared = t; actors = slice_set s.actors a y1; waiting = aside s.waiting y.order } in
         let begun_is : start_actor s a (slice_get s.actors a) job ≡ w1 = ap (λ (o : Option AbstractActor). start_actor s a o job) ey in
-        let stopped : t.fail ≡ true = k.words_agree.fail ∙ failed in
+        let stopped : t.fail ≡ true = (is_given migration).words_agree.fail ∙ failed in
         let f = falls (slice_set s.actors a y1) migration t y1 stopped in
         let went = goes size results w1 a y1 (Some (table_there job)) (get_set_same s.actors a y y1 ey) refl f.0 in
         let w2 : World = record { shared = t; actors = slice_set s.actors a (record y { task = None; order = Some own }); waiting = aside s.waiting y.order } in
         let then_is : after_all w1 (records a (Some (table_there job)) results) ≡ w2 = went.is ∙ (λ i. record { shared = f.1 i; actors = slice_set (slice_set s.actors a y1) a (f.2 i); waiting = aside s.waiting y.order }) ∙ (λ i. record { shared = t; actors = set_twice s.actors a y1 (record y { task = None; order = under_order own (offsets size cut) migration i }) i; waiting = aside s.waiting y.order }) in
-        let all : after_all (start_actor s a (slice_get s.actors a) job) (records a (Some (table_there job)) results) ≡ w2 = ap (λ (w : World). after_all w (records a (Some (table_there job)) results)) begun_is ∙ then_is in
-        record {
-          records = Start a job ∷ records a (Some (table_there job)) results;
-          run = (
-            (y, record { actor = ey; task = rests.0; free = inr (g.words_agree.fail ∙ failed); nobody_alone = nobody_alone size most words committing orders devices actors s g; may = may_start migration may free waits }),
-            subst (λ (w : World). IsRun size w (records a (Some (table_there job)) results)) (sym begun_is) went.run,
-          );
-          agrees = subst (λ (v : World). Agrees size most words committing orders_then devices (slice_set actors a starting) v) (sym all)
-              (fallen_agrees orders_then (order ∷ x.orders) (get_set_same orders c.0 None (Some order) no_order) (Contains-first order x.orders) (λ d n. get_set_other orders c.0 d (Some order) n) (aside s.waiting y.order) (λ d n. refl)
-              (λ d p e w. not_aside size most words committing orders devices actors s g c.0 no_order a y ey d p e w) alone t (map_given migration) failed k);
-          turned = subst (λ (v : World). TurnedTo (given_by migration c.0) s.shared v.shared) (sym all) k.turned;
-          desk = subst (λ (v : World). DeskTurnedTo (given_by migration c.0) s.shared v.shared) (sym all) k.desk;
-          told = λ v e. let both : Some y ≡ Some v = sym ey ∙ e in let same : y ≡ v = cc in Failing job (under_migrates own (offsets size cut) migration) (ap (λ (u : AbstractActor). u.task) (sym same) ∙ rests.0) refl;
-        }
+        falls_there orders_then (order ∷ x.orders) (get_set_same orders c.0 None (Some order) no_order) (Contains-first order x.orders) (λ d n. get_set_other orders c.0 d (Some order) n) (aside s.waiting y.order) (λ d n. refl) aside_not alone t (is_given migration).mapping (given_by migration c.0) (Start a job ∷ records a (Some (table_there job)) results) failed (
+          (y, record { actor = ey; task = rest.0; free = inr (g.words_agree.fail ∙ failed); nobody_alone = nobody_alone size most words committing orders devices actors s g; may = may_start migration may free waits }),
+          subst (λ (w : World). IsRun size w (records a (Some (table_there job)) results)) (sym begun_is) went.run,
+        )
+        (ap (λ (w : World). after_all w (records a (Some (table_there job)) results)) begun_is ∙ then_is) (Failing job (under_migrates own (offsets size cut) migration) rest.0 refl) (is_given migration)
 
     pub starts : Goal
-    starts = elim rests.1 [ inl idle ↦ starts_so idle | inr failed ↦ starts_failing failed ]
+    starts = elim rest.1 [ inl idle ↦ starts_so idle | inr failed ↦ starts_failing failed ]
 
   module _ (live : slice_get orders c.0 ≡ Some (Some order)) (mine : Contains x.orders order) (only : IsOnlyOf actors a order) (may : MayBeKept migration c.0 s.shared) where
     abbrev resuming : Actor
@@ -323,8 +261,8 @@ module _ (size most : ℕ) (words : Words) (committing : Bool) (orders : List (O
 
     -- it has kept something at a failure, and nothing is begun there
     late : flag words.fail ≡ true → Again_goal
-    late failed = stays_there size most words committing orders devices actors a x resuming s y g ex ey Resumes (subst (λ (t : Option Script). IsResumed a t (records a t [])) (sym rests.0) (Nowhere refl refl)) (record { at = tt; below = st.below; among_others = st.among_others }) (λ o h. h)
-        (late_done size words orders devices migration block part plan resuming y refl refl (record { failed = failed; nothing = rests.0; at = inl refl }))
+    late failed = stays_there size most words committing orders devices actors a x resuming s y g ex ey Resumes (subst (λ (t : Option Script). IsResumed a t (records a t [])) (sym rest.0) (Nowhere refl refl)) (record { at = tt; below = st.below; among_others = st.among_others }) (λ o h. h)
+        (late_done size words orders devices migration block part plan resuming y refl refl (record { failed = failed; nothing = rest.0; at = inl refl }))
 
     -- no other actor has it
     nobody_else : (b : ℕ) (v : AbstractActor) (p : AbstractOrder) → b ≢ a → slice_get s.actors b ≡ Some v → v.order ≡ Some p → p.cache ≡ c.0 → ⊥
@@ -341,18 +279,10 @@ module _ (size most : ℕ) (words : Words) (committing : Bool) (orders : List (O
     is_put = is_aside size words orders devices actors a s y ey g.orders_agree c.0 (Some order) live own refl there (λ b v n ev e. nobody_else b v own n ev e refl)
 
     again_so : IsResting y → Again_goal
-    again_so idle =
-        let start = migrations_begin.again size s a y part c next migration ey idle.task idle.held is_put idle.leads (nobody_alone size most words committing orders devices actors s g) (may_again migration may) in
-        record {
-          records = Again a job ∷ [];
-          run = (start.0, tt);
-          agrees = subst (λ (v : World). Agrees size most words committing orders devices (slice_set actors a resuming) v) (sym start.1)
-              (agrees_then orders x.orders live mine (λ d n. refl) (taken (aside s.waiting y.order) (Some own)) (λ d n. changed_other (aside s.waiting y.order) c.0 d None n)
-              (λ d p e w. let bad : None ≡ Some p = sym (changed_same (aside s.waiting y.order) c.0 None) ∙ ap (taken (aside s.waiting y.order) (Some own)) (sym e) ∙ w in absurd (cc)) nobody_else s.shared refl (fills_kept migration may) (inr refl));
-          turned = subst (λ (v : World). TurnedTo Stays s.shared v.shared) (sym start.1) (refl, refl, refl);
-          desk = subst (λ (v : World). DeskTurnedTo Stays s.shared v.shared) (sym start.1) (refl, refl);
-          told = λ v e. Kept job (under_migrates own (offsets size cut) migration) refl;
-        }
+    again_so idle = begins_there orders x.orders live mine (λ d n. refl) (taken (aside s.waiting y.order) (order_of_job job)) (λ d n. ap (λ (o : Option AbstractOrder). taken (aside s.waiting y.order) o d) own_job ∙ changed_other (aside s.waiting y.order) c.0 d None n)
+        (λ d p e w. let bad : None ≡ Some p = sym (ap (λ (o : Option AbstractOrder). taken (aside s.waiting y.order) o c.0) own_job ∙ changed_same (aside s.waiting y.order) c.0 None) ∙ ap (taken (aside s.waiting y.order) (order_of_job job)) (sym e) ∙ w in absurd (cc)) nobody_else s.shared refl Stays (Again a job ∷ []) (fills_kept migration may)
+        ((y, record { actor = ey; task = idle.task; free = inl (idle.held, idle.leads); order = (own, own_job, is_put); nobody_alone = nobody_alone size most words committing orders devices actors s g; may = may_again migration may }), tt)
+        (ap (λ (o : Option AbstractActor). again_actor s a o job) ey ∙ (λ i. record { shared = s.shared; actors = slice_set s.actors a (given_is idle i); waiting = taken (aside s.waiting y.order) (order_of_job job) })) (Kept job (under_migrates own (offsets size cut) migration) refl) (given_nothing words s.shared g.words_agree)
 
     pub again : Again_goal
-    again = elim rests.1 [ inl idle ↦ again_so idle | inr failed ↦ late failed ]
+    again = elim rest.1 [ inl idle ↦ again_so idle | inr failed ↦ late failed ]

@@ -28,7 +28,8 @@ use Rattle.wb_runs.specs.States.{Actor}
 use Rattle.wb_simulation.specs.Steps.{AreOfBlock, ArePaired}
 use Rattle.wb_simulation.specs.Carried.{HasRead, IsUnder, held, is_at, replacement_there, order_there, live_there, IsOf, IsCarried, IsAtMigration}
 use Rattle.wb_simulation.specs.Worlds.{IsThere, OrdersAgree}
-use Rattle.wb_simulation.proofs.Kept.{late_on}
+use Rattle.wb_simulation.specs.Telling.{IsMigrating}
+use Rattle.wb_simulation.proofs.Kept.{late_on, ended_on}
 
 -- an order of the desk is on its cache block there too
 pub cache_there : (m : Locations) (c : ℕ) (o : Order) → (order_there m c o).cache ≡ c
@@ -144,7 +145,7 @@ module _ (size : ℕ) (words words' : Words) (up : flag words.fail ≡ true → 
     job = d.job;
     at = elim d.at [
       | inl k ↦ inl (carries b z u migration block d.part plan n ez eu task d.job k)
-      | inr o ↦ elim o [ inl e ↦ inr (inl (record { failed = up e.failed; c = e.c; kept = e.kept; next = e.next; is = e.is })) | inr l ↦ inr (inr (late_on size size words words' up u plan l)) ]
+      | inr o ↦ elim o [ inl e ↦ inr (inl (ended_on size size words words' up u IsMigrating plan z.card e)) | inr l ↦ inr (inr (late_on size size words words' up u plan l)) ]
     ];
   }
 
@@ -152,114 +153,95 @@ module _ (size : ℕ) (words words' : Words) (up : flag words.fail ≡ true → 
   carried_on b z v migration block plan ez ev task = by_pair actors s.actors a x x' y y' ex ey (λ k q u. (m : Migration) (c : OBlock) (p : Plan) → q.task ≡ Some (Migrate m c, p) → IsAtMigration size words' orders' devices' m c p q u) its
       (λ k q u n eq eu m c p e. at_on m c p q u k n eq eu e (g.carried k q u m c p eq eu e)) b z v ez ev migration block plan task
 
-  -- ---- it has gone on; on cache blocks of this kind its order is over
+  -- who was there and is not aside is this actor, which has the order still, or another one
+  moved : (p : AbstractOrder) → (y.order ≡ Some p → y'.order ≡ Some p) → IsThere s p → (s.waiting p.cache ≡ Some p) ⊎ (y'.order ≡ Some p) ⊎ ((b : ℕ) × (v : AbstractActor) × (b ≢ a) × (slice_get s.actors b ≡ Some v) × (v.order ≡ Some p))
+  moved p stays (inl w) = inl w
+  moved p stays (inr h) = elim (cases_eq h.0 a) [
+    | inl e ↦ let here : Some h.1 ≡ Some y = sym h.2 ∙ ap (λ k. slice_get s.actors k) e ∙ ey in let one : h.1 ≡ y = cc in inr (inl (stays (ap (λ (v : AbstractActor). v.order) (sym one) ∙ h.3)))
+    | inr n ↦ inr (inr (h.0, h.1, n, h.2, h.3))
+  ]
 
-  module _ (Over : ℕ → Type 0) (over_or : (d : ℕ) → Over d ⊎ (Over d → ⊥)) (keeps : (p : AbstractOrder) → y'.order ≡ Some p → (y.order ≡ Some p) × (Over p.cache → ⊥)) (stays : (p : AbstractOrder) → y.order ≡ Some p → (Over p.cache → ⊥) → y'.order ≡ Some p)
-      (beside : (d : ℕ) → (Over d → ⊥) → slice_get orders' d ≡ slice_get orders d) (none : (d : ℕ) (o : Option Order) → Over d → slice_get orders' d ≡ Some o → o ≡ None) (waits_not : (k : ℕ) (p : AbstractOrder) → Over k → s.waiting k ≡ Some p → ⊥)
-      (alone : (b : ℕ) (v : AbstractActor) (p : AbstractOrder) → b ≢ a → slice_get s.actors b ≡ Some v → v.order ≡ Some p → Over p.cache → ⊥) (still : (o : Order) → Contains (held x) o → ((p : AbstractOrder) → y'.order ≡ Some p → slice_get orders p.cache ≡ Some (Some o) → Contains (held x') o)) (t : Shared)
-      (turns : (d : ℕ) (o : Option Order) → (Over d → ⊥) → slice_get orders d ≡ Some o → live_there t.mapping d o ≡ live_there s.shared.mapping d o) where
-    there : (p : AbstractOrder) → (Over p.cache → ⊥) → IsThere s p → IsThere (with_own s a t y') p
-    there p away (inl w) = inl w
-    there p away (inr h) = elim (cases_eq h.0 a) [
-      | inl e ↦ let here : Some h.1 ≡ Some y = sym h.2 ∙ ap (λ k. slice_get s.actors k) e ∙ ey in let one : h.1 ≡ y = cc in inr (a, y', get_set_same s.actors a y y' ey, stays p (ap (λ (v : AbstractActor). v.order) (sym one) ∙ h.3) away)
-      | inr n ↦ inr (h.0, h.1, get_set_other s.actors a h.0 y' n ∙ h.2, h.3)
-    ]
+  -- ---- what lives where then
 
-    was : (p : AbstractOrder) → IsThere (with_own s a t y') p → IsThere s p × (Over p.cache → ⊥)
-    was p (inl w) = (inl w, λ o. waits_not p.cache p o w)
-    was p (inr h) = elim (who s.actors a y y' ey h.0 h.1 h.2) [
-      | inl one ↦ let k = keeps p (ap (λ (v : AbstractActor). v.order) one.1 ∙ h.3) in (inr (a, y, ey, k.0), k.1)
-      | inr one ↦ (inr (h.0, h.1, one.1, h.3), alone h.0 h.1 p one.0 one.1 h.3)
-    ]
-
-    pub goes_so : OrdersAgree size words' orders' devices' (slice_set actors a x') (with_own s a t y')
-    goes_so = record {
-      live = λ c o e p at. elim (over_or c) [
-        | inl v ↦ (λ l. let bad : None ≡ Some p = ap (live_there t.mapping c) (sym (none c o v e)) ∙ l in absurd (cc), λ h. absurd ((was p h).1 (subst Over (sym at) v)))
-        | inr n ↦ let f = sym (beside c n) ∙ e in let k = g.live c o f p at in let same = turns c o n f in (λ l. there p (λ v. n (subst Over at v)) (k.0 (sym same ∙ l)), λ h. same ∙ k.1 (was p h).0)
-      ];
-      once = λ b v p ev e. elim (who s.actors a y y' ey b v ev) [
-        | inl one ↦ once_was a y p ey (keeps p (ap (λ (u : AbstractActor). u.order) one.1 ∙ e)).0 b one.0
-        | inr one ↦ once_was b v p one.1 e b refl
-      ];
-      waits = λ k p w. let r = g.waits k p w in (r.0, (r.1.0, beside k (λ v. waits_not k p v w) ∙ r.1.1));
-      ours = λ b z v p ez ev. by_pair actors s.actors a x x' y y' ex ey (λ k q u. (p : AbstractOrder) → u.order ≡ Some p → IsOf orders' (held q) p)
-          (λ p e. let k = keeps p e in let r = g.ours a x y p ex ey k.0 in (r.0, beside p.cache k.1 ∙ r.1, still r.0 r.2 p e r.1))
-          (λ k q u n eq eu p e. let r = g.ours k q u p eq eu e in (r.0, beside p.cache (alone k u p n eu e) ∙ r.1, r.2)) b z v ez ev p;
-      carried = carried_on;
-    }
-      where
-        once_was : (b : ℕ) (v : AbstractActor) (p : AbstractOrder) → slice_get s.actors b ≡ Some v → v.order ≡ Some p → (c : ℕ) → c ≡ b → (s.waiting p.cache ≢ Some p) × ((d : ℕ) (z : AbstractActor) (q : AbstractOrder) → slice_get (slice_set s.actors a y') d ≡ Some z → z.order ≡ Some q → q.cache ≡ p.cache → d ≡ c)
-        once_was b v p ev e c same = let k = g.once b v p ev e in (
-          k.0,
-          λ d z q ez f s'. elim (who s.actors a y y' ey d z ez) [
-            | inl one ↦ one.0 ∙ k.1 a y q ey (keeps q (ap (λ (u : AbstractActor). u.order) one.1 ∙ f)).0 s' ∙ sym same
-            | inr one ↦ k.1 d z q one.1 f s' ∙ sym same
-          ],
-        )
-
-  -- ---- it has begun something, and taken on the order of these cache blocks
-
-  module _ (Taken : ℕ → Type 0) (taken_or : (d : ℕ) → Taken d ⊎ (Taken d → ⊥)) (waiting : ℕ → Option AbstractOrder) (own : (p : AbstractOrder) → y'.order ≡ Some p → Taken p.cache × ((o : Option Order) → slice_get orders' p.cache ≡ Some o → live_there s.shared.mapping p.cache o ≡ Some p) × IsOf orders' (held x') p)
-      (takes : (d : ℕ) (o : Option Order) (p : AbstractOrder) → Taken d → slice_get orders' d ≡ Some o → live_there s.shared.mapping d o ≡ Some p → y'.order ≡ Some p) (beside : (d : ℕ) → (Taken d → ⊥) → slice_get orders' d ≡ slice_get orders d) (put : (d : ℕ) → (Taken d → ⊥) → waiting d ≡ aside s.waiting y.order d)
-      (gone : (d : ℕ) (p : AbstractOrder) → Taken d → waiting d ≡ Some p → ⊥) (alone : (b : ℕ) (v : AbstractActor) (p : AbstractOrder) → b ≢ a → slice_get s.actors b ≡ Some v → v.order ≡ Some p → Taken p.cache → ⊥) (t : Shared) (same_map : t.mapping ≡ s.shared.mapping) where
+  -- On cache blocks of this kind its order is another one, if any, which is what lives there; on others it has what it had, or has put it aside.
+  module _ (Here : ℕ → Type 0) (here_or : (d : ℕ) → Here d ⊎ (Here d → ⊥)) (waiting : ℕ → Option AbstractOrder) (t : Shared) (beside : (d : ℕ) → (Here d → ⊥) → slice_get orders' d ≡ slice_get orders d)
+      (turns : (d : ℕ) (o : Option Order) → (Here d → ⊥) → slice_get orders d ≡ Some o → live_there t.mapping d o ≡ live_there s.shared.mapping d o) (alone : (b : ℕ) (v : AbstractActor) (p : AbstractOrder) → b ≢ a → slice_get s.actors b ≡ Some v → v.order ≡ Some p → Here p.cache → ⊥)
+      (not_aside : (k : ℕ) (p : AbstractOrder) → Here k → waiting k ≡ Some p → ⊥) (lives : (d : ℕ) (o : Option Order) (p : AbstractOrder) → Here d → slice_get orders' d ≡ Some o → p.cache ≡ d → (live_there t.mapping d o ≡ Some p → y'.order ≡ Some p) × (y'.order ≡ Some p → live_there t.mapping d o ≡ Some p))
+      (own : (p : AbstractOrder) → y'.order ≡ Some p → IsOf orders' (held x') p) (keeps : (p : AbstractOrder) → (Here p.cache → ⊥) → y'.order ≡ Some p → (y.order ≡ Some p) × (waiting p.cache ≢ Some p))
+      (back : (k : ℕ) (p : AbstractOrder) → (Here k → ⊥) → waiting k ≡ Some p → ((y.order ≡ Some p) × (p.cache ≡ k)) ⊎ (s.waiting k ≡ Some p))
+      (forth : (c : ℕ) (o : Option Order) (p : AbstractOrder) → slice_get orders c ≡ Some o → p.cache ≡ c → (Here c → ⊥) → IsThere s p → (waiting p.cache ≡ Some p) ⊎ (y'.order ≡ Some p) ⊎ ((b : ℕ) × (v : AbstractActor) × (b ≢ a) × (slice_get s.actors b ≡ Some v) × (v.order ≡ Some p))) where
     abbrev then_is : World
     then_is = record { shared = t; actors = slice_set s.actors a y'; waiting = waiting }
 
-    module _ (c : ℕ) (o : Option Order) (e : slice_get orders c ≡ Some o) (p : AbstractOrder) (at : p.cache ≡ c) where
-      to : (Taken p.cache → ⊥) → IsThere s p → IsThere then_is p
-      to n h = elim (aside_or size words orders devices actors a s y ey g c o e p at h) [ inl w ↦ inl (put p.cache n ∙ w) | inr k ↦ inr (k.0, k.1, get_set_other s.actors a k.0 y' k.2 ∙ k.3, k.4) ]
-
-      from : (Taken p.cache → ⊥) → IsThere then_is p → IsThere s p
-      from n (inl w) = elim (aside_cases s.waiting y.order p.cache p (sym (put p.cache n) ∙ w)) [ inl k ↦ inr (a, y, ey, k.0) | inr k ↦ inl k.0 ]
-      from n (inr h) = elim (who s.actors a y y' ey h.0 h.1 h.2) [
-        | inl k ↦ absurd (n (own p (ap (λ (v : AbstractActor). v.order) k.1 ∙ h.3)).0)
-        | inr k ↦ inr (h.0, h.1, k.1, h.3)
-      ]
-
-    -- where it has taken the order on
-    lives : (c : ℕ) (o : Option Order) → slice_get orders' c ≡ Some o → (p : AbstractOrder) → p.cache ≡ c → Taken c → IsThere then_is p → live_there s.shared.mapping c o ≡ Some p
-    lives c o e p at k (inl w) = absurd (gone c p k (ap waiting (sym at) ∙ w))
-    lives c o e p at k (inr h) = elim (who s.actors a y y' ey h.0 h.1 h.2) [
-      | inl r ↦ ap (λ i. live_there s.shared.mapping i o) (sym at) ∙ (own p (ap (λ (v : AbstractActor). v.order) r.1 ∙ h.3)).1 o (ap (slice_get orders') at ∙ e)
-      | inr r ↦ absurd (alone h.0 h.1 p r.0 r.1 h.3 (subst Taken (sym at) k))
+    there : (c : ℕ) (o : Option Order) (p : AbstractOrder) → slice_get orders c ≡ Some o → p.cache ≡ c → (Here c → ⊥) → IsThere s p → IsThere then_is p
+    there c o p e at n h = elim (forth c o p e at n h) [
+      | inl w ↦ inl w
+      | inr r ↦ elim r [ inl k ↦ inr (a, y', get_set_same s.actors a y y' ey, k) | inr k ↦ inr (k.0, k.1, get_set_other s.actors a k.0 y' k.2 ∙ k.3, k.4) ]
     ]
 
-    pub begins_so : OrdersAgree size words' orders' devices' (slice_set actors a x') then_is
-    begins_so = record {
-      live = λ c o e p at. subst (λ (m : Locations). ((live_there m c o ≡ Some p) → IsThere then_is p) × (IsThere then_is p → live_there m c o ≡ Some p)) (sym same_map) (elim (taken_or c) [
-        | inl k ↦ (λ l. inr (a, y', get_set_same s.actors a y y' ey, takes c o p k e l), λ h. lives c o e p at k h)
-        | inr n ↦
-            let f = sym (beside c n) ∙ e in let k = g.live c o f p at in let m : (Taken p.cache → ⊥) = (λ v. n (subst Taken at v)) in
-            (λ l. to c o f p at m (k.0 l), λ h. k.1 (from c o f p at m h))
-      ]);
-      once = λ b v p ev e. elim (who s.actors a y y' ey b v ev) [
-        | inl k ↦
-            let its_own = own p (ap (λ (u : AbstractActor). u.order) k.1 ∙ e) in (
-              λ w. gone p.cache p its_own.0 w,
-              λ d z q ez f same. elim (who s.actors a y y' ey d z ez) [ inl r ↦ r.0 ∙ sym k.0 | inr r ↦ absurd (alone d z q r.0 r.1 f (subst Taken (sym same) its_own.0)) ],
-            )
-        | inr k ↦
-            let old = g.once b v p k.1 e in let n = alone b v p k.0 k.1 e in (
-              λ w. elim (aside_cases s.waiting y.order p.cache p (sym (put p.cache n) ∙ w)) [ inl r ↦ absurd (k.0 ((g.once a y p ey r.0).1 b v p k.1 e refl)) | inr r ↦ absurd (old.0 r.0) ],
-              λ d z q ez f same. elim (who s.actors a y y' ey d z ez) [
-                | inl r ↦ absurd (n (subst Taken same (own q (ap (λ (u : AbstractActor). u.order) r.1 ∙ f)).0))
-                | inr r ↦ old.1 d z q r.1 f same
-              ],
-            )
+    was : (p : AbstractOrder) → (Here p.cache → ⊥) → IsThere then_is p → IsThere s p
+    was p n (inl w) = elim (back p.cache p n w) [ inl k ↦ inr (a, y, ey, k.0) | inr k ↦ inl k ]
+    was p n (inr h) = elim (who s.actors a y y' ey h.0 h.1 h.2) [
+      | inl one ↦ inr (a, y, ey, (keeps p n (ap (λ (v : AbstractActor). v.order) one.1 ∙ h.3)).0)
+      | inr one ↦ inr (h.0, h.1, one.1, h.3)
+    ]
+
+    -- on those cache blocks it is this actor's
+    its_own : (p : AbstractOrder) → Here p.cache → IsThere then_is p → y'.order ≡ Some p
+    its_own p k (inl w) = absurd (not_aside p.cache p k w)
+    its_own p k (inr h) = elim (who s.actors a y y' ey h.0 h.1 h.2) [ inl one ↦ ap (λ (v : AbstractActor). v.order) one.1 ∙ h.3 | inr one ↦ absurd (alone h.0 h.1 p one.0 one.1 h.3 k) ]
+
+    -- on others it is of who had it
+    unique : (b : ℕ) (v : AbstractActor) (p : AbstractOrder) → slice_get s.actors b ≡ Some v → v.order ≡ Some p → (Here p.cache → ⊥) → (c : ℕ) → c ≡ b → (d : ℕ) (z : AbstractActor) (q : AbstractOrder) → slice_get (slice_set s.actors a y') d ≡ Some z → z.order ≡ Some q → q.cache ≡ p.cache → d ≡ c
+    unique b v p ev e n c same d z q ez f at = let k = (g.once b v p ev e).1 in elim (who s.actors a y y' ey d z ez) [
+      | inl r ↦ r.0 ∙ k a y q ey (keeps q (λ h. n (subst Here at h)) (ap (λ (u : AbstractActor). u.order) r.1 ∙ f)).0 at ∙ sym same
+      | inr r ↦ k d z q r.1 f at ∙ sym same
+    ]
+
+    pub orders_so : OrdersAgree size words' orders' devices' (slice_set actors a x') then_is
+    orders_so = record {
+      live = λ c o e p at. elim (here_or c) [
+        | inl k ↦ let l = lives c o p k e at in (λ f. inr (a, y', get_set_same s.actors a y y' ey, l.0 f), λ h. l.1 (its_own p (subst Here (sym at) k) h))
+        | inr n ↦ let f = sym (beside c n) ∙ e in let k = g.live c o f p at in let same = turns c o n f in (λ l. there c o p f at n (k.0 (sym same ∙ l)), λ h. same ∙ k.1 (was p (λ v. n (subst Here at v)) h))
       ];
-      waits = λ k p w. elim (taken_or k) [
-        | inl v ↦ absurd (gone k p v w)
-        | inr n ↦ elim (aside_cases s.waiting y.order k p (sym (put k n) ∙ w)) [
+      once = λ b v p ev e. elim (who s.actors a y y' ey b v ev) [
+        | inl one ↦ elim (here_or p.cache) [
+          | inl k ↦ (λ w. not_aside p.cache p k w, λ d z q ez f at. elim (who s.actors a y y' ey d z ez) [ inl r ↦ r.0 ∙ sym one.0 | inr r ↦ absurd (alone d z q r.0 r.1 f (subst Here (sym at) k)) ])
+          | inr n ↦ let k = keeps p n (ap (λ (u : AbstractActor). u.order) one.1 ∙ e) in (k.1, unique a y p ey k.0 n b one.0)
+        ]
+        | inr one ↦
+            let n = alone b v p one.0 one.1 e in
+            (λ w. elim (back p.cache p n w) [ inl r ↦ absurd (one.0 ((g.once a y p ey r.0).1 b v p one.1 e refl)) | inr r ↦ absurd ((g.once b v p one.1 e).0 r) ], unique b v p one.1 e n b refl)
+      ];
+      waits = λ k p w. elim (here_or k) [
+        | inl v ↦ absurd (not_aside k p v w)
+        | inr n ↦ elim (back k p n w) [
           | inl r ↦ let i = g.ours a x y p ex ey r.0 in (r.1, (i.0, beside k n ∙ ap (slice_get orders) (sym r.1) ∙ i.1))
-          | inr r ↦ let i = g.waits k p r.0 in (i.0, (i.1.0, beside k n ∙ i.1.1))
+          | inr r ↦ let i = g.waits k p r in (i.0, (i.1.0, beside k n ∙ i.1.1))
         ]
       ];
-      ours = λ b z v p ez ev. by_pair actors s.actors a x x' y y' ex ey (λ k q u. (p : AbstractOrder) → u.order ≡ Some p → IsOf orders' (held q) p)
-          (λ p e. (own p e).2)
+      ours = λ b z v p ez ev. by_pair actors s.actors a x x' y y' ex ey (λ k q u. (p : AbstractOrder) → u.order ≡ Some p → IsOf orders' (held q) p) own
           (λ k q u n eq eu p e. let r = g.ours k q u p eq eu e in (r.0, beside p.cache (alone k u p n eu e) ∙ r.1, r.2)) b z v ez ev p;
       carried = carried_on;
     }
+
+  -- it has gone on; on cache blocks of this kind its order is over
+  pub goes_so : (Over : ℕ → Type 0) (over_or : (d : ℕ) → Over d ⊎ (Over d → ⊥)) → ((p : AbstractOrder) → y'.order ≡ Some p → (y.order ≡ Some p) × (Over p.cache → ⊥)) → ((p : AbstractOrder) → y.order ≡ Some p → (Over p.cache → ⊥) → y'.order ≡ Some p) → ((d : ℕ) → (Over d → ⊥) → slice_get orders' d ≡ slice_get orders d) → ((d : ℕ) (o : Option Order) → Over d → slice_get orders' d ≡ Some o → o ≡ None) →
+      ((k : ℕ) (p : AbstractOrder) → Over k → s.waiting k ≡ Some p → ⊥) → ((b : ℕ) (v : AbstractActor) (p : AbstractOrder) → b ≢ a → slice_get s.actors b ≡ Some v → v.order ≡ Some p → Over p.cache → ⊥) → ((o : Order) → Contains (held x) o → ((p : AbstractOrder) → y'.order ≡ Some p → slice_get orders p.cache ≡ Some (Some o) → Contains (held x') o)) → (t : Shared) →
+      ((d : ℕ) (o : Option Order) → (Over d → ⊥) → slice_get orders d ≡ Some o → live_there t.mapping d o ≡ live_there s.shared.mapping d o) → OrdersAgree size words' orders' devices' (slice_set actors a x') (with_own s a t y')
+  goes_so Over over_or keeps stays beside none waits_not alone still t turns = orders_so Over over_or s.waiting t beside turns alone waits_not
+      (λ d o p k e at. (λ l. let bad : None ≡ Some p = ap (live_there t.mapping d) (sym (none d o k e)) ∙ l in absurd (cc), λ f. absurd ((keeps p f).1 (subst Over (sym at) k))))
+      (λ p e. let k = keeps p e in let r = g.ours a x y p ex ey k.0 in (r.0, beside p.cache k.1 ∙ r.1, still r.0 r.2 p e r.1)) (λ p n e. let k = keeps p e in (k.0, (g.once a y p ey k.0).0)) (λ k p n w. inr w)
+      (λ c o p e at n h. moved p (λ f. stays p f (λ v. n (subst Over at v))) h)
+
+  -- it has begun something, and taken on the order of these cache blocks
+  pub begins_so : (Taken : ℕ → Type 0) (taken_or : (d : ℕ) → Taken d ⊎ (Taken d → ⊥)) (waiting : ℕ → Option AbstractOrder) → ((p : AbstractOrder) → y'.order ≡ Some p → Taken p.cache × ((o : Option Order) → slice_get orders' p.cache ≡ Some o → live_there s.shared.mapping p.cache o ≡ Some p) × IsOf orders' (held x') p) →
+      ((d : ℕ) (o : Option Order) (p : AbstractOrder) → Taken d → slice_get orders' d ≡ Some o → live_there s.shared.mapping d o ≡ Some p → y'.order ≡ Some p) → ((d : ℕ) → (Taken d → ⊥) → slice_get orders' d ≡ slice_get orders d) → ((d : ℕ) → (Taken d → ⊥) → waiting d ≡ aside s.waiting y.order d) → ((d : ℕ) (p : AbstractOrder) → Taken d → waiting d ≡ Some p → ⊥) →
+      ((b : ℕ) (v : AbstractActor) (p : AbstractOrder) → b ≢ a → slice_get s.actors b ≡ Some v → v.order ≡ Some p → Taken p.cache → ⊥) → (t : Shared) → t.mapping ≡ s.shared.mapping → OrdersAgree size words' orders' devices' (slice_set actors a x') (record { shared = t; actors = slice_set s.actors a y'; waiting = waiting })
+  begins_so Taken taken_or waiting own takes beside put gone alone t same_map = orders_so Taken taken_or waiting t beside (λ d o n e. ap (λ (m : Locations). live_there m d o) same_map) alone gone
+      (λ d o p k e at. (λ l. takes d o p k e (sym (ap (λ (m : Locations). live_there m d o) same_map) ∙ l), λ f. ap (λ (m : Locations). live_there m d o) same_map ∙ ap (λ i. live_there s.shared.mapping i o) (sym at) ∙ (own p f).1 o (ap (slice_get orders') at ∙ e)))
+      (λ p e. (own p e).2) (λ p n e. absurd (n (own p e).0)) (λ k p n w. elim (aside_cases s.waiting y.order k p (sym (put k n) ∙ w)) [ inl r ↦ inl (r.0, r.1) | inr r ↦ inr r.0 ])
+      (λ c o p e at n h. elim (aside_or size words orders devices actors a s y ey g c o e p at h) [ inl w ↦ inl (put p.cache (λ v. n (subst Taken at v)) ∙ w) | inr k ↦ inr (inr k) ])
 
 -- ---- the two that change no order
 
@@ -281,77 +263,22 @@ orders_begun size words orders devices actors a x x' s y y' t ex ey g none same_
 module _ (size : ℕ) (words : Words) (orders : List (Option Order)) (devices : Devices (List History)) (actors : List Actor) (a : ℕ) (x x' : Actor) (s : World) (y y' : AbstractActor) (ex : slice_get actors a ≡ Some x) (ey : slice_get s.actors a ≡ Some y) (g : OrdersAgree size words orders devices actors s) (its : IsDone size words orders devices x' y')
     (own own' : AbstractOrder) (under : y.order ≡ Some own) (under' : y'.order ≡ Some own') (same : own'.cache ≡ own.cache) (t : Shared) (order : Order) (slot : slice_get orders own.cache ≡ Some (Some order)) (lives : live_there t.mapping own.cache (Some order) ≡ Some own') (mine : Contains (held x') order)
     (turns : (d : ℕ) (o : Option Order) → d ≢ own.cache → slice_get orders d ≡ Some o → live_there t.mapping d o ≡ live_there s.shared.mapping d o) where
-  abbrev then_so : World
-  then_so = with_own s a t y'
-
-  -- elsewhere the same is there
-  there_so : (p : AbstractOrder) → p.cache ≢ own.cache → IsThere s p → IsThere then_so p
-  there_so p n (inl w) = inl w
-  there_so p n (inr h) = elim (cases_eq h.0 a) [
-    | inl e ↦ absurd (
-        let here : Some h.1 ≡ Some y = sym h.2 ∙ ap (λ k. slice_get s.actors k) e ∙ ey in
-        let one : h.1 ≡ y = cc in
-        let both : Some p ≡ Some own = sym h.3 ∙ ap (λ (v : AbstractActor). v.order) one ∙ under in
-        let is : p ≡ own = cc in n (ap (λ (v : AbstractOrder). v.cache) is))
-    | inr m ↦ inr (h.0, h.1, get_set_other s.actors a h.0 y' m ∙ h.2, h.3)
-  ]
-
-  was_so : (p : AbstractOrder) → p.cache ≢ own.cache → IsThere then_so p → IsThere s p
-  was_so p n (inl w) = inl w
-  was_so p n (inr h) = elim (who s.actors a y y' ey h.0 h.1 h.2) [
-    | inl one ↦ absurd (let both : Some own' ≡ Some p = sym under' ∙ ap (λ (v : AbstractActor). v.order) one.1 ∙ h.3 in let is : own' ≡ p = cc in n (ap (λ (v : AbstractOrder). v.cache) (sym is) ∙ same))
-    | inr one ↦ inr (h.0, h.1, one.1, h.3)
-  ]
-
   -- nothing else is on its cache block
-  not_aside : (p : AbstractOrder) → p.cache ≡ own.cache → s.waiting p.cache ≡ Some p → ⊥
-  not_aside p at w =
+  not_aside_so : (k : ℕ) (p : AbstractOrder) → k ≡ own.cache → s.waiting k ≡ Some p → ⊥
+  not_aside_so k p at w =
       let here = (g.live own.cache (Some order) slot own refl).1 (inr (a, y, ey, under)) in
-      let there = (g.live own.cache (Some order) slot p at).1 (inl w) in
+      let there = (g.live own.cache (Some order) slot p ((g.waits k p w).0 ∙ at)).1 (inl (ap s.waiting (g.waits k p w).0 ∙ w)) in
       let both : Some p ≡ Some own = sym there ∙ here in
-      let is : p ≡ own = cc in
-      (g.once a y own ey under).0 (subst (λ (q : AbstractOrder). s.waiting q.cache ≡ Some q) is w)
+      (g.once a y own ey under).0 (ap s.waiting (sym at) ∙ w ∙ both)
 
-  here_so : (p : AbstractOrder) → p.cache ≡ own.cache → IsThere then_so p → own' ≡ p
-  here_so p at (inl w) = absurd (not_aside p at w)
-  here_so p at (inr h) = elim (who s.actors a y y' ey h.0 h.1 h.2) [
-    | inl one ↦ (let both : Some own' ≡ Some p = sym under' ∙ ap (λ (v : AbstractActor). v.order) one.1 ∙ h.3 in cc)
-    | inr one ↦ absurd (one.0 ((g.once a y own ey under).1 h.0 h.1 p one.1 h.3 at))
-  ]
-
-  once_so : (b : ℕ) (v : AbstractActor) (p : AbstractOrder) → slice_get (slice_set s.actors a y') b ≡ Some v → v.order ≡ Some p → (q : AbstractOrder) × (u : AbstractActor) × (slice_get s.actors b ≡ Some u) × (u.order ≡ Some q) × (q.cache ≡ p.cache)
-  once_so b v p ev e = elim (who s.actors a y y' ey b v ev) [
-    | inl one ↦ (own, y, ap (slice_get s.actors) one.0 ∙ ey, under, sym same ∙ (let both : Some own' ≡ Some p = sym under' ∙ ap (λ (u : AbstractActor). u.order) one.1 ∙ e in let is : own' ≡ p = cc in ap (λ (u : AbstractOrder). u.cache) is))
-    | inr one ↦ (p, v, one.1, e, refl)
-  ]
-
-  never_aside : (b : ℕ) (v : AbstractActor) (p : AbstractOrder) → slice_get (slice_set s.actors a y') b ≡ Some v → v.order ≡ Some p → s.waiting p.cache ≢ Some p
-  never_aside b v p ev e w = elim (who s.actors a y y' ey b v ev) [
-    | inl one ↦ not_aside p (let both : Some own' ≡ Some p = sym under' ∙ ap (λ (u : AbstractActor). u.order) one.1 ∙ e in let is : own' ≡ p = cc in ap (λ (u : AbstractOrder). u.cache) (sym is) ∙ same) w
-    | inr one ↦ (g.once b v p one.1 e).0 w
-  ]
-
-  pub turns_so : OrdersAgree size words orders devices (slice_set actors a x') then_so
-  turns_so = record {
-    live = λ c o e p at. elim (cases_eq c own.cache) [
-      | inl here ↦
-          let both : Some (Some order) ≡ Some o = sym slot ∙ ap (slice_get orders) (sym here) ∙ e in
-          let is : Some order ≡ o = cc in
-          let now : live_there t.mapping c o ≡ Some own' = (λ i. live_there t.mapping (here i) (sym is i)) ∙ lives in (
-            λ l. let one : Some own' ≡ Some p = sym now ∙ l in inr (a, y', get_set_same s.actors a y y' ey, under' ∙ one),
-            λ h. now ∙ ap (λ (q : AbstractOrder). Some q) (here_so p (at ∙ here) h),
-          )
-      | inr n ↦
-          let k = g.live c o e p at in let away : p.cache ≢ own.cache = (λ q. n (sym at ∙ q)) in
-          (λ l. there_so p away (k.0 (sym (turns c o n e) ∙ l)), λ h. turns c o n e ∙ k.1 (was_so p away h))
-    ];
-    once = λ b v p ev e. (
-      never_aside b v p ev e,
-      λ d z q ez f at. let k = once_so b v p ev e in let l = once_so d z q ez f in (g.once b k.1 k.0 k.2 k.3).1 d l.1 l.0 l.2 l.3 (l.4 ∙ at ∙ sym k.4),
-    );
-    waits = g.waits;
-    ours = λ b z v p ez ev. by_pair actors s.actors a x x' y y' ex ey (λ k q u. (p : AbstractOrder) → u.order ≡ Some p → IsOf orders (held q) p)
-        (λ p e. let both : Some own' ≡ Some p = sym under' ∙ e in let is : own' ≡ p = cc in subst (λ (q : AbstractOrder). IsOf orders (held x') q) is (order, ap (slice_get orders) same ∙ slot, mine))
-        (λ k q u n eq eu p e. g.ours k q u p eq eu e) b z v ez ev p;
-    carried = carried_on size words words (λ e. e) orders orders devices devices actors a x x' s y y' ex ey g (carries_same size orders devices actors s a) its;
-  }
+  pub turns_so : OrdersAgree size words orders devices (slice_set actors a x') (with_own s a t y')
+  turns_so = orders_so size words words (λ e. e) orders orders devices devices actors a x x' s y y' ex ey g (carries_same size orders devices actors s a) its (λ d. d ≡ own.cache) (λ d. elim (cases_eq d own.cache) [ inl e ↦ inl e | inr n ↦ inr n ]) s.waiting t (λ d n. refl) turns
+      (λ b v p n ev e at. n ((g.once a y own ey under).1 b v p ev e at)) not_aside_so
+      (λ d o p here e at.
+      let both : Some (Some order) ≡ Some o = sym slot ∙ ap (slice_get orders) (sym here) ∙ e in
+      let is : Some order ≡ o = cc in
+      let now : live_there t.mapping d o ≡ Some own' = (λ i. live_there t.mapping (here i) (sym is i)) ∙ lives in
+      (λ l. under' ∙ sym now ∙ l, λ f. now ∙ sym under' ∙ f))
+      (λ p e. let both : Some own' ≡ Some p = sym under' ∙ e in let is : own' ≡ p = cc in subst (λ (q : AbstractOrder). IsOf orders (held x') q) is (order, ap (slice_get orders) same ∙ slot, mine))
+      (λ p n e. absurd (let both : Some own' ≡ Some p = sym under' ∙ e in let is : own' ≡ p = cc in n (ap (λ (q : AbstractOrder). q.cache) (sym is) ∙ same))) (λ k p n w. inr w)
+      (λ c o p e at n h. moved size words words (λ e. e) orders orders devices devices actors a x x' s y y' ex ey g (carries_same size orders devices actors s a) its p (λ f. absurd (let both : Some own ≡ Some p = sym under ∙ f in let is : own ≡ p = cc in n (sym at ∙ ap (λ (q : AbstractOrder). q.cache) (sym is)))) h)

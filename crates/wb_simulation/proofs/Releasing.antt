@@ -1,28 +1,24 @@
 -- An order that is aside is given up.
 use Rattle.std.proofs.Common.{◌≡◌, ◌≢◌, ◌∙◌, inl, inr, ℕ, Bool, List, [], ◌∷◌, Option, Some, None, Contains, refl, sym, ap, subst, slice_get, slice_set}
 use Rattle.std.proofs.lemmas.Bool.{cases_eq}
-use Rattle.std.proofs.lemmas.List.{length-set}
-use Rattle.wb_types.proofs.Lists.{set_cases}
-use Rattle.wb_types.specs.declared.number.OBlock.{OBlock}
 use Rattle.wb_disk.specs.Device.{History}
 use Rattle.wb_contents.specs.Volume.{changed}
 use Rattle.wb_contents.proofs.Positions.{changed_same, changed_other}
 use Rattle.wb_words.specs.SharedWords.{Words}
 use Rattle.wb_policy.specs.declared.order.Order.{Order}
-use Rattle.wb_tasks.specs.Plan.{Plan}
-use Rattle.wb_tasks.specs.declared.step.Migration.{Migration}
 use Rattle.wb_devices.specs.declared.devices.Devices.{Devices}
 use Rattle.wb_link.specs.Tables.{Order as AbstractOrder}
-use Rattle.wb_link.specs.World.{World, Shared, Release, release_order, given_back, after_record, Actor as AbstractActor}
+use Rattle.wb_link.specs.World.{World, Shared, Release, release_order, given_back, aside, after_record, Actor as AbstractActor}
 use Rattle.wb_link.proofs.Lists.{get_set_same, get_set_other}
-use Rattle.wb_runs.specs.declared.job.Job.TheVariants.{Migrate}
 use Rattle.wb_runs.specs.States.{Actor}
 use Rattle.wb_simulation.specs.Actors.{StandsFor}
-use Rattle.wb_simulation.specs.Carried.{held, live_there, order_there, IsOf, IsAtMigration}
+use Rattle.wb_simulation.specs.Carried.{held, live_there, order_there}
 use Rattle.wb_simulation.specs.Telling.{Releases}
-use Rattle.wb_simulation.specs.Worlds.{Agrees, OrdersAgree, GivesUp, TurnedTo, DeskTurnedTo, FollowsBy}
+use Rattle.wb_simulation.specs.Worlds.{Agrees, OrdersAgree, GivesUp, FollowsBy}
 use Rattle.wb_simulation.specs.Laws.{IsOnlyOf}
-use Rattle.wb_simulation.proofs.Orders.{IsNoMigration, cache_there, carried_beside, does_none}
+use Rattle.wb_refines.proofs.Going.{set_same}
+use Rattle.wb_simulation.proofs.Starting.{begins}
+use Rattle.wb_simulation.proofs.Orders.{IsNoMigration, CarriesOthers, cache_there, carried_beside, does_none, begins_so}
 use Rattle.wb_simulation.proofs.Among.{whose, nobody_alone}
 
 module _ (size most : ℕ) (words : Words) (committing : Bool) (orders : List (Option Order)) (devices : Devices (List History)) (actors : List Actor) (a : ℕ) (x x' : Actor) (s : World) (y : AbstractActor) (ex : slice_get actors a ≡ Some x) (ey : slice_get s.actors a ≡ Some y) (g : Agrees size most words committing orders devices actors s)
@@ -55,81 +51,20 @@ module _ (size most : ℕ) (words : Words) (committing : Bool) (orders : List (O
   abbrev t : Shared
   t = record s.shared { blocks = changed s.shared.blocks c (given_back (s.shared.blocks c)) }
 
-  abbrev then_is : World
-  then_is = record { shared = t; actors = s.actors; waiting = changed s.waiting c None }
-
-  world_is : after_record s (Release c) ≡ then_is
-  world_is = ap (release_order s c) waits
-
-  -- each actor is as it was, or this one
-  each_pair : (P : ℕ → Actor → AbstractActor → Type 0) → P a x' y → ((b : ℕ) (z : Actor) (v : AbstractActor) → slice_get actors b ≡ Some z → slice_get s.actors b ≡ Some v → P b z v) → (b : ℕ) (z : Actor) (v : AbstractActor) → slice_get (slice_set actors a x') b ≡ Some z → slice_get s.actors b ≡ Some v → P b z v
-  each_pair P here others b z v ez ev = elim (set_cases actors a b x' z ez) [
-    | inl i ↦
-        let same : Some y ≡ Some v = sym ey ∙ ap (slice_get s.actors) (sym i.0) ∙ ev in
-        let one : y ≡ v = cc in
-        subst (λ (q : Actor). P b q v) (sym i.1) (subst (λ k. P k x' v) (sym i.0) (subst (λ (q : AbstractActor). P a x' q) one here))
-    | inr k ↦ others b z v k.1 ev
-  ]
+  world_is : after_record s (Release c) ≡ record { shared = t; actors = slice_set s.actors a y; waiting = changed s.waiting c None }
+  world_is = ap (release_order s c) waits ∙ ap (λ (ys : List AbstractActor). record { shared = t; actors = ys; waiting = changed s.waiting c None }) (sym (set_same s.actors a y ey))
 
   -- a migration is at what it was at, where its order is another one
-  at_beside : (m : Migration) (bl : OBlock) (q : Plan) (w : Actor) (u : AbstractActor) → ((p : AbstractOrder) → u.order ≡ Some p → slice_get over p.cache ≡ slice_get orders p.cache) → IsAtMigration size words orders devices m bl q w u → IsAtMigration size words over devices m bl q w u
-  at_beside m bl q w u beside d = record {
-    part = d.part;
-    job = d.job;
-    at = elim d.at [ inl i ↦ inl (carried_beside size orders over devices m bl d.part q.steps q.answer w u beside i) | inr o ↦ inr o ];
-  }
+  carries : CarriesOthers size orders over devices devices actors s a
+  carries b z u m bl part plan n ez eu task job k = carried_beside size orders over devices m bl part plan.steps plan.answer z u (λ p e. get_set_other orders c p.cache None (nobody b u p eu e)) k
 
-  ordered : OrdersAgree size words over devices (slice_set actors a x') then_is
-  ordered = record {
-    live = λ d o e p at. elim (cases_eq d c) [
-      | inl here ↦
-          let both : Some None ≡ Some o = sym (get_set_same orders c (Some order) None slot) ∙ ap (slice_get over) (sym here) ∙ e in
-          let is : None ≡ o = cc in (
-            λ l. let bad : None ≡ Some p = ap (live_there s.shared.mapping d) is ∙ l in absurd (cc),
-            λ h. absurd (elim h [
-              | inl w ↦ (let bad : None ≡ Some p = sym (changed_same s.waiting c None) ∙ ap (changed s.waiting c None) (sym (at ∙ here)) ∙ w in cc)
-              | inr k ↦ nobody k.0 k.1 p k.2 k.3 (at ∙ here)
-            ]),
-          )
-      | inr n ↦
-          let k = g.orders_agree.live d o (sym (get_set_other orders c d None n) ∙ e) p at in
-          let away : p.cache ≢ c = (λ q. n (sym at ∙ q)) in (
-            λ l. elim (k.0 l) [ inl w ↦ inl (changed_other s.waiting c p.cache None away ∙ w) | inr h ↦ inr h ],
-            λ h. k.1 (elim h [ inl w ↦ inl (sym (changed_other s.waiting c p.cache None away) ∙ w) | inr v ↦ inr v ]),
-          )
-    ];
-    once = λ b v p ev e. let k = g.orders_agree.once b v p ev e in (λ w. k.0 (sym (changed_other s.waiting c p.cache None (nobody b v p ev e)) ∙ w), k.1);
-    waits = λ k p w. elim (cases_eq k c) [
-      | inl here ↦ absurd (let bad : None ≡ Some p = sym (changed_same s.waiting c None) ∙ ap (changed s.waiting c None) (sym here) ∙ w in cc)
-      | inr n ↦ (let r = g.orders_agree.waits k p (sym (changed_other s.waiting c k None n) ∙ w) in (r.0, (r.1.0, get_set_other orders c k None n ∙ r.1.1)))
-    ];
-    ours = λ b z v p ez ev. each_pair (λ k q u. (p : AbstractOrder) → u.order ≡ Some p → IsOf over (held q) p)
-        (λ p e. let bad : None ≡ Some p = sym none ∙ e in absurd (cc))
-        (λ k q u eq eu p e. let r = g.orders_agree.ours k q u p eq eu e in (r.0, get_set_other orders c p.cache None (nobody k u p eu e) ∙ r.1, r.2)) b z v ez ev p;
-    carried = λ b z v m bl q ez ev. each_pair (λ k w u. w.task ≡ Some (Migrate m bl, q) → IsAtMigration size words over devices m bl q w u)
-        (λ e. does_none size words over devices x' y other m bl q e)
-        (λ k w u ew eu e. at_beside m bl q w u (λ p f. get_set_other orders c p.cache None (nobody k u p eu f)) (g.orders_agree.carried k w u m bl q ew eu e)) b z v ez ev;
-  }
+  ordered : OrdersAgree size words over devices (slice_set actors a x') (record { shared = t; actors = slice_set s.actors a y; waiting = changed s.waiting c None })
+  ordered = begins_so size words words (λ f. f) orders over devices devices actors a x x' s y y ex ey g.orders_agree carries (does_none size words over devices x' y other) (λ d. d ≡ c) (λ d. elim (cases_eq d c) [ inl e ↦ inl e | inr n ↦ inr n ]) (changed s.waiting c None)
+      (λ p e. let bad : None ≡ Some p = sym none ∙ e in absurd (cc))
+      (λ d o p e eo l. let both : Some None ≡ Some o = sym (get_set_same orders c (Some order) None slot) ∙ ap (slice_get over) (sym e) ∙ eo in let is : None ≡ o = cc in let bad : None ≡ Some p = ap (live_there s.shared.mapping d) is ∙ l in absurd (cc))
+      (λ d n. get_set_other orders c d None n) (λ d n. changed_other s.waiting c d None n ∙ sym (ap (λ (o : Option AbstractOrder). aside s.waiting o d) none))
+      (λ d p e w. let bad : None ≡ Some p = sym (changed_same s.waiting c None) ∙ ap (changed s.waiting c None) (sym e) ∙ w in absurd (cc)) (λ b v p n ev e at. nobody b v p ev e at) t refl
 
   pub released_there : FollowsBy (GivesUp c) Releases size most a s words committing over devices (slice_set actors a x')
-  released_there = record {
-    records = Release c ∷ [];
-    run = ((own, waits, nobody_alone size most words committing orders devices actors s g), tt);
-    agrees = subst (λ (v : World). Agrees size most words committing over devices (slice_set actors a x') v) (sym world_is) (record {
-      words_agree = record { fail = g.words_agree.fail; seals = g.words_agree.seals };
-      origin = g.origin;
-      cache = g.cache;
-      mode = g.mode;
-      commits = g.commits;
-      broken = g.broken;
-      led = g.led;
-      whole = g.whole;
-      one_leads = g.one_leads;
-      many = g.many ∙ sym (length-set actors a x');
-      each = each_pair (λ b z v. StandsFor size most words z v) st (λ b z v ez ev. g.each b z v ez ev);
-      orders_agree = ordered;
-    });
-    turned = subst (λ (v : World). TurnedTo (GivesUp c) s.shared v.shared) (sym world_is) (refl, refl, refl);
-    desk = subst (λ (v : World). DeskTurnedTo (GivesUp c) s.shared v.shared) (sym world_is) (refl, refl);
-    told = λ v e. (c, refl);
-  }
+  released_there = begins size most words committing orders devices actors a x x' s y g ex ey (GivesUp c) Releases over (Release c ∷ []) (changed s.waiting c None) t y ((own, waits, nobody_alone size most words committing orders devices actors s g), tt) world_is (c, refl)
+      (record { words_agree = record { fail = g.words_agree.fail; seals = g.words_agree.seals }; origin = refl; cache = refl; mode = refl; commits = refl; broken = refl; mapping = refl; turned = (refl, refl, refl); desk = (refl, refl) }) (λ l. (l, λ more. more)) st ordered

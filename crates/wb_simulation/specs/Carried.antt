@@ -4,7 +4,7 @@ use Rattle.wb_types.specs.declared.number.CBlock.{CBlock}
 use Rattle.wb_types.specs.declared.number.OBlock.{OBlock}
 use Rattle.wb_disk.specs.Device.{Content, History}
 use Rattle.wb_contents.specs.Volume.{Locations}
-use Rattle.wb_words.specs.SharedWords.{Words, flag}
+use Rattle.wb_words.specs.SharedWords.{Words}
 use Rattle.wb_policy.specs.declared.order.Order.{Order}
 use Rattle.wb_policy.specs.declared.order.Order.TheVariants.{Promote, Replace, Demote, Clean}
 use Rattle.wb_tasks.specs.Tables.{BlockRange, Migrating, OnBlock}
@@ -19,12 +19,13 @@ use Rattle.wb_devices.specs.declared.devices.Devices.{Devices}
 use Rattle.wb_link.specs.Tables.{Order as AbstractOrder}
 use Rattle.wb_link.specs.World.{Actor as AbstractActor}
 use Rattle.wb_refines.specs.Translation.{offsets_in}
-use Rattle.wb_refines.specs.Models.{plan_of}
+use Rattle.wb_refines.specs.Models.{HasStopped, plan_of}
 use Rattle.wb_refines.specs.Migrations.{order_on, Fills}
-use Rattle.wb_refines.specs.Carried.{IsMigrationAt, HasKept}
+use Rattle.wb_refines.specs.Carried.{IsMigrationAt}
 use Rattle.wb_runs.specs.States.{Actor}
 use Rattle.wb_runs.specs.Happenings.{order_for}
 use Rattle.wb_simulation.specs.Actors.{IsLate}
+use Rattle.wb_simulation.specs.Telling.{IsMigrating}
 use Rattle.wb_simulation.specs.Steps.{IsPart, AreOfBlock, ArePaired, IsTail}
 
 -- the block stands on this cache block
@@ -94,15 +95,11 @@ pub record IsCarried (size : ℕ) (orders : List (Option Order)) (devices : Devi
   pub read : HasRead size steps x.buffer y.buffer
 
 -- it has kept what it has at a failure, and has only to answer
-pub record HasEnded (words : Words) (migration : Migration) (part : BlockRange) (plan : Plan) (x : Actor) (y : AbstractActor) : Type 0 where
-  pub failed : flag words.fail ≡ true
-  pub c : CBlock
-  pub kept : Option AbstractOrder
-  pub next : Option ℕ
-  pub is : HasKept part c next migration kept plan x.card y
+abbrev pub HasEnded : Words → Plan → Actor → AbstractActor → Type 0
+HasEnded words plan x y = (k : HasStopped words plan x.card y) × IsMigrating k.script.job
 
 -- a migration is at the same there, has kept what it has at a failure, or is late
 pub record IsAtMigration (size : ℕ) (words : Words) (orders : List (Option Order)) (devices : Devices (List History)) (migration : Migration) (block : OBlock) (plan : Plan) (x : Actor) (y : AbstractActor) : Type 0 where
   pub part : BlockRange
   pub job : plan.job ≡ OnBlock (Migrating migration part)
-  pub at : IsCarried size orders devices migration block part plan.steps plan.answer x y ⊎ HasEnded words migration part plan x y ⊎ IsLate words plan y
+  pub at : IsCarried size orders devices migration block part plan.steps plan.answer x y ⊎ HasEnded words plan x y ⊎ IsLate words plan y

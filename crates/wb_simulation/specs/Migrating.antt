@@ -9,7 +9,7 @@ use Rattle.wb_types.specs.declared.refusal.Refusal.{Refusal}
 use Rattle.wb_types.specs.Extents.{IsCutInto}
 use Rattle.wb_disk.specs.Device.{History}
 use Rattle.wb_disk.specs.Extents.{written_each, written_where}
-use Rattle.wb_words.specs.SharedWords.{Words}
+use Rattle.wb_words.specs.SharedWords.{Words, word_at, place_in}
 use Rattle.wb_words.specs.Effects.{words_after}
 use Rattle.wb_words.specs.declared.card.Hold.TheVariants.{Nothing}
 use Rattle.wb_policy.specs.declared.order.Order.{Order}
@@ -29,7 +29,6 @@ use Rattle.wb_runs.specs.States.{Actor, with_device}
 use Rattle.wb_simulation.specs.Telling.{Telling, Resumes, Carries, Rests}
 use Rattle.wb_simulation.specs.Laws.{went, after_step, IsOnlyOf}
 use Rattle.wb_words.specs.Rule.{LockRule}
-use Rattle.wb_words.specs.SharedWords.{word_at, place_in}
 use Rattle.wb_words.specs.declared.word.Word.TheVariants.{Seal as SealWord, Number}
 use Rattle.wb_words.specs.declared.step.CellStep.{CellStep}
 use Rattle.wb_words.specs.declared.step.CellStep.TheVariants.{Look}

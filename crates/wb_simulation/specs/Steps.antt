@@ -2,8 +2,7 @@
 use Rattle.std.specs.Prelude.{◌≡◌, ◌≤◌, ◌<◌, ◌+◌, ◌/◌, ◌%◌, ℕ, List, [], ◌∷◌, Contains}
 use Rattle.wb_types.specs.declared.extent.Extent.{Extent}
 use Rattle.wb_words.specs.SharedWords.{place_in, seal_word}
-use Rattle.wb_words.specs.declared.step.CellStep.TheVariants.{Look, Release, Seal}
-use Rattle.wb_words.specs.declared.word.Word.TheVariants.{Fail}
+use Rattle.wb_words.specs.declared.step.CellStep.TheVariants.{Release, Seal}
 use Rattle.wb_tasks.specs.Tables.{BlockRange}
 use Rattle.wb_tasks.specs.declared.step.DeviceStep.TheVariants.{Read, Write}
 use Rattle.wb_tasks.specs.declared.step.DeskStep.TheVariants.{Map, Unmap}
@@ -56,9 +55,3 @@ ArePaired size (Device (Read device e) ∷ later) = IsWrittenNext size e later �
 ArePaired size (Desk (Map block place) ∷ later) = IsTail later × IsNoWrite later × ArePaired size later
 ArePaired size (Desk (Unmap block) ∷ later) = IsTail later × IsNoWrite later × ArePaired size later
 ArePaired size (next ∷ later) = IsNoWrite later × ArePaired size later
-
--- Who takes these steps has still to look at the fail word, or has only to answer.
-abbrev pub IsOutside : List Want → Type 0
-IsOutside [] = Unit {0}
-IsOutside (Cell (Look Fail) ∷ later) = Unit {0}
-IsOutside steps = ⊥

@@ -1,0 +1,112 @@
+-- Reads, writes and migrations play their roles.
+use Rattle.std.proofs.Common.{◌≡◌, ◌<◌, ◌∙◌, ℕ, Bool, List, Option, Some, None, refl, sym, ap, subst}
+use Rattle.wb_types.specs.declared.number.CBlock.{CBlock}
+use Rattle.wb_types.specs.declared.refusal.Refusal.{Refusal}
+use Rattle.wb_disk.specs.Device.{Content}
+use Rattle.wb_words.specs.SharedWords.{place_in, dirty_in}
+use Rattle.wb_words.specs.declared.card.Card.{Card}
+use Rattle.wb_tasks.specs.Tables.{BlockJob, TaskJob, BlockRange, Reading, Writing, Migrating, OnBlock, range_of}
+use Rattle.wb_tasks.specs.Plan.{Plan, work_of}
+use Rattle.wb_tasks.specs.declared.step.Answer.{Answer}
+use Rattle.wb_tasks.specs.declared.step.Want.{Want}
+use Rattle.wb_tasks.specs.declared.step.Answer.TheVariants.{Refused as Refuses}
+use Rattle.wb_tasks.specs.declared.step.Migration.{Migration}
+use Rattle.wb_tasks.specs.declared.step.Migration.TheVariants.{Promote, Demote, Clean}
+use Rattle.wb_link.specs.Tables.{Order, Job as AbstractJob, Seal as SealThere, Answer as AbstractAnswer, Finished as AnsweredDone, work as work_there}
+use Rattle.wb_link.specs.World.{Actor}
+use Rattle.wb_refines.specs.Translation.{number_of, offsets, job_for, answer_for, wants_of}
+use Rattle.wb_refines.specs.Models.{SealAgrees, IsRequest, IsAt, held_for, plan_of}
+use Rattle.wb_refines.specs.Roles.{acting, IsAs, Plays, request_role, RequestCellsFollowed}
+use Rattle.wb_refines.specs.Migrations.{job_under, order_on, Fills, IsWhere}
+use Rattle.wb_refines.specs.Carried.{migration_role, MigrationCellsFollowed}
+use Rattle.wb_refines.proofs.Cells.{refused_undone}
+use Rattle.wb_refines.proofs.Followed.{cell_steps_followed}
+use Rattle.wb_refines.proofs.Tables.{read_work, write_work}
+use Rattle.wb_refines.proofs.Migrating.{works}
+
+-- A job's work hangs on no more of a seal than agrees, where it hangs on the dirty bit of a mapped block alone.
+same_work : (job : AbstractJob) (place : Option CBlock) (dirty : Bool) (seal : SealThere) → ((d : Bool) → work_there job (record { location = None; dirty = d }) ≡ work_there job (record { location = None; dirty = dirty })) → seal.location ≡ number_of place → ((c : CBlock) → place ≡ Some c → seal.dirty ≡ dirty) →
+    work_there job seal ≡ work_there job (record { location = number_of place; dirty = dirty })
+same_work job None dirty seal any l d = ap (λ (v : Option ℕ). work_there job (record { location = v; dirty = seal.dirty })) l ∙ any seal.dirty
+same_work job (Some c) dirty seal any l d = λ i. work_there job (record { location = l i; dirty = d c refl i })
+
+-- an answer that is refused is no other's
+undone : (job : AbstractJob) (refusal : Refusal) (answer : AbstractAnswer) → answer ≡ answer_for job (Refuses refusal) → (answer ≡ AnsweredDone → ⊥)
+undone job refusal answer is e = refused_undone job refusal (sym is ∙ e)
+
+-- a request that is at this is so in its role, and the other way round
+pub as_request : (size : ℕ) (content : Content) (job : BlockJob) (steps : List Want) (answer : Answer) (card : Card) (y : Actor) → IsAt size content (plan_of job steps answer) card y → IsAs (request_role size content job) (plan_of job steps answer) card y
+as_request size content job steps answer card y i = record { answer = answer_for (job_for size content (OnBlock job)) answer; buffer = i.buffer; is = i.is; alike = refl; saw = i.saw }
+
+pub at_request : (size : ℕ) (content : Content) (job : BlockJob) (plan : Plan) (card : Card) (y : Actor) → plan.job ≡ OnBlock job → IsAs (request_role size content job) plan card y → IsAt size content plan card y
+at_request size content job plan card y e i = subst (λ (k : TaskJob). IsAt size content (record { job = k; steps = plan.steps; answer = plan.answer }) card y) (sym e)
+    (by (subst (λ (k : TaskJob). IsAs (request_role size content job) (record { job = k; steps = plan.steps; answer = plan.answer }) card y) e i))
+  where
+    by : IsAs (request_role size content job) (plan_of job plan.steps plan.answer) card y → IsAt size content (plan_of job plan.steps plan.answer) card y
+    by i = record { buffer = i.buffer; is = i.is ∙ ap (λ (t : AbstractAnswer). acting (request_role size content job) (wants_of size (job_for size content (OnBlock job)) plan.steps) t (held_for plan.steps card) i.buffer) i.alike; saw = i.saw }
+
+pub requests_play : (size : ℕ) (content : Content) (job : BlockJob) → IsRequest job → 0 < size → size ≡ (range_of job).block_sectors → Plays (request_role size content job) job
+requests_play size content (Reading part) r some e = record {
+  begins = refl;
+  steps = λ step later. refl;
+  ends = refl;
+  works = λ word seal f a. same_work (job_for size content (OnBlock (Reading part))) (place_in word) (dirty_in word) seal (λ d. refl) a.location a.dirty
+      ∙ subst (λ (n : ℕ). work_there (job_for n content (OnBlock (Reading part))) (record { location = number_of (place_in word); dirty = dirty_in word }) ≡ wants_of n (job_for n content (OnBlock (Reading part))) (work_of (OnBlock (Reading part)) word)) (sym e)
+      (sym (read_work part (subst (λ v. 0 < v) e some) content (place_in word) (dirty_in word)));
+  breaks = refl;
+  among_others = refl;
+  failed = refl;
+  busy = refl;
+  undone = undone (job_for size content (OnBlock (Reading part)));
+}
+requests_play size content (Writing part) r some e = record {
+  begins = refl;
+  steps = λ step later. refl;
+  ends = refl;
+  works = λ word seal f a. same_work (job_for size content (OnBlock (Writing part))) (place_in word) (dirty_in word) seal (λ d. refl) a.location a.dirty
+      ∙ subst (λ (n : ℕ). work_there (job_for n content (OnBlock (Writing part))) (record { location = number_of (place_in word); dirty = dirty_in word }) ≡ wants_of n (job_for n content (OnBlock (Writing part))) (work_of (OnBlock (Writing part)) word)) (sym e)
+      (sym (write_work part (subst (λ v. 0 < v) e some) content (place_in word) (dirty_in word)));
+  breaks = refl;
+  among_others = refl;
+  failed = refl;
+  busy = refl;
+  undone = undone (job_for size content (OnBlock (Writing part)));
+}
+requests_play size content (Migrating migration part) r some e = absurd r
+
+-- what a migration's work is hangs on no more of the seal than agrees
+same_there : (migration : Migration) (order : Order) (os : List (List ℕ)) (c : CBlock) (seen : ℕ) (seal : SealThere) → IsWhere migration c (place_in seen) → SealAgrees seen seal → work_there (job_under order os migration) seal ≡ work_there (job_under order os migration) (record { location = number_of (place_in seen); dirty = dirty_in seen })
+same_there (Promote k) order os c seen seal where_is a = refl
+same_there Demote order os c seen seal where_is a = ap (work_there (job_under order os Demote)) (λ i. record { location = a.location i; dirty = a.dirty c where_is i })
+same_there Clean order os c seen seal where_is a = ap (work_there (job_under order os Clean)) (λ i. record { location = a.location i; dirty = a.dirty c where_is i })
+
+pub migrations_play : (part : BlockRange) (c : CBlock) (next : Option ℕ) (migration : Migration) (kept : Option Order) → 0 < part.block_sectors → Fills migration c → Plays (migration_role part c next migration kept) (Migrating migration part)
+migrations_play part c next (Promote k) kept some fills = record {
+  begins = refl;
+  steps = λ step later. refl;
+  ends = refl;
+  works = λ word seal f a. same_there (Promote k) (order_on part c next) (offsets part.block_sectors part.extents) c word seal f a ∙ sym (works part c next (Promote k) (place_in word) (dirty_in word) some fills f);
+  breaks = refl;
+  among_others = refl;
+  failed = λ e. absurd (cc);
+  busy = λ e. absurd (cc);
+  undone = λ refusal answer n. n;
+}
+migrations_play part c next migration kept some fills = record {
+  begins = refl;
+  steps = λ step later. refl;
+  ends = refl;
+  works = λ word seal f a. same_there migration (order_on part c next) (offsets part.block_sectors part.extents) c word seal f a ∙ sym (works part c next migration (place_in word) (dirty_in word) some fills f);
+  breaks = refl;
+  among_others = refl;
+  failed = λ e. absurd (cc);
+  busy = λ e. absurd (cc);
+  undone = λ refusal answer n. n;
+}
+
+-- so their steps on the words are followed
+pub request_cells_followed : RequestCellsFollowed
+request_cells_followed size content job request some sized = cell_steps_followed (request_role size content job) job (requests_play size content job request some sized)
+
+pub migration_cells_followed : MigrationCellsFollowed
+migration_cells_followed part c next migration kept some fills = cell_steps_followed (migration_role part c next migration kept) (Migrating migration part) (migrations_play part c next migration kept some fills)
