@@ -21,7 +21,7 @@ use Rattle.wb_types.specs.declared.number.OBlock.{OBlock}
 use Rattle.wb_tasks.specs.declared.step.Want.{Want}
 use Rattle.wb_tasks.specs.declared.step.DeviceStep.TheVariants.{Write as WriteExtent}
 use Rattle.wb_tasks.specs.declared.step.Want.TheVariants.{Cell, Device, End}
-use Rattle.wb_refines.specs.Translation.{number_of}
+use Rattle.wb_refines.specs.Translation.{location_at, number_of}
 use Rattle.wb_tasks.specs.declared.step.Got.{Got}
 use Rattle.wb_tasks.specs.declared.step.Got.TheVariants.{Fault}
 use Rattle.wb_devices.specs.declared.devices.Devices.{Devices}
@@ -50,7 +50,7 @@ use Rattle.wb_simulation.specs.Laws.{IsBesideOrders}
 use Rattle.wb_headline.proofs.Doings.{AllAsked, what_asked}
 use Rattle.wb_headline.proofs.Following.{Goes}
 use Rattle.wb_headline.specs.Desks.{live_orders}
-use Rattle.wb_headline.proofs.Placed.{with_task, AllPlaced, TaskPlaced, WritePlaced, holds_it, placed_what, written_there}
+use Rattle.wb_headline.proofs.Placed.{with_task, AllPlaced, TaskPlaced, WritePlaced, placed_what, written_there}
 use Rattle.wb_headline.proofs.Seeing.{beside_orders, named}
 use Rattle.wb_runs.proofs.Ruling.{card_at}
 use Rattle.wb_headline.proofs.Keeping.{Keeping, sealing_owns}
@@ -134,18 +134,20 @@ module _ (P A : Type 0) (shape : Shape) where
     some : 0 < block_size shape
     some = omega (arith, shape.geometry.within.block_from)
 
+    there : (x.card.hold ≡ Held Owned placed.part.block) × ((seal : ℕ) × (x.card.seal ≡ Some seal) × (location_at (block_size shape) device e ≡ number_of (place_in seal)))
+    there = written_there (block_size shape) shape.geometry.origin_blocks some plan x.card placed (subst (λ (o : Option (Job × Plan)). TaskSuits shape.geometry.origin_blocks x.card o) xt (b.used.suited a x ex)) device e next
+
     holds : x.card.hold ≡ Held Owned own_block
     holds =
         let same : OnBlock (Writing placed.part) ≡ OnBlock (Writing (block_range shape extent claim.cut)) = sym placed.job ∙ claim.is_job in
         let part_is : placed.part ≡ block_range shape extent claim.cut = cc in
-        holds_it (block_size shape) some plan x.card placed device e next shape.geometry.origin_blocks (subst (λ (o : Option (Job × Plan)). TaskSuits shape.geometry.origin_blocks x.card o) xt (b.used.suited a x ex)) ∙ ap (λ (r : BlockRange). Held Owned r.block) part_is
+        there.0 ∙ ap (λ (r : BlockRange). Held Owned r.block) part_is
 
     pub written_beside : IsBesideOrders (block_size shape) (live_orders t.desk) (record { 0 = extent.first / block_size shape }) device e
     written_beside =
-        let there = written_there (block_size shape) some plan x.card placed device e next in
-        let word : word_at t.words.seals own_block ≡ there.0 = (b.used.here.knows a x.card (card_at actors a x ex)).seal Owned own_block there.0 holds there.1 in
+        let word : word_at t.words.seals own_block ≡ there.1.0 = (b.used.here.knows a x.card (card_at actors a x ex)).seal Owned own_block there.1.0 holds there.1.1 in
         let told = held_tells t commit devices actors n b a x (Write extent content) plan ex xt own_block holds (λ place dirty q. absurd (let bad : Device (WriteExtent device e) ≡ Cell (Seal own_block place dirty) = next ∙ q in cc)) in
-        beside_orders P t.desk b.goes.known.is.kept (live_orders t.desk) (named P t.desk b.goes.known.is.kept) (block_size shape) own_block device e (λ k at. sym told ∙ ap (λ (v : ℕ). number_of (place_in v)) word ∙ sym there.2 ∙ at)
+        beside_orders P t.desk b.goes.known.is.kept (live_orders t.desk) (named P t.desk b.goes.known.is.kept) (block_size shape) own_block device e (λ k at. sym told ∙ ap (λ (v : ℕ). number_of (place_in v)) word ∙ sym there.1.2 ∙ at)
 
   -- What is followed of migrations: each step, done and failing, and each start, of a replacement too.
   pub record MigrationsGo : Type 0 where

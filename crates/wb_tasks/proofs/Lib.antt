@@ -5,5 +5,8 @@ pub mod Migrating
 pub mod Driving
 pub mod Causing
 pub mod Readiness
+pub mod Placed
 pub mod Bounding
 pub mod Pieces
+pub mod Seals
+pub mod Working
