@@ -1,7 +1,4 @@
 pub mod Views
-pub mod Reading
-pub mod Writing
-pub mod Migrating
 pub mod Driving
 pub mod Causing
 pub mod Readiness
