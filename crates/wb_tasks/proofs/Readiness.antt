@@ -1,10 +1,9 @@
 -- An actor has what the next step of its task needs, and each step keeps it so; after the answer it holds nothing.
 use Rattle.std.specs.List.{Contains}
 use Rattle.wb_types.proofs.Lists.{Contains-first, Contains-behind}
-use Rattle.std.proofs.Common.{◌≡◌, ◌∙◌, ◌==◌, ◌+◌, ◌<◌, ◌≤◌, arith, zero, suc, ◌-◌, ◌^◌, ◌++◌, ℕ, Bool, true, false, cond, eqb, List, [], ◌∷◌, Option, Some, None, refl, sym, ap, subst, map, if◌then◌else◌}
+use Rattle.std.proofs.Common.{◌≡◌, ◌∙◌, ◌==◌, ◌+◌, ◌<◌, ◌≤◌, arith, zero, suc, ◌-◌, ◌^◌, ◌++◌, ℕ, Bool, true, false, cond, eqb, List, [], ◌∷◌, Option, Some, None, refl, sym, ap, subst, if◌then◌else◌}
 use Rattle.std.proofs.lemmas.Bool.{eq-eqb, true≢false}
 use Rattle.wb_types.specs.declared.mode.Dev.{Dev}
-use Rattle.wb_types.specs.declared.mode.Dev.TheVariants.{Cache, Origin}
 use Rattle.wb_types.specs.declared.number.OBlock.{OBlock}
 use Rattle.wb_types.specs.declared.number.CBlock.{CBlock}
 use Rattle.wb_types.specs.declared.refusal.Refusal.TheVariants.{Busy, Failed, Memory, Worn, GenerationEnd, Io}
@@ -20,17 +19,16 @@ use Rattle.wb_words.specs.SharedWords.{word_at, value_of, place_in, dirty_in}
 use Rattle.wb_words.specs.Cards.{losing, holding, failing_at, is_own_number}
 use Rattle.wb_words.specs.Ready.{HasNext}
 use Rattle.wb_types.specs.declared.extent.Extent.{Extent}
-use Rattle.wb_tasks.specs.Tables.{BlockRange, BlockJob, Reading, Writing, Migrating, TaskJob, OnBlock, Flushing, Opening, is_write, access_of, work, read_step, read_count, write_count}
+use Rattle.wb_tasks.specs.Tables.{BlockJob, Reading, Writing, Migrating, TaskJob, OnBlock, Flushing, Opening, is_write, access_of, work, read_step, read_count, write_count}
 use Rattle.wb_tasks.proofs.Driving.{no_result}
 use Rattle.wb_tasks.proofs.Working.{Works, work_has}
-use Rattle.wb_tasks.specs.Ready.{MayTake, MayMake, block_of, HasBlock, KnowsNext, source_of, target_of, IsJobs, IsAsked, IsOwnStep, AreOwnSteps, IsParting, IsRest, Has, SuitsJob, Suits}
+use Rattle.wb_tasks.specs.Ready.{MayTake, MayMake, block_of, HasBlock, KnowsNext, IsJobs, IsAsked, IsOwnStep, AreOwnSteps, IsParting, IsRest, Has, SuitsJob, Suits}
 use Rattle.wb_tasks.specs.Plan.{Plan, table, want, after, first_step, gives_back, gives_up, release_orders, node_writes, root_steps, commit_steps, lets_go, exchange, may_take, is_worn, Fits, got_of}
 use Rattle.wb_tasks.specs.declared.step.Answer.{Answer}
 use Rattle.wb_tasks.specs.declared.step.Answer.TheVariants.{Refused as Refuses}
 use Rattle.wb_tasks.specs.declared.step.DeskStep.TheVariants.{Map, Unmap, ReleaseOrder, BeginCommit, EndCommit}
 use Rattle.wb_tasks.specs.declared.step.DeviceStep.{DeviceStep}
 use Rattle.wb_tasks.specs.declared.step.DeviceStep.TheVariants.{Read, Write, Sync, ReadMetadata, WriteNode, WriteRoot}
-use Rattle.wb_tasks.specs.declared.step.Migration.{Migration}
 use Rattle.wb_tasks.specs.declared.step.Migration.TheVariants.{Promote, Demote, Clean}
 use Rattle.wb_tasks.specs.declared.step.Want.{Want}
 use Rattle.wb_tasks.specs.declared.step.Want.TheVariants.{Cell, Device, Desk, End}

@@ -1,12 +1,11 @@
 -- What holds of all that a job does once it has seen its block's seal, shown of each of its steps once.
-use Rattle.std.proofs.Common.{◌≡◌, ◌++◌, Bool, true, false, List, [], ◌∷◌, map, Option, Some, None, Contains}
+use Rattle.std.proofs.Common.{◌++◌, Bool, true, false, List, [], ◌∷◌, map, Option, Some, None, Contains}
 use Rattle.wb_types.proofs.Lists.{Contains-first, Contains-behind}
 use Rattle.wb_types.specs.declared.extent.Extent.{Extent}
-use Rattle.wb_types.specs.declared.number.OBlock.{OBlock}
 use Rattle.wb_types.specs.declared.number.CBlock.{CBlock}
 use Rattle.wb_words.specs.declared.word.Access.TheVariants.{Shared, Owned}
 use Rattle.wb_words.specs.declared.step.CellStep.TheVariants.{Release, Seal, Finish}
-use Rattle.wb_tasks.specs.Tables.{BlockRange, BlockJob, Reading, Writing, Migrating, read_step, write_step, read_count, write_count, copies, copying, ending, dirtying, work}
+use Rattle.wb_tasks.specs.Tables.{BlockRange, BlockJob, Reading, Writing, Migrating, read_step, write_step, read_count, write_count, copies, ending, work}
 use Rattle.wb_tasks.specs.declared.step.Migration.{Migration}
 use Rattle.wb_tasks.specs.declared.step.Migration.TheVariants.{Promote, Demote, Clean}
 use Rattle.wb_tasks.specs.declared.step.Want.{Want}

@@ -98,15 +98,7 @@ impl BlockTask {
         requires longest { 1 ≤ longest }
         ensures { result ≡ table (OnBlock (Reading (record { block_sectors = block_sectors; block = block; extents = pieces longest sectors }))) }
     {
-        BlockTask {
-            work: Work::Read,
-            phase: Phase::Acquires(GripStage::LookFail),
-            block_sectors,
-            block,
-            sectors,
-            left: sectors,
-            longest,
-        }
+        begun(Work::Read, block_sectors, block, sectors, longest)
     }
 
     /// A write of sectors that lie in that block of the origin, in write-back mode. It owns the block, seals a clean copy in the cache
@@ -118,15 +110,7 @@ impl BlockTask {
         requires longest { 1 ≤ longest }
         ensures { result ≡ table (OnBlock (Writing (record { block_sectors = block_sectors; block = block; extents = pieces longest sectors }))) }
     {
-        BlockTask {
-            work: Work::Write,
-            phase: Phase::Acquires(GripStage::LookFail),
-            block_sectors,
-            block,
-            sectors,
-            left: sectors,
-            longest,
-        }
+        begun(Work::Write, block_sectors, block, sectors, longest)
     }
 
     /// A migration of a whole block, under an order for it: a promotion into the cache block that the order reserved, a demotion, or a
@@ -142,15 +126,13 @@ impl BlockTask {
         ensures { result ≡ table (OnBlock (Migrating migration (record { block_sectors = block_sectors; block = block; extents = pieces longest (whole_block block_sectors block) }))) }
     {
         let sectors = whole_block(block_sectors, block);
-        BlockTask {
-            work: Work::Migrate(migration),
-            phase: Phase::Acquires(GripStage::LookFail),
+        begun(
+            Work::Migrate(migration),
             block_sectors,
             block,
             sectors,
-            left: sectors,
             longest,
-        }
+        )
     }
 
     /// The next step, or the answer.
@@ -330,6 +312,24 @@ impl Task for BlockTask {
             }
         }
         self.want()
+    }
+}
+
+/// A task that has not begun.
+fn begun(work: Work, block_sectors: u32, block: OBlock, sectors: Extent, longest: u64) -> BlockTask
+    requires some { 0 < block_sectors }
+    requires in_range { sectors.first + sectors.count < 2 ^ 64 }
+    requires longest { 1 ≤ longest }
+    ensures { result ≡ table (OnBlock (job_of work (record { block_sectors = block_sectors; block = block; extents = pieces longest sectors }))) }
+{
+    BlockTask {
+        work,
+        phase: Phase::Acquires(GripStage::LookFail),
+        block_sectors,
+        block,
+        sectors,
+        left: sectors,
+        longest,
     }
 }
 

@@ -1,7 +1,6 @@
-use Rattle.std.proofs.Common.{◌∙◌, ◌≡◌, inl, inr, sym, ap}
+use Rattle.std.proofs.Common.{◌∙◌, inl, inr, sym, ap}
 use Rattle.wb_types.specs.Extents.{pieces}
 use Rattle.wb_tasks.specs.Tables.{BlockRange}
-use Rattle.wb_tasks.specs.Plan.{Plan}
 use Rattle.wb_tasks.specs.Phases.{left_in}
 use Rattle.wb_tasks.specs.declared.step.Got.TheVariants.{Fault}
 use Rattle.wb_tasks.proofs.Views.{by_view, after_failed_read, after_failed_copy, after_failed_write, after_failed_put}
