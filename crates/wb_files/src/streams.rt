@@ -1,9 +1,5 @@
 //! Standard streams of a program that may be started without some of them, or with ones that do not wait.
-#![tactic(auto)]
 
-mod awaited;
-
-pub use awaited::Awaited;
 use std::fs::{File, OpenOptions};
 use std::io;
 use std::os::fd::AsRawFd;
