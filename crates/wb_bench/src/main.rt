@@ -31,7 +31,7 @@ use crate::settles::{settle_all, tick_all};
 use std::env;
 use std::process::ExitCode;
 use wb_disk::{Disk, FileDisk};
-use wb_streams::hold_streams;
+use wb_files::hold_streams;
 use wb_types::Refusal;
 
 /// The exit status where the standard streams cannot be held, or the output failed.

@@ -1,16 +1,20 @@
-//! The files of a target: opened, locked and measured, or why they cannot serve.
+//! The files of a target: opened, locked and measured, or why they cannot serve; and the standard streams of the program that opens them.
 #![tactic(auto)]
 
 mod alarm;
+mod awaited;
 mod devices;
 mod patience;
 mod sizes;
+mod streams;
 mod unopened;
 mod watched;
 
 pub use alarm::Alarm;
+pub use awaited::Awaited;
 pub use devices::{Disks, measure, open_table};
 pub use patience::{Hurry, Patience, Patient};
 pub use sizes::{SizeFault, find_size_fault};
+pub use streams::{HeldStreams, hold_streams};
 pub use unopened::{Trouble, Unopened};
 pub use watched::{Step, Unwatched, Watch, Watched, WatchedDisk};

@@ -17,6 +17,7 @@ use Rattle.wb_policy.specs.declared.quiet.Quiet.{Quiet}
 use Rattle.wb_tree.specs.declared.image.Image.{Image}
 use Rattle.wb_meta.specs.declared.commit_steps.CommitSteps.{CommitSteps}
 use Rattle.wb_meta.specs.declared.commit_steps.CommitSteps.TheVariants.{NodesWritten, NodesSynced, RootWritten, Done as Committed}
+use Rattle.wb_types.specs.Limits.{node_count}
 use Rattle.wb_desk.specs.Commits.{IsBeginRefused, commit_begun}
 use Rattle.wb_desk.specs.Desks.{DeskState}
 use Rattle.wb_desk.specs.Entries.{MayUnmap, HasLeft, mapped, unmapped}
@@ -38,14 +39,14 @@ use Rattle.wb_devices.specs.declared.running.RunningCommit.{RunningCommit}
 use Rattle.wb_devices.specs.Committing.{is_coming}
 use Rattle.wb_devices.specs.Moving.{device_in}
 use Rattle.wb_stage.specs.Asking.{DidMap, DidUnmap, HasBegun, ended, DidRelease}
-use Rattle.wb_stage.specs.Stages.{is_all_done}
+use Rattle.wb_stage.specs.Stages.{DidAsk, EndsWith, is_all_done}
 use Rattle.wb_runs.specs.declared.job.Job.{Job}
 use Rattle.wb_runs.specs.declared.job.Job.TheVariants.{Read, Write, Flush, Open, Migrate, Replace}
 use Rattle.wb_runs.specs.States.{Shape, Actor, Stands, Target as RunTarget, with_device}
 use Rattle.wb_runs.specs.Happenings.{Plain, Commits, Asks, AreWhole, DoesSync, FailsSync, Gives}
 use Rattle.wb_runs.specs.Effects.{contents_for, led}
 use Rattle.wb_machine.specs.declared.target.Target.{Target}
-use Rattle.wb_machine.specs.Serving.{ComesNext, DoesOn, FailsAt, IsDoable, IsPossible, IsPut, MayBePut, Performs, PutsSector, WasAsked, WasPut, IsCopy, Migrates, chosen_at, commit_by, noted_read, over, stood, told, GivesUp}
+use Rattle.wb_machine.specs.Serving.{Allows, IsAskable, ComesNext, DoesOn, FailsAt, IsDoable, IsPossible, IsPut, MayBePut, Performs, PutsSector, WasAsked, WasPut, IsCopy, Migrates, chosen_at, commit_by, noted_read, over, stood, told, GivesUp}
 use Rattle.wb_policy.specs.declared.order.Order.{Order}
 
 -- ---- devices
@@ -265,6 +266,19 @@ module _ (desk : DeskState Quiet) (commit : Option RunningCommit) (desk' : DeskS
   did_release held (Migrate migration block) b m up k = record { chosen = Asks desk'; gives = λ shape devices words actors x own. (refl, refl, subst (λ (os : List Order). DidRelease os b desk desk') (sym own) up); desk_is = refl; commit_is = k }
   did_release held Flush b m up k = record { chosen = Asks desk'; gives = λ shape devices words actors x own. (refl, refl, subst (λ (os : List Order). DidRelease os b desk desk') (sym own) up); desk_is = refl; commit_is = k }
   did_release held job b m up k = absurd m
+
+  -- so it is with whatever the desk was asked
+  pub did_ask : (with_entry : Quiet → ℕ → ℕ → Quiet) (without_entry : Quiet → ℕ → Quiet) (held : List Order) (job : Job) (step : DeskStep) (got : Got) → IsAskable commit job step → Allows (node_count desk.geometry.cache_blocks) (Desk step) → Fits (Desk step) got →
+      ((nodes : ℕ) (running : RunningCommit) → got ≡ Began nodes → commit' ≡ Some running → AreWhole running.image) → DidAsk with_entry without_entry held step got desk commit desk' commit' → WasAsked desk commit job held step got desk' commit'
+  did_ask enters leaves held job (Map b c) got askable enough fits whole did = did_map held enters job b c got askable fits did.0 did.1
+  did_ask enters leaves held job (Unmap b) Done askable enough fits whole did = did_unmap held leaves job b askable did.0 did.1
+  did_ask enters leaves held job (ReleaseOrder b) Done askable enough fits whole did = did_release held job b askable did.0 did.1
+  did_ask enters leaves held job EndCommit Done askable enough fits whole did =
+      let ends : EndsWith true desk commit desk' commit' = subst (λ (t : Bool). EndsWith t desk commit desk' commit') askable did in
+      did_end held job askable ends.0 ends.1
+  did_ask enters leaves held job (BeginCommit clean most) (Began nodes) askable enough fits whole did = did_begin held job clean most nodes did.0 askable fits did.3 did.2 did.4 (whole nodes did.0 refl did.1) did.1
+  did_ask enters leaves held job (BeginCommit clean most) (GotRefused refusal) askable enough fits whole did = did_refuse held job clean most refusal askable (did.1.1 enough) did.1.0 did.0
+  did_ask enters leaves held job step got askable enough fits whole did = absurd fits
 
 -- ---- an actor
 

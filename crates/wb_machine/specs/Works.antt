@@ -1,10 +1,9 @@
 -- What is left of what an actor was told to do.
 use Rattle.wb_tasks.specs.Plan.{Plan}
 use Rattle.wb_machine.specs.declared.work.Kind.{Kind}
-use Rattle.wb_machine.specs.declared.work.Kind.TheVariants.{Requests, Flushes, Migrates}
+use Rattle.wb_machine.specs.declared.work.Kind.TheVariants.{OnBlock, Flushes}
 
 -- what is left of it
 abbrev pub plan_of : Kind → Plan
-plan_of (Requests plan) = plan
+plan_of (OnBlock plan) = plan
 plan_of (Flushes plan) = plan
-plan_of (Migrates plan) = plan

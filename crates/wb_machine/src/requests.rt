@@ -16,7 +16,7 @@ use std::alloc::Global;
 use wb_flow::FlushTask;
 use wb_policy::Order;
 use wb_runs::Job;
-use wb_tasks::{Migration, MigrationTask, ReadTask, RequestTask, WriteTask};
+use wb_tasks::{BlockTask, Migration};
 use wb_types::{Extent, Geometry, OBlock, Refusal};
 
 /// Why a job is not started.
@@ -96,10 +96,8 @@ pub(crate) fn task_of(
     ensures refusal { IfErr result (λ refusal. refusal ≡ Memory) }
 {
     match job {
-        Job::Read(extent) => Ok(Work::requests(RequestTask::reads(read_of(geometry, *extent)))),
-        Job::Write(extent, _) => {
-            Ok(Work::requests(RequestTask::writes(write_of(geometry, *extent))))
-        }
+        Job::Read(extent) => Ok(Work::on_block(read_of(geometry, *extent))),
+        Job::Write(extent, _) => Ok(Work::on_block(write_of(geometry, *extent))),
         Job::Flush => {
             let serves = blocks_left(alloc, awaiting)?;
             Ok(Work::flushes(FlushTask::new(serves, geometry.node_count())))
@@ -113,21 +111,21 @@ pub(crate) fn task_of(
 fn migrates(geometry: &Geometry, migration: Migration, block: OBlock) -> Work
     ensures { result ≡ table (OnBlock (Migrating migration (migrated_range (shape_of geometry.now ACTORS) block (pieces 1 (whole_block geometry.now.block block))))) }
 {
-    Work::migrates(MigrationTask::new(migration, geometry.block, block, 1))
+    Work::on_block(BlockTask::migrate(migration, geometry.block, block, 1))
 }
 
-fn read_of(geometry: &Geometry, extent: Extent) -> ReadTask
+fn read_of(geometry: &Geometry, extent: Extent) -> BlockTask
     requires { extent_refusal (shape_of geometry.now ACTORS) extent ≡ None }
     ensures { result ≡ table (OnBlock (Reading (block_range (shape_of geometry.now ACTORS) extent (pieces 1 extent)))) }
 {
-    ReadTask::new(geometry.block, block_of(geometry, extent), extent, 1)
+    BlockTask::read(geometry.block, block_of(geometry, extent), extent, 1)
 }
 
-fn write_of(geometry: &Geometry, extent: Extent) -> WriteTask
+fn write_of(geometry: &Geometry, extent: Extent) -> BlockTask
     requires { extent_refusal (shape_of geometry.now ACTORS) extent ≡ None }
     ensures { result ≡ table (OnBlock (Writing (block_range (shape_of geometry.now ACTORS) extent (pieces 1 extent)))) }
 {
-    WriteTask::new(geometry.block, block_of(geometry, extent), extent, 1)
+    BlockTask::write(geometry.block, block_of(geometry, extent), extent, 1)
 }
 
 /// The block in which these sectors lie.

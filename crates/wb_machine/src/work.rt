@@ -5,13 +5,12 @@ ghost use Rattle.wb_tasks.specs.Plan.{Plan, want, after, MayCome};
 
 use std::marker::Model;
 use wb_flow::FlushTask;
-use wb_tasks::{Got, MigrationTask, RequestTask, Task, Want};
+use wb_tasks::{BlockTask, Got, Task, Want};
 
 #[derive(Drop)]
 enum Kind {
-    Requests(RequestTask),
+    OnBlock(BlockTask),
     Flushes(FlushTask),
-    Migrates(MigrationTask),
 }
 
 /// What is left of a read, a write, a flush or a migration.
@@ -31,12 +30,12 @@ impl Model for Work {
 }
 
 impl Work {
-    /// A read or a write.
-    pub(crate) fn requests(task: RequestTask) -> Work
+    /// A read, a write or a migration.
+    pub(crate) fn on_block(task: BlockTask) -> Work
         ensures { result ≡ task }
     {
         Work {
-            kind: Kind::Requests(task),
+            kind: Kind::OnBlock(task),
         }
     }
 
@@ -49,23 +48,13 @@ impl Work {
         }
     }
 
-    /// A migration.
-    pub(crate) fn migrates(task: MigrationTask) -> Work
-        ensures { result ≡ task }
-    {
-        Work {
-            kind: Kind::Migrates(task),
-        }
-    }
-
     /// The next step, or the answer.
     pub fn want(&self) -> Want
         ensures { result ≡ want self.now }
     {
         match &self.kind {
-            Kind::Requests(task) => task.want(),
+            Kind::OnBlock(task) => task.want(),
             Kind::Flushes(task) => task.want(),
-            Kind::Migrates(task) => task.want(),
         }
     }
 }
@@ -75,9 +64,8 @@ impl Task for Work {
 
     fn next(&mut self, got: Got) -> Want {
         match &mut self.kind {
-            Kind::Requests(task) => task.next(got),
+            Kind::OnBlock(task) => task.next(got),
             Kind::Flushes(task) => task.next(got),
-            Kind::Migrates(task) => task.next(got),
         }
     }
 }

@@ -23,7 +23,8 @@ use Rattle.wb_port.specs.declared.moving.ReadStage.{ReadStage}
 use Rattle.wb_port.specs.declared.moving.WriteStage.{WriteStage}
 use Rattle.wb_port.proofs.Passing.{made_by_pass, same_table}
 use Rattle.wb_port.specs.Moves.{MayMove}
-use Rattle.wb_port.proofs.Placed.{part_in, works_there, moves_there, may_read, may_write}
+use Rattle.wb_tasks.proofs.Placed.{moves_there}
+use Rattle.wb_port.proofs.Placed.{part_in, MovesAt, reads_there, writes_there, may_read, may_write}
 use Rattle.wb_port.proofs.Readying.{kept_by, ready_there, idle_again}
 use Rattle.wb_port.proofs.Served.{read_whole, write_whole}
 
@@ -89,9 +90,9 @@ module _ {D : Type 0} (tells : Type 0) (size : D → ℕ) (contents : D → List
 
     read_moves : 0 < block_sectors → sectors.first / block_sectors ≡ block.0 → sectors.first % block_sectors + sectors.count ≤ block_sectors → old.hand.now.block_sectors ≡ block_sectors → block.0 < old.cells.now.blocks → old.hand.now.pass.card.hold ≡ Nothing → AreFirst s steps → MayMove new.hand.now.block_sectors new.hand.now.pass.card (want (left_by s steps))
     read_moves some of inside sized there idle f =
-        let job : BlockJob = Reading (part_of block_sectors block sectors) in
+        let part : BlockRange = part_of block_sectors block sectors in
         subst (λ (n : ℕ). MayMove n new.hand.now.pass.card (want (left_by s steps))) (sym (read_size ∙ sized))
-        (may_read (part_of block_sectors block sectors) _ _ (moves_there job (works_there job some (part_in block_sectors block sectors of inside)) (ReadLed tells size contents faults) (λ x. x.hand.now.pass.card) (λ x w g y h. made_by_pass x.cells.now.blocks x.hand.now.pass y.hand.now.pass w g h.by_pass) old.cells.now.blocks s old begun there idle steps new f leads))
+        (may_read part _ _ (moves_there (MovesAt (Reading part)) (Reading part) (reads_there part some (part_in block_sectors block sectors of inside)) (ReadLed tells size contents faults) (λ x. x.hand.now.pass.card) (λ x w g y h. made_by_pass x.cells.now.blocks x.hand.now.pass y.hand.now.pass w g h.by_pass) old.cells.now.blocks s old begun there idle steps new f leads))
 
     pub read_ready : 0 < block_sectors → sectors.first / block_sectors ≡ block.0 → sectors.first % block_sectors + sectors.count ≤ block_sectors → old.hand.now.block_sectors ≡ block_sectors → block.0 < old.cells.now.blocks → old.hand.now.pass.table ≡ old.cells.now.table → old.hand.now.pass.card.hold ≡ Nothing → AreFirst s steps → IsReadyToRead new (want (left_by s steps))
     read_ready some of inside sized there at idle f =
@@ -136,9 +137,9 @@ module _ {D : Type 0} (tells : Type 0) (size : D → ℕ) (contents : D → List
 
     write_moves : 0 < block_sectors → sectors.first / block_sectors ≡ block.0 → sectors.first % block_sectors + sectors.count ≤ block_sectors → old.hand.now.block_sectors ≡ block_sectors → block.0 < old.cells.now.blocks → old.hand.now.pass.card.hold ≡ Nothing → AreFirst s steps → MayMove new.hand.now.block_sectors new.hand.now.pass.card (want (left_by s steps))
     write_moves some of inside sized there idle f =
-        let job : BlockJob = Writing (part_of block_sectors block sectors) in
+        let part : BlockRange = part_of block_sectors block sectors in
         subst (λ (n : ℕ). MayMove n new.hand.now.pass.card (want (left_by s steps))) (sym (write_size ∙ sized))
-        (may_write (part_of block_sectors block sectors) _ _ (moves_there job (works_there job some (part_in block_sectors block sectors of inside)) (WriteLed tells size contents faults) (λ x. x.hand.now.pass.card) (λ x w g y h. made_by_pass x.cells.now.blocks x.hand.now.pass y.hand.now.pass w g h.by_pass) old.cells.now.blocks s old begun there idle steps new f leads))
+        (may_write part _ _ (moves_there (MovesAt (Writing part)) (Writing part) (writes_there part some (part_in block_sectors block sectors of inside)) (WriteLed tells size contents faults) (λ x. x.hand.now.pass.card) (λ x w g y h. made_by_pass x.cells.now.blocks x.hand.now.pass y.hand.now.pass w g h.by_pass) old.cells.now.blocks s old begun there idle steps new f leads))
 
     pub write_ready : 0 < block_sectors → sectors.first / block_sectors ≡ block.0 → sectors.first % block_sectors + sectors.count ≤ block_sectors → old.hand.now.block_sectors ≡ block_sectors → block.0 < old.cells.now.blocks → old.hand.now.pass.table ≡ old.cells.now.table → old.hand.now.pass.card.hold ≡ Nothing → AreFirst s steps → IsReadyToWrite new (want (left_by s steps))
     write_ready some of inside sized there at idle f =

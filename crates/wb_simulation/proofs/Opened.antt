@@ -28,7 +28,7 @@ use Rattle.wb_devices.specs.declared.devices.Devices.{Devices}
 use Rattle.wb_link.specs.Openings.{opened_on}
 use Rattle.wb_types.specs.declared.mode.Mode.TheVariants.{Writeback}
 use Rattle.wb_simulation.specs.Opened.{OpenedFollowed}
-use Rattle.wb_simulation.proofs.Steps.{place_told}
+use Rattle.wb_tasks.proofs.Seals.{place_told}
 
 -- ---- the seals once each entry was sealed
 

@@ -1,19 +1,18 @@
 -- The steps of a read or write of one block are of that block.
-use Rattle.std.proofs.Common.{arith, cond, ◌==◌, mul_comm, mod-lt, ◌≡◌, ◌≤◌, ◌<◌, ◌+◌, ◌*◌, ◌/◌, ◌%◌, ◌^◌, ◌++◌, ◌∙◌, if◌then◌else◌, nat_lt, ℕ, zero, suc, Bool, true, false, List, [], ◌∷◌, map, Option, Some, None, refl, sym, ap, subst, Contains}
-use Rattle.std.proofs.lemmas.Bool.{lt-ltb}
-use Rattle.std.proofs.lemmas.Nat.{div-add-mod', div-mul-add, mod-mul-add}
+use Rattle.std.proofs.Common.{arith, cond, ◌==◌, mod-lt, ◌≡◌, ◌≤◌, ◌<◌, ◌+◌, ◌*◌, ◌/◌, ◌%◌, ◌^◌, ◌++◌, ◌∙◌, if◌then◌else◌, ℕ, Bool, true, false, List, [], ◌∷◌, Option, Some, None, refl, sym, ap, subst, Contains}
+use Rattle.std.proofs.lemmas.Nat.{div-add-mod', mod-mul-add}
 use Rattle.wb_types.proofs.Lists.{Contains-first, Contains-behind}
 use Rattle.wb_types.specs.declared.extent.Extent.{Extent}
 use Rattle.wb_types.specs.declared.mode.Dev.TheVariants.{Cache, Origin}
 use Rattle.wb_types.specs.declared.number.CBlock.{CBlock}
-use Rattle.wb_words.specs.SharedWords.{flag, place_in, cached_at, seal_word, dirty_in}
+use Rattle.wb_words.specs.SharedWords.{flag, place_in, seal_word, dirty_in}
 use Rattle.wb_words.specs.SharedWords.{Words, word_at}
 use Rattle.wb_words.specs.Effects.{result_of}
 use Rattle.wb_words.specs.declared.step.CellResult.TheVariants.{Done as Won, Lost as NotWon}
 use Rattle.wb_words.specs.declared.word.Word.TheVariants.{Cell as LockWord, Seal as SealWord, Number, Fail}
 use Rattle.wb_types.specs.declared.number.OBlock.{OBlock}
 use Rattle.wb_types.specs.declared.refusal.Refusal.TheVariants.{Failed, Worn, Busy}
-use Rattle.wb_tasks.specs.Tables.{TaskJob, BlockRange, Reading, Writing, Migrating, OnBlock, read_step, write_step, read_count, write_count, cache_extent, dirtying, copies, ending, work}
+use Rattle.wb_tasks.specs.Tables.{TaskJob, BlockRange, Reading, Writing, Migrating, OnBlock, read_step, read_count, write_count, cache_extent, copies, ending, work}
 use Rattle.wb_tasks.specs.Plan.{work_of, after, got_of, onward, refused, may_take, exchange, is_worn, gives_back}
 use Rattle.wb_tasks.specs.declared.step.Answer.{Answer}
 use Rattle.wb_tasks.specs.declared.step.Migration.TheVariants.{Promote, Demote, Clean}
@@ -23,38 +22,14 @@ use Rattle.wb_tasks.specs.declared.step.Want.TheVariants.{Cell}
 use Rattle.wb_words.specs.declared.word.Access.TheVariants.{Shared, Owned}
 use Rattle.wb_words.specs.declared.step.CellStep.{CellStep}
 use Rattle.wb_words.specs.declared.step.CellStep.TheVariants.{Look, Take, Release, Finish}
+use Rattle.wb_tasks.proofs.Seals.{place_told, seal_tells}
+use Rattle.wb_tasks.proofs.Working.{OfSteps, work_has}
 use Rattle.wb_refines.specs.Data.{IsInBlock}
 use Rattle.wb_refines.specs.Migrations.{Fills, IsWhere}
 use Rattle.wb_tasks.specs.declared.step.Got.TheVariants.{Word}
 use Rattle.wb_tasks.specs.declared.step.Answer.TheVariants.{Refused as Refuses}
 use Rattle.wb_refines.proofs.Cells.{flag_of}
 use Rattle.wb_simulation.specs.Steps.{IsOfBlock, IsPart, AreOfBlock, ArePaired, IsNoWrite}
-
--- a seal of a cache block tells it
-pub place_told : (k : ℕ) (dirty : Bool) → k < 2 ^ 32 → place_in (seal_word (Some (record { 0 = k })) dirty) ≡ Some (record { 0 = k })
-place_told k dirty l = ap cached_at (half dirty) ∙ ap (λ (t : Bool). if t then Some (record { 0 = k }) else None) (lt-ltb k (2 ^ 32) l)
-  where
-    half : (dirty : Bool) → (2 * (k + 1) + cond dirty 1 0) / 2 ≡ suc k
-    half true = ap (λ v. (v + 1) / 2) (mul_comm 2 (k + 1)) ∙ div-mul-add (k + 1) 2 1 (omega arith) ∙ omega arith
-    half false = ap (λ v. (v + 0) / 2) (mul_comm 2 (k + 1)) ∙ div-mul-add (k + 1) 2 0 (omega arith) ∙ omega arith
-
--- what is sealed anew tells the place that was seen
-pub seal_tells : (seal : ℕ) (dirty : Bool) → place_in (seal_word (place_in seal) dirty) ≡ place_in seal
-seal_tells seal dirty = by_half (seal / 2) dirty
-  where
-    halved : (p bit : ℕ) → bit < 2 → (2 * (p + 1) + bit) / 2 ≡ suc p
-    halved p bit l = let is : p + 1 ≡ suc p = omega arith in ap (λ v. (v + bit) / 2) (mul_comm 2 (p + 1)) ∙ div-mul-add (p + 1) 2 bit l ∙ is
-
-    by_fit : (p : ℕ) (t dirty : Bool) → nat_lt p (2 ^ 32) ≡ t → place_in (seal_word (if t then Some (record { 0 = p }) else None) dirty) ≡ (if t then Some (record { 0 = p }) else None)
-    by_fit p false true e = refl
-    by_fit p false false e = refl
-    by_fit p true true e = ap cached_at (halved p 1 (omega arith)) ∙ ap (λ t. if t then Some (record { 0 = p }) else None) e
-    by_fit p true false e = ap cached_at (halved p 0 (omega arith)) ∙ ap (λ t. if t then Some (record { 0 = p }) else None) e
-
-    by_half : (n : ℕ) (dirty : Bool) → place_in (seal_word (cached_at n) dirty) ≡ cached_at n
-    by_half zero true = refl
-    by_half zero false = refl
-    by_half (suc p) dirty = by_fit p (nat_lt p (2 ^ 32)) dirty refl
 
 module _ (size : ℕ) (part : BlockRange) (is : IsPart size part) where
   on_origin : (e : Extent) → IsOfBlock size part.block.0 e → IsInBlock size part.block.0 Origin e
@@ -70,34 +45,29 @@ module _ (size : ℕ) (part : BlockRange) (is : IsPart size part) where
       same : (c.0 * part.block_sectors + e.first % part.block_sectors) % size ≡ e.first % size
       same = ap (λ n. (c.0 * n + e.first % n) % size) (sym is.sized) ∙ mod-mul-add c.0 size (e.first % size) (mod-lt e.first is.some)
 
-  reads : (place : Option CBlock) (es : List Extent) (ws : List Want) → ((e : Extent) → Contains es e → IsOfBlock size part.block.0 e) → AreOfBlock size part.block.0 ws → AreOfBlock size part.block.0 (map (read_step part place) es ++ ws)
-  reads place [] ws each w = w
-  reads None (e ∷ es) ws each w = (on_origin e (each e (Contains-first e es)), reads None es ws (λ f m. each f (Contains-behind e es f m)) w)
-  reads (Some c) (e ∷ es) ws each w = (on_cache c e (each e (Contains-first e es)), reads (Some c) es ws (λ f m. each f (Contains-behind e es f m)) w)
-
-  writes : (place : Option CBlock) (es : List Extent) (ws : List Want) → ((e : Extent) → Contains es e → IsOfBlock size part.block.0 e) → AreOfBlock size part.block.0 ws → AreOfBlock size part.block.0 (map (write_step part place) es ++ ws)
-  writes place [] ws each w = w
-  writes None (e ∷ es) ws each w = (on_origin e (each e (Contains-first e es)), writes None es ws (λ f m. each f (Contains-behind e es f m)) w)
-  writes (Some c) (e ∷ es) ws each w = (on_cache c e (each e (Contains-first e es)), writes (Some c) es ws (λ f m. each f (Contains-behind e es f m)) w)
-
-  -- what a read does once it has seen its block's seal
+  -- what a read or write does once it has seen its block's seal
   pub read_of_block : (seal : ℕ) → AreOfBlock size part.block.0 (work_of (OnBlock (Reading part)) seal)
-  read_of_block seal = reads (place_in seal) part.extents (read_count (place_in seal) ∷ Cell (Release Shared part.block) ∷ []) is.each (by_place (place_in seal))
+  read_of_block seal = work_has (λ place dirty ws. AreOfBlock size part.block.0 ws) (Reading part) (record { each = each; last = last }) (place_in seal) (dirty_in seal)
     where
-      by_place : (place : Option CBlock) → AreOfBlock size part.block.0 (read_count place ∷ Cell (Release Shared part.block) ∷ [])
-      by_place None = tt
-      by_place (Some c) = tt
+      each : (place : Option CBlock) (dirty : Bool) (e : Extent) (ws : List Want) → Contains part.extents e → AreOfBlock size part.block.0 ws → AreOfBlock size part.block.0 (read_step part place e ∷ ws)
+      each None dirty e ws m w = (on_origin e (is.each e m), w)
+      each (Some c) dirty e ws m w = (on_cache c e (is.each e m), w)
+
+      last : (place : Option CBlock) (dirty : Bool) → AreOfBlock size part.block.0 (read_count place ∷ Cell (Release Shared part.block) ∷ [])
+      last None dirty = tt
+      last (Some c) dirty = tt
 
   pub write_of_block : (seal : ℕ) → AreOfBlock size part.block.0 (work_of (OnBlock (Writing part)) seal)
-  write_of_block seal = by_seal (place_in seal) (dirty_in seal) (λ dirty. seal_tells seal dirty)
+  write_of_block seal = work_has Of (Writing part) (record { seal = λ c ws w t. (t true, w t); home = λ dirty e ws m w t. (on_origin e (is.each e m), w t); cached = λ c e ws m w t. (on_cache c e (is.each e m), w t); last = last })
+      (place_in seal) (dirty_in seal) (λ d. seal_tells seal d)
     where
-      rest : Option CBlock → List Want
-      rest place = Cell (Finish part.block) ∷ write_count place ∷ Cell (Release Owned part.block) ∷ []
+      -- where a seal can tell that place
+      Of : OfSteps
+      Of place dirty ws = ((d : Bool) → place_in (seal_word place d) ≡ place) → AreOfBlock size part.block.0 ws
 
-      by_seal : (place : Option CBlock) (dirty : Bool) → ((d : Bool) → place_in (seal_word place d) ≡ place) → AreOfBlock size part.block.0 (dirtying part.block place dirty ++ map (write_step part place) part.extents ++ rest place)
-      by_seal None dirty t = writes None part.extents (rest None) is.each tt
-      by_seal (Some c) true t = writes (Some c) part.extents (rest (Some c)) is.each tt
-      by_seal (Some c) false t = (t true, writes (Some c) part.extents (rest (Some c)) is.each tt)
+      last : (place : Option CBlock) (dirty : Bool) → Of place dirty (Cell (Finish part.block) ∷ write_count place ∷ Cell (Release Owned part.block) ∷ [])
+      last None dirty t = tt
+      last (Some c) dirty t = tt
 
 -- ---- what a migration has still to do
 

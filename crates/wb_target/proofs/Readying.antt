@@ -9,7 +9,8 @@ use Rattle.wb_tasks.specs.declared.step.DeviceStep.TheVariants.{Read, Write, Syn
 use Rattle.wb_tasks.specs.declared.step.Migration.{Migration}
 use Rattle.wb_tasks.specs.declared.step.Want.TheVariants.{Cell, Device, Desk, End}
 use Rattle.wb_port.specs.Moves.{copied_to}
-use Rattle.wb_port.proofs.Placed.{AreIn, IsMoving, whole_in, works_there, moves_there}
+use Rattle.wb_tasks.proofs.Placed.{moves_there}
+use Rattle.wb_port.proofs.Placed.{AreIn, IsMoving, MovesAt, whole_in, copies_there}
 use Rattle.wb_target.specs.Works.{IsOrdered, MayWork, MayMigrate}
 use Rattle.wb_tasks.specs.Tables.{TaskJob, BlockRange, OnBlock, Reading, Writing, Migrating, Flushing, Opening}
 use Rattle.wb_tasks.specs.Ready.{AreFirst, MayTake, MayMake, IsOwnStep, Suits, left_by}
@@ -74,7 +75,7 @@ module _ {S : Type 0} (led : S → Want → Got → S → Type 0) (card : S → 
         by_job (OnBlock (Migrating migration part)) b m is =
             subst (λ (n : ℕ). MayWork n held (card mid) (want (left_by s steps))) (sym is.0)
             (may_copy migration part held (card mid) (want (left_by s steps)) is.3
-            (moves_there (Migrating migration part) (works_there (Migrating migration part) is.1 (subst (λ (es : List Extent). AreIn (part.block.0 * part.block_sectors) part.block_sectors es) (sym is.2) (whole_in part.block_sectors part.block))) led card makes blocks s old b m idle steps mid f l))
+            (moves_there (MovesAt (Migrating migration part)) (Migrating migration part) (copies_there part is.1 (subst (λ (es : List Extent). AreIn (part.block.0 * part.block_sectors) part.block_sectors es) (sym is.2) (whole_in part.block_sectors part.block)) migration) led card makes blocks s old b m idle steps mid f l))
         by_job (OnBlock (Reading part)) b m never = absurd never
         by_job (OnBlock (Writing part)) b m never = absurd never
         by_job (Flushing serves most) b m free =

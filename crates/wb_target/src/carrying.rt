@@ -21,7 +21,7 @@ use wb_disk::Disk;
 use wb_flow::FlushTask;
 use wb_policy::{Order, Policy};
 use wb_port::{LONGEST, Port};
-use wb_tasks::{Answer, Migration, MigrationTask, Task};
+use wb_tasks::{Answer, BlockTask, Migration, Task};
 use wb_types::{Geometry, OBlock, Refusal, SECTOR_BYTES};
 
 /// How a flush was answered done.
@@ -100,7 +100,7 @@ fn migrate<R: Wait, D: Disk + Drop, P: Policy, G: Gate>(
 {
     let held = [order];
     for _ in rt.forever() {
-        let mut task = MigrationTask::new(migration, port.geometry.block, block, LONGEST);
+        let mut task = BlockTask::migrate(migration, port.geometry.block, block, LONGEST);
         match work(rt, target, gate, port, &held, &mut task) {
             Answer::Done => return Ok(()),
             Answer::Refused(refusal) => {

@@ -1,9 +1,9 @@
 pub mod Views
-pub mod Reading
-pub mod Writing
-pub mod Migrating
 pub mod Driving
 pub mod Causing
 pub mod Readiness
+pub mod Placed
 pub mod Bounding
 pub mod Pieces
+pub mod Seals
+pub mod Working

@@ -1,15 +1,14 @@
 -- An actor has what the next step of its task needs, and each step keeps it so; after the answer it holds nothing.
 use Rattle.std.specs.List.{Contains}
 use Rattle.wb_types.proofs.Lists.{Contains-first, Contains-behind}
-use Rattle.std.proofs.Common.{◌≡◌, ◌∙◌, ◌==◌, ◌+◌, ◌<◌, ◌≤◌, arith, zero, suc, ◌-◌, ◌^◌, ◌++◌, ℕ, Bool, true, false, cond, eqb, List, [], ◌∷◌, Option, Some, None, refl, sym, ap, subst, map, if◌then◌else◌}
+use Rattle.std.proofs.Common.{◌≡◌, ◌∙◌, ◌==◌, ◌+◌, ◌<◌, ◌≤◌, arith, zero, suc, ◌-◌, ◌^◌, ◌++◌, ℕ, Bool, true, false, cond, eqb, List, [], ◌∷◌, Option, Some, None, refl, sym, ap, subst, if◌then◌else◌}
 use Rattle.std.proofs.lemmas.Bool.{eq-eqb, true≢false}
 use Rattle.wb_types.specs.declared.mode.Dev.{Dev}
-use Rattle.wb_types.specs.declared.mode.Dev.TheVariants.{Cache, Origin}
 use Rattle.wb_types.specs.declared.number.OBlock.{OBlock}
 use Rattle.wb_types.specs.declared.number.CBlock.{CBlock}
 use Rattle.wb_types.specs.declared.refusal.Refusal.TheVariants.{Busy, Failed, Memory, Worn, GenerationEnd, Io}
 use Rattle.wb_words.specs.declared.word.Access.{Access}
-use Rattle.wb_words.specs.declared.word.Access.TheVariants.{Owned}
+use Rattle.wb_words.specs.declared.word.Access.TheVariants.{Shared, Owned}
 use Rattle.wb_words.specs.declared.word.Word.{Word as WordName}
 use Rattle.wb_words.specs.declared.word.Word.TheVariants.{Cell as LockWord, Seal as SealWord, Number, Count as CountWord, Fail}
 use Rattle.wb_words.specs.declared.card.Hold.{Hold}
@@ -20,55 +19,44 @@ use Rattle.wb_words.specs.SharedWords.{word_at, value_of, place_in, dirty_in}
 use Rattle.wb_words.specs.Cards.{losing, holding, failing_at, is_own_number}
 use Rattle.wb_words.specs.Ready.{HasNext}
 use Rattle.wb_types.specs.declared.extent.Extent.{Extent}
-use Rattle.wb_tasks.specs.Tables.{BlockRange, BlockJob, Reading, Writing, Migrating, TaskJob, OnBlock, Flushing, Opening, is_write, access_of, work, copies, ending, read_step, write_step}
+use Rattle.wb_tasks.specs.Tables.{BlockJob, Reading, Writing, Migrating, TaskJob, OnBlock, Flushing, Opening, is_write, access_of, work, read_step, read_count, write_count}
 use Rattle.wb_tasks.proofs.Driving.{no_result}
-use Rattle.wb_tasks.specs.Ready.{MayTake, MayMake, block_of, HasBlock, KnowsNext, source_of, target_of, IsJobs, IsAsked, IsOwnStep, AreOwnSteps, IsParting, IsRest, Has, SuitsJob, Suits}
+use Rattle.wb_tasks.proofs.Working.{Works, work_has}
+use Rattle.wb_tasks.specs.Ready.{MayTake, MayMake, block_of, HasBlock, KnowsNext, IsJobs, IsAsked, IsOwnStep, AreOwnSteps, IsParting, IsRest, Has, SuitsJob, Suits}
 use Rattle.wb_tasks.specs.Plan.{Plan, table, want, after, first_step, gives_back, gives_up, release_orders, node_writes, root_steps, commit_steps, lets_go, exchange, may_take, is_worn, Fits, got_of}
 use Rattle.wb_tasks.specs.declared.step.Answer.{Answer}
 use Rattle.wb_tasks.specs.declared.step.Answer.TheVariants.{Refused as Refuses}
 use Rattle.wb_tasks.specs.declared.step.DeskStep.TheVariants.{Map, Unmap, ReleaseOrder, BeginCommit, EndCommit}
 use Rattle.wb_tasks.specs.declared.step.DeviceStep.{DeviceStep}
 use Rattle.wb_tasks.specs.declared.step.DeviceStep.TheVariants.{Read, Write, Sync, ReadMetadata, WriteNode, WriteRoot}
-use Rattle.wb_tasks.specs.declared.step.Migration.{Migration}
 use Rattle.wb_tasks.specs.declared.step.Migration.TheVariants.{Promote, Demote, Clean}
 use Rattle.wb_tasks.specs.declared.step.Want.{Want}
 use Rattle.wb_tasks.specs.declared.step.Want.TheVariants.{Cell, Device, Desk, End}
 use Rattle.wb_tasks.specs.declared.step.Got.{Got}
 use Rattle.wb_tasks.specs.declared.step.Got.TheVariants.{Begin, Done, Word, Lost, Fault, Refused, Began, More}
 
-rest_reads : (part : BlockRange) (place : Option CBlock) (extents : List Extent) (ws : List Want) → IsRest (Reading part) true ws → IsRest (Reading part) true (map (read_step part place) extents ++ ws)
-rest_reads part place [] ws r = r
-rest_reads part None (e ∷ extents) ws r = (tt, rest_reads part None extents ws r)
-rest_reads part (Some c) (e ∷ extents) ws r = (tt, rest_reads part (Some c) extents ws r)
-
-rest_writes : (part : BlockRange) (place : Option CBlock) (extents : List Extent) (ws : List Want) → IsRest (Writing part) true ws → IsRest (Writing part) true (map (write_step part place) extents ++ ws)
-rest_writes part place [] ws r = r
-rest_writes part None (e ∷ extents) ws r = (tt, rest_writes part None extents ws r)
-rest_writes part (Some c) (e ∷ extents) ws r = (tt, rest_writes part (Some c) extents ws r)
-
-rest_inward : (part : BlockRange) (c : CBlock) (extents : List Extent) (ws : List Want) → IsRest (Migrating (Promote c) part) true ws → IsRest (Migrating (Promote c) part) true (copies part None (Some c) extents ++ ws)
-rest_inward part c [] ws r = r
-rest_inward part c (e ∷ extents) ws r = (refl, (refl, rest_inward part c extents ws r))
-
--- what copies from the cache to the origin
-rest_outward : (migration : Migration) (part : BlockRange) (c : CBlock) (extents : List Extent) (ws : List Want) → Cache ≡ source_of migration → Origin ≡ target_of migration → IsRest (Migrating migration part) true ws →
-    IsRest (Migrating migration part) true (copies part (Some c) None extents ++ ws)
-rest_outward migration part c [] ws s t r = r
-rest_outward migration part c (e ∷ extents) ws s t r = (s, (t, rest_outward migration part c extents ws s t r))
-
+-- the work of a job is of its own steps
 rest_work : (job : BlockJob) (place : Option CBlock) (dirty : Bool) → IsRest job true (work job place dirty)
-rest_work (Reading part) None dirty = rest_reads part None part.extents _ (refl, refl, tt)
-rest_work (Reading part) (Some c) dirty = rest_reads part (Some c) part.extents _ (refl, refl, tt)
-rest_work (Writing part) None dirty = rest_writes part None part.extents _ (refl, refl, refl, (refl, refl, tt))
-rest_work (Writing part) (Some c) true = rest_writes part (Some c) part.extents _ (refl, refl, refl, (refl, refl, tt))
-rest_work (Writing part) (Some c) false = (refl, refl, rest_writes part (Some c) part.extents _ (refl, refl, refl, (refl, refl, tt)))
-rest_work (Migrating (Promote c) part) place dirty = rest_inward part c part.extents (ending (Promote c) part.block place) ((refl, refl), (refl, refl, (refl, refl, tt)))
-rest_work (Migrating Demote part) None dirty = ((refl, refl), (refl, refl, (refl, refl, tt)))
-rest_work (Migrating Demote part) (Some c) true = rest_outward Demote part c part.extents (ending Demote part.block (Some c)) refl refl ((refl, refl), (refl, refl, (refl, refl, tt)))
-rest_work (Migrating Demote part) (Some c) false = ((refl, refl), (refl, refl, (refl, refl, tt)))
-rest_work (Migrating Clean part) None dirty = (refl, refl, (refl, refl, refl))
-rest_work (Migrating Clean part) (Some c) true = rest_outward Clean part c part.extents (ending Clean part.block (Some c)) refl refl (refl, refl, (refl, refl, refl))
-rest_work (Migrating Clean part) (Some c) false = (refl, refl, (refl, refl, refl))
+rest_work job = work_has (λ place dirty ws. IsRest job true ws) job (by_job job)
+  where
+    by_job : (job : BlockJob) → Works (λ place dirty ws. IsRest job true ws) job
+    by_job (Reading part) = record { each = each; last = last }
+      where
+        each : (place : Option CBlock) (dirty : Bool) (e : Extent) (ws : List Want) → Contains part.extents e → IsRest (Reading part) true ws → IsRest (Reading part) true (read_step part place e ∷ ws)
+        each None dirty e ws m r = (tt, r)
+        each (Some c) dirty e ws m r = (tt, r)
+
+        last : (place : Option CBlock) (dirty : Bool) → IsRest (Reading part) true (read_count place ∷ Cell (Release Shared part.block) ∷ [])
+        last None dirty = (refl, refl, tt)
+        last (Some c) dirty = (refl, refl, tt)
+    by_job (Writing part) = record { seal = λ c ws r. (refl, refl, r); home = λ dirty e ws m r. (tt, r); cached = λ c e ws m r. (tt, r); last = last }
+      where
+        last : (place : Option CBlock) (dirty : Bool) → IsRest (Writing part) true (Cell (Finish part.block) ∷ write_count place ∷ Cell (Release Owned part.block) ∷ [])
+        last None dirty = (refl, refl, refl, (refl, refl, tt))
+        last (Some c) dirty = (refl, refl, refl, (refl, refl, tt))
+    by_job (Migrating (Promote c) part) = record { each = λ place dirty e ws m r. (refl, (refl, r)); last = λ place dirty. ((refl, refl), (refl, refl, (refl, refl, tt))) }
+    by_job (Migrating Demote part) = record { each = λ c e ws m r. (refl, (refl, r)); last = λ place dirty. ((refl, refl), (refl, refl, (refl, refl, tt))) }
+    by_job (Migrating Clean part) = record { each = λ c e ws m r. (refl, (refl, r)); last = λ place dirty. (refl, refl, (refl, refl, refl)) }
 
 -- what is left of the work is all that is left
 has_rest : (job : BlockJob) (card : Card) (next : Bool) (ws : List Want) → IsRest job next ws → HasBlock job card → KnowsNext job next card.number → Has job card ws

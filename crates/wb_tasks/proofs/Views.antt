@@ -1,77 +1,105 @@
 -- From the fields of a task to what its contract says.
-use Rattle.std.proofs.Common.{◌≡◌, ℕ, List, [], ◌∷◌, Some, None, refl, sym, ap, subst, ◌∙◌}
-use Rattle.wb_words.specs.declared.grip.GripStage.TheVariants.{LookFail, LookLock, Exchange, LookSeal, LookNumber}
+use Rattle.std.proofs.Common.{◌≡◌, ℕ, List, [], ◌∷◌, Option, Some, None, refl, sym, ap, subst, ◌∙◌}
 use Rattle.wb_types.specs.declared.extent.Extent.{Extent}
-use Rattle.wb_tasks.specs.Tables.{BlockRange}
-use Rattle.wb_tasks.specs.Plan.{Plan, want, after, refused, Fits}
-use Rattle.wb_tasks.specs.Phases.{read_left, write_left, migration_left}
+use Rattle.wb_types.specs.declared.number.CBlock.{CBlock}
 use Rattle.wb_types.specs.declared.refusal.Refusal.{Refusal}
-use Rattle.wb_tasks.specs.declared.migrate.Phase.{Phase as MigrationPhase}
-use Rattle.wb_tasks.specs.declared.migrate.Phase.TheVariants.{Acquires as MigrationAcquires, Reads as ReadsFrom, Writes as WritesTo, Seals, Releases as MigrationReleases, GivesUp, SetsFailed as MigrationFails, Ended as MigrationEnded}
-use Rattle.wb_tasks.specs.declared.step.Migration.{Migration}
+use Rattle.wb_types.specs.declared.refusal.Refusal.TheVariants.{Io}
+use Rattle.wb_words.specs.declared.grip.GripStage.{GripStage}
+use Rattle.wb_words.specs.declared.grip.GripStage.TheVariants.{LookFail, LookLock, Exchange, LookSeal, LookNumber}
+use Rattle.wb_tasks.specs.Tables.{BlockRange, device_at}
+use Rattle.wb_tasks.specs.Plan.{Plan, want, after, Fits}
+use Rattle.wb_tasks.specs.Phases.{left_in, has_order}
+use Rattle.wb_tasks.specs.declared.block.Work.{Work}
+use Rattle.wb_tasks.specs.declared.block.Work.TheVariants.{Read as ToRead, Write as ToWrite, Migrate as ToMigrate}
+use Rattle.wb_tasks.specs.declared.block.Phase.{Phase}
+use Rattle.wb_tasks.specs.declared.block.Phase.TheVariants.{Acquires, Dirties, Reads, Writes, Counts, Copies, Puts, Seals, Releases, GivesUp, SetsFailed, Ended}
 use Rattle.wb_tasks.specs.declared.step.Migration.TheVariants.{Promote, Demote, Clean}
 use Rattle.wb_tasks.specs.declared.step.DeskStep.TheVariants.{BeginCommit}
 use Rattle.wb_tasks.specs.declared.step.DeviceStep.TheVariants.{ReadMetadata}
 use Rattle.wb_tasks.specs.declared.step.Want.{Want}
 use Rattle.wb_tasks.specs.declared.step.Want.TheVariants.{Device, Desk}
-use Rattle.wb_tasks.specs.declared.read.Phase.{Phase as ReadPhase}
-use Rattle.wb_tasks.specs.declared.read.Phase.TheVariants.{Acquires as ReadAcquires, Reads, Releases as ReadReleases, Ended as ReadEnded}
-use Rattle.wb_tasks.specs.declared.write.Phase.{Phase as WritePhase}
-use Rattle.wb_tasks.specs.declared.write.Phase.TheVariants.{Acquires as WriteAcquires, Dirties, Writes, Counts, Releases as WriteReleases, SetsFailed, Ended as WriteEnded}
 use Rattle.wb_tasks.specs.declared.step.Answer.TheVariants.{Refused as Refuses}
 use Rattle.wb_tasks.specs.declared.step.Got.{Got}
-use Rattle.wb_tasks.specs.declared.step.Got.TheVariants.{Refused, Began, More}
+use Rattle.wb_tasks.specs.declared.step.Got.TheVariants.{Word, Fault, Refused, Began, More}
 
 -- what is shown of the fields' view holds of the value
 pub by_view : (v old new : Plan) (got : Got) → v ≡ old → Fits (want old) got → (Fits (want v) got → new ≡ after v got) → new ≡ after old got
 by_view v old new got e h f = f (subst (λ (s : Plan). Fits (want s) got) (sym e) h) ∙ ap (λ s. after s got) e
 
--- a read that is refused has nothing left but the refusal
-pub refused_read : (part : BlockRange) (phase : ReadPhase) (extents : List Extent) (refusal : Refusal) → read_left part (ReadEnded (Refuses refusal)) extents ≡ refused (read_left part phase extents) [] refusal
-refused_read part (ReadAcquires acquire) extents refusal = refl
-refused_read part (Reads place) extents refusal = refl
-refused_read part (ReadReleases answer) extents refusal = refl
-refused_read part (ReadEnded answer) extents refusal = refl
+-- what failed was read there
+pub after_failed_read : (work : Work) (part : BlockRange) (place : Option CBlock) (extents : List Extent) → Fits (want (left_in work part (Reads place) extents)) Fault → left_in work part (Releases (has_order work) (Refuses (Io (device_at place)))) extents ≡ after (left_in work part (Reads place) extents) Fault
+after_failed_read work part None [] h = absurd h
+after_failed_read work part (Some c) [] h = absurd h
+after_failed_read ToRead part None (e ∷ extents) h = refl
+after_failed_read ToRead part (Some c) (e ∷ extents) h = refl
+after_failed_read ToWrite part None (e ∷ extents) h = refl
+after_failed_read ToWrite part (Some c) (e ∷ extents) h = refl
+after_failed_read (ToMigrate migration) part None (e ∷ extents) h = refl
+after_failed_read (ToMigrate migration) part (Some c) (e ∷ extents) h = refl
 
--- a write that is refused has nothing left but the refusal
-pub refused_write : (part : BlockRange) (phase : WritePhase) (extents : List Extent) (refusal : Refusal) → write_left part (WriteEnded (Refuses refusal)) extents ≡ refused (write_left part phase extents) [] refusal
-refused_write part (WriteAcquires acquire) extents refusal = refl
-refused_write part (Dirties c) extents refusal = refl
-refused_write part (Writes place) extents refusal = refl
-refused_write part (Counts place) extents refusal = refl
-refused_write part (WriteReleases answer) extents refusal = refl
-refused_write part (SetsFailed device) extents refusal = refl
-refused_write part (WriteEnded answer) extents refusal = refl
+pub after_failed_copy : (work : Work) (part : BlockRange) (from to : Option CBlock) (extents : List Extent) → Fits (want (left_in work part (Copies from to) extents)) Fault → left_in work part (Releases (has_order work) (Refuses (Io (device_at from)))) extents ≡ after (left_in work part (Copies from to) extents) Fault
+after_failed_copy ToRead part from to [] h = absurd h
+after_failed_copy ToWrite part from to [] h = absurd h
+after_failed_copy (ToMigrate (Promote c)) part from to [] h = absurd h
+after_failed_copy (ToMigrate Demote) part from to [] h = absurd h
+after_failed_copy (ToMigrate Clean) part from to [] h = absurd h
+after_failed_copy ToRead part None to (e ∷ extents) h = refl
+after_failed_copy ToRead part (Some c) to (e ∷ extents) h = refl
+after_failed_copy ToWrite part None to (e ∷ extents) h = refl
+after_failed_copy ToWrite part (Some c) to (e ∷ extents) h = refl
+after_failed_copy (ToMigrate migration) part None to (e ∷ extents) h = refl
+after_failed_copy (ToMigrate migration) part (Some c) to (e ∷ extents) h = refl
 
--- no step of a read, nor of a write, is on the desk, which alone refuses
-pub read_not_refused : (part : BlockRange) (phase : ReadPhase) (extents : List Extent) (refusal : Refusal) → Fits (want (read_left part phase extents)) (Refused refusal) → ⊥
-read_not_refused part (ReadAcquires LookFail) extents refusal h = h
-read_not_refused part (ReadAcquires LookLock) extents refusal h = h
-read_not_refused part (ReadAcquires (Exchange seen)) extents refusal h = h
-read_not_refused part (ReadAcquires LookSeal) extents refusal h = h
-read_not_refused part (ReadAcquires (LookNumber seal)) extents refusal h = h
-read_not_refused part (Reads None) [] refusal h = h
-read_not_refused part (Reads (Some c)) [] refusal h = h
-read_not_refused part (Reads None) (e ∷ extents) refusal h = h
-read_not_refused part (Reads (Some c)) (e ∷ extents) refusal h = h
-read_not_refused part (ReadReleases answer) extents refusal h = h
-read_not_refused part (ReadEnded answer) extents refusal h = h
+-- what failed was written there
+pub after_failed_write : (work : Work) (part : BlockRange) (place : Option CBlock) (extents : List Extent) → Fits (want (left_in work part (Writes place) extents)) Fault → left_in work part (SetsFailed (device_at place)) extents ≡ after (left_in work part (Writes place) extents) Fault
+after_failed_write work part place [] h = absurd h
+after_failed_write ToRead part None (e ∷ extents) h = refl
+after_failed_write ToRead part (Some c) (e ∷ extents) h = refl
+after_failed_write ToWrite part None (e ∷ extents) h = refl
+after_failed_write ToWrite part (Some c) (e ∷ extents) h = refl
+after_failed_write (ToMigrate migration) part None (e ∷ extents) h = refl
+after_failed_write (ToMigrate migration) part (Some c) (e ∷ extents) h = refl
 
-pub write_not_refused : (part : BlockRange) (phase : WritePhase) (extents : List Extent) (refusal : Refusal) → Fits (want (write_left part phase extents)) (Refused refusal) → ⊥
-write_not_refused part (WriteAcquires LookFail) extents refusal h = h
-write_not_refused part (WriteAcquires LookLock) extents refusal h = h
-write_not_refused part (WriteAcquires (Exchange seen)) extents refusal h = h
-write_not_refused part (WriteAcquires LookSeal) extents refusal h = h
-write_not_refused part (WriteAcquires (LookNumber seal)) extents refusal h = h
-write_not_refused part (Dirties c) extents refusal h = h
-write_not_refused part (Writes place) [] refusal h = h
-write_not_refused part (Writes None) (e ∷ extents) refusal h = h
-write_not_refused part (Writes (Some c)) (e ∷ extents) refusal h = h
-write_not_refused part (Counts None) extents refusal h = h
-write_not_refused part (Counts (Some c)) extents refusal h = h
-write_not_refused part (WriteReleases answer) extents refusal h = h
-write_not_refused part (SetsFailed device) extents refusal h = h
-write_not_refused part (WriteEnded answer) extents refusal h = h
+pub after_failed_put : (work : Work) (part : BlockRange) (from to : Option CBlock) (e : Extent) (extents : List Extent) → Fits (want (left_in work part (Puts from to e) extents)) Fault → left_in work part (SetsFailed (device_at to)) extents ≡ after (left_in work part (Puts from to e) extents) Fault
+after_failed_put ToRead part from None e extents h = refl
+after_failed_put ToRead part from (Some c) e extents h = refl
+after_failed_put ToWrite part from None e extents h = refl
+after_failed_put ToWrite part from (Some c) e extents h = refl
+after_failed_put (ToMigrate migration) part from None e extents h = refl
+after_failed_put (ToMigrate migration) part from (Some c) e extents h = refl
+
+-- what the desk refused was an entry
+pub after_refused_entry : (work : Work) (part : BlockRange) (phase : Phase) (extents : List Extent) (refusal : Refusal) → Fits (want (left_in work part phase extents)) (Refused refusal) →
+    left_in work part (Releases (has_order work) (Refuses refusal)) extents ≡ after (left_in work part phase extents) (Refused refusal)
+after_refused_entry (ToMigrate (Promote c)) part (Copies from to) [] refusal h = refl
+after_refused_entry (ToMigrate Demote) part (Copies from to) [] refusal h = absurd h
+after_refused_entry (ToMigrate Clean) part (Copies from to) [] refusal h = absurd h
+after_refused_entry ToRead part (Copies from to) [] refusal h = absurd h
+after_refused_entry ToWrite part (Copies from to) [] refusal h = absurd h
+after_refused_entry work part (Copies None to) (e ∷ extents) refusal h = absurd h
+after_refused_entry work part (Copies (Some c) to) (e ∷ extents) refusal h = absurd h
+after_refused_entry work part (Acquires LookFail) extents refusal h = absurd h
+after_refused_entry work part (Acquires LookLock) extents refusal h = absurd h
+after_refused_entry work part (Acquires (Exchange seen)) extents refusal h = absurd h
+after_refused_entry work part (Acquires LookSeal) extents refusal h = absurd h
+after_refused_entry work part (Acquires (LookNumber seal)) extents refusal h = absurd h
+after_refused_entry work part (Dirties c) extents refusal h = absurd h
+after_refused_entry work part (Reads None) [] refusal h = absurd h
+after_refused_entry work part (Reads (Some c)) [] refusal h = absurd h
+after_refused_entry work part (Reads None) (e ∷ extents) refusal h = absurd h
+after_refused_entry work part (Reads (Some c)) (e ∷ extents) refusal h = absurd h
+after_refused_entry work part (Writes place) [] refusal h = absurd h
+after_refused_entry work part (Writes None) (e ∷ extents) refusal h = absurd h
+after_refused_entry work part (Writes (Some c)) (e ∷ extents) refusal h = absurd h
+after_refused_entry work part (Counts None) extents refusal h = absurd h
+after_refused_entry work part (Counts (Some c)) extents refusal h = absurd h
+after_refused_entry work part (Puts from None e) extents refusal h = absurd h
+after_refused_entry work part (Puts from (Some c) e) extents refusal h = absurd h
+after_refused_entry work part (Seals place) extents refusal h = absurd h
+after_refused_entry work part (Releases order answer) extents refusal h = absurd h
+after_refused_entry work part (GivesUp answer) extents refusal h = absurd h
+after_refused_entry work part (SetsFailed device) extents refusal h = absurd h
+after_refused_entry work part (Ended answer) extents refusal h = absurd h
 
 -- a step that neither begins a commit nor reads metadata
 abbrev IsAside : Want → Type 0
@@ -79,77 +107,76 @@ IsAside (Device (ReadMetadata left)) = ⊥
 IsAside (Desk (BeginCommit clean most)) = ⊥
 IsAside want = Unit {0}
 
+aside : (work : Work) (part : BlockRange) (phase : Phase) (extents : List Extent) → IsAside (want (left_in work part phase extents))
+aside ToRead part (Copies from to) [] = tt
+aside ToWrite part (Copies from to) [] = tt
+aside (ToMigrate (Promote c)) part (Copies from to) [] = tt
+aside (ToMigrate Demote) part (Copies from to) [] = tt
+aside (ToMigrate Clean) part (Copies from to) [] = tt
+aside work part (Copies None to) (e ∷ extents) = tt
+aside work part (Copies (Some c) to) (e ∷ extents) = tt
+aside work part (Acquires LookFail) extents = tt
+aside work part (Acquires LookLock) extents = tt
+aside work part (Acquires (Exchange seen)) extents = tt
+aside work part (Acquires LookSeal) extents = tt
+aside work part (Acquires (LookNumber seal)) extents = tt
+aside work part (Dirties c) extents = tt
+aside work part (Reads None) [] = tt
+aside work part (Reads (Some c)) [] = tt
+aside work part (Reads None) (e ∷ extents) = tt
+aside work part (Reads (Some c)) (e ∷ extents) = tt
+aside work part (Writes place) [] = tt
+aside work part (Writes None) (e ∷ extents) = tt
+aside work part (Writes (Some c)) (e ∷ extents) = tt
+aside work part (Counts None) extents = tt
+aside work part (Counts (Some c)) extents = tt
+aside work part (Puts from None e) extents = tt
+aside work part (Puts from (Some c) e) extents = tt
+aside work part (Seals place) extents = tt
+aside work part (Releases order answer) extents = tt
+aside work part (GivesUp answer) extents = tt
+aside work part (SetsFailed device) extents = tt
+aside work part (Ended answer) extents = tt
+
 never_begun : (w : Want) (nodes : ℕ) → IsAside w → Fits w (Began nodes) → ⊥
 never_begun (Desk (BeginCommit clean most)) nodes a h = a
 never_begun w nodes a h = h
 
-no_more : (w : Want) → IsAside w → Fits w More → ⊥
-no_more (Device (ReadMetadata left)) a h = a
-no_more w a h = h
+never_more : (w : Want) → IsAside w → Fits w More → ⊥
+never_more (Device (ReadMetadata left)) a h = a
+never_more w a h = h
 
-read_aside : (part : BlockRange) (phase : ReadPhase) (extents : List Extent) → IsAside (want (read_left part phase extents))
-read_aside part (ReadAcquires LookFail) extents = tt
-read_aside part (ReadAcquires LookLock) extents = tt
-read_aside part (ReadAcquires (Exchange seen)) extents = tt
-read_aside part (ReadAcquires LookSeal) extents = tt
-read_aside part (ReadAcquires (LookNumber seal)) extents = tt
-read_aside part (Reads None) [] = tt
-read_aside part (Reads (Some c)) [] = tt
-read_aside part (Reads None) (e ∷ extents) = tt
-read_aside part (Reads (Some c)) (e ∷ extents) = tt
-read_aside part (ReadReleases answer) extents = tt
-read_aside part (ReadEnded answer) extents = tt
+-- so it is never told that a commit began, or that there is more to read
+pub not_begun : (work : Work) (part : BlockRange) (phase : Phase) (extents : List Extent) (nodes : ℕ) → Fits (want (left_in work part phase extents)) (Began nodes) → ⊥
+not_begun work part phase extents nodes h = never_begun _ nodes (aside work part phase extents) h
 
-write_aside : (part : BlockRange) (phase : WritePhase) (extents : List Extent) → IsAside (want (write_left part phase extents))
-write_aside part (WriteAcquires LookFail) extents = tt
-write_aside part (WriteAcquires LookLock) extents = tt
-write_aside part (WriteAcquires (Exchange seen)) extents = tt
-write_aside part (WriteAcquires LookSeal) extents = tt
-write_aside part (WriteAcquires (LookNumber seal)) extents = tt
-write_aside part (Dirties c) extents = tt
-write_aside part (Writes place) [] = tt
-write_aside part (Writes None) (e ∷ extents) = tt
-write_aside part (Writes (Some c)) (e ∷ extents) = tt
-write_aside part (Counts None) extents = tt
-write_aside part (Counts (Some c)) extents = tt
-write_aside part (WriteReleases answer) extents = tt
-write_aside part (SetsFailed device) extents = tt
-write_aside part (WriteEnded answer) extents = tt
+pub no_more : (work : Work) (part : BlockRange) (phase : Phase) (extents : List Extent) → Fits (want (left_in work part phase extents)) More → ⊥
+no_more work part phase extents h = never_more _ (aside work part phase extents) h
 
-migration_aside : (migration : Migration) (part : BlockRange) (phase : MigrationPhase) (extents : List Extent) → IsAside (want (migration_left migration part phase extents))
-migration_aside migration part (MigrationAcquires LookFail) extents = tt
-migration_aside migration part (MigrationAcquires LookLock) extents = tt
-migration_aside migration part (MigrationAcquires (Exchange seen)) extents = tt
-migration_aside migration part (MigrationAcquires LookSeal) extents = tt
-migration_aside migration part (MigrationAcquires (LookNumber seal)) extents = tt
-migration_aside migration part (ReadsFrom None to) (e ∷ extents) = tt
-migration_aside migration part (ReadsFrom (Some c) to) (e ∷ extents) = tt
-migration_aside migration part (WritesTo from None e) extents = tt
-migration_aside migration part (WritesTo from (Some c) e) extents = tt
-migration_aside migration part (Seals place) extents = tt
-migration_aside migration part (MigrationReleases order answer) extents = tt
-migration_aside migration part (GivesUp answer) extents = tt
-migration_aside migration part (MigrationFails device) extents = tt
-migration_aside migration part (MigrationEnded answer) extents = tt
-migration_aside (Promote c) part (ReadsFrom from to) [] = tt
-migration_aside Demote part (ReadsFrom from to) [] = tt
-migration_aside Clean part (ReadsFrom from to) [] = tt
-
--- so no read, write or migration is told that a commit began, or that there is more to read
-pub read_not_begun : (part : BlockRange) (phase : ReadPhase) (extents : List Extent) (nodes : ℕ) → Fits (want (read_left part phase extents)) (Began nodes) → ⊥
-read_not_begun part phase extents nodes h = never_begun _ nodes (read_aside part phase extents) h
-
-pub read_no_more : (part : BlockRange) (phase : ReadPhase) (extents : List Extent) → Fits (want (read_left part phase extents)) More → ⊥
-read_no_more part phase extents h = no_more _ (read_aside part phase extents) h
-
-pub write_not_begun : (part : BlockRange) (phase : WritePhase) (extents : List Extent) (nodes : ℕ) → Fits (want (write_left part phase extents)) (Began nodes) → ⊥
-write_not_begun part phase extents nodes h = never_begun _ nodes (write_aside part phase extents) h
-
-pub write_no_more : (part : BlockRange) (phase : WritePhase) (extents : List Extent) → Fits (want (write_left part phase extents)) More → ⊥
-write_no_more part phase extents h = no_more _ (write_aside part phase extents) h
-
-pub migration_not_begun : (migration : Migration) (part : BlockRange) (phase : MigrationPhase) (extents : List Extent) (nodes : ℕ) → Fits (want (migration_left migration part phase extents)) (Began nodes) → ⊥
-migration_not_begun migration part phase extents nodes h = never_begun _ nodes (migration_aside migration part phase extents) h
-
-pub migration_no_more : (migration : Migration) (part : BlockRange) (phase : MigrationPhase) (extents : List Extent) → Fits (want (migration_left migration part phase extents)) More → ⊥
-migration_no_more migration part phase extents h = no_more _ (migration_aside migration part phase extents) h
+-- it looks at words before it has its block alone
+pub looks_first : (work : Work) (part : BlockRange) (phase : Phase) (extents : List Extent) (word : ℕ) → ((stage : GripStage) → phase ≡ Acquires stage → ⊥) → Fits (want (left_in work part phase extents)) (Word word) → ⊥
+looks_first work part (Acquires stage) extents word n h = n stage refl
+looks_first ToRead part (Copies from to) [] word n h = h
+looks_first ToWrite part (Copies from to) [] word n h = h
+looks_first (ToMigrate (Promote c)) part (Copies from to) [] word n h = h
+looks_first (ToMigrate Demote) part (Copies from to) [] word n h = h
+looks_first (ToMigrate Clean) part (Copies from to) [] word n h = h
+looks_first work part (Copies None to) (e ∷ extents) word n h = h
+looks_first work part (Copies (Some c) to) (e ∷ extents) word n h = h
+looks_first work part (Dirties c) extents word n h = h
+looks_first work part (Reads None) [] word n h = h
+looks_first work part (Reads (Some c)) [] word n h = h
+looks_first work part (Reads None) (e ∷ extents) word n h = h
+looks_first work part (Reads (Some c)) (e ∷ extents) word n h = h
+looks_first work part (Writes place) [] word n h = h
+looks_first work part (Writes None) (e ∷ extents) word n h = h
+looks_first work part (Writes (Some c)) (e ∷ extents) word n h = h
+looks_first work part (Counts None) extents word n h = h
+looks_first work part (Counts (Some c)) extents word n h = h
+looks_first work part (Puts from None e) extents word n h = h
+looks_first work part (Puts from (Some c) e) extents word n h = h
+looks_first work part (Seals place) extents word n h = h
+looks_first work part (Releases order answer) extents word n h = h
+looks_first work part (GivesUp answer) extents word n h = h
+looks_first work part (SetsFailed device) extents word n h = h
+looks_first work part (Ended answer) extents word n h = h

@@ -4,5 +4,4 @@ pub mod Run
 pub mod Length
 pub mod Causes
 pub mod Phases
-pub mod Requests
 pub mod Ready

@@ -1,9 +1,9 @@
 -- What is left of a task, by the phase that it is in.
-use Rattle.std.specs.Prelude.{◌++◌, Bool, true, false, List, [], ◌∷◌, Some, map}
+use Rattle.std.specs.Prelude.{◌++◌, Bool, true, false, List, [], ◌∷◌, Option, Some, map}
 use Rattle.wb_types.specs.declared.refusal.Refusal.TheVariants.{Worn, Io}
-use Rattle.wb_words.specs.declared.word.Access.TheVariants.{Shared, Owned}
 use Rattle.wb_words.specs.declared.word.Word.TheVariants.{Cell as LockWord, Seal as SealWord, Number as NumberWord}
 use Rattle.wb_types.specs.declared.extent.Extent.{Extent}
+use Rattle.wb_types.specs.declared.number.CBlock.{CBlock}
 use Rattle.wb_tasks.specs.Tables.{BlockRange, BlockJob, Reading, Writing, Migrating, OnBlock, range_of, access_of, acquire, taking, work, copies, ending, read_step, write_step, read_count, write_count}
 use Rattle.wb_tasks.specs.Plan.{Plan, release}
 use Rattle.wb_words.specs.declared.grip.GripStage.{GripStage}
@@ -11,14 +11,11 @@ use Rattle.wb_words.specs.declared.grip.GripStage.TheVariants.{LookFail, LookLoc
 use Rattle.wb_words.specs.SharedWords.{place_in, dirty_in}
 use Rattle.wb_tasks.specs.declared.acquire.Seen.{Seen}
 use Rattle.wb_tasks.specs.declared.acquire.Seen.TheVariants.{Next, Holds, Refused, Worn as WornOut}
-use Rattle.wb_tasks.specs.declared.read.Phase.{Phase as ReadPhase}
-use Rattle.wb_tasks.specs.declared.read.Phase.TheVariants.{Acquires as ReadAcquires, Reads, Releases as ReadReleases, Ended as ReadEnded}
-use Rattle.wb_tasks.specs.declared.write.Phase.{Phase as WritePhase}
-use Rattle.wb_tasks.specs.declared.write.Phase.TheVariants.{Acquires as WriteAcquires, Dirties, Writes, Counts, Releases as WriteReleases, SetsFailed, Ended as WriteEnded}
-use Rattle.wb_tasks.specs.declared.migrate.Phase.{Phase as MigrationPhase}
-use Rattle.wb_tasks.specs.declared.migrate.Phase.TheVariants.{Acquires as MigrationAcquires, Reads as ReadsFrom, Writes as WritesTo, Seals, Releases as MigrationReleases, GivesUp, SetsFailed as MigrationFails, Ended as MigrationEnded}
-use Rattle.wb_tasks.specs.declared.step.Migration.{Migration}
-use Rattle.wb_words.specs.declared.step.CellStep.TheVariants.{Look, Release, Seal as SealStep, Finish, SetFailed}
+use Rattle.wb_tasks.specs.declared.block.Work.{Work}
+use Rattle.wb_tasks.specs.declared.block.Work.TheVariants.{Read as ToRead, Write as ToWrite, Migrate as ToMigrate}
+use Rattle.wb_tasks.specs.declared.block.Phase.{Phase}
+use Rattle.wb_tasks.specs.declared.block.Phase.TheVariants.{Acquires, Dirties, Reads, Writes, Counts, Copies, Puts, Seals, Releases, GivesUp, SetsFailed, Ended}
+use Rattle.wb_words.specs.declared.step.CellStep.TheVariants.{Look, Seal as SealStep, Finish, SetFailed}
 use Rattle.wb_tasks.specs.declared.step.DeskStep.TheVariants.{ReleaseOrder}
 use Rattle.wb_tasks.specs.declared.step.Answer.{Answer}
 use Rattle.wb_tasks.specs.declared.step.Answer.TheVariants.{Done as Finished, Refused as Refuses}
@@ -44,44 +41,48 @@ after_seeing job (Holds place dirty) = record { job = OnBlock job; steps = work 
 after_seeing job (Refused refusal) = record { job = OnBlock job; steps = []; answer = Refuses refusal }
 after_seeing job WornOut = record { job = OnBlock job; steps = release job ∷ []; answer = Refuses Worn }
 
--- what is left of a read in a phase, with these extents still to read
-abbrev pub read_left : BlockRange → ReadPhase → List Extent → Plan
-read_left part (ReadAcquires stage) extents = acquiring (Reading part) stage
-read_left part (Reads place) extents = record { job = OnBlock (Reading part); steps = map (read_step part place) extents ++ read_count place ∷ Cell (Release Shared part.block) ∷ []; answer = Finished }
-read_left part (ReadReleases answer) extents = record { job = OnBlock (Reading part); steps = Cell (Release Shared part.block) ∷ []; answer = answer }
-read_left part (ReadEnded answer) extents = record { job = OnBlock (Reading part); steps = []; answer = answer }
+-- the job of a task that does this with these sectors of its block
+abbrev pub job_of : Work → BlockRange → BlockJob
+job_of ToRead part = Reading part
+job_of ToWrite part = Writing part
+job_of (ToMigrate migration) part = Migrating migration part
 
--- what is left of a write in a phase, with these extents still to write
-abbrev pub write_left : BlockRange → WritePhase → List Extent → Plan
-write_left part (WriteAcquires stage) extents = acquiring (Writing part) stage
-write_left part (Dirties c) extents = record { job = OnBlock (Writing part); steps = Cell (SealStep part.block (Some c) true) ∷ (map (write_step part (Some c)) extents ++ Cell (Finish part.block) ∷ write_count (Some c) ∷ Cell (Release Owned part.block) ∷ []); answer = Finished }
-write_left part (Writes place) extents = record { job = OnBlock (Writing part); steps = map (write_step part place) extents ++ Cell (Finish part.block) ∷ write_count place ∷ Cell (Release Owned part.block) ∷ []; answer = Finished }
-write_left part (Counts place) extents = record { job = OnBlock (Writing part); steps = write_count place ∷ Cell (Release Owned part.block) ∷ []; answer = Finished }
-write_left part (WriteReleases answer) extents = record { job = OnBlock (Writing part); steps = Cell (Release Owned part.block) ∷ []; answer = answer }
-write_left part (SetsFailed device) extents = record { job = OnBlock (Writing part); steps = Cell SetFailed ∷ []; answer = Refuses (Io device) }
-write_left part (WriteEnded answer) extents = record { job = OnBlock (Writing part); steps = []; answer = answer }
+-- a migration runs under an order
+abbrev pub has_order : Work → Bool
+has_order (ToMigrate migration) = true
+has_order work = false
 
--- what is left of a migration in a phase, with these extents still to read
 abbrev pub order_left : BlockRange → Bool → List Want
 order_left part true = Desk (ReleaseOrder part.block) ∷ []
 order_left part false = []
 
-abbrev pub migration_steps : Migration → BlockRange → MigrationPhase → List Extent → List Want
-migration_steps migration part (MigrationAcquires stage) extents = steps_from (Migrating migration part) stage
-migration_steps migration part (ReadsFrom from to) extents = copies part from to extents ++ ending migration part.block from
-migration_steps migration part (WritesTo from to e) extents = write_step part to e ∷ (copies part from to extents ++ ending migration part.block from)
-migration_steps migration part (Seals place) extents = Cell (SealStep part.block place false) ∷ Cell (Release Owned part.block) ∷ []
-migration_steps migration part (MigrationReleases order answer) extents = Cell (Release Owned part.block) ∷ order_left part order
-migration_steps migration part (GivesUp answer) extents = Desk (ReleaseOrder part.block) ∷ []
-migration_steps migration part (MigrationFails device) extents = Cell SetFailed ∷ []
-migration_steps migration part (MigrationEnded answer) extents = []
+-- what a migration ends with, once its extents are copied; no request copies
+abbrev pub ends : Work → BlockRange → Option CBlock → List Want
+ends (ToMigrate migration) part place = ending migration part.block place
+ends work part place = []
 
-abbrev pub migration_answer : MigrationPhase → Answer
-migration_answer (MigrationReleases order answer) = answer
-migration_answer (GivesUp answer) = answer
-migration_answer (MigrationFails device) = Refuses (Io device)
-migration_answer (MigrationEnded answer) = answer
-migration_answer phase = Finished
+-- the steps to come in a phase, with these extents still to move
+abbrev pub steps_in : Work → BlockRange → Phase → List Extent → List Want
+steps_in work part (Acquires stage) extents = steps_from (job_of work part) stage
+steps_in work part (Dirties c) extents = Cell (SealStep part.block (Some c) true) ∷ (map (write_step part (Some c)) extents ++ Cell (Finish part.block) ∷ write_count (Some c) ∷ release (job_of work part) ∷ [])
+steps_in work part (Reads place) extents = map (read_step part place) extents ++ read_count place ∷ release (job_of work part) ∷ []
+steps_in work part (Writes place) extents = map (write_step part place) extents ++ Cell (Finish part.block) ∷ write_count place ∷ release (job_of work part) ∷ []
+steps_in work part (Counts place) extents = write_count place ∷ release (job_of work part) ∷ []
+steps_in work part (Copies from to) extents = copies part from to extents ++ ends work part from
+steps_in work part (Puts from to e) extents = write_step part to e ∷ (copies part from to extents ++ ends work part from)
+steps_in work part (Seals place) extents = Cell (SealStep part.block place false) ∷ release (job_of work part) ∷ []
+steps_in work part (Releases order answer) extents = release (job_of work part) ∷ order_left part order
+steps_in work part (GivesUp answer) extents = Desk (ReleaseOrder part.block) ∷ []
+steps_in work part (SetsFailed device) extents = Cell SetFailed ∷ []
+steps_in work part (Ended answer) extents = []
 
-abbrev pub migration_left : Migration → BlockRange → MigrationPhase → List Extent → Plan
-migration_left migration part phase extents = record { job = OnBlock (Migrating migration part); steps = migration_steps migration part phase extents; answer = migration_answer phase }
+abbrev pub answer_in : Phase → Answer
+answer_in (Releases order answer) = answer
+answer_in (GivesUp answer) = answer
+answer_in (SetsFailed device) = Refuses (Io device)
+answer_in (Ended answer) = answer
+answer_in phase = Finished
+
+-- what is left then
+abbrev pub left_in : Work → BlockRange → Phase → List Extent → Plan
+left_in work part phase extents = record { job = OnBlock (job_of work part); steps = steps_in work part phase extents; answer = answer_in phase }

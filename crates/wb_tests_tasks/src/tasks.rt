@@ -20,23 +20,15 @@ fn play(bench: &mut Bench, row: &Row) -> Answer {
     let longest = row.longest.max(1);
     match row.job {
         Job::Read => {
-            let task = ReadTask::new(BLOCK_SECTORS, BLOCK, SECTORS, longest);
-            drive(&mut RequestTask::reads(task), bench)
+            let mut task = BlockTask::read(BLOCK_SECTORS, BLOCK, SECTORS, longest);
+            drive(&mut task, bench)
         }
         Job::Write => {
-            let task = WriteTask::new(BLOCK_SECTORS, BLOCK, SECTORS, longest);
-            drive(&mut RequestTask::writes(task), bench)
-        }
-        Job::Migrate(Migration::Promote(to)) => {
-            let mut task = PromoteTask::new(BLOCK_SECTORS, BLOCK, to, longest);
+            let mut task = BlockTask::write(BLOCK_SECTORS, BLOCK, SECTORS, longest);
             drive(&mut task, bench)
         }
-        Job::Migrate(Migration::Demote) => {
-            let mut task = DemoteTask::new(BLOCK_SECTORS, BLOCK, longest);
-            drive(&mut task, bench)
-        }
-        Job::Migrate(Migration::Clean) => {
-            let mut task = CleanTask::new(BLOCK_SECTORS, BLOCK, longest);
+        Job::Migrate(migration) => {
+            let mut task = BlockTask::migrate(migration, BLOCK_SECTORS, BLOCK, longest);
             drive(&mut task, bench)
         }
     }

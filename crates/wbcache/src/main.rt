@@ -27,8 +27,7 @@ use std::io::{BufReader, IsTerminal, Read};
 use std::process::ExitCode;
 use std::sync::Wait;
 use std::{env, io};
-use wb_files::Alarm;
-use wb_streams::{Awaited, hold_streams};
+use wb_files::{Alarm, Awaited, hold_streams};
 use wb_types::Refusal;
 
 /// What is asked of who calls the program otherwise.

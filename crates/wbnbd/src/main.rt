@@ -19,7 +19,7 @@ use std::sync::Wait;
 use std::thread::Threads;
 use std::time::Clock;
 use std::{env, io};
-use wb_streams::{Awaited, hold_streams};
+use wb_files::{Awaited, hold_streams};
 use wb_types::Refusal;
 
 /// What is asked of who calls the program otherwise.

@@ -1,0 +1,369 @@
+//! A job on one block: a read or write of sectors of it, or a migration of the whole. One task walks every table of such a job:
+//!
+//! 1. acquire the block, a read to share it, all others to own it: fail word, lock word, exchange, seal, number;
+//! 2. where a write finds no number left, give the block back and answer `Worn`;
+//! 3. a write seals a clean copy in the cache dirty;
+//! 4. move each extent: a read or write on the device that the seal names; a migration reads it at one place of the block and writes
+//!    it at the other, a demotion or write-back where the cache's copy is dirty alone;
+//! 5. a write finishes: the block's number rises by one; a request counts a hit or a miss; a promotion enters the block into the
+//!    mapping, a demotion removes it, each of which ends its order;
+//! 6. a migration seals the place that the block has then, clean;
+//! 7. give the block back, a write-back its order too, and answer done.
+//!
+//! After a fault on a read, or where the desk has no memory for an entry: give the block back, a migration then its order, and
+//! answer. After a fault on a write: set the failed bit, keep block and order for good, and answer `Io`.
+
+ghost use Rattle.std.specs.Prelude.{◌≡◌, ◌+◌, ◌*◌, ◌<◌, ◌≤◌, ◌^◌, []};
+ghost use Rattle.wb_types.specs.Extents.{pieces};
+ghost use Rattle.wb_tasks.specs.Tables.{BlockRange, OnBlock, Reading, Writing, Migrating, access_of, is_write, whole_block};
+ghost use Rattle.wb_tasks.specs.Plan.{Plan, want, after, refused, table, Fits};
+ghost use Rattle.wb_tasks.specs.Phases.{job_of, has_order};
+
+use crate::acquire::{self, Seen};
+use crate::cut::split;
+use crate::route::{device_at, route};
+use crate::step::{Answer, DeskStep, DeviceStep, Got, Migration, Want};
+use crate::task::Task;
+use std::marker::Model;
+use wb_types::{CBlock, Dev, Extent, OBlock, Refusal};
+use wb_words::{Access, CellStep, GripStage, Kind};
+
+/// What a job does with its block.
+#[derive(Clone, Copy)]
+enum Work {
+    Read,
+    Write,
+    Migrate(Migration),
+}
+
+/// Where a job stands.
+#[derive(Clone, Copy)]
+enum Phase {
+    Acquires(GripStage),
+    /// The block stands in this cache block, whose copy is still sealed clean.
+    Dirties(CBlock),
+    /// The block stands at this place. When its sectors are read, it is counted.
+    Reads(Option<CBlock>),
+    /// The block stands at this place. When its sectors are written, the write is finished.
+    Writes(Option<CBlock>),
+    Counts(Option<CBlock>),
+    /// The next extent is read at the first of these places, to be written at the other. With none left, the migration ends.
+    Copies(Option<CBlock>, Option<CBlock>),
+    /// This extent was read, and is written.
+    Puts(Option<CBlock>, Option<CBlock>, Extent),
+    /// The block has this place in the mapping now.
+    Seals(Option<CBlock>),
+    /// Gives the block back, and then, where the flag says so, the order.
+    Releases(bool, Answer),
+    GivesUp(Answer),
+    /// A step on this device failed.
+    SetsFailed(Dev),
+    Ended(Answer),
+}
+
+/// A read or write of some sectors of a block, or a migration of the whole, extent by extent, rising.
+#[derive(Drop)]
+pub struct BlockTask {
+    work: Work,
+    phase: Phase,
+    block_sectors: u32,
+    block: OBlock,
+    sectors: Extent,
+    /// The sectors that are still to be moved.
+    left: Extent,
+    /// How many sectors a step takes at most.
+    longest: u64,
+}
+
+impl Model for BlockTask {
+    ghost use Rattle.std.specs.Prelude.{◌+◌, ◌<◌, ◌≤◌, ◌^◌};
+    ghost use Rattle.wb_tasks.specs.Plan.{Plan};
+
+    ghost Value = { Plan };
+
+    ghost use Rattle.wb_types.specs.Extents.{pieces};
+    ghost use Rattle.wb_tasks.specs.Phases.{left_in};
+
+    ghost view = { λ t. left_in t.work (record { block_sectors = t.block_sectors; block = t.block; extents = pieces t.longest t.sectors }) t.phase (pieces t.longest t.left) };
+
+    ghost invariant = { λ t. (0 < t.block_sectors) × (1 ≤ t.longest) × (t.sectors.first + t.sectors.count < 2 ^ 64) × (t.left.first + t.left.count < 2 ^ 64) };
+}
+
+impl BlockTask {
+    /// A read of sectors that lie in that block of the origin. It shares the block, reads where its seal says that the newest copy
+    /// stands, and counts as a hit where that is the cache. Each of its steps on a device takes at most `longest` sectors.
+    pub fn read(block_sectors: u32, block: OBlock, sectors: Extent, longest: u64) -> BlockTask
+        requires some { 0 < block_sectors }
+        requires in_range { sectors.first + sectors.count < 2 ^ 64 }
+        requires longest { 1 ≤ longest }
+        ensures { result ≡ table (OnBlock (Reading (record { block_sectors = block_sectors; block = block; extents = pieces longest sectors }))) }
+    {
+        begun(Work::Read, block_sectors, block, sectors, longest)
+    }
+
+    /// A write of sectors that lie in that block of the origin, in write-back mode. It owns the block, seals a clean copy in the cache
+    /// dirty, writes where the newest copy stands, is finished, and counts as a hit where that is the cache. Each of its steps on a
+    /// device takes at most `longest` sectors.
+    pub fn write(block_sectors: u32, block: OBlock, sectors: Extent, longest: u64) -> BlockTask
+        requires some { 0 < block_sectors }
+        requires in_range { sectors.first + sectors.count < 2 ^ 64 }
+        requires longest { 1 ≤ longest }
+        ensures { result ≡ table (OnBlock (Writing (record { block_sectors = block_sectors; block = block; extents = pieces longest sectors }))) }
+    {
+        begun(Work::Write, block_sectors, block, sectors, longest)
+    }
+
+    /// A migration of a whole block, under an order for it: a promotion into the cache block that the order reserved, a demotion, or a
+    /// write-back. Each of its steps on a device takes at most `longest` sectors.
+    pub fn migrate(
+        migration: Migration,
+        block_sectors: u32,
+        block: OBlock,
+        longest: u64,
+    ) -> BlockTask
+        requires some { 0 < block_sectors }
+        requires longest { 1 ≤ longest }
+        ensures { result ≡ table (OnBlock (Migrating migration (record { block_sectors = block_sectors; block = block; extents = pieces longest (whole_block block_sectors block) }))) }
+    {
+        let sectors = whole_block(block_sectors, block);
+        begun(
+            Work::Migrate(migration),
+            block_sectors,
+            block,
+            sectors,
+            longest,
+        )
+    }
+
+    /// The next step, or the answer.
+    pub fn want(&self) -> Want
+        ensures { result ≡ want self.now }
+    {
+        match self.phase {
+            Phase::Acquires(stage) => acquire::want(access_of(self.work), self.block, stage),
+            Phase::Dirties(c) => Want::Cell(CellStep::Seal(self.block, Some(c), true)),
+            Phase::Reads(place) if self.left.count > 0 => {
+                let (first, _) = split(self.left, self.longest);
+                let (device, extent) = route(self.block_sectors, place, first);
+                Want::Device(DeviceStep::Read(device, extent))
+            }
+            Phase::Reads(None) => Want::Cell(CellStep::Count(Kind::ReadMiss)),
+            Phase::Reads(Some(_)) => Want::Cell(CellStep::Count(Kind::ReadHit)),
+            Phase::Writes(place) if self.left.count > 0 => {
+                let (first, _) = split(self.left, self.longest);
+                let (device, extent) = route(self.block_sectors, place, first);
+                Want::Device(DeviceStep::Write(device, extent))
+            }
+            Phase::Writes(_) => Want::Cell(CellStep::Finish(self.block)),
+            Phase::Counts(None) => Want::Cell(CellStep::Count(Kind::WriteMiss)),
+            Phase::Counts(Some(_)) => Want::Cell(CellStep::Count(Kind::WriteHit)),
+            Phase::Copies(from, _) if self.left.count > 0 => {
+                let (first, _) = split(self.left, self.longest);
+                let (device, extent) = route(self.block_sectors, from, first);
+                Want::Device(DeviceStep::Read(device, extent))
+            }
+            Phase::Copies(from, _) => match self.work {
+                Work::Migrate(Migration::Promote(c)) => Want::Desk(DeskStep::Map(self.block, c)),
+                Work::Migrate(Migration::Demote) => Want::Desk(DeskStep::Unmap(self.block)),
+                Work::Migrate(Migration::Clean) => {
+                    Want::Cell(CellStep::Seal(self.block, from, false))
+                }
+                // No request copies.
+                Work::Read | Work::Write => Want::End(Answer::Done),
+            },
+            Phase::Puts(_, to, extent) => {
+                let (device, there) = route(self.block_sectors, to, extent);
+                Want::Device(DeviceStep::Write(device, there))
+            }
+            Phase::Seals(place) => Want::Cell(CellStep::Seal(self.block, place, false)),
+            Phase::Releases(_, _) => {
+                Want::Cell(CellStep::Release(access_of(self.work), self.block))
+            }
+            Phase::GivesUp(_) => Want::Desk(DeskStep::ReleaseOrder(self.block)),
+            Phase::SetsFailed(_) => Want::Cell(CellStep::SetFailed),
+            Phase::Ended(answer) => Want::End(answer),
+        }
+    }
+
+    /// What is left after a word was looked at.
+    fn after_look(&mut self, word: u64)
+        requires { Fits (want self.old) (Got.Word word) }
+        ensures { self.new ≡ after self.old (Got.Word word) }
+    {
+        if let Phase::Acquires(stage) = self.phase {
+            self.left = self.sectors;
+            let access = access_of(self.work);
+            match acquire::after_look(access, is_write(self.work), self.block, stage, word) {
+                Seen::Next(next) => self.phase = Phase::Acquires(next),
+                Seen::Holds(place, dirty) => match (self.work, place) {
+                    (Work::Read, _) => self.phase = Phase::Reads(place),
+                    (Work::Write, Some(c)) if !dirty => self.phase = Phase::Dirties(c),
+                    (Work::Write, _) => self.phase = Phase::Writes(place),
+                    (Work::Migrate(Migration::Promote(c)), _) => {
+                        self.phase = Phase::Copies(None, Some(c));
+                    }
+                    (Work::Migrate(_), Some(_)) if dirty => {
+                        self.phase = Phase::Copies(place, None);
+                    }
+                    (Work::Migrate(_), _) => {
+                        self.left.count = 0;
+                        self.phase = Phase::Copies(place, None);
+                    }
+                },
+                Seen::Refused(refusal) => self.phase = Phase::Ended(Answer::Refused(refusal)),
+                Seen::Worn => self.phase = Phase::Releases(false, Answer::Refused(Refusal::Worn)),
+            }
+        }
+    }
+
+    /// What is left after a step was done.
+    fn after_done(&mut self)
+        requires { Fits (want self.old) Got.Done }
+        ensures { self.new ≡ after self.old Got.Done }
+    {
+        match self.phase {
+            // Only the exchange can have been done.
+            Phase::Acquires(_) => self.phase = Phase::Acquires(GripStage::LookSeal),
+            Phase::Dirties(c) => self.phase = Phase::Writes(Some(c)),
+            Phase::Reads(_) | Phase::Writes(_) if self.left.count > 0 => {
+                let (_, left) = split(self.left, self.longest);
+                self.left = left;
+            }
+            Phase::Reads(_) | Phase::Counts(_) | Phase::Seals(_) => {
+                self.phase = Phase::Releases(false, Answer::Done);
+            }
+            Phase::Writes(place) => self.phase = Phase::Counts(place),
+            Phase::Copies(from, to) if self.left.count > 0 => {
+                let (extent, left) = split(self.left, self.longest);
+                self.left = left;
+                self.phase = Phase::Puts(from, to, extent);
+            }
+            Phase::Copies(_, _) => match self.work {
+                Work::Migrate(Migration::Clean) => {
+                    self.phase = Phase::Releases(true, Answer::Done);
+                }
+                Work::Migrate(Migration::Promote(c)) => self.phase = Phase::Seals(Some(c)),
+                Work::Migrate(Migration::Demote) => self.phase = Phase::Seals(None),
+                Work::Read | Work::Write => {}
+            },
+            Phase::Puts(from, to, _) => self.phase = Phase::Copies(from, to),
+            Phase::Releases(true, answer) => self.phase = Phase::GivesUp(answer),
+            Phase::Releases(false, answer) => self.phase = Phase::Ended(answer),
+            Phase::GivesUp(answer) => self.phase = Phase::Ended(answer),
+            Phase::SetsFailed(device) => {
+                self.phase = Phase::Ended(Answer::Refused(Refusal::Io(device)));
+            }
+            Phase::Ended(_) => {}
+        }
+    }
+
+    /// What is left after a fault.
+    fn after_fault(&mut self)
+        requires { Fits (want self.old) Got.Fault }
+        ensures { self.new ≡ after self.old Got.Fault }
+    {
+        match self.phase {
+            Phase::Reads(place) | Phase::Copies(place, _) => {
+                let answer = Answer::Refused(Refusal::Io(device_at(place)));
+                self.phase = Phase::Releases(has_order(self.work), answer);
+            }
+            Phase::Writes(place) | Phase::Puts(_, place, _) => {
+                self.phase = Phase::SetsFailed(device_at(place));
+            }
+            _ => {}
+        }
+    }
+
+    /// What is left after the desk refused; a promotion alone can be refused, its entry.
+    fn after_refusal(&mut self, refusal: Refusal)
+        requires { Fits (want self.old) (Got.Refused refusal) }
+        ensures { self.new ≡ after self.old (Got.Refused refusal) }
+    {
+        self.phase = Phase::Releases(has_order(self.work), Answer::Refused(refusal));
+    }
+
+    /// Nothing is left but the refusal.
+    fn refuse(&mut self, refusal: Refusal)
+        ensures { self.new ≡ refused self.old [] refusal }
+    {
+        self.phase = Phase::Ended(Answer::Refused(refusal));
+    }
+}
+
+impl Task for BlockTask {
+    ghost plan = { λ t. t };
+
+    fn next(&mut self, got: Got) -> Want {
+        match got {
+            Got::Begin => {}
+            Got::Word(word) => self.after_look(word),
+            Got::Done => self.after_done(),
+            Got::Fault => self.after_fault(),
+            Got::Lost => self.refuse(Refusal::Busy),
+            Got::Refused(refusal) => self.after_refusal(refusal),
+            // None of its steps, wherever it stands, begins a commit or reads metadata.
+            Got::Began(_) => {
+                let _phase = self.phase;
+                unreachable!()
+            }
+            Got::More => {
+                let _phase = self.phase;
+                unreachable!()
+            }
+        }
+        self.want()
+    }
+}
+
+/// A task that has not begun.
+fn begun(work: Work, block_sectors: u32, block: OBlock, sectors: Extent, longest: u64) -> BlockTask
+    requires some { 0 < block_sectors }
+    requires in_range { sectors.first + sectors.count < 2 ^ 64 }
+    requires longest { 1 ≤ longest }
+    ensures { result ≡ table (OnBlock (job_of work (record { block_sectors = block_sectors; block = block; extents = pieces longest sectors }))) }
+{
+    BlockTask {
+        work,
+        phase: Phase::Acquires(GripStage::LookFail),
+        block_sectors,
+        block,
+        sectors,
+        left: sectors,
+        longest,
+    }
+}
+
+/// A read shares its block, all others own it.
+fn access_of(work: Work) -> Access
+    ensures { (part : BlockRange) → result ≡ access_of (job_of work part) }
+{
+    match work {
+        Work::Read => Access::Shared,
+        Work::Write | Work::Migrate(_) => Access::Owned,
+    }
+}
+
+/// Whether it wants a number for itself.
+fn is_write(work: Work) -> bool
+    ensures { (part : BlockRange) → result ≡ is_write (job_of work part) }
+{
+    matches!(work, Work::Write)
+}
+
+/// Whether it runs under an order.
+fn has_order(work: Work) -> bool
+    ensures { result ≡ has_order work }
+{
+    matches!(work, Work::Migrate(_))
+}
+
+/// The sectors of a whole block.
+fn whole_block(block_sectors: u32, block: OBlock) -> Extent
+    ensures is { result ≡ whole_block block_sectors block }
+    ensures in_range { result.first + result.count < 2 ^ 64 }
+{
+    Extent {
+        first: u64::from(block.0) * u64::from(block_sectors),
+        count: u64::from(block_sectors),
+    }
+}
