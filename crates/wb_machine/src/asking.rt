@@ -13,7 +13,7 @@ use wb_desk::Desk;
 use wb_devices::RunningCommit;
 use wb_format::Node;
 use wb_policy::{Order, Quiet};
-use wb_runs::Job;
+use wb_promise::Job;
 use wb_stage::asking;
 use wb_tasks::{DeskStep, Got};
 use wb_types::Place;

@@ -39,9 +39,9 @@ use Rattle.wb_refines.proofs.Cells.{held_plain, saw_plain}
 use Rattle.wb_refines.proofs.Followed.{rest_plain}
 use Rattle.wb_refines.proofs.Moving.{extents_followed}
 use Rattle.wb_refines.proofs.Migrating.{migration_tables_agree}
-use Rattle.wb_runs.specs.declared.job.Job.TheVariants.{Migrate}
-use Rattle.wb_runs.specs.Effects.{contents_at}
-use Rattle.wb_runs.specs.States.{Actor, with_device}
+use Rattle.wb_promise.specs.declared.job.Job.TheVariants.{Migrate}
+use Rattle.wb_promise.specs.Effects.{contents_at}
+use Rattle.wb_promise.specs.States.{Actor, with_device}
 use Rattle.wb_simulation.specs.Steps.{IsNoWrite, IsTail, IsWrittenNext}
 use Rattle.wb_simulation.specs.Carried.{HasRead, IsCarried}
 use Rattle.wb_simulation.proofs.Orders.{GoesOn, carried_again, CarriesOthers, carries_on}

@@ -31,9 +31,9 @@ use Rattle.wb_refines.specs.Carried.{IsMigrationAt}
 use Rattle.wb_refines.proofs.Carrying.{carrying_followed}
 use Rattle.wb_refines.proofs.Cells.{held_plain, saw_plain, same_images}
 use Rattle.wb_refines.proofs.Followed.{rest_plain}
-use Rattle.wb_runs.specs.declared.job.Job.TheVariants.{Migrate}
-use Rattle.wb_runs.specs.Effects.{dropped, replacing}
-use Rattle.wb_runs.specs.States.{Actor}
+use Rattle.wb_promise.specs.declared.job.Job.TheVariants.{Migrate}
+use Rattle.wb_promise.specs.Effects.{dropped, replacing}
+use Rattle.wb_promise.specs.States.{Actor}
 use Rattle.wb_simulation.specs.Worlds.{Agrees, Turn, Stays, Maps, Unmaps, GivesUp, TurnedTo, DeskTurnedTo}
 use Rattle.std.proofs.lemmas.Bool.{ne_eqb, cases_eq}
 use Rattle.std.proofs.lemmas.List.Elements.{Contains-append_cases, Contains-append_left, Contains-append_right}

@@ -18,9 +18,9 @@ use Rattle.wb_refines.specs.Going.{records, shared_after, gone, MayGo}
 use Rattle.wb_refines.specs.Translation.{job_for}
 use Rattle.wb_refines.specs.Models.{IsAt, HasStopped, IsFree, held_of}
 use Rattle.wb_refines.specs.Tasks.{IsResting}
-use Rattle.wb_runs.specs.declared.job.Job.{Job}
-use Rattle.wb_runs.specs.declared.job.Job.TheVariants.{Read, Write}
-use Rattle.wb_runs.specs.States.{Actor}
+use Rattle.wb_promise.specs.declared.job.Job.{Job}
+use Rattle.wb_promise.specs.declared.job.Job.TheVariants.{Read, Write}
+use Rattle.wb_promise.specs.States.{Actor}
 use Rattle.wb_simulation.specs.Actors.{IsLate, IsRequestAt, IsDoing, StandsFor}
 use Rattle.wb_simulation.specs.Carried.{held}
 use Rattle.wb_simulation.specs.Telling.{Telling, Answers, IsTold}

@@ -23,9 +23,9 @@ use Rattle.wb_refines.specs.Going.{records, shared_after, gone}
 use Rattle.wb_refines.specs.Models.{IsRequest, IsAt, HasStopped, OnlyParts, TellsPlace, plan_of}
 use Rattle.wb_refines.specs.Roles.{Role, IsAs, request_role}
 use Rattle.wb_refines.proofs.Roles.{requests_play, as_request, at_request}
-use Rattle.wb_runs.specs.declared.job.Job.{Job}
-use Rattle.wb_runs.specs.declared.job.Job.TheVariants.{Read, Write}
-use Rattle.wb_runs.specs.States.{Actor}
+use Rattle.wb_promise.specs.declared.job.Job.{Job}
+use Rattle.wb_promise.specs.declared.job.Job.TheVariants.{Read, Write}
+use Rattle.wb_promise.specs.States.{Actor}
 use Rattle.wb_runs.specs.Holding.{cards_of}
 use Rattle.wb_simulation.specs.Steps.{IsPart, AreOfBlock}
 use Rattle.wb_simulation.specs.Actors.{IsLate, IsRequestAt, IsDoing, IsBusyAt, StandsFor}

@@ -29,8 +29,8 @@ use Rattle.wb_refines.specs.Migrations.{order_on, IsWhere}
 use Rattle.wb_refines.specs.Roles.{Role, IsAs}
 use Rattle.wb_refines.specs.Carried.{migration_role}
 use Rattle.wb_refines.proofs.Roles.{migrations_play}
-use Rattle.wb_runs.specs.declared.job.Job.TheVariants.{Migrate}
-use Rattle.wb_runs.specs.States.{Actor}
+use Rattle.wb_promise.specs.declared.job.Job.TheVariants.{Migrate}
+use Rattle.wb_promise.specs.States.{Actor}
 use Rattle.wb_runs.specs.Holding.{cards_of}
 use Rattle.wb_simulation.specs.Steps.{IsTail}
 use Rattle.wb_simulation.specs.Carried.{order_there, IsCarried, HasEnded}

@@ -31,9 +31,9 @@ use Rattle.wb_refines.specs.Models.{IsAt, HasStopped, plan_of, SealAgrees, Words
 use Rattle.wb_refines.proofs.Locks.{has_no_more}
 use Rattle.wb_refines.proofs.Followed.{rest_plain}
 use Rattle.wb_refines.proofs.Moving.{goes_on_at, extents_followed}
-use Rattle.wb_runs.specs.declared.job.Job.{Job}
-use Rattle.wb_runs.specs.declared.job.Job.TheVariants.{Read, Write}
-use Rattle.wb_runs.specs.States.{Actor, with_device}
+use Rattle.wb_promise.specs.declared.job.Job.{Job}
+use Rattle.wb_promise.specs.declared.job.Job.TheVariants.{Read, Write}
+use Rattle.wb_promise.specs.States.{Actor, with_device}
 use Rattle.wb_types.specs.Extents.{rising}
 use Rattle.wb_simulation.specs.Steps.{IsPart, AreOfBlock}
 use Rattle.wb_simulation.specs.Actors.{IsLate, IsRequestAt, IsDoing, StandsFor}

@@ -22,8 +22,8 @@ use Rattle.wb_refines.specs.Translation.{offsets_in}
 use Rattle.wb_refines.specs.Models.{HasStopped, plan_of}
 use Rattle.wb_refines.specs.Migrations.{order_on, Fills}
 use Rattle.wb_refines.specs.Carried.{IsMigrationAt}
-use Rattle.wb_runs.specs.States.{Actor}
-use Rattle.wb_runs.specs.Happenings.{order_for}
+use Rattle.wb_promise.specs.States.{Actor}
+use Rattle.wb_promise.specs.Happenings.{order_for}
 use Rattle.wb_simulation.specs.Actors.{IsLate}
 use Rattle.wb_simulation.specs.Telling.{IsMigrating}
 use Rattle.wb_simulation.specs.Steps.{IsPart, AreOfBlock, ArePaired, IsTail}
