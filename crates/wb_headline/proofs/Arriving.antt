@@ -7,7 +7,7 @@ use Rattle.wb_link.specs.World.{World, Shared, Actor as AbstractActor, resting a
 use Rattle.wb_link.specs.Clerk.{Notes as AbstractNotes}
 use Rattle.wb_link.specs.Openings.{Site, Stage, Answering, Outcome, Shown, Event, On, Stopped, Begins, Advances, after_event, note_event, MayHappen, Yields, advance, advanced, next_phase, emptied, Phase as PhaseThere, Stands as StandsThere, Gone as GoneThere}
 use Rattle.wb_link.proofs.Lists.{replicated}
-use Rattle.wb_runs.specs.Clerk.{Notes, Doing, nobody}
+use Rattle.wb_promise.specs.Clerk.{Notes, Doing, nobody}
 use Rattle.wb_simulation.specs.Noting.{NotesAgree, IsNotedSo}
 use Rattle.wb_types.specs.declared.mode.Mode.TheVariants.{Writeback}
 use Rattle.wb_disk.specs.Device.{History}
@@ -16,15 +16,15 @@ use Rattle.wb_meta.specs.declared.read_steps.ReadSteps.{ReadSteps}
 use Rattle.wb_tasks.specs.Plan.{Plan}
 use Rattle.wb_devices.specs.declared.devices.Devices.{Devices}
 use Rattle.wb_devices.specs.declared.running.RunningCommit.{RunningCommit}
-use Rattle.wb_runs.specs.declared.job.Job.{Job}
-use Rattle.wb_runs.specs.States.{Shape, State, Actor, Phase, Stands, Gone, Opens, resting}
+use Rattle.wb_promise.specs.declared.job.Job.{Job}
+use Rattle.wb_promise.specs.States.{Shape, State, Actor, Phase, Stands, Gone, Opens, resting}
 use Rattle.wb_runs.proofs.Images.{Images, later_of, IsFitToo, one_image, IsFit}
 use Rattle.wb_runs.proofs.Metadata.{MetadataKept, kept_readable}
 use Rattle.wb_simulation.specs.Sites.{DevicesAgree, LeadsTo}
 use Rattle.wb_types.specs.declared.mode.Dev.TheVariants.{Metadata, Cache, Origin}
 use Rattle.wb_disk.specs.Crash.{Choice}
 use Rattle.wb_disk.proofs.Crashes.{Crashed-crashed_from}
-use Rattle.wb_runs.specs.Effects.{all_crashed, after_crash, all_resting}
+use Rattle.wb_promise.specs.Effects.{all_crashed, after_crash, all_resting}
 use Rattle.wb_simulation.proofs.Opening.{openings_followed}
 use Rattle.wb_headline.proofs.Unclean.{IsNoRecord, NeverClean, event_on}
 use Rattle.wb_headline.proofs.Events.{Reached, event_reaches}

@@ -11,17 +11,17 @@ use Rattle.wb_tasks.specs.declared.step.Want.{Want}
 use Rattle.wb_tasks.specs.declared.step.Want.TheVariants.{Device, End}
 use Rattle.wb_tasks.specs.declared.step.Got.{Got}
 use Rattle.wb_tasks.specs.declared.step.Got.TheVariants.{Done, Fault}
-use Rattle.wb_runs.specs.declared.job.Job.{Job}
-use Rattle.wb_runs.specs.declared.job.Job.TheVariants.{Read, Write, Open}
-use Rattle.wb_runs.specs.declared.event.Event.{Event}
-use Rattle.wb_runs.specs.declared.event.Event.TheVariants.{Start, Step, FaultStep, Stop}
-use Rattle.wb_runs.specs.declared.event.What.{What}
-use Rattle.wb_runs.specs.declared.event.What.TheVariants.{Started, Stepped, Stopped}
-use Rattle.wb_runs.specs.States.{Shape}
-use Rattle.wb_runs.specs.Happenings.{begun_as}
-use Rattle.wb_runs.specs.Clerk.{Notes, Doing, Reading, begun, put, nobody, starting, failing, device_note, finished_note, noted_step, noted_what, readings_from, sector_for}
-use Rattle.wb_runs.specs.Headline.{IsLatest}
-use Rattle.wb_runs.specs.Latest.{IsGiven, GivesLatest, ReadsRightly}
+use Rattle.wb_promise.specs.declared.job.Job.{Job}
+use Rattle.wb_promise.specs.declared.job.Job.TheVariants.{Read, Write, Open}
+use Rattle.wb_promise.specs.declared.event.Event.{Event}
+use Rattle.wb_promise.specs.declared.event.Event.TheVariants.{Start, Step, FaultStep, Stop}
+use Rattle.wb_promise.specs.declared.event.What.{What}
+use Rattle.wb_promise.specs.declared.event.What.TheVariants.{Started, Stepped, Stopped}
+use Rattle.wb_promise.specs.States.{Shape}
+use Rattle.wb_promise.specs.Happenings.{begun_as}
+use Rattle.wb_promise.specs.Clerk.{Notes, Doing, Reading, begun, put, nobody, starting, failing, device_note, finished_note, noted_step, noted_what, readings_from, sector_for}
+use Rattle.wb_promise.specs.Headline.{IsLatest}
+use Rattle.wb_promise.specs.Latest.{IsGiven, GivesLatest, ReadsRightly}
 use Rattle.wb_link.proofs.Lists.{replicated}
 
 -- what is said of what was finished when somebody began and of what it has read since

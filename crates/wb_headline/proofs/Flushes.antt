@@ -49,12 +49,12 @@ use Rattle.wb_devices.specs.Committing.{is_coming, is_committed}
 use Rattle.wb_stage.specs.Asking.{DidRelease, HasBegun, IsGivenUp, ended}
 use Rattle.wb_roots.specs.Roots.{MayBeReadAs, Commit}
 use Rattle.wb_roots.proofs.Leading.{after_failure, after_failed_node}
-use Rattle.wb_runs.specs.declared.job.Job.{Job}
-use Rattle.wb_runs.specs.declared.job.Job.TheVariants.{Flush}
-use Rattle.wb_runs.specs.States.{Shape, State, Actor, Target, Stands, with_device}
-use Rattle.wb_runs.specs.Effects.{actor_then, awaiting_then, dropped, orders_then}
+use Rattle.wb_promise.specs.declared.job.Job.{Job}
+use Rattle.wb_promise.specs.declared.job.Job.TheVariants.{Flush}
+use Rattle.wb_promise.specs.States.{Shape, State, Actor, Target, Stands, with_device}
+use Rattle.wb_promise.specs.Effects.{actor_then, awaiting_then, dropped, orders_then}
 use Rattle.wb_runs.specs.Holding.{cards_of}
-use Rattle.wb_runs.specs.Clerk.{Notes, Doing, noted_step, device_note, failing, put, finished_note, greater_of}
+use Rattle.wb_promise.specs.Clerk.{Notes, Doing, noted_step, device_note, failing, put, finished_note, greater_of}
 use Rattle.wb_runs.proofs.Desks.{given_up_stands}
 use Rattle.wb_runs.proofs.Owning.{Owned}
 use Rattle.wb_runs.proofs.Ordering.{held_of}
@@ -165,7 +165,7 @@ module _ (P A : Type 0) (shape : Shape) (images : Images) (t : Target P) (commit
 
   -- ---- steps on devices
 
-  module _ (turn : Turn) (step : DeviceStep) (got : Got) (contents : List Bytes) (t' : Target P) (commit' : Option RunningCommit) (devices' : Devices (List History)) (images' : Images) (plain : Rattle.wb_runs.specs.Effects.buffer_then devices x.buffer (Device step) got Flush ≡ x.buffer) (next : Device step ≡ want plan)
+  module _ (turn : Turn) (step : DeviceStep) (got : Got) (contents : List Bytes) (t' : Target P) (commit' : Option RunningCommit) (devices' : Devices (List History)) (images' : Images) (plain : Rattle.wb_promise.specs.Effects.buffer_then devices x.buffer (Device step) got Flush ≡ x.buffer) (next : Device step ≡ want plan)
       (g : FollowsBy turn Quietly (size P A shape) (most P A shape) a f.site.world t'.words t'.desk.space.committing (live_orders t'.desk) devices' (slice_set actors a (after_step Flush plan got x))) where
     device_notes : NotesAgree (size P A shape) (device_n step got) (after_all f.site.world g.records) (told f.notes g.records)
     device_notes = let e = failing_same doing step got in notes_followed.redone (size P A shape) n (after_all f.site.world g.records) (told f.notes g.records) a doing (failing doing step got) (quiet_notes turn t'.words t'.desk.space.committing (live_orders t'.desk) devices' (after_step Flush plan got x) g) noted e.0 e.1
@@ -219,7 +219,7 @@ module _ (P A : Type 0) (shape : Shape) (images : Images) (t : Target P) (commit
     abbrev c' : RunningCommit
     c' = record c { steps = steps_after c.image c.steps }
 
-    module _ (turn : Turn) (plain : Rattle.wb_runs.specs.Effects.buffer_then devices x.buffer (Device step) Done Flush ≡ x.buffer)
+    module _ (turn : Turn) (plain : Rattle.wb_promise.specs.Effects.buffer_then devices x.buffer (Device step) Done Flush ≡ x.buffer)
         (g : FollowsBy turn Quietly (size P A shape) (most P A shape) a f.site.world t.words t.desk.space.committing slots devices' (slice_set actors a (after_step Flush plan Done x))) where
       abbrev s' : Shared
       s' = (after_all f.site.world g.records).shared
@@ -240,7 +240,7 @@ module _ (P A : Type 0) (shape : Shape) (images : Images) (t : Target P) (commit
           })
           (λ state e. there ∙ ap locations (some_is l.of.new state (sym (ap (λ (i : Images). i.running) u.kept.are) ∙ e)))
 
-    module _ (written : Bool) (plain : Rattle.wb_runs.specs.Effects.buffer_then devices x.buffer (Device step) Fault Flush ≡ x.buffer) (after_is : IsWrittenAfter step s.root_written written)
+    module _ (written : Bool) (plain : Rattle.wb_promise.specs.Effects.buffer_then devices x.buffer (Device step) Fault Flush ≡ x.buffer) (after_is : IsWrittenAfter step s.root_written written)
         (g : FollowsBy (Puts written) Quietly (size P A shape) (most P A shape) a f.site.world t.words t.desk.space.committing slots devices' (slice_set actors a (after_step Flush plan Fault x))) where
       failed_on : FailsStep c.image c.steps devices.metadata new → Goes P A shape (then_is t None devices' (Device step) Fault) (noted_step shape shown n a (Some (Some doing)) (Device step) Fault contents)
       failed_on bad =

@@ -30,16 +30,16 @@ use Rattle.wb_tasks.specs.declared.step.Answer.TheVariants.{Done as Finished}
 use Rattle.wb_tasks.specs.declared.step.Got.TheVariants.{Done, Fault, Began, Refused as GotRefused}
 use Rattle.wb_devices.specs.declared.devices.Devices.{Devices}
 use Rattle.wb_devices.specs.declared.running.RunningCommit.{RunningCommit}
-use Rattle.wb_runs.specs.declared.job.Job.{Job}
-use Rattle.wb_runs.specs.declared.job.Job.TheVariants.{Read, Write, Flush, Migrate, Replace}
-use Rattle.wb_runs.specs.declared.event.What.TheVariants.{Started}
-use Rattle.wb_runs.specs.States.{Shape, State, Actor, Target, Phase, Stands, resting}
-use Rattle.wb_runs.specs.Happenings.{Chosen, Plain, Cut, Orders, Asks, Commits, Gives, DoesBegin, DoesMap, DoesUnmap, DoesRelease, StartGives, order_for}
-use Rattle.wb_runs.specs.Effects.{actor_then, phase_then, phase_given, given, orders_then, awaiting_then, orders_released, awaiting_released, orders_answered, awaiting_answered, dropped, replacing, job_of, begun_desk, all_resting}
-use Rattle.wb_runs.specs.Clerk.{Notes}
-use Rattle.wb_runs.specs.Headline.{place_of}
+use Rattle.wb_promise.specs.declared.job.Job.{Job}
+use Rattle.wb_promise.specs.declared.job.Job.TheVariants.{Read, Write, Flush, Migrate, Replace}
+use Rattle.wb_promise.specs.declared.event.What.TheVariants.{Started}
+use Rattle.wb_promise.specs.States.{Shape, State, Actor, Target, Phase, Stands, resting}
+use Rattle.wb_promise.specs.Happenings.{Chosen, Plain, Cut, Orders, Asks, Commits, Gives, DoesBegin, DoesMap, DoesUnmap, DoesRelease, StartGives, order_for}
+use Rattle.wb_promise.specs.Effects.{actor_then, phase_then, phase_given, given, orders_then, awaiting_then, orders_released, awaiting_released, orders_answered, awaiting_answered, dropped, replacing, job_of, begun_desk, all_resting}
+use Rattle.wb_promise.specs.Clerk.{Notes}
+use Rattle.wb_promise.specs.Headline.{place_of}
 use Rattle.wb_runs.specs.Holding.{cards_of, AllSuited, TaskSuits}
-use Rattle.wb_runs.specs.Sealed.{SealsNext, number_of}
+use Rattle.wb_promise.specs.Sealed.{SealsNext, number_of}
 use Rattle.wb_runs.proofs.Images.{Images}
 use Rattle.wb_runs.proofs.Metadata.{MetadataKept}
 use Rattle.wb_runs.proofs.Lists.{first_or}

@@ -27,14 +27,14 @@ use Rattle.wb_tasks.specs.declared.step.Migration.{Migration}
 use Rattle.wb_tasks.specs.declared.step.Migration.TheVariants.{Promote, Demote, Clean}
 use Rattle.wb_devices.specs.declared.devices.Devices.{Devices}
 use Rattle.wb_devices.specs.declared.running.RunningCommit.{RunningCommit}
-use Rattle.wb_runs.specs.declared.job.Job.{Job}
-use Rattle.wb_runs.specs.declared.job.Job.TheVariants.{Migrate, Replace}
-use Rattle.wb_runs.specs.declared.event.What.TheVariants.{Started}
-use Rattle.wb_runs.specs.States.{Shape, Actor, Target, Stands}
-use Rattle.wb_runs.specs.Happenings.{Chosen, Cut, Orders, StartGives, begun_as, order_for}
-use Rattle.wb_runs.specs.Effects.{phase_given, given}
+use Rattle.wb_promise.specs.declared.job.Job.{Job}
+use Rattle.wb_promise.specs.declared.job.Job.TheVariants.{Migrate, Replace}
+use Rattle.wb_promise.specs.declared.event.What.TheVariants.{Started}
+use Rattle.wb_promise.specs.States.{Shape, Actor, Target, Stands}
+use Rattle.wb_promise.specs.Happenings.{Chosen, Cut, Orders, StartGives, begun_as, order_for}
+use Rattle.wb_promise.specs.Effects.{phase_given, given}
 use Rattle.wb_runs.specs.Holding.{TaskSuits}
-use Rattle.wb_runs.specs.Clerk.{Notes, put, begun}
+use Rattle.wb_promise.specs.Clerk.{Notes, put, begun}
 use Rattle.wb_runs.proofs.Desks.{reserved_stands}
 use Rattle.wb_runs.proofs.Images.{later_of}
 use Rattle.wb_runs.proofs.Metadata.{unknowing, kept_readable}

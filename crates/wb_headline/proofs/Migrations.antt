@@ -27,12 +27,12 @@ use Rattle.wb_tasks.specs.declared.step.Got.TheVariants.{Done, Fault, Refused as
 use Rattle.wb_devices.specs.declared.devices.Devices.{Devices}
 use Rattle.wb_devices.specs.declared.running.RunningCommit.{RunningCommit}
 use Rattle.wb_devices.specs.Moving.{device_in}
-use Rattle.wb_runs.specs.declared.job.Job.{Job}
-use Rattle.wb_runs.specs.declared.job.Job.TheVariants.{Migrate}
-use Rattle.wb_runs.specs.States.{Shape, Actor, Target, Stands, with_device, State}
-use Rattle.wb_runs.specs.Effects.{actor_then, awaiting_then, contents_at, orders_then, dropped, replacing}
+use Rattle.wb_promise.specs.declared.job.Job.{Job}
+use Rattle.wb_promise.specs.declared.job.Job.TheVariants.{Migrate}
+use Rattle.wb_promise.specs.States.{Shape, Actor, Target, Stands, with_device, State}
+use Rattle.wb_promise.specs.Effects.{actor_then, awaiting_then, contents_at, orders_then, dropped, replacing}
 use Rattle.wb_runs.specs.Holding.{cards_of, AllSuited, TaskSuits}
-use Rattle.wb_runs.specs.Clerk.{Notes, Doing, noted_step, device_note, finished_note, failing, put}
+use Rattle.wb_promise.specs.Clerk.{Notes, Doing, noted_step, device_note, finished_note, failing, put}
 use Rattle.wb_runs.proofs.Images.{Images, later_of}
 use Rattle.wb_runs.proofs.Metadata.{MetadataKept, AtDesk, unknowing, kept_readable}
 use Rattle.wb_link.specs.World.{after_all, Shared, removed}
@@ -69,8 +69,8 @@ use Rattle.wb_tasks.specs.Tables.{BlockRange, Migrating, OnBlock}
 use Rattle.wb_tasks.specs.declared.step.Migration.TheVariants.{Demote}
 use Rattle.wb_tasks.specs.declared.step.Want.{Want}
 use Rattle.wb_refines.specs.Translation.{number_of}
-use Rattle.wb_runs.specs.Happenings.{Chosen, Plain, Asks, Gives, Falters, MayFailAt, DoesMap, DoesUnmap, DoesRelease}
-use Rattle.wb_runs.specs.Headline.{place_of}
+use Rattle.wb_promise.specs.Happenings.{Chosen, Plain, Asks, Gives, Falters, MayFailAt, DoesMap, DoesUnmap, DoesRelease}
+use Rattle.wb_promise.specs.Headline.{place_of}
 use Rattle.wb_runs.specs.Inside.{StepInside}
 use Rattle.wb_runs.proofs.Desks.{mapped_stands, unmapped_stands, released_for}
 use Rattle.wb_runs.proofs.InsideRuns.{PlanInside, want_inside}

@@ -28,12 +28,12 @@ use Rattle.wb_devices.specs.declared.running.RunningCommit.{RunningCommit}
 use Rattle.wb_devices.specs.Committing.{is_committed}
 use Rattle.wb_stage.specs.Stages.{is_all_done}
 use Rattle.wb_refines.specs.Translation.{number_of as number_there}
-use Rattle.wb_runs.specs.declared.job.Job.{Job}
-use Rattle.wb_runs.specs.declared.job.Job.TheVariants.{Open}
-use Rattle.wb_runs.specs.States.{Shape, State, Actor, Stands, Gone, Opens, sector_count, cache_sector_count, block_size, OfReading, Phase}
-use Rattle.wb_runs.specs.Effects.{actor_then, task_then, target_over, device_done, device_failed, stepped, phase_opened, phase_then}
-use Rattle.wb_runs.specs.Clerk.{Notes, begins, put, Doing, noted_step}
-use Rattle.wb_runs.specs.Headline.{place_of, shown_by, ShowsAllowed, shown, shown_in}
+use Rattle.wb_promise.specs.declared.job.Job.{Job}
+use Rattle.wb_promise.specs.declared.job.Job.TheVariants.{Open}
+use Rattle.wb_promise.specs.States.{Shape, State, Actor, Stands, Gone, Opens, sector_count, cache_sector_count, block_size, OfReading, Phase}
+use Rattle.wb_promise.specs.Effects.{actor_then, task_then, target_over, device_done, device_failed, stepped, phase_opened, phase_then}
+use Rattle.wb_promise.specs.Clerk.{Notes, begins, put, Doing, noted_step}
+use Rattle.wb_promise.specs.Headline.{place_of, shown_by, ShowsAllowed, shown, shown_in}
 use Rattle.wb_runs.proofs.Images.{Images, later_of}
 use Rattle.wb_runs.proofs.Metadata.{MetadataKept, AtDesk, AtOpening, Quiet, Rooting as RootingKept, kept_readable, target_stands}
 use Rattle.wb_runs.proofs.Linking.{IsTask, AtPhase}
@@ -53,10 +53,10 @@ use Rattle.wb_tasks.specs.declared.step.Answer.{Answer}
 use Rattle.wb_tasks.specs.declared.step.DeviceStep.TheVariants.{Sync, ReadMetadata, WriteRoot}
 use Rattle.wb_tasks.specs.declared.step.Want.{Want}
 use Rattle.wb_tasks.specs.declared.step.Got.TheVariants.{Done, Fault}
-use Rattle.wb_runs.specs.Happenings.{Chosen, Plain, Cut, Orders, Begins, Reaches, Puts, Commits, Asks, Opened, Gives, Falters, MayFailAt, IsNextOf, DoesPut, DoesSync, FailsSync, FailsPut, LandedOr, sector_put, DoesOpen}
+use Rattle.wb_promise.specs.Happenings.{Chosen, Plain, Cut, Orders, Begins, Reaches, Puts, Commits, Asks, Opened, Gives, Falters, MayFailAt, IsNextOf, DoesPut, DoesSync, FailsSync, FailsPut, LandedOr, sector_put, DoesOpen}
 use Rattle.wb_runs.proofs.Underway.{sync_does, sync_fails, put_fails}
 use Rattle.wb_types.specs.declared.number.CBlock.{CBlock}
-use Rattle.wb_runs.specs.Sealed.{number_of}
+use Rattle.wb_promise.specs.Sealed.{number_of}
 use Rattle.wb_headline.specs.Desks.{block_there, live_orders}
 use Rattle.wb_headline.proofs.Events.{Reached, event_reaches}
 use Rattle.wb_headline.proofs.Unclean.{NeverClean, event_on}
@@ -225,10 +225,10 @@ module _ (P A : Type 0) (shape : Shape) (images : Images) (devices : Devices (Li
           (cache_done P A shape images devices commit mode reading actors n known f alone a x ex opened_in [] doing job_is total left ph rd xt read chosen)
       by_stage Basing ph rd xt g = subst (λ (v : Got). Done_by job buffer (Device (Sync Origin)) v read chosen) (sym g.1)
           (origin_done P A shape images devices commit mode reading actors n known f alone a x ex opened_in [] doing job_is total left ph rd xt read chosen)
-      by_stage Looking ph rd xt g = by_chosen chosen (subst (λ (c : Option RunningCommit). Rattle.wb_runs.specs.Happenings.DoesRead shape.geometry left rd.0.0 devices.metadata c got chosen) rd.1
-          (subst (λ (r : Option (ReadSteps A)). OfReading {P = P} {A = A} (Opens mode r) (λ mode was. Rattle.wb_runs.specs.Happenings.DoesRead shape.geometry left was devices.metadata commit got chosen)) rd.0.1 g.2))
+      by_stage Looking ph rd xt g = by_chosen chosen (subst (λ (c : Option RunningCommit). Rattle.wb_promise.specs.Happenings.DoesRead shape.geometry left rd.0.0 devices.metadata c got chosen) rd.1
+          (subst (λ (r : Option (ReadSteps A)). OfReading {P = P} {A = A} (Opens mode r) (λ mode was. Rattle.wb_promise.specs.Happenings.DoesRead shape.geometry left was devices.metadata commit got chosen)) rd.0.1 g.2))
         where
-          by_chosen : (c : Chosen P A) → Rattle.wb_runs.specs.Happenings.DoesRead shape.geometry left rd.0.0 devices.metadata None got c → Done_by job buffer (Device (ReadMetadata left)) got read c
+          by_chosen : (c : Chosen P A) → Rattle.wb_promise.specs.Happenings.DoesRead shape.geometry left rd.0.0 devices.metadata None got c → Done_by job buffer (Device (ReadMetadata left)) got read c
           by_chosen (Reaches r c) d = looks P A shape images devices commit mode reading actors n known f alone a x ex opened_in [] doing job_is total left ph rd xt got read (Reaches r c) d
           by_chosen c d = absurd d
       by_stage (Rooting i) ph rd xt g = subst (λ (v : Got). Done_by job buffer (Device WriteRoot) v read chosen) (sym g.1) (by_chosen chosen (subst (λ (c : Option RunningCommit). DoesPut c WriteRoot devices.metadata chosen) rd.0.commit_is g.2))
@@ -246,10 +246,10 @@ module _ (P A : Type 0) (shape : Shape) (images : Images) (devices : Devices (Li
           over_reading policy done =
               let o = opened_goes known f alone a x ex opened_in (opening_at total left (Answering i)) xt got i ph rd policy done cache_size origin_size in
               let Then : Option (ReadSteps A) → Job → Type 0 = λ r j. Goes P A shape (record { devices = devices; commit = None; phase = phase_opened shape mode r (Opened policy); actors = slice_set actors a (actor_then {P = P} {A = A} shape (Opens mode reading) devices x (End Finished) got) })
-              (Rattle.wb_runs.specs.Clerk.finished_note n a doing j (shown_in shape devices (phase_opened shape mode r (Opened policy)))) in
+              (Rattle.wb_promise.specs.Clerk.finished_note n a doing j (shown_in shape devices (phase_opened shape mode r (Opened policy)))) in
               subst (λ (j : Job). Then reading j) (sym job_is) (subst (λ (r : Option (ReadSteps A)). Then r (Open opened_in)) (sym rd.0.reading_is) o)
 
-          by_chosen : (c : Chosen P A) → Rattle.wb_runs.specs.Happenings.DoesOpen (Opens mode reading) commit c → Done_by job buffer (End Finished) got read c
+          by_chosen : (c : Chosen P A) → Rattle.wb_promise.specs.Happenings.DoesOpen (Opens mode reading) commit c → Done_by job buffer (End Finished) got read c
           by_chosen (Opened policy) d = over_reading policy d.1
           by_chosen c d = absurd d
 

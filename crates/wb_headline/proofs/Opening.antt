@@ -28,12 +28,12 @@ use Rattle.wb_devices.specs.declared.devices.Devices.{Devices}
 use Rattle.wb_devices.specs.declared.running.RunningCommit.{RunningCommit}
 use Rattle.wb_devices.specs.Opened.{HasCome, got_of_refusal}
 use Rattle.wb_roots.proofs.Deciding.{read_is_committed}
-use Rattle.wb_runs.specs.declared.job.Job.{Job}
-use Rattle.wb_runs.specs.declared.job.Job.TheVariants.{Open}
-use Rattle.wb_runs.specs.States.{Shape, State, Actor, Opens}
-use Rattle.wb_runs.specs.Happenings.{Chosen, Plain, Begins, Reaches, Puts, DoesSync, DoesRead}
-use Rattle.wb_runs.specs.Effects.{commit_then, reading_then, actor_then, task_then, led}
-use Rattle.wb_runs.specs.Clerk.{Notes, Doing, noted_step, device_note, failing, put}
+use Rattle.wb_promise.specs.declared.job.Job.{Job}
+use Rattle.wb_promise.specs.declared.job.Job.TheVariants.{Open}
+use Rattle.wb_promise.specs.States.{Shape, State, Actor, Opens}
+use Rattle.wb_promise.specs.Happenings.{Chosen, Plain, Begins, Reaches, Puts, DoesSync, DoesRead}
+use Rattle.wb_promise.specs.Effects.{commit_then, reading_then, actor_then, task_then, led}
+use Rattle.wb_promise.specs.Clerk.{Notes, Doing, noted_step, device_note, failing, put}
 use Rattle.wb_runs.proofs.Images.{Images, one_image, IsFitToo}
 use Rattle.wb_runs.proofs.Underway.{Readable, Found, partly_readable}
 use Rattle.wb_runs.proofs.Metadata.{MetadataKept, HasReached, AtOpening, Rooting as RootingKept, kept_readable, root_begins}

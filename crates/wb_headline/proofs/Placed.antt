@@ -36,15 +36,15 @@ use Rattle.wb_tasks.specs.declared.step.Want.TheVariants.{Cell, Device, End}
 use Rattle.wb_tasks.specs.declared.step.Got.{Got}
 use Rattle.wb_tasks.specs.declared.step.Got.TheVariants.{Done, Fault}
 use Rattle.wb_refines.specs.Translation.{location_at, number_of}
-use Rattle.wb_runs.specs.declared.job.Job.{Job}
-use Rattle.wb_runs.specs.declared.job.Job.TheVariants.{Write, Open}
-use Rattle.wb_runs.specs.declared.event.Event.{Event}
-use Rattle.wb_runs.specs.declared.event.Event.TheVariants.{Start, Step, FaultStep, Stop}
-use Rattle.wb_runs.specs.declared.event.What.{What}
-use Rattle.wb_runs.specs.declared.event.What.TheVariants.{Started, Stepped, Stopped}
-use Rattle.wb_runs.specs.States.{Shape, State, Actor, Phase, Stands, Gone, Opens, OfTarget, block_size}
-use Rattle.wb_runs.specs.Happenings.{Chosen, OfSome, Gives, Falters, MayFailAt, MayBe, begun_as, block_range, task_job}
-use Rattle.wb_runs.specs.Effects.{actor_then, task_then, card_then, stepped, with_actor, cleared, given, phase_given, started, job_of, cut_of, device_done, device_failed, all_resting, after_what}
+use Rattle.wb_promise.specs.declared.job.Job.{Job}
+use Rattle.wb_promise.specs.declared.job.Job.TheVariants.{Write, Open}
+use Rattle.wb_promise.specs.declared.event.Event.{Event}
+use Rattle.wb_promise.specs.declared.event.Event.TheVariants.{Start, Step, FaultStep, Stop}
+use Rattle.wb_promise.specs.declared.event.What.{What}
+use Rattle.wb_promise.specs.declared.event.What.TheVariants.{Started, Stepped, Stopped}
+use Rattle.wb_promise.specs.States.{Shape, State, Actor, Phase, Stands, Gone, Opens, OfTarget, block_size}
+use Rattle.wb_promise.specs.Happenings.{Chosen, OfSome, Gives, Falters, MayFailAt, MayBe, begun_as, block_range, task_job}
+use Rattle.wb_promise.specs.Effects.{actor_then, task_then, card_then, stepped, with_actor, cleared, given, phase_given, started, job_of, cut_of, device_done, device_failed, all_resting, after_what}
 use Rattle.wb_runs.specs.Holding.{TaskSuits}
 use Rattle.wb_runs.proofs.Lists.{rests}
 use Rattle.wb_runs.proofs.Using.{UsedRightly}

@@ -18,24 +18,25 @@ use Rattle.wb_tasks.specs.declared.step.Got.{Got}
 use Rattle.wb_tasks.specs.declared.step.Got.TheVariants.{Done}
 use Rattle.wb_devices.specs.declared.devices.Devices.{Devices}
 use Rattle.wb_devices.specs.declared.running.RunningCommit.{RunningCommit}
-use Rattle.wb_runs.specs.declared.job.Job.{Job}
-use Rattle.wb_runs.specs.declared.job.Job.TheVariants.{Read, Write, Open, Migrate}
-use Rattle.wb_runs.specs.declared.event.Event.{Event}
-use Rattle.wb_runs.specs.declared.event.Event.TheVariants.{Step, FaultStep}
-use Rattle.wb_runs.specs.declared.event.What.{What}
-use Rattle.wb_runs.specs.declared.event.What.TheVariants.{Stepped}
-use Rattle.wb_runs.specs.States.{Shape, State, Actor, Phase, Stands, Gone, Opens, start}
-use Rattle.wb_runs.specs.Happenings.{Chosen, Opened, Happening, OfSome, Gives, DoesOpen, MayBe}
-use Rattle.wb_runs.specs.Effects.{stepped, with_actor, device_done, job_of, phase_then, phase_opened, after_what, after_happening, after_all, IsRun}
-use Rattle.wb_runs.specs.Clerk.{Notes, Doing, formatted}
-use Rattle.wb_runs.specs.Headline.{shown, shown_in, note_happening, noted, ShowsAllowed, ShownBy, ShowsRightly, OpensRightly, AllOpenRightly, IsRightAnswer, DoingRightly, AnswersRightly, AllRight, IsCovered, DoingCovers, AnswerCovers, AllCover, RefusedBy, RefusedRightly, RefusesByCause, AllRefuseByCause, CrashConsistent, Headline}
-use Rattle.wb_runs.specs.Latest.{IsGiven, GivesLatest, ReadsRightly, AllReadRightly}
+use Rattle.wb_promise.specs.declared.job.Job.{Job}
+use Rattle.wb_promise.specs.declared.job.Job.TheVariants.{Read, Write, Open, Migrate}
+use Rattle.wb_promise.specs.declared.event.Event.{Event}
+use Rattle.wb_promise.specs.declared.event.Event.TheVariants.{Step, FaultStep}
+use Rattle.wb_promise.specs.declared.event.What.{What}
+use Rattle.wb_promise.specs.declared.event.What.TheVariants.{Stepped}
+use Rattle.wb_promise.specs.States.{Shape, State, Actor, Phase, Stands, Gone, Opens, start}
+use Rattle.wb_promise.specs.Happenings.{Chosen, Opened, Happening, OfSome, Gives, DoesOpen, MayBe}
+use Rattle.wb_promise.specs.Effects.{stepped, with_actor, device_done, job_of, phase_then, phase_opened, after_what, after_happening, after_all, IsRun}
+use Rattle.wb_promise.specs.Clerk.{Notes, Doing, formatted}
+use Rattle.wb_promise.specs.Headline.{shown, shown_in, note_happening, noted, ShowsAllowed, ShownBy, ShowsRightly, OpensRightly, AllOpenRightly, IsRightAnswer, DoingRightly, AnswersRightly, AllRight, CrashConsistent, Headline}
+use Rattle.wb_runs.specs.Laws.{IsCovered, DoingCovers, AnswerCovers, AllCover, RefusedBy, RefusedRightly, RefusesByCause, AllRefuseByCause}
+use Rattle.wb_promise.specs.Latest.{IsGiven, GivesLatest, ReadsRightly, AllReadRightly}
 use Rattle.wb_runs.specs.Holding.{TaskSuits}
 use Rattle.wb_runs.proofs.Claims.{Noted}
 use Rattle.wb_runs.proofs.Linking.{TaskHere, InPhase}
 use Rattle.wb_runs.proofs.LinkedRuns.{run_refuses, run_covers, all_skip}
 use Rattle.wb_link.specs.Openings.{Stage, Settling, Caching, Basing, Looking, Rooting, Renewing, Answering}
-use Rattle.wb_runs.specs.Sealed.{SealsTell}
+use Rattle.wb_promise.specs.Sealed.{SealsTell}
 use Rattle.wb_headline.proofs.Following.{opening_at, AtStage, IsOver}
 use Rattle.wb_headline.proofs.Opened.{shows}
 use Rattle.wb_headline.proofs.Requests.{given_latest}
@@ -128,7 +129,7 @@ module _ (P A : Type 0) (shape : Shape) where
   fault_is w event what read chosen h = tt
 
   -- an answer is right, by what it covers, why it refuses, what it has read and what it shows
-  right_doing : (n : Notes) (shown_now : List Bytes) (o : Option (Option Doing)) (answer : Answer) → ((d : Doing) → o ≡ Some (Some d) → All Rattle.wb_runs.specs.Headline.IsLatest d.readings) → DoingCovers o answer → ((refusal : Refusal) → answer ≡ Refuses refusal → RefusedRightly o refusal) → (answer ≡ Finished → ShowsRightly n shown_now o) → DoingRightly n shown_now o answer
+  right_doing : (n : Notes) (shown_now : List Bytes) (o : Option (Option Doing)) (answer : Answer) → ((d : Doing) → o ≡ Some (Some d) → All Rattle.wb_promise.specs.Headline.IsLatest d.readings) → DoingCovers o answer → ((refusal : Refusal) → answer ≡ Refuses refusal → RefusedRightly o refusal) → (answer ≡ Finished → ShowsRightly n shown_now o) → DoingRightly n shown_now o answer
   right_doing n shown_now (Some (Some doing)) answer latest covers refuses shows = by_job doing.job answer covers refuses shows
     where
       by_job : (job : Job) (answer : Answer) → IsCovered doing job answer → ((refusal : Refusal) → answer ≡ Refuses refusal → RefusedBy doing job refusal) → (answer ≡ Finished → ShownBy n shown_now job) → IsRightAnswer n shown_now doing job answer

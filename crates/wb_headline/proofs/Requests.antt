@@ -27,13 +27,13 @@ use Rattle.wb_tasks.specs.declared.step.Got.TheVariants.{Done, Fault}
 use Rattle.wb_devices.specs.declared.devices.Devices.{Devices}
 use Rattle.wb_devices.specs.declared.running.RunningCommit.{RunningCommit}
 use Rattle.wb_devices.specs.Moving.{device_in}
-use Rattle.wb_runs.specs.declared.job.Job.{Job}
-use Rattle.wb_runs.specs.declared.job.Job.TheVariants.{Read, Write}
-use Rattle.wb_runs.specs.States.{Shape, State, Actor, Target, Stands, with_device}
-use Rattle.wb_runs.specs.Happenings.{block_range}
-use Rattle.wb_runs.specs.Effects.{actor_then, orders_then, awaiting_then}
+use Rattle.wb_promise.specs.declared.job.Job.{Job}
+use Rattle.wb_promise.specs.declared.job.Job.TheVariants.{Read, Write}
+use Rattle.wb_promise.specs.States.{Shape, State, Actor, Target, Stands, with_device}
+use Rattle.wb_promise.specs.Happenings.{block_range}
+use Rattle.wb_promise.specs.Effects.{actor_then, orders_then, awaiting_then}
 use Rattle.wb_runs.specs.Holding.{cards_of, AllSuited}
-use Rattle.wb_runs.specs.Clerk.{Notes, Doing, noted_step, device_note, failing, put, readings_from, sector_for, write_note, enter_each, entering, finished_note, all_raised, Entering, enter}
+use Rattle.wb_promise.specs.Clerk.{Notes, Doing, noted_step, device_note, failing, put, readings_from, sector_for, write_note, enter_each, entering, finished_note, all_raised, Entering, enter}
 use Rattle.wb_runs.proofs.Lists.{set_there}
 use Rattle.wb_runs.proofs.Images.{Images}
 use Rattle.wb_runs.proofs.Metadata.{MetadataKept}
@@ -55,7 +55,7 @@ use Rattle.wb_simulation.proofs.Noted.{notes_followed}
 use Rattle.std.proofs.lemmas.List.Elements.{All-cons}
 use Rattle.wb_contents.specs.Devices.{by_block}
 use Rattle.wb_contents.proofs.Devices.{is_there}
-use Rattle.wb_runs.specs.Headline.{IsLatest}
+use Rattle.wb_promise.specs.Headline.{IsLatest}
 use Rattle.wb_headline.specs.Desks.{live_orders}
 use Rattle.wb_headline.proofs.Following.{size, most, Followed, Goes, many}
 use Rattle.wb_headline.proofs.Targets.{standing, actor_is, beside, metadata_same, noted_within, stays_on}
@@ -274,11 +274,11 @@ newest_latest sectors histories b o (c ∷ contents) room inside all =
     (subst (λ (k : ℕ). All IsLatest (readings_from histories k contents)) (let e : b * sectors + (o + 1) ≡ suc (b * sectors + o) = omega arith in e)
     (newest_latest sectors histories b (o + 1) contents (omega (arith, room)) (omega (arith, inside)) all.1))
   where
-    here : IsLatest (record { sector = b * sectors + o; content = c; latest = Rattle.wb_runs.specs.Clerk.latest_of (slice_get histories (b * sectors + o)) })
+    here : IsLatest (record { sector = b * sectors + o; content = c; latest = Rattle.wb_promise.specs.Clerk.latest_of (slice_get histories (b * sectors + o)) })
     here =
         let h = there histories (b * sectors + o) (omega (arith, inside)) in
         let is : by_block sectors zeros histories b o ≡ h.0 = is_there sectors zeros histories b o h.0 (omega (arith, room)) h.1 in
-        ap Rattle.wb_runs.specs.Clerk.latest_of h.1 ∙ ap (λ (g : History). Some (newest g)) (sym is) ∙ ap (λ (x : Bytes). Some x) (sym all.0)
+        ap Rattle.wb_promise.specs.Clerk.latest_of h.1 ∙ ap (λ (g : History). Some (newest g)) (sym is) ∙ ap (λ (x : Bytes). Some x) (sym all.0)
 
 module _ (P A : Type 0) (shape : Shape) (images : Images) (t : Target P) (commit : Option RunningCommit) (devices : Devices (List History)) (actors : List Actor) (n : Notes) (known : MetadataKept {P = P} {A = A} shape.geometry images (Stands t) commit devices.metadata)
     (f : Followed P A shape images (standing P A shape images t commit devices actors n) n) (rule : LockRule shape.geometry.origin_blocks t.words (cards_of actors)) (all_suited : AllSuited shape.geometry.origin_blocks actors) (a : ℕ) (x : Actor) (ex : slice_get actors a ≡ Some x) (plan : Plan) (suits : Suits shape.geometry.origin_blocks plan x.card)

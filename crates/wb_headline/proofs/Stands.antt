@@ -27,14 +27,14 @@ use Rattle.wb_devices.specs.declared.running.RunningCommit.{RunningCommit}
 use Rattle.wb_devices.specs.Moving.{device_in}
 use Rattle.wb_devices.specs.Committing.{is_coming, is_committed}
 use Rattle.wb_stage.specs.Stages.{is_all_done}
-use Rattle.wb_runs.specs.declared.job.Job.{Job}
-use Rattle.wb_runs.specs.declared.job.Job.TheVariants.{Read, Write, Flush}
-use Rattle.wb_runs.specs.States.{Shape, State, Actor, Target, Phase, Stands, with_device, block_size, sector_count}
-use Rattle.wb_runs.specs.Happenings.{Chosen, Plain, Puts, Commits, Asks, Gives, Falters, MayFailAt, DoesPut, DoesSync, DoesBegin, DoesRelease, FailsPut, FailsSync, LandedOr, sector_put, block_range}
-use Rattle.wb_runs.specs.Effects.{device_done, device_failed, stepped, actor_then, led}
+use Rattle.wb_promise.specs.declared.job.Job.{Job}
+use Rattle.wb_promise.specs.declared.job.Job.TheVariants.{Read, Write, Flush}
+use Rattle.wb_promise.specs.States.{Shape, State, Actor, Target, Phase, Stands, with_device, block_size, sector_count}
+use Rattle.wb_promise.specs.Happenings.{Chosen, Plain, Puts, Commits, Asks, Gives, Falters, MayFailAt, DoesPut, DoesSync, DoesBegin, DoesRelease, FailsPut, FailsSync, LandedOr, sector_put, block_range}
+use Rattle.wb_promise.specs.Effects.{device_done, device_failed, stepped, actor_then, led}
 use Rattle.wb_runs.specs.Holding.{cards_of, AllSuited}
-use Rattle.wb_runs.specs.Clerk.{Notes, Doing, noted_step}
-use Rattle.wb_runs.specs.Headline.{shown}
+use Rattle.wb_promise.specs.Clerk.{Notes, Doing, noted_step}
+use Rattle.wb_promise.specs.Headline.{shown}
 use Rattle.wb_runs.specs.Inside.{StepInside}
 use Rattle.wb_runs.proofs.Images.{Images}
 use Rattle.wb_runs.proofs.Underway.{sync_does, sync_fails, put_fails}
@@ -110,7 +110,7 @@ module _ (P A : Type 0) (shape : Shape) (images : Images) (t : Target P) (commit
     write_steps (Device (ReadExtent d ex')) got read chosen e g = absurd g
     write_steps next got read chosen e g = absurd (own of_write next claim.is_job e)
 
-    pub write_faults : (choice : Choice) (next : Want) (read : List Bytes) (chosen : Chosen P A) → StepInside shape next → (length devices.cache ≡ Rattle.wb_runs.specs.States.cache_sector_count shape) → (length devices.origin ≡ sector_count shape) → next ≡ want plan → MayFailAt devices choice next → Falters w choice next chosen → Failed_by choice (Write extent content) next read chosen
+    pub write_faults : (choice : Choice) (next : Want) (read : List Bytes) (chosen : Chosen P A) → StepInside shape next → (length devices.cache ≡ Rattle.wb_promise.specs.States.cache_sector_count shape) → (length devices.origin ≡ sector_count shape) → next ≡ want plan → MayFailAt devices choice next → Falters w choice next chosen → Failed_by choice (Write extent content) next read chosen
     write_faults choice (Device (WriteExtent d ex')) read chosen inside cs os e m g = subst (λ (c : Chosen P A). Failed_by choice (Write extent content) (Device (WriteExtent d ex')) read c) (sym g.0)
         (write_fails P A shape images t commit devices actors n known f rule all_suited a x ex [] doing noted extent content plan xt suits job_is claim d ex' e g.1 read (lands d choice) (by d g.1 inside) (beside_orders d ex' e))
       where

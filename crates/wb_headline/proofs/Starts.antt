@@ -16,12 +16,12 @@ use Rattle.wb_tasks.specs.Plan.{Plan, table}
 use Rattle.wb_policy.specs.declared.order.Order.{Order}
 use Rattle.wb_devices.specs.declared.devices.Devices.{Devices}
 use Rattle.wb_devices.specs.declared.running.RunningCommit.{RunningCommit}
-use Rattle.wb_runs.specs.declared.job.Job.{Job}
-use Rattle.wb_runs.specs.declared.job.Job.TheVariants.{Read, Write, Flush, Open}
-use Rattle.wb_runs.specs.States.{Shape, State, Actor, Target, Phase, Stands, Gone, Opens, OfTarget, resting, block_size}
-use Rattle.wb_runs.specs.Happenings.{blocks_left, block_range, extent_refusal, task_job}
-use Rattle.wb_runs.specs.Effects.{all_resting}
-use Rattle.wb_runs.specs.Clerk.{Notes, Doing, begun, put, nobody}
+use Rattle.wb_promise.specs.declared.job.Job.{Job}
+use Rattle.wb_promise.specs.declared.job.Job.TheVariants.{Read, Write, Flush, Open}
+use Rattle.wb_promise.specs.States.{Shape, State, Actor, Target, Phase, Stands, Gone, Opens, OfTarget, resting, block_size}
+use Rattle.wb_promise.specs.Happenings.{blocks_left, block_range, extent_refusal, task_job}
+use Rattle.wb_promise.specs.Effects.{all_resting}
+use Rattle.wb_promise.specs.Clerk.{Notes, Doing, begun, put, nobody}
 use Rattle.wb_runs.proofs.Images.{Images}
 use Rattle.wb_runs.proofs.Metadata.{MetadataKept, kept_readable}
 use Rattle.wb_runs.proofs.Extents.{Within, AllWithin, MayStart, may_start, some_sectors, cut_within, cut_of_block}

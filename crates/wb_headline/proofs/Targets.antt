@@ -16,10 +16,10 @@ use Rattle.wb_types.specs.declared.mode.Dev.{Dev}
 use Rattle.wb_types.specs.declared.mode.Dev.TheVariants.{Metadata, Cache, Origin}
 use Rattle.wb_devices.specs.declared.devices.Devices.{Devices}
 use Rattle.wb_devices.specs.declared.running.RunningCommit.{RunningCommit}
-use Rattle.wb_runs.specs.declared.job.Job.{Job}
-use Rattle.wb_runs.specs.States.{Shape, State, Actor, Target, Phase, Stands, with_device}
-use Rattle.wb_runs.specs.Effects.{actor_then, task_then, card_then, orders_then, awaiting_then, buffer_then, job_of}
-use Rattle.wb_runs.specs.Clerk.{Notes, Doing, failing}
+use Rattle.wb_promise.specs.declared.job.Job.{Job}
+use Rattle.wb_promise.specs.States.{Shape, State, Actor, Target, Phase, Stands, with_device}
+use Rattle.wb_promise.specs.Effects.{actor_then, task_then, card_then, orders_then, awaiting_then, buffer_then, job_of}
+use Rattle.wb_promise.specs.Clerk.{Notes, Doing, failing}
 use Rattle.wb_runs.proofs.Images.{Images, later_of}
 use Rattle.wb_runs.proofs.Metadata.{MetadataKept, AtDesk, kept_readable}
 use Rattle.wb_link.specs.Tables.{Flag, table, Script, Order as AbstractOrder, Job as AbstractJob, Promoting, Returning, want}
@@ -38,7 +38,7 @@ use Rattle.wb_headline.proofs.Desking.{desk_stays}
 use Rattle.wb_headline.proofs.Following.{many, size, most, Followed, Goes}
 use Rattle.wb_simulation.proofs.Followed.{doing_of}
 use Rattle.wb_types.specs.declared.number.OBlock.{OBlock}
-use Rattle.wb_runs.specs.declared.job.Job.TheVariants.{Replace}
+use Rattle.wb_promise.specs.declared.job.Job.TheVariants.{Replace}
 
 -- ---- what is told starts no suspend
 

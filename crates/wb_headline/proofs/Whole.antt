@@ -26,19 +26,19 @@ use Rattle.wb_tasks.specs.declared.step.Got.{Got}
 use Rattle.wb_tasks.specs.declared.step.Got.TheVariants.{Fault}
 use Rattle.wb_devices.specs.declared.devices.Devices.{Devices}
 use Rattle.wb_devices.specs.declared.running.RunningCommit.{RunningCommit}
-use Rattle.wb_runs.specs.declared.job.Job.{Job}
-use Rattle.wb_runs.specs.declared.job.Job.TheVariants.{Read, Write, Flush, Open, Migrate, Replace}
-use Rattle.wb_runs.specs.declared.event.Event.{Event}
-use Rattle.wb_runs.specs.declared.event.Event.TheVariants.{Start, Step, FaultStep, Stop}
-use Rattle.wb_runs.specs.declared.event.What.{What}
-use Rattle.wb_runs.specs.declared.event.What.TheVariants.{Started, Stepped, Stopped}
-use Rattle.wb_runs.specs.States.{Shape, State, Actor, Target, Phase, Stands, Gone, Opens, block_size, start, sector_count}
-use Rattle.wb_runs.specs.Happenings.{Chosen, Cut, Happening, OfSome, DoesNotApply, Gives, Falters, MayFailAt, StartGives, MayBe, begun_as, block_range}
-use Rattle.wb_runs.specs.Effects.{device_done, device_failed, stepped, with_actor, job_of, given, cleared, phase_given, started, after_what, after_happening, after_all, IsRun, phase_then, actor_then}
-use Rattle.wb_runs.specs.Clerk.{Notes, Doing, noted_step, noted_what, put, begun, starting}
-use Rattle.wb_runs.specs.Headline.{place_of, shown, note_happening, noted}
+use Rattle.wb_promise.specs.declared.job.Job.{Job}
+use Rattle.wb_promise.specs.declared.job.Job.TheVariants.{Read, Write, Flush, Open, Migrate, Replace}
+use Rattle.wb_promise.specs.declared.event.Event.{Event}
+use Rattle.wb_promise.specs.declared.event.Event.TheVariants.{Start, Step, FaultStep, Stop}
+use Rattle.wb_promise.specs.declared.event.What.{What}
+use Rattle.wb_promise.specs.declared.event.What.TheVariants.{Started, Stepped, Stopped}
+use Rattle.wb_promise.specs.States.{Shape, State, Actor, Target, Phase, Stands, Gone, Opens, block_size, start, sector_count}
+use Rattle.wb_promise.specs.Happenings.{Chosen, Cut, Happening, OfSome, DoesNotApply, Gives, Falters, MayFailAt, StartGives, MayBe, begun_as, block_range}
+use Rattle.wb_promise.specs.Effects.{device_done, device_failed, stepped, with_actor, job_of, given, cleared, phase_given, started, after_what, after_happening, after_all, IsRun, phase_then, actor_then}
+use Rattle.wb_promise.specs.Clerk.{Notes, Doing, noted_step, noted_what, put, begun, starting}
+use Rattle.wb_promise.specs.Headline.{place_of, shown, note_happening, noted}
 use Rattle.wb_runs.specs.Holding.{TaskSuits}
-use Rattle.wb_runs.specs.Sealed.{SealsNext, Tells, number_of as number_here}
+use Rattle.wb_promise.specs.Sealed.{SealsNext, Tells, number_of as number_here}
 use Rattle.wb_runs.proofs.Lists.{free, there_rests}
 use Rattle.wb_runs.proofs.MetadataRuns.{IsKnown}
 use Rattle.wb_runs.proofs.Using.{UsedRightly, used_what}
@@ -246,11 +246,11 @@ module _ (P A : Type 0) (shape : Shape) where
         Goes P A shape (with_actor w (slice_get w.actors a) (λ y. record w { phase = phase_given w.phase job chosen; actors = slice_set w.actors a (given shape y job chosen) })) n'
     put_there w n' a x job chosen ex g = subst (λ (o : Option Actor). Goes P A shape (with_actor w o (λ y. record w { phase = phase_given w.phase job chosen; actors = slice_set w.actors a (given shape y job chosen) })) n') (sym ex) g
 
-    start_opening : (w : State P A) (n : Notes) → Whole w n → (a : ℕ) (x : Actor) (mode : Mode) (chosen : Chosen P A) → slice_get w.actors a ≡ Some x → (¬ Rattle.wb_runs.specs.Happenings.IsOutOfPlace w.phase (Open mode)) → Begun_to w n a (Open mode) chosen
-    start_opening w n b a x mode chosen ex place = put_there (cleared w (Open mode)) (put (starting n (Open mode)) a (Some (begun n (Open mode)))) a Rattle.wb_runs.specs.States.resting (Open mode) chosen (there_rests w.actors a x ex)
-        (opening_starts P A shape b.goes.images w n b.goes.known b.goes.followed a mode x (given shape Rattle.wb_runs.specs.States.resting (Open mode) chosen) (λ o. place (inl o)) (λ o. place (inr o)) refl)
+    start_opening : (w : State P A) (n : Notes) → Whole w n → (a : ℕ) (x : Actor) (mode : Mode) (chosen : Chosen P A) → slice_get w.actors a ≡ Some x → (¬ Rattle.wb_promise.specs.Happenings.IsOutOfPlace w.phase (Open mode)) → Begun_to w n a (Open mode) chosen
+    start_opening w n b a x mode chosen ex place = put_there (cleared w (Open mode)) (put (starting n (Open mode)) a (Some (begun n (Open mode)))) a Rattle.wb_promise.specs.States.resting (Open mode) chosen (there_rests w.actors a x ex)
+        (opening_starts P A shape b.goes.images w n b.goes.known b.goes.followed a mode x (given shape Rattle.wb_promise.specs.States.resting (Open mode) chosen) (λ o. place (inl o)) (λ o. place (inr o)) refl)
 
-    start_at_target : (t : Target P) (commit : Option RunningCommit) (devices : Devices (List History)) (actors : List Actor) (n : Notes) → Whole (at_target t commit devices actors) n → (a : ℕ) (x : Actor) (job : Job) (chosen : Chosen P A) → slice_get actors a ≡ Some x → x.task ≡ None → (¬ Rattle.wb_runs.specs.Happenings.IsOutOfPlace {P = P} {A = A} (Stands t) job) →
+    start_at_target : (t : Target P) (commit : Option RunningCommit) (devices : Devices (List History)) (actors : List Actor) (n : Notes) → Whole (at_target t commit devices actors) n → (a : ℕ) (x : Actor) (job : Job) (chosen : Chosen P A) → slice_get actors a ≡ Some x → x.task ≡ None → (¬ Rattle.wb_promise.specs.Happenings.IsOutOfPlace {P = P} {A = A} (Stands t) job) →
         StartGives shape (Stands t) (Some x) job Started chosen → Begun_to (at_target t commit devices actors) n a job chosen
     start_at_target t commit devices actors n b a x (Open mode) chosen ex xt place g = start_opening (at_target t commit devices actors) n b a x mode chosen ex place
     start_at_target t commit devices actors n b a x (Read extent) (Cut cut) ex xt place g = put_there (at_target t commit devices actors) (put n a (Some (begun n (Read extent)))) a x (Read extent) (Cut cut) ex
@@ -266,11 +266,11 @@ module _ (P A : Type 0) (shape : Shape) where
     start_at_target t commit devices actors n b a x job chosen ex xt place g = absurd g
 
     -- where none stands, nothing but an opening is in place
-    start_by_phase : (w : State P A) (phase : Phase P A) → w.phase ≡ phase → (n : Notes) → Whole w n → (a : ℕ) (x : Actor) (job : Job) (chosen : Chosen P A) → slice_get w.actors a ≡ Some x → x.task ≡ None → (¬ Rattle.wb_runs.specs.Happenings.IsOutOfPlace phase job) → StartGives shape phase (Some x) job Started chosen → Begun_to w n a job chosen
+    start_by_phase : (w : State P A) (phase : Phase P A) → w.phase ≡ phase → (n : Notes) → Whole w n → (a : ℕ) (x : Actor) (job : Job) (chosen : Chosen P A) → slice_get w.actors a ≡ Some x → x.task ≡ None → (¬ Rattle.wb_promise.specs.Happenings.IsOutOfPlace phase job) → StartGives shape phase (Some x) job Started chosen → Begun_to w n a job chosen
     start_by_phase w (Stands t) e n b a x job chosen ex xt place g =
         let is : record { devices = w.devices; commit = w.commit; phase = Stands t; actors = w.actors } ≡ w = λ i. record w { phase = sym e i } in
         subst (λ (v : State P A). Begun_to v n a job chosen) is (start_at_target t w.commit w.devices w.actors n (subst (λ (v : State P A). Whole v n) (sym is) b) a x job chosen ex xt place g)
-    start_by_phase w phase e n b a x (Open mode) chosen ex xt place g = start_opening w n b a x mode chosen ex (subst (λ (p : Phase P A). ¬ Rattle.wb_runs.specs.Happenings.IsOutOfPlace p (Open mode)) (sym e) place)
+    start_by_phase w phase e n b a x (Open mode) chosen ex xt place g = start_opening w n b a x mode chosen ex (subst (λ (p : Phase P A). ¬ Rattle.wb_promise.specs.Happenings.IsOutOfPlace p (Open mode)) (sym e) place)
     start_by_phase w phase e n b a x job chosen ex xt place g = absurd (place (λ z. z))
 
     start_goes : (w : State P A) (n : Notes) → Whole w n → (a : ℕ) (job : Job) (chosen : Chosen P A) → (¬ DoesNotApply w (Start a job)) → StartGives shape w.phase (slice_get w.actors a) job Started chosen → Begun_to w n a job chosen
@@ -314,9 +314,9 @@ module _ (P A : Type 0) (shape : Shape) where
     keep_opening w a x mode chosen ex =
         let c = cleared w (Open mode) in
         subst (λ (o : Option Actor). Keeps (with_actor c o (λ y. record c { phase = phase_given c.phase (Open mode) chosen; actors = slice_set c.actors a (given shape y (Open mode) chosen) }))) (sym (there_rests w.actors a x ex))
-        (none_set c.actors a (given shape Rattle.wb_runs.specs.States.resting (Open mode) chosen) (refl, refl) (none_rest w.actors))
+        (none_set c.actors a (given shape Rattle.wb_promise.specs.States.resting (Open mode) chosen) (refl, refl) (none_rest w.actors))
 
-    keep_at_target : (t : Target P) (commit : Option RunningCommit) (devices : Devices (List History)) (actors : List Actor) (n : Notes) → Whole (at_target t commit devices actors) n → (a : ℕ) (x : Actor) (job : Job) (chosen : Chosen P A) → slice_get actors a ≡ Some x → x.task ≡ None → (¬ Rattle.wb_runs.specs.Happenings.IsOutOfPlace {P = P} {A = A} (Stands t) job) →
+    keep_at_target : (t : Target P) (commit : Option RunningCommit) (devices : Devices (List History)) (actors : List Actor) (n : Notes) → Whole (at_target t commit devices actors) n → (a : ℕ) (x : Actor) (job : Job) (chosen : Chosen P A) → slice_get actors a ≡ Some x → x.task ≡ None → (¬ Rattle.wb_promise.specs.Happenings.IsOutOfPlace {P = P} {A = A} (Stands t) job) →
         StartGives shape (Stands t) (Some x) job Started chosen → cleared (at_target t commit devices actors) job ≡ at_target t commit devices actors → Keeps (started shape (at_target t commit devices actors) a job chosen)
     keep_at_target t commit devices actors n b a x job chosen ex xt place g same =
         let w = at_target t commit devices actors in
@@ -324,7 +324,7 @@ module _ (P A : Type 0) (shape : Shape) where
         (subst (λ (o : Option Actor). Keeps (with_actor w o (λ y. record w { phase = phase_given w.phase job chosen; actors = slice_set w.actors a (given shape y job chosen) }))) (sym ex)
         (start_keeps P A shape b.goes.images t commit devices actors n b.goes.known b.goes.followed b.used.here b.used.suited b.keeping a x ex xt job chosen g))
 
-    keep_start : (w : State P A) (phase : Phase P A) → w.phase ≡ phase → (n : Notes) → Whole w n → (a : ℕ) (x : Actor) (job : Job) (chosen : Chosen P A) → slice_get w.actors a ≡ Some x → x.task ≡ None → (¬ Rattle.wb_runs.specs.Happenings.IsOutOfPlace phase job) → StartGives shape phase (Some x) job Started chosen → Keeps (started shape w a job chosen)
+    keep_start : (w : State P A) (phase : Phase P A) → w.phase ≡ phase → (n : Notes) → Whole w n → (a : ℕ) (x : Actor) (job : Job) (chosen : Chosen P A) → slice_get w.actors a ≡ Some x → x.task ≡ None → (¬ Rattle.wb_promise.specs.Happenings.IsOutOfPlace phase job) → StartGives shape phase (Some x) job Started chosen → Keeps (started shape w a job chosen)
     keep_start w phase e n b a x (Open mode) chosen ex xt place g = keep_opening w a x mode chosen ex
     keep_start w (Stands t) e n b a x job chosen ex xt place g =
         let is : record { devices = w.devices; commit = w.commit; phase = Stands t; actors = w.actors } ≡ w = λ i. record w { phase = sym e i } in

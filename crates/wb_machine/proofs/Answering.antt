@@ -21,13 +21,13 @@ use Rattle.wb_tasks.specs.declared.step.Answer.TheVariants.{Done as Finished, Re
 use Rattle.wb_tasks.specs.declared.step.Want.{Want}
 use Rattle.wb_tasks.specs.declared.step.Want.TheVariants.{End}
 use Rattle.wb_tasks.specs.declared.step.Got.TheVariants.{Done}
-use Rattle.wb_runs.specs.declared.event.Event.TheVariants.{Step}
-use Rattle.wb_runs.specs.declared.event.What.{What}
-use Rattle.wb_runs.specs.declared.event.What.TheVariants.{Stepped}
-use Rattle.wb_runs.specs.declared.job.Job.TheVariants.{Open}
-use Rattle.wb_runs.specs.States.{Actor, Gone, Opens, Shape, Stands, Target, resting}
-use Rattle.wb_runs.specs.Happenings.{Opened, Plain}
-use Rattle.wb_runs.specs.Effects.{card_by, device_done, job_of, seals_of, stepped, target_over, with_actor}
+use Rattle.wb_promise.specs.declared.event.Event.TheVariants.{Step}
+use Rattle.wb_promise.specs.declared.event.What.{What}
+use Rattle.wb_promise.specs.declared.event.What.TheVariants.{Stepped}
+use Rattle.wb_promise.specs.declared.job.Job.TheVariants.{Open}
+use Rattle.wb_promise.specs.States.{Actor, Gone, Opens, Shape, Stands, Target, resting}
+use Rattle.wb_promise.specs.Happenings.{Opened, Plain}
+use Rattle.wb_promise.specs.Effects.{card_by, device_done, job_of, seals_of, stepped, target_over, with_actor}
 use Rattle.wb_machine.specs.declared.making.Made.{Made}
 use Rattle.wb_machine.specs.declared.opener.Opener.{Opener}
 use Rattle.wb_machine.specs.declared.phase.Phase.{Phase}

@@ -10,7 +10,7 @@ use Rattle.wb_tree.specs.Mapping.{IsMapping}
 use Rattle.wb_desk.specs.Desks.{DeskState, holdings}
 use Rattle.wb_desk.proofs.Index.{mapped_once}
 use Rattle.wb_runs.proofs.Lists.{first_or}
-use Rattle.wb_runs.specs.Happenings.{KeepsReplacement}
+use Rattle.wb_promise.specs.Happenings.{KeepsReplacement}
 use Rattle.std.specs.Bool.{OnFalse}
 
 -- what is not the next element stands behind it

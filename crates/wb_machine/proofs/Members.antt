@@ -4,9 +4,9 @@ use Rattle.std.proofs.Common.{Result, Ok, Err, OnErr}
 use Rattle.wb_words.specs.declared.card.Card.{Card}
 use Rattle.wb_words.specs.Cards.{blank_card}
 use Rattle.wb_tasks.specs.Plan.{Plan}
-use Rattle.wb_runs.specs.declared.job.Job.{Job}
-use Rattle.wb_runs.specs.States.{Actor, resting}
-use Rattle.wb_runs.specs.Happenings.{OfSome}
+use Rattle.wb_promise.specs.declared.job.Job.{Job}
+use Rattle.wb_promise.specs.States.{Actor, resting}
+use Rattle.wb_promise.specs.Happenings.{OfSome}
 use Rattle.wb_machine.specs.Members.{Member, free, seat, seated, works_there}
 
 -- a list in which an element was set to itself

@@ -1,4 +1,4 @@
--- What an event does to an opening is what wb_runs says.
+-- What an event does to an opening is what wb_promise says.
 use Rattle.std.proofs.Common.{◌≡◌, ◌≢◌, ◌≤◌, ◌<◌, ◌⊎◌, not, inl, inr, ℕ, zero, suc, Bool, true, false, List, [], ◌∷◌, Option, Some, None, refl, sym, ap, subst, ◌∙◌, arith, slice_get, slice_set, length, length-set, replicate}
 use Rattle.std.proofs.lemmas.Option.{slice_get_past}
 use Rattle.std.proofs.lemmas.Bool.{eqb-false, eqb-true}
@@ -29,15 +29,15 @@ use Rattle.wb_devices.specs.declared.devices.Devices.{Devices}
 use Rattle.wb_devices.specs.Committing.{goes_on}
 use Rattle.wb_devices.specs.Moving.{device_in}
 use Rattle.wb_devices.specs.declared.running.RunningCommit.{RunningCommit}
-use Rattle.wb_runs.specs.declared.job.Job.{Job}
-use Rattle.wb_runs.specs.declared.job.Job.TheVariants.{Open}
-use Rattle.wb_runs.specs.declared.event.Event.{Event}
-use Rattle.wb_runs.specs.declared.event.Event.TheVariants.{Start, Step, FaultStep, Stop}
-use Rattle.wb_runs.specs.declared.event.What.{What}
-use Rattle.wb_runs.specs.declared.event.What.TheVariants.{Skipped, Started, Stepped, Stopped}
-use Rattle.wb_runs.specs.States.{Shape, Actor, Opens, OfTarget, OfReading, resting, with_device}
-use Rattle.wb_runs.specs.Happenings.{Chosen, Plain, Begins, Reaches, Puts, LandedOr, sector_put, OfSome, DoesNotApply, DoesRead, MayStop}
-use Rattle.wb_runs.specs.Effects.{after_what, all_crashed, all_resting, job_of, stepped, with_actor, device_done, device_failed, went}
+use Rattle.wb_promise.specs.declared.job.Job.{Job}
+use Rattle.wb_promise.specs.declared.job.Job.TheVariants.{Open}
+use Rattle.wb_promise.specs.declared.event.Event.{Event}
+use Rattle.wb_promise.specs.declared.event.Event.TheVariants.{Start, Step, FaultStep, Stop}
+use Rattle.wb_promise.specs.declared.event.What.{What}
+use Rattle.wb_promise.specs.declared.event.What.TheVariants.{Skipped, Started, Stepped, Stopped}
+use Rattle.wb_promise.specs.States.{Shape, Actor, Opens, OfTarget, OfReading, resting, with_device}
+use Rattle.wb_promise.specs.Happenings.{Chosen, Plain, Begins, Reaches, Puts, LandedOr, sector_put, OfSome, DoesNotApply, DoesRead, MayStop}
+use Rattle.wb_promise.specs.Effects.{after_what, all_crashed, all_resting, job_of, stepped, with_actor, device_done, device_failed, went}
 use Rattle.wb_machine.specs.declared.opener.Opener.{Opener}
 use Rattle.wb_machine.specs.declared.phase.Phase.{Phase}
 use Rattle.wb_machine.specs.declared.phase.Phase.TheVariants.{Closed, Underway, Standing}

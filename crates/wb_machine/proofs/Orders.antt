@@ -10,15 +10,15 @@ use Rattle.wb_desk.specs.Desks.{DeskState, MayReserve, holdings}
 use Rattle.wb_tasks.specs.Plan.{Plan, table}
 use Rattle.wb_tasks.specs.Tables.{whole_block}
 use Rattle.wb_tasks.specs.declared.step.Migration.TheVariants.{Demote}
-use Rattle.wb_runs.specs.declared.job.Job.{Job}
-use Rattle.wb_runs.specs.declared.job.Job.TheVariants.{Read, Write, Flush, Open, Migrate, Replace}
-use Rattle.wb_runs.specs.declared.event.What.{What}
-use Rattle.wb_runs.specs.declared.event.What.TheVariants.{Skipped, Refused, Started}
-use Rattle.wb_runs.specs.States.{Shape, block_size}
+use Rattle.wb_promise.specs.declared.job.Job.{Job}
+use Rattle.wb_promise.specs.declared.job.Job.TheVariants.{Read, Write, Flush, Open, Migrate, Replace}
+use Rattle.wb_promise.specs.declared.event.What.{What}
+use Rattle.wb_promise.specs.declared.event.What.TheVariants.{Skipped, Refused, Started}
+use Rattle.wb_promise.specs.States.{Shape, block_size}
 use Rattle.wb_types.specs.declared.number.OBlock.{OBlock}
 use Rattle.wb_stage.specs.Asking.{is_of}
-use Rattle.wb_runs.specs.Effects.{dropped, replacing}
-use Rattle.wb_runs.specs.Happenings.{Plain, Cut, Orders, job_refusal, order_for, task_job, KeepsMigration, KeepsReplacement, begun_as}
+use Rattle.wb_promise.specs.Effects.{dropped, replacing}
+use Rattle.wb_promise.specs.Happenings.{Plain, Cut, Orders, job_refusal, order_for, task_job, KeepsMigration, KeepsReplacement, begun_as}
 use Rattle.wb_machine.specs.Life.{wants_target}
 use Rattle.wb_machine.specs.Members.{Member}
 use Rattle.wb_machine.specs.Serving.{GetsJob, Starts, StartsIf, TakesOrder, cut_for, GetsOrder, KeepsFor, is_ordered, order_by}

@@ -1,4 +1,4 @@
--- What the code that programs run does on the devices of a machine is what wb_runs says.
+-- What the code that programs run does on the devices of a machine is what wb_promise says.
 use Rattle.std.proofs.Common.{◌≡◌, ◌≤◌, ◌+◌, ◌&&◌, ℕ, zero, suc, Bool, true, false, if◌then◌else◌, List, [], ◌∷◌, Option, Some, None, refl, sym, ap, subst, ◌∙◌, arith, length, take, slice_get, is_some}
 use Rattle.std.specs.Prelude.{IfSome}
 use Rattle.wb_types.specs.declared.mode.Dev.{Dev}
@@ -29,10 +29,10 @@ use Rattle.wb_devices.specs.declared.running.RunningCommit.{RunningCommit}
 use Rattle.wb_devices.specs.Committing.{goes_on, is_coming}
 use Rattle.wb_devices.specs.Moving.{CanMove, DidSync, IsOutcome, OthersStay, SyncFails, Ways, device_in}
 use Rattle.wb_devices.specs.Stepping.{BufferStays, CommitGoes, DidPut, DidStep, Goes, PutFails, StepFails}
-use Rattle.wb_runs.specs.declared.job.Job.{Job}
-use Rattle.wb_runs.specs.States.{with_device}
-use Rattle.wb_runs.specs.Happenings.{LandedOr, Plain, sector_put}
-use Rattle.wb_runs.specs.Effects.{contents_for, led}
+use Rattle.wb_promise.specs.declared.job.Job.{Job}
+use Rattle.wb_promise.specs.States.{with_device}
+use Rattle.wb_promise.specs.Happenings.{LandedOr, Plain, sector_put}
+use Rattle.wb_promise.specs.Effects.{contents_for, led}
 use Rattle.wb_machine.specs.Life.{FailsOn, MayPutCommitted, PutsCommitted, commit_synced, commit_written, contents_of, device_step_of}
 use Rattle.wb_machine.specs.Serving.{ComesNext, DoesOn, FailsAt, FittedTo, HasRoomAt, IsDoable, IsFront, IsPut, MayBePut, Moves, PutsSector, RootComes, SyncComes, WasPut, commit_by, read_by}
 use Rattle.wb_machine.proofs.Commits.{commit_of, same_commit}

@@ -20,10 +20,10 @@ use Rattle.wb_tasks.specs.declared.step.Got.{Got}
 use Rattle.wb_devices.specs.declared.devices.Devices.{Devices}
 use Rattle.wb_devices.specs.declared.running.RunningCommit.{RunningCommit}
 use Rattle.wb_devices.specs.Moving.{device_in}
-use Rattle.wb_runs.specs.declared.job.Job.{Job}
-use Rattle.wb_runs.specs.declared.job.Job.TheVariants.{Read, Write, Flush, Open, Migrate, Replace}
-use Rattle.wb_runs.specs.States.{Shape, Actor, Stands, Target as RunTarget}
-use Rattle.wb_runs.specs.Happenings.{Chosen, Puts, Opened, OfSome, DoesOpen, DoesPut, DoesSync, Gives}
+use Rattle.wb_promise.specs.declared.job.Job.{Job}
+use Rattle.wb_promise.specs.declared.job.Job.TheVariants.{Read, Write, Flush, Open, Migrate, Replace}
+use Rattle.wb_promise.specs.States.{Shape, Actor, Stands, Target as RunTarget}
+use Rattle.wb_promise.specs.Happenings.{Chosen, Puts, Opened, OfSome, DoesOpen, DoesPut, DoesSync, Gives}
 use Rattle.wb_runs.specs.Holding.{AreUsedRightly}
 use Rattle.wb_runs.specs.Progress.{IsFree}
 use Rattle.wb_machine.specs.declared.phase.Phase.{Phase}

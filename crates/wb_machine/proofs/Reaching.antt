@@ -1,10 +1,10 @@
 -- A machine that has gone on by one record.
 use Rattle.std.proofs.Common.{◌≡◌, ◌∙◌, ◌++◌, ◌∷◌, [], List, refl, sym, ap, subst}
 use Rattle.std.proofs.lemmas.List.{map-append}
-use Rattle.wb_runs.specs.declared.event.Record.{Record}
-use Rattle.wb_runs.specs.States.{Shape, start}
-use Rattle.wb_runs.specs.Happenings.{May}
-use Rattle.wb_runs.specs.Effects.{after_happening, after_all, IsRun}
+use Rattle.wb_promise.specs.declared.event.Record.{Record}
+use Rattle.wb_promise.specs.States.{Shape, start}
+use Rattle.wb_promise.specs.Happenings.{May}
+use Rattle.wb_promise.specs.Effects.{after_happening, after_all, IsRun}
 use Rattle.wb_machine.specs.Life.{Happened, Happens, IsReached, GoesOn, Now}
 
 -- a run goes on by a happening that may come

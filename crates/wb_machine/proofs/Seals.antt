@@ -17,7 +17,7 @@ use Rattle.wb_words.specs.SharedWords.{Words, flag, fresh_words, word_at, with_c
 use Rattle.wb_words.specs.Cards.{blank_card}
 use Rattle.wb_words.specs.Effects.{words_after, card_after}
 use Rattle.wb_cells.specs.Crews.{CrewState, card_of, crew_after}
-use Rattle.wb_runs.specs.Effects.{card_by, sealing_steps, seals_of, words_by}
+use Rattle.wb_promise.specs.Effects.{card_by, sealing_steps, seals_of, words_by}
 use Rattle.wb_machine.specs.declared.making.Made.{Made}
 use Rattle.wb_machine.specs.Making.{AllFree, IsMade, block_seals, crew_by, read_of}
 use Rattle.wb_machine.specs.Members.{free}

@@ -1,4 +1,4 @@
--- What an event does over a target that stands is what wb_runs says.
+-- What an event does over a target that stands is what wb_promise says.
 use Rattle.std.proofs.Common.{◌≡◌, ◌≤◌, inl, inr, ℕ, zero, suc, Bool, true, false, List, [], ◌∷◌, Option, Some, None, refl, sym, ap, subst, ◌∙◌, if◌then◌else◌, slice_get, slice_set, slice_index_or, length, length-set, replicate, is_none}
 use Rattle.std.specs.declared.alloc.Global.{Global}
 use Rattle.wb_types.specs.Limits.{node_count}
@@ -29,14 +29,14 @@ use Rattle.wb_tasks.specs.declared.step.Got.{Got}
 use Rattle.wb_tasks.specs.declared.step.Got.TheVariants.{Done, Fault, Refused as GotRefused}
 use Rattle.wb_devices.specs.declared.devices.Devices.{Devices}
 use Rattle.wb_devices.specs.declared.running.RunningCommit.{RunningCommit}
-use Rattle.wb_runs.specs.declared.job.Job.{Job}
-use Rattle.wb_runs.specs.declared.job.Job.TheVariants.{Read, Write, Flush, Open, Migrate, Replace}
-use Rattle.wb_runs.specs.declared.event.Event.TheVariants.{Start, Step, FaultStep}
-use Rattle.wb_runs.specs.declared.event.What.{What}
-use Rattle.wb_runs.specs.declared.event.What.TheVariants.{Skipped, Refused, Started, Stepped, Stopped}
-use Rattle.wb_runs.specs.States.{Shape, Actor, Stands, Phase, Target as RunTarget}
-use Rattle.wb_runs.specs.Happenings.{Chosen, Plain, Cut, Orders, Begins, Reaches, Puts, Commits, Asks, Opened, OfSome, DoesNotApply, DoesMap, DoesRelease, DoesUnmap, Gives, Falters, MayFailAt, StartGives, task_job, begun_as}
-use Rattle.wb_runs.specs.Effects.{after_what, asked_desk, begun_desk, card_then, commit_then, cut_of, desk_then, devices_then, given, job_of, phase_given, task_then, went, words_then}
+use Rattle.wb_promise.specs.declared.job.Job.{Job}
+use Rattle.wb_promise.specs.declared.job.Job.TheVariants.{Read, Write, Flush, Open, Migrate, Replace}
+use Rattle.wb_promise.specs.declared.event.Event.TheVariants.{Start, Step, FaultStep}
+use Rattle.wb_promise.specs.declared.event.What.{What}
+use Rattle.wb_promise.specs.declared.event.What.TheVariants.{Skipped, Refused, Started, Stepped, Stopped}
+use Rattle.wb_promise.specs.States.{Shape, Actor, Stands, Phase, Target as RunTarget}
+use Rattle.wb_promise.specs.Happenings.{Chosen, Plain, Cut, Orders, Begins, Reaches, Puts, Commits, Asks, Opened, OfSome, DoesNotApply, DoesMap, DoesRelease, DoesUnmap, Gives, Falters, MayFailAt, StartGives, task_job, begun_as}
+use Rattle.wb_promise.specs.Effects.{after_what, asked_desk, begun_desk, card_then, commit_then, cut_of, desk_then, devices_then, given, job_of, phase_given, task_then, went, words_then}
 use Rattle.wb_runs.specs.Holding.{TaskSuits}
 use Rattle.wb_runs.proofs.Desks.{is_live, is_unmappable}
 use Rattle.wb_machine.specs.declared.target.Target.{Target}

@@ -7,8 +7,8 @@ use Rattle.std.specs.Prelude.{option_map}
 use Rattle.wb_types.specs.Extents.{rising}
 use Rattle.wb_types.specs.declared.entry.Entry.{Entry}
 use Rattle.wb_disk.specs.Device.{Content as Bytes}
-use Rattle.wb_runs.specs.States.{Shape, block_size, sector_count}
-use Rattle.wb_runs.specs.Headline.{content_of, place_of, shown_by}
+use Rattle.wb_promise.specs.States.{Shape, block_size, sector_count}
+use Rattle.wb_promise.specs.Headline.{content_of, place_of, shown_by}
 
 rising_at : (first n i : ℕ) → i < n → slice_get (rising first n) i ≡ Some (first + i)
 rising_at first zero i l = absurd (omega (arith, l))

@@ -19,15 +19,15 @@ use Rattle.wb_tasks.specs.declared.step.Want.{Want}
 use Rattle.wb_tasks.specs.declared.step.Want.TheVariants.{Cell, Device, Desk, End}
 use Rattle.wb_tasks.specs.declared.step.Got.{Got}
 use Rattle.wb_devices.specs.declared.devices.Devices.{Devices}
-use Rattle.wb_runs.specs.declared.job.Job.{Job}
-use Rattle.wb_runs.specs.declared.job.Job.TheVariants.{Read, Write, Flush, Migrate, Open, Replace}
-use Rattle.wb_runs.specs.declared.event.Event.{Event}
-use Rattle.wb_runs.specs.declared.event.Event.TheVariants.{Start, Step, FaultStep, Stop}
-use Rattle.wb_runs.specs.declared.event.What.{What}
-use Rattle.wb_runs.specs.declared.event.What.TheVariants.{Started, Stepped, Stopped}
-use Rattle.wb_runs.specs.States.{Actor, Shape, cache_sector_count, sector_count, start}
-use Rattle.wb_runs.specs.Happenings.{Chosen, Plain, Falters, Gives, MayBe, OfSome}
-use Rattle.wb_runs.specs.Effects.{IsRun, after_all, after_happening, after_what, all_crashed, cleared, contents_for, device_done, device_failed, devices_then, given, job_of, phase_given, put_by, stepped, with_actor}
+use Rattle.wb_promise.specs.declared.job.Job.{Job}
+use Rattle.wb_promise.specs.declared.job.Job.TheVariants.{Read, Write, Flush, Migrate, Open, Replace}
+use Rattle.wb_promise.specs.declared.event.Event.{Event}
+use Rattle.wb_promise.specs.declared.event.Event.TheVariants.{Start, Step, FaultStep, Stop}
+use Rattle.wb_promise.specs.declared.event.What.{What}
+use Rattle.wb_promise.specs.declared.event.What.TheVariants.{Started, Stepped, Stopped}
+use Rattle.wb_promise.specs.States.{Actor, Shape, cache_sector_count, sector_count, start}
+use Rattle.wb_promise.specs.Happenings.{Chosen, Plain, Falters, Gives, MayBe, OfSome}
+use Rattle.wb_promise.specs.Effects.{IsRun, after_all, after_happening, after_what, all_crashed, cleared, contents_for, device_done, device_failed, devices_then, given, job_of, phase_given, put_by, stepped, with_actor}
 use Rattle.wb_machine.specs.Life.{Happened, Now}
 
 -- cache and origin are as large as before

@@ -34,7 +34,7 @@ use Rattle.wb_machine.specs.declared.making.Made.{Made}
 use Rattle.wb_machine.specs.declared.opener.Opener.{Opener}
 use Rattle.wb_machine.specs.Making.{MadeBy, reading_of}
 use Rattle.wb_devices.specs.declared.running.RunningCommit.{RunningCommit}
-use Rattle.wb_runs.specs.Happenings.{Reaches, DoesRead, HasGeneration, LandedOr, MayFailAt}
+use Rattle.wb_promise.specs.Happenings.{Reaches, DoesRead, HasGeneration, LandedOr, MayFailAt}
 use Rattle.wb_machine.specs.Life.{FailsOn, MayPutCommitted, PutsRoot, commit_synced, commit_written, device_step_of, made_synced, reading_synced}
 use Rattle.wb_machine.specs.Standing.{Point, AtMetadata, AtCache, AtOrigin, AtRead, AtRoot, AtRootSync, AtEnd, AtRefusal, plan_from, HasComeTo, HasMadeThere, HasReadAll, IsReading, StandsAt}
 

@@ -1,4 +1,4 @@
--- The steps of an opening on devices are what wb_runs says, wherever it stands.
+-- The steps of an opening on devices are what wb_promise says, wherever it stands.
 use Rattle.std.proofs.Common.{◌≡◌, ◌<◌, ◌==◌, ◌&&◌, inl, inr, ℕ, Bool, true, [], Option, Some, None, refl, sym, ap, subst, ◌∙◌, length}
 use Rattle.std.proofs.lemmas.Bool.{eq-eqb}
 use Rattle.wb_types.specs.declared.geometry.Geometry.{Geometry}
@@ -21,11 +21,11 @@ use Rattle.wb_devices.specs.Committing.{goes_on, is_coming}
 use Rattle.wb_devices.specs.declared.devices.Devices.{Devices}
 use Rattle.wb_devices.specs.Moving.{device_in}
 use Rattle.wb_devices.specs.declared.running.RunningCommit.{RunningCommit}
-use Rattle.wb_runs.specs.declared.event.Event.TheVariants.{Step, FaultStep}
-use Rattle.wb_runs.specs.declared.event.What.{What}
-use Rattle.wb_runs.specs.declared.event.What.TheVariants.{Stepped}
-use Rattle.wb_runs.specs.States.{Shape, with_device}
-use Rattle.wb_runs.specs.Happenings.{LandedOr, sector_put}
+use Rattle.wb_promise.specs.declared.event.Event.TheVariants.{Step, FaultStep}
+use Rattle.wb_promise.specs.declared.event.What.{What}
+use Rattle.wb_promise.specs.declared.event.What.TheVariants.{Stepped}
+use Rattle.wb_promise.specs.States.{Shape, with_device}
+use Rattle.wb_promise.specs.Happenings.{LandedOr, sector_put}
 use Rattle.wb_machine.specs.declared.opener.Opener.{Opener}
 use Rattle.wb_machine.specs.Life.{Now, FailsOn, Happens, MayPutCommitted, PutsCommitted, PutsRoot, commit_failed, commit_synced, commit_written, contents_of, device_step_of, reading_failed, reading_synced, state_of}
 use Rattle.wb_machine.specs.declared.phase.Phase.TheVariants.{Underway}

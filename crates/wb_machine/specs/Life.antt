@@ -1,4 +1,4 @@
--- A machine that runs, as its callers see it, and what an event does to it, by the definitions of wb_runs.
+-- A machine that runs, as its callers see it, and what an event does to it, by the definitions of wb_promise.
 use Rattle.std.specs.Prelude.{◌≡◌, ◌<◌, ◌==◌, ◌++◌, ◌∷◌, [], ℕ, Bool, true, false, not, List, Option, Some, None, IfSome, length, replicate, slice_set}
 use Rattle.std.specs.declared.alloc.Global.{Global}
 use Rattle.wb_types.specs.declared.geometry.Geometry.{Geometry}
@@ -28,14 +28,14 @@ use Rattle.wb_tasks.specs.declared.step.DeviceStep.TheVariants.{Sync, ReadMetada
 use Rattle.wb_tasks.specs.declared.step.Want.{Want}
 use Rattle.wb_tasks.specs.declared.step.Want.TheVariants.{Device, End}
 use Rattle.wb_tasks.specs.declared.step.Answer.TheVariants.{Done as Finished}
-use Rattle.wb_runs.specs.declared.job.Job.{Job}
-use Rattle.wb_runs.specs.declared.job.Job.TheVariants.{Open}
-use Rattle.wb_runs.specs.declared.event.Event.{Event}
-use Rattle.wb_runs.specs.declared.event.What.{What}
-use Rattle.wb_runs.specs.declared.event.Record.{Record}
-use Rattle.wb_runs.specs.States.{Shape, State, Actor, Phase as RunPhase, Stands, Gone, Opens, resting, start, with_device}
-use Rattle.wb_runs.specs.Happenings.{Chosen, Happening, LandedOr, MayBe, May}
-use Rattle.wb_runs.specs.Effects.{after_what, after_happening, after_all, IsRun, records_of}
+use Rattle.wb_promise.specs.declared.job.Job.{Job}
+use Rattle.wb_promise.specs.declared.job.Job.TheVariants.{Open}
+use Rattle.wb_promise.specs.declared.event.Event.{Event}
+use Rattle.wb_promise.specs.declared.event.What.{What}
+use Rattle.wb_promise.specs.declared.event.Record.{Record}
+use Rattle.wb_promise.specs.States.{Shape, State, Actor, Phase as RunPhase, Stands, Gone, Opens, resting, start, with_device}
+use Rattle.wb_promise.specs.Happenings.{Chosen, Happening, LandedOr, MayBe, May}
+use Rattle.wb_promise.specs.Effects.{after_what, after_happening, after_all, IsRun, records_of}
 use Rattle.wb_machine.specs.declared.making.Made.{Made}
 use Rattle.wb_machine.specs.declared.phase.Phase.{Phase}
 use Rattle.wb_machine.specs.declared.phase.Phase.TheVariants.{Closed, Underway, Standing}

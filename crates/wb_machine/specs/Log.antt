@@ -1,6 +1,6 @@
 -- A trace as its callers see it.
 use Rattle.std.specs.Prelude.{◌<◌, ℕ, List, length}
-use Rattle.wb_runs.specs.declared.event.Record.{Record}
+use Rattle.wb_promise.specs.declared.event.Record.{Record}
 
 -- the records, and for how many there is memory
 pub record Log : Type 0 where

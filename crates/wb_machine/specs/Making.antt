@@ -18,7 +18,7 @@ use Rattle.wb_meta.specs.declared.read_steps.ReadSteps.TheVariants.{Done as AllR
 use Rattle.wb_desk.specs.Opening.{opened, threshold_of}
 use Rattle.wb_tasks.specs.declared.step.Got.{Got}
 use Rattle.wb_tasks.specs.declared.step.Got.TheVariants.{Done}
-use Rattle.wb_runs.specs.Effects.{card_by, seals_of, words_by}
+use Rattle.wb_promise.specs.Effects.{card_by, seals_of, words_by}
 use Rattle.wb_machine.specs.declared.making.Made.{Made}
 use Rattle.wb_machine.specs.declared.opener.Opener.{Opener}
 use Rattle.wb_machine.specs.Members.{free}

@@ -4,8 +4,8 @@ use Rattle.wb_disk.specs.Device.{Content as Bytes}
 use Rattle.wb_policy.specs.declared.order.Order.{Order}
 use Rattle.wb_tasks.specs.Plan.{Plan}
 use Rattle.wb_words.specs.declared.card.Card.{Card}
-use Rattle.wb_runs.specs.declared.job.Job.{Job}
-use Rattle.wb_runs.specs.States.{Actor}
+use Rattle.wb_promise.specs.declared.job.Job.{Job}
+use Rattle.wb_promise.specs.States.{Actor}
 
 -- what an actor is at, but for its card: what is left of its task, if it has one, the orders that it has, those that wait for a flush of it,
 -- and what its migration has read last

@@ -41,15 +41,15 @@ use Rattle.wb_devices.specs.declared.devices.Devices.{Devices}
 use Rattle.wb_devices.specs.declared.running.RunningCommit.{RunningCommit}
 use Rattle.wb_devices.specs.Committing.{goes_on}
 use Rattle.wb_devices.specs.Moving.{device_in}
-use Rattle.wb_runs.specs.declared.job.Job.{Job}
-use Rattle.wb_runs.specs.declared.job.Job.TheVariants.{Read, Write, Flush, Open, Migrate, Replace}
-use Rattle.wb_runs.specs.declared.event.What.{What}
-use Rattle.wb_runs.specs.declared.event.What.TheVariants.{Skipped, Refused, Started, Stepped}
+use Rattle.wb_promise.specs.declared.job.Job.{Job}
+use Rattle.wb_promise.specs.declared.job.Job.TheVariants.{Read, Write, Flush, Open, Migrate, Replace}
+use Rattle.wb_promise.specs.declared.event.What.{What}
+use Rattle.wb_promise.specs.declared.event.What.TheVariants.{Skipped, Refused, Started, Stepped}
 use Rattle.wb_stage.specs.Stages.{is_all_done}
-use Rattle.wb_runs.specs.States.{Shape, Actor, Stands, Gone, Target as RunTarget, block_size}
-use Rattle.wb_runs.specs.Happenings.{Chosen, Plain, Orders, Puts, DoesPut, FailsPut, Gives, IsNextOf, MayFailAt, Falters, KeepsMigration, KeepsReplacement, StartGives, begun_as, extent_of, order_for, task_job, sector_put}
+use Rattle.wb_promise.specs.States.{Shape, Actor, Stands, Gone, Target as RunTarget, block_size}
+use Rattle.wb_promise.specs.Happenings.{Chosen, Plain, Orders, Puts, DoesPut, FailsPut, Gives, IsNextOf, MayFailAt, Falters, KeepsMigration, KeepsReplacement, StartGives, begun_as, extent_of, order_for, task_job, sector_put}
 use Rattle.wb_runs.specs.Holding.{AllSuited}
-use Rattle.wb_runs.specs.Effects.{buffer_then, commit_then, contents_at, contents_for, cut_of, desk_then, device_done, device_failed, devices_then, job_of, awaiting_then, orders_given, orders_then, task_then}
+use Rattle.wb_promise.specs.Effects.{buffer_then, commit_then, contents_at, contents_for, cut_of, desk_then, device_done, device_failed, devices_then, job_of, awaiting_then, orders_given, orders_then, task_then}
 use Rattle.wb_machine.specs.declared.phase.Phase.{Phase}
 use Rattle.wb_machine.specs.declared.phase.Phase.TheVariants.{Standing}
 use Rattle.wb_machine.specs.declared.target.Target.{Target}

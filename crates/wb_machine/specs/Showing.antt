@@ -6,7 +6,7 @@ use Rattle.wb_types.specs.declared.entry.Entry.{Entry}
 use Rattle.wb_words.specs.SharedWords.{Words, dirty_in, word_at}
 use Rattle.wb_policy.specs.declared.quiet.Quiet.{Quiet}
 use Rattle.wb_desk.specs.Desks.{mapped_now}
-use Rattle.wb_runs.specs.States.{Phase, Stands}
+use Rattle.wb_promise.specs.States.{Phase, Stands}
 
 -- a cache block that has an entry, whose block has a seal that says that this copy is dirty
 abbrev pub is_sealed_dirty : Words → Option Entry → Bool

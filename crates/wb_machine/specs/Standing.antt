@@ -23,7 +23,7 @@ use Rattle.wb_tasks.specs.declared.step.Want.TheVariants.{Device}
 use Rattle.wb_devices.specs.declared.devices.Devices.{Devices}
 use Rattle.wb_devices.specs.declared.running.RunningCommit.{RunningCommit}
 use Rattle.wb_words.specs.SharedWords.{flag}
-use Rattle.wb_runs.specs.declared.job.Job.{Job}
+use Rattle.wb_promise.specs.declared.job.Job.{Job}
 use Rattle.wb_machine.specs.Members.{Member}
 use Rattle.wb_machine.specs.declared.making.Made.{Made}
 use Rattle.wb_machine.specs.declared.opener.Opener.{Opener}

@@ -11,14 +11,14 @@ ghost use Rattle.wb_desk.specs.Desks.{DeskInvariant};
 ghost use Rattle.wb_desk.specs.Entries.{is_replacement};
 ghost use Rattle.wb_stage.specs.Asking.{is_of};
 ghost use Rattle.wb_tasks.specs.declared.step.Got.TheVariants.{Done};
-ghost use Rattle.wb_runs.specs.Happenings.{KeepsMigration, KeepsReplacement, MayFollow, blocks_left};
-ghost use Rattle.wb_runs.specs.Effects.{awaiting_then, dropped, orders_then, replacing};
+ghost use Rattle.wb_promise.specs.Happenings.{KeepsMigration, KeepsReplacement, MayFollow, blocks_left};
+ghost use Rattle.wb_promise.specs.Effects.{awaiting_then, dropped, orders_then, replacing};
 ghost use Rattle.wb_machine.specs.Keeping.{IsLeft};
 
 use std::alloc::Global;
 use wb_desk::Desk;
 use wb_policy::{Order, Policy, Quiet};
-use wb_runs::Job;
+use wb_promise::Job;
 use wb_space::Holding;
 use wb_tasks::{Answer, DeskStep, Migration, Want};
 use wb_types::{CBlock, OBlock, Refusal};

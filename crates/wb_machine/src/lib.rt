@@ -1,5 +1,5 @@
 //! A cache over three devices in memory that runs by events, one atomic step at a time: what happens in it is what the
-//! definitions of wb_runs allow.
+//! definitions of wb_promise allow.
 //!
 //! Over a target that was opened reads, writes, flushes, promotions, demotions, write-backs and replacements run.
 #![tactic(auto)]

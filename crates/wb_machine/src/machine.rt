@@ -3,7 +3,7 @@
 ghost use Rattle.std.specs.Prelude.{◌≡◌, [], OnOk, OnErr, IfOk, IfErr, slice_get};
 ghost use Rattle.std.specs.declared.alloc.Global.{Global};
 ghost use Rattle.wb_types.specs.declared.refusal.Refusal.TheVariants.{Memory};
-ghost use Rattle.wb_runs.specs.Headline.{shown};
+ghost use Rattle.wb_promise.specs.Headline.{shown};
 ghost use Rattle.wb_machine.specs.declared.machine.TheConstants.{ACTORS};
 ghost use Rattle.wb_machine.specs.Life.{GoesOn, Happens, IsReached, IsThere, shape_of, state_of};
 ghost use Rattle.wb_machine.specs.Serving.{IsServed};
@@ -22,7 +22,8 @@ use wb_devices::Devices;
 use wb_disk::MemDisk;
 use wb_meta::format;
 use wb_policy::Quiet;
-use wb_runs::{Event, Record, never_stuck, words_are_used_rightly};
+use wb_promise::{Event, Record};
+use wb_runs::{never_stuck, words_are_used_rightly};
 use wb_types::{Content, Geometry, Refusal};
 
 /// How many actors a machine has.

@@ -9,7 +9,7 @@ ghost use Rattle.wb_runs.specs.Holding.{TaskSuits};
 ghost use Rattle.wb_machine.specs.declared.machine.TheConstants.{ACTORS};
 ghost use Rattle.wb_machine.specs.Life.{contents_of, shape_of, wants_target};
 ghost use Rattle.wb_machine.specs.Members.{free};
-ghost use Rattle.wb_runs.specs.Effects.{task_then};
+ghost use Rattle.wb_promise.specs.Effects.{task_then};
 ghost use Rattle.wb_machine.specs.Keeping.{IsLeftBy};
 ghost use Rattle.wb_machine.specs.Serving.{CanStep, Comes, FailsOrRests, GetsOrder, Starts, Steps, TakesOrder, held_for, is_copied, is_ordered};
 ghost use Rattle.wb_machine.specs.Standing.{IsRoomy};
@@ -28,7 +28,7 @@ use wb_desk::Desk;
 use wb_devices::{Devices, RunningCommit};
 use wb_disk::{CrashChoice, MemDisk};
 use wb_policy::{Order, Quiet};
-use wb_runs::{Job, What};
+use wb_promise::{Job, What};
 use wb_tasks::{DeviceStep, Got, Task, Want};
 use wb_types::{Content, Geometry, Refusal};
 

@@ -16,7 +16,7 @@ ghost use Rattle.wb_tasks.specs.declared.step.Want.TheVariants.{Device};
 ghost use Rattle.wb_tasks.specs.declared.step.Got.TheVariants.{Fault};
 ghost use Rattle.wb_devices.specs.Moving.{OthersStay, device_in};
 ghost use Rattle.wb_devices.specs.Stepping.{CommitGoes, StepFails};
-ghost use Rattle.wb_runs.specs.Happenings.{Plain, sector_put};
+ghost use Rattle.wb_promise.specs.Happenings.{Plain, sector_put};
 ghost use Rattle.wb_machine.specs.Life.{contents_of};
 ghost use Rattle.wb_machine.specs.Serving.{DoesOn, FailsAt, FittedTo, HasRoomAt, IsDoable, Moves, commit_by, read_by};
 
@@ -25,7 +25,7 @@ use std::mem;
 use wb_devices::{Devices, RunningCommit};
 use wb_disk::{CrashChoice, Disk, Faltering, MemDisk};
 use wb_meta::CommitStep;
-use wb_runs::Job;
+use wb_promise::Job;
 use wb_tasks::{DeviceStep, Got};
 use wb_types::{Content, Dev, Extent, Place, Refusal, SECTOR_BYTES};
 

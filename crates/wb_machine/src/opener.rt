@@ -16,9 +16,9 @@ ghost use Rattle.wb_meta.specs.declared.read_steps.ReadSteps.{ReadSteps as Steps
 ghost use Rattle.wb_tasks.specs.declared.step.Want.TheVariants.{Device};
 ghost use Rattle.wb_devices.specs.Moving.{device_in};
 ghost use Rattle.wb_devices.specs.Opened.{DidTell};
-ghost use Rattle.wb_runs.specs.States.{with_device};
-ghost use Rattle.wb_runs.specs.declared.event.Event.TheVariants.{Step};
-ghost use Rattle.wb_runs.specs.declared.event.What.TheVariants.{Stepped};
+ghost use Rattle.wb_promise.specs.States.{with_device};
+ghost use Rattle.wb_promise.specs.declared.event.Event.TheVariants.{Step};
+ghost use Rattle.wb_promise.specs.declared.event.What.TheVariants.{Stepped};
 ghost use Rattle.wb_machine.specs.declared.machine.TheConstants.{ACTORS};
 ghost use Rattle.wb_machine.specs.declared.phase.Phase.TheVariants.{Underway};
 ghost use Rattle.wb_machine.specs.Life.{FailsOn, Happens, PutsCommitted, commit_failed, commit_synced, commit_written, contents_of, device_step_of, made_synced, reading_synced, reading_failed, shape_of, state_of};

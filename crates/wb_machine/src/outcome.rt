@@ -1,10 +1,10 @@
 //! What an event did, and what it read.
 
 ghost use Rattle.std.specs.Prelude.{◌≡◌, []};
-ghost use Rattle.wb_runs.specs.declared.event.What.TheVariants.{Skipped};
+ghost use Rattle.wb_promise.specs.declared.event.What.TheVariants.{Skipped};
 
 use std::alloc::Global;
-use wb_runs::What;
+use wb_promise::What;
 use wb_types::Content;
 
 /// What an event did, and what it read.

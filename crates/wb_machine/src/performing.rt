@@ -20,7 +20,7 @@ use std::alloc::Global;
 use wb_devices::Devices;
 use wb_disk::MemDisk;
 use wb_policy::Order;
-use wb_runs::Job;
+use wb_promise::Job;
 use wb_tasks::{Got, Want};
 use wb_types::{Content, Refusal};
 use wb_words::CellStep;

@@ -5,7 +5,7 @@ ghost use Rattle.wb_types.specs.declared.refusal.Refusal.TheVariants.{Memory};
 ghost use Rattle.wb_types.specs.Extents.{pieces};
 ghost use Rattle.wb_tasks.specs.Plan.{table};
 ghost use Rattle.wb_tasks.specs.Tables.{OnBlock, Migrating, Reading, Writing, whole_block};
-ghost use Rattle.wb_runs.specs.Happenings.{begun_as, block_range, extent_refusal, job_refusal, migrated_range, order_for, task_job};
+ghost use Rattle.wb_promise.specs.Happenings.{begun_as, block_range, extent_refusal, job_refusal, migrated_range, order_for, task_job};
 ghost use Rattle.wb_machine.specs.declared.machine.TheConstants.{ACTORS};
 ghost use Rattle.wb_machine.specs.Life.{shape_of, wants_target};
 ghost use Rattle.wb_machine.specs.Serving.{cut_for, is_ordered};
@@ -15,7 +15,7 @@ use crate::work::Work;
 use std::alloc::Global;
 use wb_flow::FlushTask;
 use wb_policy::Order;
-use wb_runs::Job;
+use wb_promise::Job;
 use wb_tasks::{Migration, MigrationTask, ReadTask, RequestTask, WriteTask};
 use wb_types::{Extent, Geometry, OBlock, Refusal};
 

@@ -5,7 +5,7 @@ ghost use Rattle.wb_tree.specs.Mapping.{IsMapping};
 ghost use Rattle.wb_words.specs.declared.card.Hold.TheVariants.{Nothing};
 ghost use Rattle.wb_words.specs.SharedWords.{word_at};
 ghost use Rattle.wb_cells.specs.Crews.{card_of};
-ghost use Rattle.wb_runs.specs.Effects.{sealing_steps};
+ghost use Rattle.wb_promise.specs.Effects.{sealing_steps};
 ghost use Rattle.wb_machine.specs.Making.{AllFree, block_seals, crew_by};
 
 use crate::known_crew::KnownCrew;

@@ -2,7 +2,7 @@
 
 ghost use Rattle.std.specs.Prelude.{◌≡◌, [], IfOk, IfErr, OnErr, true};
 ghost use Rattle.wb_types.specs.declared.refusal.Refusal.TheVariants.{Memory};
-ghost use Rattle.wb_runs.specs.declared.event.Event.TheVariants.{Start, Step, FaultStep};
+ghost use Rattle.wb_promise.specs.declared.event.Event.TheVariants.{Start, Step, FaultStep};
 ghost use Rattle.wb_machine.specs.declared.machine.TheConstants.{ACTORS};
 ghost use Rattle.wb_machine.specs.declared.phase.Phase.TheVariants.{Standing};
 ghost use Rattle.wb_machine.specs.Life.{Happens, IsThere, contents_of, shape_of, state_of, wants_target};
@@ -18,7 +18,7 @@ use crate::target::Target;
 use std::alloc::Global;
 use wb_devices::Devices;
 use wb_disk::{CrashChoice, MemDisk};
-use wb_runs::{Job, What};
+use wb_promise::{Job, What};
 use wb_types::{Geometry, Refusal};
 
 /// An actor gets a job, if it has none and the job may be started. `Memory` where there is no room for an order; then nothing has

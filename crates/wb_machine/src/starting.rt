@@ -1,7 +1,7 @@
 //! Starts of openings.
 
 ghost use Rattle.std.specs.Prelude.{◌≡◌, ◌<◌, [], false, length};
-ghost use Rattle.wb_runs.specs.declared.event.Event.TheVariants.{Start};
+ghost use Rattle.wb_promise.specs.declared.event.Event.TheVariants.{Start};
 ghost use Rattle.wb_machine.specs.declared.machine.TheConstants.{ACTORS};
 ghost use Rattle.wb_machine.specs.Life.{Happens, IsThere, is_busy, is_opening, is_sound, shape_of, state_of, wants_target};
 ghost use Rattle.wb_machine.specs.Members.{works_there};
@@ -15,7 +15,7 @@ use std::alloc::Global;
 use wb_devices::{Devices, Opening};
 use wb_disk::MemDisk;
 use wb_flow::OpenTask;
-use wb_runs::{Job, What};
+use wb_promise::{Job, What};
 use wb_types::{Geometry, Mode};
 
 /// An actor gets an opening, if it has no task. It starts in write-back mode, and what another actor was opening is given up; over

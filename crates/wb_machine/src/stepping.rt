@@ -2,7 +2,7 @@
 
 ghost use Rattle.std.specs.Prelude.{◌≡◌, [], false, IfOk, IfErr, OnErr};
 ghost use Rattle.wb_types.specs.declared.refusal.Refusal.TheVariants.{Memory};
-ghost use Rattle.wb_runs.specs.declared.event.Event.TheVariants.{Step, FaultStep};
+ghost use Rattle.wb_promise.specs.declared.event.Event.TheVariants.{Step, FaultStep};
 ghost use Rattle.wb_machine.specs.declared.machine.TheConstants.{ACTORS};
 ghost use Rattle.wb_machine.specs.Life.{Happens, IsThere, answered, contents_of, device_step_of, shape_of, stands, stands_by, state_of};
 ghost use Rattle.wb_machine.specs.Standing.{IsSound};
@@ -14,7 +14,7 @@ use std::alloc::Global;
 use std::mem;
 use wb_devices::Devices;
 use wb_disk::{CrashChoice, MemDisk};
-use wb_runs::What;
+use wb_promise::What;
 use wb_tasks::{Answer, DeviceStep, Got, Want};
 use wb_types::{Geometry, Refusal};
 

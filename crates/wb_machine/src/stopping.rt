@@ -1,8 +1,8 @@
 //! Crashes of the three devices.
 
 ghost use Rattle.std.specs.Prelude.{◌≡◌, []};
-ghost use Rattle.wb_runs.specs.declared.event.Event.TheVariants.{Stop};
-ghost use Rattle.wb_runs.specs.States.{Shape};
+ghost use Rattle.wb_promise.specs.declared.event.Event.TheVariants.{Stop};
+ghost use Rattle.wb_promise.specs.States.{Shape};
 ghost use Rattle.wb_machine.specs.declared.machine.TheConstants.{ACTORS};
 ghost use Rattle.wb_machine.specs.Life.{Happens, IsThere, state_of};
 ghost use Rattle.wb_machine.specs.Standing.{IsSound};
@@ -11,7 +11,7 @@ ghost use Rattle.wb_types.specs.declared.geometry.Geometry.{Geometry};
 use crate::phase::{Phase, put};
 use wb_devices::Devices;
 use wb_disk::{CrashChoice, MemDisk};
-use wb_runs::What;
+use wb_promise::What;
 use wb_types::Dev;
 
 /// Each sector of the three devices keeps its chosen content, and nothing stands over them. The event is skipped where the choice does not

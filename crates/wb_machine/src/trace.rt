@@ -6,7 +6,7 @@ ghost use Rattle.wb_machine.specs.Log.{RecordFits};
 
 use std::alloc::Global;
 use std::marker::Model;
-use wb_runs::Record;
+use wb_promise::Record;
 use wb_types::Refusal;
 
 /// The records of a machine, one for each event, in order. A contract sees also for how many there is memory.

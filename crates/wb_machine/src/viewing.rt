@@ -3,7 +3,7 @@
 ghost use Rattle.std.specs.Prelude.{◌≡◌, ◌*◌, ◌<◌, ◌/◌, IfSome, length, map, slice_get};
 ghost use Rattle.wb_disk.specs.Device.{newest};
 ghost use Rattle.wb_desk.specs.Desks.{mapped_now};
-ghost use Rattle.wb_runs.specs.Headline.{content_of, place_of, shown};
+ghost use Rattle.wb_promise.specs.Headline.{content_of, place_of, shown};
 ghost use Rattle.wb_machine.specs.declared.machine.TheConstants.{ACTORS};
 ghost use Rattle.wb_machine.specs.Life.{shape_of, state_of};
 ghost use Rattle.wb_machine.specs.Showing.{dirty_now};

@@ -5,7 +5,7 @@ use std::alloc::Global;
 use std::fmt::Write;
 use wb_disk::{Base, CrashChoice};
 use wb_lines::{ACTORS, Line, Setup, Task};
-use wb_runs::{Event, Job, What};
+use wb_promise::{Event, Job, What};
 use wb_tasks::{Answer, DeviceStep, Migration, Want};
 use wb_types::{CBlock, Extent, Geometry, Mode, OBlock, Refusal, SECTOR_BYTES, Sector};
 use wb_world::World;

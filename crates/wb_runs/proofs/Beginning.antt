@@ -21,7 +21,7 @@ use Rattle.wb_desk.specs.Commits.{MayBegin, next_plan}
 use Rattle.wb_devices.specs.declared.running.RunningCommit.{RunningCommit}
 use Rattle.wb_tasks.specs.declared.step.Got.TheVariants.{Began}
 use denote.RawPtr.{null_ptr}
-use Rattle.wb_runs.specs.Happenings.{Commits, DoesBegin}
+use Rattle.wb_promise.specs.Happenings.{Commits, DoesBegin}
 use Rattle.wb_desk.proofs.Committing.{on_unused}
 use Rattle.wb_runs.proofs.Bare.{BareDesk, no_entries, nothing_exists, nothing_changed}
 use Rattle.wb_runs.proofs.Metadata.{unknowing}

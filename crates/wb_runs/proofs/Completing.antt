@@ -19,7 +19,7 @@ use Rattle.wb_meta.specs.declared.read_steps.State.{State as Stored}
 use Rattle.wb_meta.specs.declared.commit_steps.CommitSteps.TheVariants.{NodesSynced}
 use Rattle.wb_devices.specs.declared.running.RunningCommit.{RunningCommit}
 use Rattle.wb_tasks.specs.declared.step.Got.TheVariants.{Done}
-use Rattle.wb_runs.specs.Happenings.{Reaches, DoesRead}
+use Rattle.wb_promise.specs.Happenings.{Reaches, DoesRead}
 use Rattle.wb_runs.proofs.Bare.{nothing_changed}
 use Rattle.wb_runs.proofs.Beginning.{no_entry, no_node}
 use Rattle.wb_runs.proofs.Readings.{same_newest}

@@ -6,9 +6,9 @@ use Rattle.std.proofs.lemmas.List.Elements.{All-cons, All-head, All-nil, Contain
 use Rattle.wb_types.proofs.Lists.{Contains-first}
 use Rattle.wb_types.specs.declared.mode.Dev.TheVariants.{Cache, Origin}
 use Rattle.wb_disk.specs.Device.{Content as Bytes}
-use Rattle.wb_runs.specs.Clerk.{Doing}
+use Rattle.wb_promise.specs.Clerk.{Doing}
 use Rattle.wb_runs.specs.Excluded.{ExcludesWrongAnswers, older, newer, foreign, given, with_floor, opening}
-use Rattle.wb_runs.specs.Headline.{IsAllowedAt, IsLatest, ShowsAllowed}
+use Rattle.wb_promise.specs.Headline.{IsAllowedAt, IsLatest, ShowsAllowed}
 
 -- one place, or another
 one_alone : {X : Type 0} (x y : X) → Contains (x ∷ []) y → x ≡ y

@@ -15,10 +15,10 @@ use Rattle.wb_tasks.specs.Plan.{device_of}
 use Rattle.wb_tasks.specs.Ready.{HoldsBlocks}
 use Rattle.wb_devices.specs.declared.running.RunningCommit.{RunningCommit}
 use Rattle.wb_devices.specs.declared.devices.Devices.{Devices}
-use Rattle.wb_runs.specs.declared.job.Job.{Job}
-use Rattle.wb_runs.specs.States.{Shape, State, Target, Phase, Stands, Gone, Opens, with_device}
-use Rattle.wb_runs.specs.Happenings.{Chosen, Plain, Puts, LandedOr, sector_put, IsNextOf, FailsPut, FailsSync, Falters}
-use Rattle.wb_runs.specs.Effects.{device_failed, devices_then, commit_then, phase_then}
+use Rattle.wb_promise.specs.declared.job.Job.{Job}
+use Rattle.wb_promise.specs.States.{Shape, State, Target, Phase, Stands, Gone, Opens, with_device}
+use Rattle.wb_promise.specs.Happenings.{Chosen, Plain, Puts, LandedOr, sector_put, IsNextOf, FailsPut, FailsSync, Falters}
+use Rattle.wb_promise.specs.Effects.{device_failed, devices_then, commit_then, phase_then}
 use Rattle.wb_runs.proofs.Images.{Images, Turns, stays}
 use Rattle.wb_runs.proofs.Stepping.{IsData, data_same}
 use Rattle.wb_runs.proofs.Underway.{Readable, IsPut, stopped, sync_fails, put_fails, partly_readable}

@@ -22,14 +22,14 @@ use Rattle.wb_tasks.specs.declared.step.Got.{Got}
 use Rattle.wb_tasks.specs.declared.step.Got.TheVariants.{Done, Word, Began}
 use Rattle.wb_devices.specs.declared.devices.Devices.{Devices}
 use Rattle.wb_devices.specs.declared.running.RunningCommit.{RunningCommit}
-use Rattle.wb_runs.specs.declared.job.Job.TheVariants.{Flush}
-use Rattle.wb_runs.specs.declared.event.Event.{Event}
-use Rattle.wb_runs.specs.declared.event.Event.TheVariants.{Start, Step}
-use Rattle.wb_runs.specs.declared.event.What.{What}
-use Rattle.wb_runs.specs.declared.event.What.TheVariants.{Started, Stepped}
-use Rattle.wb_runs.specs.States.{Shape, State, Actor, Target, Stands}
-use Rattle.wb_runs.specs.Happenings.{Chosen, Plain, Puts, Commits, Happening, AtWork}
-use Rattle.wb_runs.specs.Effects.{after_all, IsRun}
+use Rattle.wb_promise.specs.declared.job.Job.TheVariants.{Flush}
+use Rattle.wb_promise.specs.declared.event.Event.{Event}
+use Rattle.wb_promise.specs.declared.event.Event.TheVariants.{Start, Step}
+use Rattle.wb_promise.specs.declared.event.What.{What}
+use Rattle.wb_promise.specs.declared.event.What.TheVariants.{Started, Stepped}
+use Rattle.wb_promise.specs.States.{Shape, State, Actor, Target, Stands}
+use Rattle.wb_promise.specs.Happenings.{Chosen, Plain, Puts, Commits, Happening, AtWork}
+use Rattle.wb_promise.specs.Effects.{after_all, IsRun}
 use Rattle.wb_runs.proofs.Rooted.{length-grown, Fits, rooted, comes_next, root_does}
 use Rattle.wb_runs.proofs.Metadata.{Quiet}
 use Rattle.wb_runs.proofs.Bare.{BareDesk}

@@ -42,15 +42,15 @@ use Rattle.wb_tasks.specs.declared.step.Want.{Want}
 use Rattle.wb_tasks.specs.declared.step.Want.TheVariants.{Cell, Device, Desk, End}
 use Rattle.wb_tasks.specs.declared.step.Got.{Got}
 use Rattle.wb_tasks.specs.declared.step.Got.TheVariants.{Done, Word, Refused as GotRefused}
-use Rattle.wb_runs.specs.declared.job.Job.{Job}
-use Rattle.wb_runs.specs.declared.job.Job.TheVariants.{Write, Flush, Migrate, Replace}
-use Rattle.wb_runs.specs.declared.event.Event.TheVariants.{Start}
-use Rattle.wb_runs.specs.declared.event.What.TheVariants.{Started}
-use Rattle.wb_runs.specs.States.{Shape, State, Actor, OfTarget, resting, cache_sector_count, start}
-use Rattle.wb_runs.specs.Happenings.{AtWork, OfSome, Chosen, Plain, Cut, Asks, Happening, task_job}
-use Rattle.wb_runs.specs.Effects.{after_all, all_resting, contents_at, IsRun}
-use Rattle.wb_runs.specs.Clerk.{Notes, formatted as formatted_notes}
-use Rattle.wb_runs.specs.Headline.{place_of, noted}
+use Rattle.wb_promise.specs.declared.job.Job.{Job}
+use Rattle.wb_promise.specs.declared.job.Job.TheVariants.{Write, Flush, Migrate, Replace}
+use Rattle.wb_promise.specs.declared.event.Event.TheVariants.{Start}
+use Rattle.wb_promise.specs.declared.event.What.TheVariants.{Started}
+use Rattle.wb_promise.specs.States.{Shape, State, Actor, OfTarget, resting, cache_sector_count, start}
+use Rattle.wb_promise.specs.Happenings.{AtWork, OfSome, Chosen, Plain, Cut, Asks, Happening, task_job}
+use Rattle.wb_promise.specs.Effects.{after_all, all_resting, contents_at, IsRun}
+use Rattle.wb_promise.specs.Clerk.{Notes, formatted as formatted_notes}
+use Rattle.wb_promise.specs.Headline.{place_of, noted}
 use Rattle.wb_runs.specs.Possible.{PassesThrough, AboutToAnswer, two_blocks, first_block, second_block, first_cache_block, first_sector, replacement, FirstHas, FirstCacheBlockIs, Replaces, CanReplace, GivesUp, CanGiveUp, StartsAgain, CanStartAgain, WritesBack, CanWriteBack}
 use Rattle.wb_runs.proofs.Shown.{nowhere}
 use Rattle.wb_runs.proofs.Beginning.{bare_commit}

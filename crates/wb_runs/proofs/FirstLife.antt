@@ -24,23 +24,23 @@ use Rattle.wb_desk.specs.Commits.{MayBegin}
 use Rattle.wb_words.specs.Effects.{words_after, card_after}
 use Rattle.wb_words.specs.declared.step.CellStep.{CellStep}
 use Rattle.wb_tasks.specs.Plan.{Plan, after, table}
-use Rattle.wb_runs.specs.declared.job.Job.{Job}
+use Rattle.wb_promise.specs.declared.job.Job.{Job}
 use Rattle.wb_tasks.specs.declared.step.Answer.TheVariants.{Done as Finished}
 use Rattle.wb_tasks.specs.declared.step.DeviceStep.TheVariants.{Read as ReadExtent, Write as WriteExtent}
 use Rattle.wb_tasks.specs.declared.step.Want.{Want}
 use Rattle.wb_tasks.specs.declared.step.Want.TheVariants.{Cell, Device, End}
 use Rattle.wb_tasks.specs.declared.step.Got.{Got}
 use Rattle.wb_tasks.specs.declared.step.Got.TheVariants.{Done, Word, Fault}
-use Rattle.wb_runs.specs.declared.job.Job.TheVariants.{Read, Write, Flush, Open, Migrate, Replace}
-use Rattle.wb_runs.specs.declared.event.Event.{Event}
-use Rattle.wb_runs.specs.declared.event.Event.TheVariants.{Start, Step, FaultStep, Stop}
-use Rattle.wb_runs.specs.declared.event.What.{What}
-use Rattle.wb_runs.specs.declared.event.What.TheVariants.{Started, Stepped, Stopped}
-use Rattle.wb_runs.specs.States.{Shape, State, Actor, Target, Phase, Stands, Gone, resting}
-use Rattle.wb_runs.specs.Happenings.{Plain, Cut, Happening, May, task_job}
-use Rattle.wb_runs.specs.Effects.{after_happening, after_all, all_resting, IsRun, orders_answered, awaiting_answered}
-use Rattle.wb_runs.specs.Clerk.{Notes, Doing, greater_of}
-use Rattle.wb_runs.specs.Headline.{noted, note_happening}
+use Rattle.wb_promise.specs.declared.job.Job.TheVariants.{Read, Write, Flush, Open, Migrate, Replace}
+use Rattle.wb_promise.specs.declared.event.Event.{Event}
+use Rattle.wb_promise.specs.declared.event.Event.TheVariants.{Start, Step, FaultStep, Stop}
+use Rattle.wb_promise.specs.declared.event.What.{What}
+use Rattle.wb_promise.specs.declared.event.What.TheVariants.{Started, Stepped, Stopped}
+use Rattle.wb_promise.specs.States.{Shape, State, Actor, Target, Phase, Stands, Gone, resting}
+use Rattle.wb_promise.specs.Happenings.{Plain, Cut, Happening, May, task_job}
+use Rattle.wb_promise.specs.Effects.{after_happening, after_all, all_resting, IsRun, orders_answered, awaiting_answered}
+use Rattle.wb_promise.specs.Clerk.{Notes, Doing, greater_of}
+use Rattle.wb_promise.specs.Headline.{noted, note_happening}
 use Rattle.wb_runs.specs.Possible.{one_block, first_sector, AboutToAnswer, FirstDoes}
 use denote.RawPtr.{null_ptr}
 use Rattle.wb_runs.proofs.FirstFlush.{happened, flushing, flush_run, flush_done}

@@ -18,12 +18,12 @@ use Rattle.wb_tasks.specs.declared.step.Got.{Got}
 use Rattle.wb_tasks.specs.declared.step.Got.TheVariants.{Done, More}
 use Rattle.wb_tasks.specs.declared.step.Want.{Want}
 use Rattle.wb_devices.specs.declared.running.RunningCommit.{RunningCommit}
-use Rattle.wb_runs.specs.declared.job.Job.TheVariants.{Open}
-use Rattle.wb_runs.specs.declared.event.Event.TheVariants.{Start, Step}
-use Rattle.wb_runs.specs.declared.event.What.TheVariants.{Started, Stepped}
-use Rattle.wb_runs.specs.States.{Shape, State, Actor, Gone, OfTarget, resting, sector_count, cache_sector_count, start}
-use Rattle.wb_runs.specs.Happenings.{Chosen, Plain, Begins, Reaches, Puts, Opened, Happening}
-use Rattle.wb_runs.specs.Effects.{after_all, IsRun}
+use Rattle.wb_promise.specs.declared.job.Job.TheVariants.{Open}
+use Rattle.wb_promise.specs.declared.event.Event.TheVariants.{Start, Step}
+use Rattle.wb_promise.specs.declared.event.What.TheVariants.{Started, Stepped}
+use Rattle.wb_promise.specs.States.{Shape, State, Actor, Gone, OfTarget, resting, sector_count, cache_sector_count, start}
+use Rattle.wb_promise.specs.Happenings.{Chosen, Plain, Begins, Reaches, Puts, Opened, Happening}
+use Rattle.wb_promise.specs.Effects.{after_all, IsRun}
 use Rattle.wb_runs.specs.Possible.{Opens, CanOpen, Flushes, CanFlush}
 use Rattle.wb_runs.proofs.Readings.{first_read, some_slot}
 use Rattle.wb_runs.proofs.Formatted.{HasNoTree, formatted_none, synced_none, none_images, none_readable}
@@ -39,10 +39,10 @@ use Rattle.wb_words.specs.Cards.{blank_card}
 use Rattle.wb_words.specs.declared.step.CellStep.{CellStep}
 use Rattle.wb_desk.specs.Commits.{MayBegin}
 use Rattle.wb_tasks.specs.Plan.{want}
-use Rattle.wb_runs.specs.declared.job.Job.TheVariants.{Flush}
-use Rattle.wb_runs.specs.States.{Target, Stands}
-use Rattle.wb_runs.specs.Happenings.{AtWork}
-use Rattle.wb_runs.specs.Effects.{target_over, words_by, card_by, card_over, all_resting, after_happening}
+use Rattle.wb_promise.specs.declared.job.Job.TheVariants.{Flush}
+use Rattle.wb_promise.specs.States.{Target, Stands}
+use Rattle.wb_promise.specs.Happenings.{AtWork}
+use Rattle.wb_promise.specs.Effects.{target_over, words_by, card_by, card_over, all_resting, after_happening}
 
 module _ (P A : Type 0) (policy : P) (alloc : A) (global : Global) (shape : Shape) (metadata cache origin : List History) (none : HasNoTree shape.geometry metadata) (size : length metadata ≡ shape.geometry.meta_sectors) (rest : List Actor) where
   -- the metadata once they were synced

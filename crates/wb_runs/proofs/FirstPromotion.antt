@@ -37,14 +37,14 @@ use Rattle.wb_tasks.specs.declared.step.Want.{Want}
 use Rattle.wb_tasks.specs.declared.step.Want.TheVariants.{Cell, Device, Desk}
 use Rattle.wb_tasks.specs.declared.step.Got.{Got}
 use Rattle.wb_tasks.specs.declared.step.Got.TheVariants.{Done, Word}
-use Rattle.wb_runs.specs.declared.job.Job.{Job}
-use Rattle.wb_runs.specs.declared.job.Job.TheVariants.{Migrate}
-use Rattle.wb_runs.specs.declared.event.Event.TheVariants.{Start, Step}
-use Rattle.wb_runs.specs.declared.event.What.TheVariants.{Started, Stepped}
-use Rattle.wb_runs.specs.States.{Shape, State, Actor, Stands, resting, OfTarget, cache_sector_count, start}
-use Rattle.wb_runs.specs.Happenings.{Chosen, Plain, Orders, Asks, Happening}
-use Rattle.wb_runs.specs.Effects.{after_all, all_resting, IsRun}
-use Rattle.wb_runs.specs.Headline.{place_of}
+use Rattle.wb_promise.specs.declared.job.Job.{Job}
+use Rattle.wb_promise.specs.declared.job.Job.TheVariants.{Migrate}
+use Rattle.wb_promise.specs.declared.event.Event.TheVariants.{Start, Step}
+use Rattle.wb_promise.specs.declared.event.What.TheVariants.{Started, Stepped}
+use Rattle.wb_promise.specs.States.{Shape, State, Actor, Stands, resting, OfTarget, cache_sector_count, start}
+use Rattle.wb_promise.specs.Happenings.{Chosen, Plain, Orders, Asks, Happening}
+use Rattle.wb_promise.specs.Effects.{after_all, all_resting, IsRun}
+use Rattle.wb_promise.specs.Headline.{place_of}
 use Rattle.wb_runs.specs.Possible.{one_block, first_block, first_cache_block, AboutToAnswer, Promotes, CanPromote}
 use Rattle.wb_runs.proofs.Lists.{set_there}
 use Rattle.wb_runs.proofs.Formatted.{HasNoTree, formatted_none}

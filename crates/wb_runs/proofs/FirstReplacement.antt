@@ -46,13 +46,13 @@ use Rattle.wb_tasks.specs.declared.step.Want.{Want}
 use Rattle.wb_tasks.specs.declared.step.Want.TheVariants.{Cell, Device, Desk, End}
 use Rattle.wb_tasks.specs.declared.step.Got.{Got}
 use Rattle.wb_tasks.specs.declared.step.Got.TheVariants.{Done, Word, Fault}
-use Rattle.wb_runs.specs.declared.job.Job.{Job}
-use Rattle.wb_runs.specs.declared.job.Job.TheVariants.{Write, Migrate, Replace}
-use Rattle.wb_runs.specs.declared.event.Event.TheVariants.{Start, Step, FaultStep}
-use Rattle.wb_runs.specs.declared.event.What.TheVariants.{Started, Stepped}
-use Rattle.wb_runs.specs.States.{Shape, State, Actor, Stands}
-use Rattle.wb_runs.specs.Happenings.{Chosen, Plain, Cut, Orders, Asks, Happening, task_job}
-use Rattle.wb_runs.specs.Effects.{after_all, contents_at, IsRun}
+use Rattle.wb_promise.specs.declared.job.Job.{Job}
+use Rattle.wb_promise.specs.declared.job.Job.TheVariants.{Write, Migrate, Replace}
+use Rattle.wb_promise.specs.declared.event.Event.TheVariants.{Start, Step, FaultStep}
+use Rattle.wb_promise.specs.declared.event.What.TheVariants.{Started, Stepped}
+use Rattle.wb_promise.specs.States.{Shape, State, Actor, Stands}
+use Rattle.wb_promise.specs.Happenings.{Chosen, Plain, Cut, Orders, Asks, Happening, task_job}
+use Rattle.wb_promise.specs.Effects.{after_all, contents_at, IsRun}
 use Rattle.wb_runs.specs.Possible.{two_blocks, first_block, second_block, first_cache_block, first_sector, replacement}
 use Rattle.wb_runs.proofs.Desks.{changed}
 use Rattle.wb_runs.proofs.Completing.{empty_sound}

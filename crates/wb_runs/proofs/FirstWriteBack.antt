@@ -24,13 +24,13 @@ use Rattle.wb_tasks.specs.declared.step.Want.{Want}
 use Rattle.wb_tasks.specs.declared.step.Want.TheVariants.{Cell, Device, Desk, End}
 use Rattle.wb_tasks.specs.declared.step.Got.{Got}
 use Rattle.wb_tasks.specs.declared.step.Got.TheVariants.{Done, Word}
-use Rattle.wb_runs.specs.declared.job.Job.{Job}
-use Rattle.wb_runs.specs.declared.job.Job.TheVariants.{Migrate}
-use Rattle.wb_runs.specs.declared.event.Event.TheVariants.{Start}
-use Rattle.wb_runs.specs.declared.event.What.TheVariants.{Started}
-use Rattle.wb_runs.specs.States.{Shape, State, Actor}
-use Rattle.wb_runs.specs.Happenings.{Chosen, Plain, Orders, Asks, Happening, task_job}
-use Rattle.wb_runs.specs.Effects.{after_all, IsRun}
+use Rattle.wb_promise.specs.declared.job.Job.{Job}
+use Rattle.wb_promise.specs.declared.job.Job.TheVariants.{Migrate}
+use Rattle.wb_promise.specs.declared.event.Event.TheVariants.{Start}
+use Rattle.wb_promise.specs.declared.event.What.TheVariants.{Started}
+use Rattle.wb_promise.specs.States.{Shape, State, Actor}
+use Rattle.wb_promise.specs.Happenings.{Chosen, Plain, Orders, Asks, Happening, task_job}
+use Rattle.wb_promise.specs.Effects.{after_all, IsRun}
 use Rattle.wb_runs.specs.Possible.{two_blocks, first_block, first_cache_block}
 use Rattle.wb_runs.proofs.FirstFlush.{happened}
 use Rattle.wb_runs.proofs.FirstPromotion.{no_cost}

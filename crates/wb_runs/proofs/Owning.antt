@@ -13,8 +13,8 @@ use Rattle.wb_orders.specs.Orders.{AreOrders, order_at}
 use Rattle.wb_desk.specs.Desks.{DeskState, IsLive, MayReserve}
 use Rattle.wb_desk.specs.Calls.{reserved}
 use Rattle.wb_stage.specs.Asking.{is_of}
-use Rattle.wb_runs.specs.States.{Actor}
-use Rattle.wb_runs.specs.Effects.{dropped}
+use Rattle.wb_promise.specs.States.{Actor}
+use Rattle.wb_promise.specs.Effects.{dropped}
 use Rattle.wb_runs.proofs.Ordering.{held_of}
 use Rattle.wb_runs.proofs.Lists.{set_other, set_there, first_or}
 

@@ -3,9 +3,9 @@ use Rattle.std.proofs.Common.{◌≡◌, ◌∙◌, ◌+◌, ◌/◌, ℕ, zero,
 use Rattle.wb_types.specs.declared.entry.Entry.{Entry}
 use Rattle.wb_types.specs.Extents.{rising}
 use Rattle.wb_disk.specs.Device.{Content as Bytes, History, added, written}
-use Rattle.wb_runs.specs.States.{Shape, sector_count, block_size}
-use Rattle.wb_runs.specs.Effects.{sealing_steps}
-use Rattle.wb_runs.specs.Headline.{cached_from, place_of, content_of, shown_by}
+use Rattle.wb_promise.specs.States.{Shape, sector_count, block_size}
+use Rattle.wb_promise.specs.Effects.{sealing_steps}
+use Rattle.wb_promise.specs.Headline.{cached_from, place_of, content_of, shown_by}
 use Rattle.wb_runs.proofs.Lists.{set_there}
 
 pub written_same : (device : List History) (at : ℕ) (h : History) (c : Bytes) → slice_get device at ≡ Some h → slice_get (written device at c) at ≡ Some (added h c)

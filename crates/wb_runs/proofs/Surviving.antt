@@ -29,15 +29,15 @@ use Rattle.wb_desk.specs.Commits.{MayBegin}
 use Rattle.wb_types.specs.declared.mode.Dev.TheVariants.{Metadata, Cache, Origin}
 use Rattle.wb_disk.specs.Crash.{crashed, crashed_from}
 use Rattle.wb_runs.proofs.Beginning.{bare_root}
-use Rattle.wb_runs.specs.States.{Shape, State, Actor, Gone, resting, cache_sector_count, start}
-use Rattle.wb_runs.specs.Happenings.{Happening}
-use Rattle.wb_runs.specs.Effects.{after_happening, after_all, all_resting, IsRun}
-use Rattle.wb_runs.specs.Clerk.{Notes, Doing, begins, nobody}
-use Rattle.wb_runs.specs.Headline.{shown, noted, note_happening}
+use Rattle.wb_promise.specs.States.{Shape, State, Actor, Gone, resting, cache_sector_count, start}
+use Rattle.wb_promise.specs.Happenings.{Happening}
+use Rattle.wb_promise.specs.Effects.{after_happening, after_all, all_resting, IsRun}
+use Rattle.wb_promise.specs.Clerk.{Notes, Doing, begins, nobody}
+use Rattle.wb_promise.specs.Headline.{shown, noted, note_happening}
 use Rattle.wb_runs.specs.Possible.{one_block, first_sector, PassesThrough, AboutToAnswer, FirstDoes, Survives, CanSurvive}
-use Rattle.wb_runs.specs.declared.job.Job.TheVariants.{Read, Write, Flush}
-use Rattle.wb_runs.specs.States.{OfTarget}
-use Rattle.wb_runs.specs.Clerk.{greater_of}
+use Rattle.wb_promise.specs.declared.job.Job.TheVariants.{Read, Write, Flush}
+use Rattle.wb_promise.specs.States.{OfTarget}
+use Rattle.wb_promise.specs.Clerk.{greater_of}
 use Rattle.wb_meta.specs.Reads.{sectors_read}
 use Rattle.wb_meta.specs.declared.read_steps.ReadSteps.{ReadSteps}
 use Rattle.wb_meta.specs.declared.read_steps.ReadSteps.TheVariants.{Begun, FirstSlotRead, RootFound, Done as AllRead}
@@ -46,7 +46,7 @@ use Rattle.wb_runs.proofs.Metadata.{Quiet}
 use Rattle.wb_runs.proofs.MetadataRuns.{IsKnown}
 use Rattle.wb_runs.proofs.Bare.{BareDesk}
 use Rattle.wb_runs.proofs.Formatted.{HasNoTree, formatted_none}
-use Rattle.wb_runs.specs.Clerk.{formatted as formatted_notes}
+use Rattle.wb_promise.specs.Clerk.{formatted as formatted_notes}
 use Rattle.wb_runs.proofs.FirstOpening.{happenings as first_opening, is_run as opens_run, target as opened_target, rooted_metadata as opened_metadata, opened_is, known as opened_known, quiet as opened_quiet, may as opened_may, stands as opens_stands, run_append, after_append}
 use Rattle.wb_runs.proofs.FirstLife.{Leads, does, rested, nothing_lands, idle_state, idle_notes, durable_state, durable_notes, target_in, flushes, flushes_run, flushes_answer, flushes_then, flush_answer, durable, durable_is, durable_known, durable_quiet, durable_noted, fails, fails_run, fails_then, crash, crash_run, crashed_is, writes_run, writes_then, reads_run, reads_then, read_answer, idle_noted, before, started, writes, reads, idle_is}
 use Rattle.wb_tasks.specs.declared.step.Answer.TheVariants.{Done as Finished}

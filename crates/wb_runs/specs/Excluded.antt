@@ -11,14 +11,14 @@ use Rattle.wb_tasks.specs.declared.step.Answer.{Answer}
 use Rattle.wb_tasks.specs.declared.step.Answer.TheVariants.{Done as Finished, Refused as Refuses}
 use Rattle.wb_tasks.specs.declared.step.Want.TheVariants.{End}
 use Rattle.wb_tasks.specs.declared.step.Got.TheVariants.{Done}
-use Rattle.wb_runs.specs.declared.job.Job.{Job}
-use Rattle.wb_runs.specs.declared.job.Job.TheVariants.{Read, Write, Flush, Open}
-use Rattle.wb_runs.specs.declared.event.Event.TheVariants.{Step}
-use Rattle.wb_runs.specs.declared.event.What.TheVariants.{Skipped, Stepped}
-use Rattle.wb_runs.specs.States.{Shape, State}
-use Rattle.wb_runs.specs.Happenings.{HasTask}
-use Rattle.wb_runs.specs.Clerk.{Notes, Doing, Reading, Position, noted_what}
-use Rattle.wb_runs.specs.Headline.{AnswersRightly, SkipsRightly}
+use Rattle.wb_promise.specs.declared.job.Job.{Job}
+use Rattle.wb_promise.specs.declared.job.Job.TheVariants.{Read, Write, Flush, Open}
+use Rattle.wb_promise.specs.declared.event.Event.TheVariants.{Step}
+use Rattle.wb_promise.specs.declared.event.What.TheVariants.{Skipped, Stepped}
+use Rattle.wb_promise.specs.States.{Shape, State}
+use Rattle.wb_promise.specs.Happenings.{HasTask}
+use Rattle.wb_promise.specs.Clerk.{Notes, Doing, Reading, Position, noted_what}
+use Rattle.wb_promise.specs.Headline.{AnswersRightly, SkipsRightly}
 use Rattle.wb_runs.specs.Possible.{first_sector}
 
 -- what was written first, and last, and something else

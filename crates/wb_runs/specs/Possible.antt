@@ -23,13 +23,13 @@ use Rattle.wb_tasks.specs.Plan.{want}
 use Rattle.wb_tasks.specs.declared.step.Answer.TheVariants.{Done as Finished, Refused as IsRefused}
 use Rattle.wb_tasks.specs.declared.step.DeskStep.TheVariants.{ReleaseOrder}
 use Rattle.wb_tasks.specs.declared.step.Want.TheVariants.{Desk, End}
-use Rattle.wb_runs.specs.declared.job.Job.{Job}
-use Rattle.wb_runs.specs.declared.job.Job.TheVariants.{Read, Write, Flush, Migrate}
-use Rattle.wb_runs.specs.States.{Shape, State, Gone, OfTarget, start}
-use Rattle.wb_runs.specs.Happenings.{Happening, AtWork, OfSome}
-use Rattle.wb_runs.specs.Effects.{after_all, IsRun}
-use Rattle.wb_runs.specs.Clerk.{Notes, Doing, formatted}
-use Rattle.wb_runs.specs.Headline.{place_of, shown, noted}
+use Rattle.wb_promise.specs.declared.job.Job.{Job}
+use Rattle.wb_promise.specs.declared.job.Job.TheVariants.{Read, Write, Flush, Migrate}
+use Rattle.wb_promise.specs.States.{Shape, State, Gone, OfTarget, start}
+use Rattle.wb_promise.specs.Happenings.{Happening, AtWork, OfSome}
+use Rattle.wb_promise.specs.Effects.{after_all, IsRun}
+use Rattle.wb_promise.specs.Clerk.{Notes, Doing, formatted}
+use Rattle.wb_promise.specs.Headline.{place_of, shown, noted}
 
 -- a run after which a target stands, as an opening was answered done
 pub record Opens (P A : Type 0) (shape : Shape) (metadata : List History) : Type 0 where

@@ -1,6 +1,6 @@
 //! The theorems over all runs.
 
-ghost use Rattle.wb_runs.specs.Headline.{AnswersCoverTheirSectors, EventsSkipRightly, MetadataAreRead, OpeningsRefuseByCause};
+ghost use Rattle.wb_runs.specs.Laws.{AnswersCoverTheirSectors, EventsSkipRightly, MetadataAreRead, OpeningsRefuseByCause};
 ghost use Rattle.wb_runs.specs.Excluded.{ExcludesWrongAnswers};
 ghost use Rattle.wb_runs.specs.Possible.{CanDemote, CanFlush, CanGiveUp, CanOpen, CanPromote, CanReplace, CanStartAgain, CanSurvive, CanWriteBack};
 ghost use Rattle.wb_runs.specs.Progress.{NeverStuck};

@@ -1,13 +1,9 @@
-//! Every interleaving of reads, writes, flushes, promotions, demotions, write-backs, replacements and openings on three devices, one atomic step at a
-//! time, with failing steps and crashes: definitions and laws, no code but the records of what happened.
+//! Laws of every run of the machine of three devices (wb_promise), in every interleaving, with failing steps and crashes, but those of contents: no
+//! code.
 #![tactic(auto)]
 
-mod event;
-mod job;
 mod law;
 
-pub use event::{Event, Record, What};
-pub use job::Job;
 pub use law::{
     a_block_can_be_demoted, a_block_can_be_promoted, a_block_can_be_replaced,
     a_block_can_be_written_back, a_flush_can_be_done, a_replacement_can_be_given_up,

@@ -19,7 +19,7 @@ use Rattle.wb_refines.specs.Going.{records, shared_after, gone, MayGo}
 use Rattle.wb_refines.specs.Models.{TakesBeside, WordsAgree, BelowBeside}
 use Rattle.wb_refines.proofs.Cells.{failed_flag}
 use Rattle.wb_refines.proofs.Going.{goes, with_own}
-use Rattle.wb_runs.specs.States.{Actor}
+use Rattle.wb_promise.specs.States.{Actor}
 use Rattle.wb_runs.specs.Holding.{cards_of}
 use Rattle.wb_simulation.specs.Actors.{StandsFor}
 use Rattle.wb_simulation.specs.Telling.{Telling, IsTold}

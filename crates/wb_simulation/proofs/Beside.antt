@@ -29,9 +29,9 @@ use Rattle.wb_refines.specs.Data.{row, IsInBlock}
 use Rattle.wb_refines.specs.Migrations.{order_on, source}
 use Rattle.wb_refines.proofs.Holding.{is_one}
 use Rattle.wb_refines.proofs.Locks.{total_two}
-use Rattle.wb_runs.specs.declared.job.Job.{Job}
+use Rattle.wb_promise.specs.declared.job.Job.{Job}
 use Rattle.wb_policy.specs.declared.order.Order.{Order}
-use Rattle.wb_runs.specs.States.{Actor, with_device}
+use Rattle.wb_promise.specs.States.{Actor, with_device}
 use Rattle.wb_runs.specs.Holding.{cards_of, AllSuited, TaskSuits}
 use Rattle.wb_simulation.specs.Steps.{AreOfBlock, IsTail}
 use Rattle.wb_tasks.specs.Tables.{BlockRange}

@@ -21,9 +21,9 @@ use Rattle.wb_refines.specs.Migrations.{order_on, job_under}
 use Rattle.wb_refines.specs.Models.{WordsAgree, SameImages, IsBelow}
 use Rattle.wb_refines.proofs.Going.{with_own}
 use Rattle.wb_refines.proofs.Locks.{held_below}
-use Rattle.wb_runs.specs.declared.job.Job.{Job}
-use Rattle.wb_runs.specs.declared.job.Job.TheVariants.{Migrate}
-use Rattle.wb_runs.specs.States.{Actor}
+use Rattle.wb_promise.specs.declared.job.Job.{Job}
+use Rattle.wb_promise.specs.declared.job.Job.TheVariants.{Migrate}
+use Rattle.wb_promise.specs.States.{Actor}
 use Rattle.wb_simulation.specs.Actors.{IsLate, IsBusyAt, StandsFor}
 use Rattle.wb_simulation.specs.Carried.{held, is_at, replacement_there, order_there, IsOrderFor, IsCarried, HasEnded, IsAtMigration}
 use Rattle.wb_simulation.specs.Telling.{Carries, IsMigrating, IsNoEnd, AreCarried}

@@ -38,10 +38,10 @@ use Rattle.wb_refines.specs.Carried.{IsMigrationAt, AnswersAlike}
 use Rattle.wb_refines.proofs.Cells.{held_plain, saw_plain, same_images}
 use Rattle.wb_refines.proofs.Followed.{rest_plain}
 use Rattle.wb_refines.proofs.Copying.{copies_followed}
-use Rattle.wb_runs.specs.declared.job.Job.TheVariants.{Migrate}
-use Rattle.wb_runs.specs.Effects.{contents_at}
+use Rattle.wb_promise.specs.declared.job.Job.TheVariants.{Migrate}
+use Rattle.wb_promise.specs.Effects.{contents_at}
 use Rattle.wb_runs.specs.Holding.{cards_of, AllSuited}
-use Rattle.wb_runs.specs.States.{Actor, with_device}
+use Rattle.wb_promise.specs.States.{Actor, with_device}
 use Rattle.wb_simulation.specs.Steps.{IsNoWrite, IsTail}
 use Rattle.wb_simulation.specs.Carried.{target, HasRead, IsCarried}
 use Rattle.wb_simulation.proofs.Orders.{GoesOn, carried_again, CarriesOthers, carries_same}

@@ -7,7 +7,7 @@ use Rattle.std.proofs.lemmas.Option.{unwrap_or-slice_get}
 use Rattle.wb_contents.specs.Volume.{changed_at}
 use Rattle.wb_contents.proofs.Sectors.{Elsewhere, here_is, elsewhere_is}
 use Rattle.wb_link.specs.Clerk.{Entry, raised as raised_there}
-use Rattle.wb_runs.specs.Clerk.{Position, raised, all_raised, greater_of}
+use Rattle.wb_promise.specs.Clerk.{Position, raised, all_raised, greater_of}
 use Rattle.wb_simulation.specs.Noting.{counts_by_block, AreEntries}
 
 -- two functions of block and offset that agree everywhere

@@ -31,16 +31,16 @@ use Rattle.wb_refines.specs.Carried.{IsMigrationAt}
 use Rattle.wb_refines.proofs.Carrying.{carrying_followed}
 use Rattle.wb_refines.proofs.Cells.{held_plain, saw_plain, same_images}
 use Rattle.wb_refines.proofs.Followed.{rest_plain}
-use Rattle.wb_runs.specs.declared.job.Job.TheVariants.{Migrate}
-use Rattle.wb_runs.specs.Effects.{dropped}
-use Rattle.wb_runs.specs.States.{Actor}
+use Rattle.wb_promise.specs.declared.job.Job.TheVariants.{Migrate}
+use Rattle.wb_promise.specs.Effects.{dropped}
+use Rattle.wb_promise.specs.States.{Actor}
 use Rattle.wb_simulation.specs.Worlds.{Agrees, Turn, Stays, Maps, Unmaps, GivesUp, TurnedTo, DeskTurnedTo}
 use Rattle.std.proofs.Common.{Bool, true, false, eq-eqb, if◌then◌else◌, ◌&&◌, ◌||◌, ◌++◌}
 use Rattle.std.proofs.lemmas.Bool.{ne_eqb}
 use Rattle.std.proofs.lemmas.List.Elements.{Contains-append_cases, Contains-append_left, Contains-append_right}
 use Rattle.wb_types.proofs.Lists.{Contains-first, Contains-behind}
 use Rattle.wb_runs.proofs.Lists.{first_or}
-use Rattle.wb_runs.specs.Effects.{replacing}
+use Rattle.wb_promise.specs.Effects.{replacing}
 use Rattle.wb_desk.specs.Entries.{is_replacement}
 use Rattle.wb_contents.specs.Volume.{Locations, changed}
 use Rattle.wb_contents.proofs.Positions.{changed_same, changed_other}

@@ -19,9 +19,9 @@ use Rattle.wb_refines.specs.Models.{IsAt, HasStopped, IsBelow, plan_of}
 use Rattle.wb_refines.specs.Tasks.{IsResting, IsIdle, IsAnswered}
 use Rattle.wb_refines.proofs.Holding.{holds_nothing}
 use Rattle.wb_refines.proofs.Tasks.{tasks_end}
-use Rattle.wb_runs.specs.declared.job.Job.{Job}
-use Rattle.wb_runs.specs.declared.job.Job.TheVariants.{Read, Write}
-use Rattle.wb_runs.specs.States.{Actor}
+use Rattle.wb_promise.specs.declared.job.Job.{Job}
+use Rattle.wb_promise.specs.declared.job.Job.TheVariants.{Read, Write}
+use Rattle.wb_promise.specs.States.{Actor}
 use Rattle.wb_simulation.specs.Actors.{IsLate, IsRequestAt, StandsFor}
 use Rattle.wb_simulation.specs.Telling.{Answers, AnswersSo}
 use Rattle.wb_simulation.specs.Worlds.{Agrees, Follows}

@@ -23,8 +23,8 @@ use Rattle.wb_devices.specs.Moving.{device_in}
 use Rattle.wb_link.specs.Tables.{Flushing as FlushingFor}
 use Rattle.wb_link.specs.World.{World, Actor as AbstractActor}
 use Rattle.wb_refines.specs.Flushes.{IsFlushing, IsWrittenAfter, flushing}
-use Rattle.wb_runs.specs.declared.job.Job.TheVariants.{Flush}
-use Rattle.wb_runs.specs.States.{Actor, with_device}
+use Rattle.wb_promise.specs.declared.job.Job.TheVariants.{Flush}
+use Rattle.wb_promise.specs.States.{Actor, with_device}
 use Rattle.wb_simulation.specs.Actors.{IsFlushAt, IsOfFlush, LeadsAt, StandsFor}
 use Rattle.wb_simulation.specs.Telling.{Quietly, Answers, Releases}
 use Rattle.wb_simulation.specs.Worlds.{Agrees, Begins, Puts, Ends, GivesUp, FollowsBy, Follows}

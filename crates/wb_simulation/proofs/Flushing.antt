@@ -40,8 +40,8 @@ use Rattle.wb_refines.proofs.Cells.{failed_flag}
 use Rattle.wb_refines.proofs.Flushing.{flush_steps_followed as followed_alone}
 use Rattle.wb_refines.proofs.Holding.{holds_nothing}
 use Rattle.wb_refines.proofs.Tasks.{tasks_end}
-use Rattle.wb_runs.specs.declared.job.Job.TheVariants.{Flush}
-use Rattle.wb_runs.specs.States.{Actor, with_device}
+use Rattle.wb_promise.specs.declared.job.Job.TheVariants.{Flush}
+use Rattle.wb_promise.specs.States.{Actor, with_device}
 use Rattle.wb_simulation.specs.Actors.{IsLate, IsOfFlush, LeadsAt, StandsFor}
 use Rattle.wb_simulation.specs.Carried.{held}
 use Rattle.wb_simulation.specs.Telling.{Quietly, Answers, Releases}

@@ -17,9 +17,9 @@ use Rattle.wb_link.specs.World.{World, Actor as AbstractActor, job_alone}
 use Rattle.wb_refines.specs.Going.{shared_after, gone}
 use Rattle.wb_refines.specs.Translation.{job_for}
 use Rattle.wb_refines.specs.Models.{IsRequest, IsAt, HasStopped, plan_of}
-use Rattle.wb_runs.specs.declared.job.Job.{Job}
-use Rattle.wb_runs.specs.declared.job.Job.TheVariants.{Read, Write, Migrate}
-use Rattle.wb_runs.specs.States.{Actor}
+use Rattle.wb_promise.specs.declared.job.Job.{Job}
+use Rattle.wb_promise.specs.declared.job.Job.TheVariants.{Read, Write, Migrate}
+use Rattle.wb_promise.specs.States.{Actor}
 use Rattle.wb_runs.specs.Holding.{cards_of}
 use Rattle.wb_simulation.specs.Steps.{IsPart, AreOfBlock}
 use Rattle.wb_simulation.specs.Actors.{IsLate, IsRequestAt, IsDoing, IsBusyAt, StandsFor}

@@ -25,8 +25,8 @@ use Rattle.wb_refines.specs.Translation.{job_for, wants_of}
 use Rattle.wb_refines.specs.Models.{WordsAgree}
 use Rattle.wb_refines.specs.Flushes.{IsFlushing, IsOnMetadata, flushing, Leads}
 use Rattle.wb_refines.proofs.Holding.{holds_nothing}
-use Rattle.wb_runs.specs.declared.job.Job.TheVariants.{Flush}
-use Rattle.wb_runs.specs.States.{Actor}
+use Rattle.wb_promise.specs.declared.job.Job.TheVariants.{Flush}
+use Rattle.wb_promise.specs.States.{Actor}
 use Rattle.wb_simulation.specs.Actors.{IsFlushAt, IsOfFlush, LeadsAt, StandsFor}
 use Rattle.wb_simulation.specs.Telling.{Quietly}
 use Rattle.wb_simulation.specs.Worlds.{zeros, Agrees, Turn, TurnedTo, DeskTurnedTo, FollowsBy, IsUnfinished}

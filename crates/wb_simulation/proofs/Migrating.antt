@@ -30,8 +30,8 @@ use Rattle.wb_refines.specs.Models.{plan_of}
 use Rattle.wb_refines.specs.Migrations.{order_on, source, IsWhere}
 use Rattle.wb_refines.specs.Carried.{IsMigrationAt, FindsWhere, FollowsMigration}
 use Rattle.wb_refines.proofs.Carried.{migration_cells_followed}
-use Rattle.wb_runs.specs.declared.job.Job.TheVariants.{Migrate}
-use Rattle.wb_runs.specs.States.{Actor}
+use Rattle.wb_promise.specs.declared.job.Job.TheVariants.{Migrate}
+use Rattle.wb_promise.specs.States.{Actor}
 use Rattle.wb_runs.specs.Holding.{cards_of}
 use Rattle.wb_simulation.specs.Steps.{IsTail}
 use Rattle.wb_simulation.specs.Carried.{order_there, target, IsCarried}

@@ -27,9 +27,9 @@ use Rattle.wb_devices.specs.Moving.{device_in}
 use Rattle.wb_link.specs.World.{World}
 use Rattle.wb_refines.specs.Models.{plan_of}
 use Rattle.wb_refines.specs.Migrations.{Fills}
-use Rattle.wb_runs.specs.declared.job.Job.TheVariants.{Migrate}
-use Rattle.wb_runs.specs.Effects.{contents_at, dropped, replacing}
-use Rattle.wb_runs.specs.States.{Actor, with_device}
+use Rattle.wb_promise.specs.declared.job.Job.TheVariants.{Migrate}
+use Rattle.wb_promise.specs.Effects.{contents_at, dropped, replacing}
+use Rattle.wb_promise.specs.States.{Actor, with_device}
 use Rattle.wb_runs.specs.Holding.{cards_of, AllSuited}
 use Rattle.wb_simulation.specs.Steps.{IsWrittenNext, IsOutside}
 use Rattle.wb_simulation.specs.Worlds.{Agrees, Stays, Maps, Unmaps, GivesUp}

@@ -17,8 +17,8 @@ use Rattle.wb_link.proofs.Lists.{get_set_same, get_set_other, replicated}
 use Rattle.wb_link.proofs.Steps.{in_set}
 use Rattle.wb_refines.specs.Going.{records, shared_after, gone}
 use Rattle.wb_refines.proofs.Going.{own_steps, with_own, set_twice, set_same}
-use Rattle.wb_runs.specs.declared.job.Job.{Job}
-use Rattle.wb_runs.specs.Clerk.{Notes, Doing, Position, Entering, begins, begun, put, nobody, entering, enter, enter_each, write_note, all_raised, greater_of}
+use Rattle.wb_promise.specs.declared.job.Job.{Job}
+use Rattle.wb_promise.specs.Clerk.{Notes, Doing, Position, Entering, begins, begun, put, nobody, entering, enter, enter_each, write_note, all_raised, greater_of}
 use Rattle.wb_simulation.specs.Noting.{counts_by_block, AreEntries, DoesAlike, IsNotedSo, NotesAgree}
 use Rattle.wb_simulation.specs.Noted.{told, AreNewest, NotesFollowed}
 use Rattle.wb_simulation.proofs.Among.{is_inside}

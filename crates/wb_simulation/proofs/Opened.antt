@@ -15,15 +15,15 @@ use Rattle.wb_refines.specs.Models.{SealAgrees}
 use Rattle.wb_refines.specs.Translation.{number_of}
 use Rattle.wb_refines.proofs.Cells.{tells_dirty}
 use Rattle.wb_refines.proofs.Holding.{holds_nothing}
-use Rattle.wb_runs.specs.Effects.{sealing_steps, words_by}
-use Rattle.wb_runs.specs.Headline.{cached_from, place_of}
+use Rattle.wb_promise.specs.Effects.{sealing_steps, words_by}
+use Rattle.wb_promise.specs.Headline.{cached_from, place_of}
 use Rattle.wb_simulation.specs.Actors.{StandsFor, IsBusyAt}
-use Rattle.wb_runs.specs.declared.job.Job.TheVariants.{Migrate}
+use Rattle.wb_promise.specs.declared.job.Job.TheVariants.{Migrate}
 use Rattle.wb_link.specs.Tables.{Order as AbstractOrder}
 use Rattle.wb_simulation.specs.Carried.{live_there}
 use Rattle.wb_simulation.specs.Worlds.{OrdersAgree, IsThere}
-use Rattle.wb_runs.specs.States.{Actor}
-use Rattle.wb_runs.specs.declared.job.Job.TheVariants.{Migrate}
+use Rattle.wb_promise.specs.States.{Actor}
+use Rattle.wb_promise.specs.declared.job.Job.TheVariants.{Migrate}
 use Rattle.std.proofs.Common.{inr}
 use Rattle.wb_disk.specs.Device.{History}
 use Rattle.wb_devices.specs.declared.devices.Devices.{Devices}

@@ -13,7 +13,7 @@ use Rattle.wb_roots.specs.Laws.{IsDecided}
 use Rattle.wb_roots.proofs.Deciding.{crash_decides, sync_decides, failed_sync_leaves, read_is_committed}
 use Rattle.wb_contents.specs.Volume.{at_location}
 use Rattle.wb_types.specs.declared.mode.Mode.TheVariants.{Writeback}
-use Rattle.wb_runs.specs.Headline.{place_of}
+use Rattle.wb_promise.specs.Headline.{place_of}
 use Rattle.wb_devices.specs.declared.devices.Devices.{Devices}
 use Rattle.wb_link.specs.Tables.{Choice}
 use Rattle.wb_link.specs.World.{Shared}

@@ -28,8 +28,8 @@ use Rattle.wb_refines.specs.Copies.{migrating}
 use Rattle.wb_refines.specs.Carrying.{without_block}
 use Rattle.wb_refines.proofs.Carrying.{under_order, migrations_begin}
 use Rattle.wb_refines.proofs.Tasks.{within_offsets}
-use Rattle.wb_runs.specs.declared.job.Job.TheVariants.{Migrate}
-use Rattle.wb_runs.specs.States.{Actor}
+use Rattle.wb_promise.specs.declared.job.Job.TheVariants.{Migrate}
+use Rattle.wb_promise.specs.States.{Actor}
 use Rattle.wb_simulation.specs.Actors.{IsBusyAt, StandsFor}
 use Rattle.wb_simulation.proofs.Cut.{whole_part, whole_covered}
 use Rattle.wb_contents.proofs.Positions.{changed_same, changed_other}

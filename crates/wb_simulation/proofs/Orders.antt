@@ -25,9 +25,9 @@ use Rattle.wb_refines.specs.Data.{row}
 use Rattle.wb_refines.specs.Models.{plan_of}
 use Rattle.wb_refines.specs.Carried.{IsMigrationAt}
 use Rattle.wb_refines.proofs.Going.{with_own}
-use Rattle.wb_runs.specs.declared.job.Job.{Job}
-use Rattle.wb_runs.specs.declared.job.Job.TheVariants.{Migrate}
-use Rattle.wb_runs.specs.States.{Actor}
+use Rattle.wb_promise.specs.declared.job.Job.{Job}
+use Rattle.wb_promise.specs.declared.job.Job.TheVariants.{Migrate}
+use Rattle.wb_promise.specs.States.{Actor}
 use Rattle.wb_simulation.specs.Steps.{AreOfBlock, ArePaired}
 use Rattle.wb_simulation.specs.Carried.{HasRead, IsUnder, AreCopiedAt, target, held, is_at, replacement_there, order_there, live_there, IsOf, IsCarried, IsAtMigration}
 use Rattle.wb_simulation.specs.Worlds.{IsThere, OrdersAgree}

@@ -8,7 +8,7 @@ use Rattle.wb_link.specs.World.{begins as world_begins, Actor as AbstractActor, 
 use Rattle.wb_link.proofs.Lists.{replicated}
 use Rattle.wb_refines.specs.Models.{SealAgrees}
 use Rattle.wb_refines.proofs.Holding.{holds_nothing}
-use Rattle.wb_runs.specs.States.{Actor, resting}
+use Rattle.wb_promise.specs.States.{Actor, resting}
 use Rattle.wb_simulation.specs.Actors.{StandsFor}
 use Rattle.wb_simulation.specs.Laws.{CanAgree}
 use Rattle.wb_simulation.proofs.Opened.{fresh_at, nowhere, no_orders}

@@ -15,8 +15,8 @@ use Rattle.wb_devices.specs.declared.devices.Devices.{Devices}
 use Rattle.wb_link.specs.Tables.{Order as AbstractOrder}
 use Rattle.wb_link.specs.World.{World, Shared, Release, release_order, given_back, after_record, Actor as AbstractActor}
 use Rattle.wb_link.proofs.Lists.{get_set_same, get_set_other}
-use Rattle.wb_runs.specs.declared.job.Job.TheVariants.{Migrate}
-use Rattle.wb_runs.specs.States.{Actor}
+use Rattle.wb_promise.specs.declared.job.Job.TheVariants.{Migrate}
+use Rattle.wb_promise.specs.States.{Actor}
 use Rattle.wb_simulation.specs.Actors.{StandsFor}
 use Rattle.wb_simulation.specs.Carried.{held, live_there, order_there, IsOf, IsAtMigration}
 use Rattle.wb_simulation.specs.Telling.{Releases}

@@ -16,9 +16,9 @@ use Rattle.wb_refines.specs.Tasks.{IsResting, AllInBlocks, Starts as CanStart}
 use Rattle.wb_refines.proofs.Holding.{holds_nothing}
 use Rattle.wb_refines.proofs.Locks.{has_no_more}
 use Rattle.wb_refines.proofs.Tasks.{tasks_begin}
-use Rattle.wb_runs.specs.declared.job.Job.{Job}
-use Rattle.wb_runs.specs.declared.job.Job.TheVariants.{Read, Write, Flush}
-use Rattle.wb_runs.specs.States.{Actor}
+use Rattle.wb_promise.specs.declared.job.Job.{Job}
+use Rattle.wb_promise.specs.declared.job.Job.TheVariants.{Read, Write, Flush}
+use Rattle.wb_promise.specs.States.{Actor}
 use Rattle.wb_simulation.specs.Steps.{IsPart}
 use Rattle.wb_simulation.specs.Actors.{IsLate, IsBusyAt, IsDoing, StandsFor}
 use Rattle.wb_simulation.specs.Telling.{Quietly, Starts}

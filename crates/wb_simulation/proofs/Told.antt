@@ -13,7 +13,7 @@ use Rattle.wb_link.specs.World.{Record, Step, task_after}
 use Rattle.wb_link.specs.Clerk.{Notes, Entry, note, noted_step, histories_after, entered_after, finished_after, floors_after, job_noted, GivesLatest}
 use Rattle.wb_link.specs.Openings.{On, AllRight}
 use Rattle.wb_refines.specs.Going.{records}
-use Rattle.wb_runs.specs.Clerk.{Position, Entering, enter, enter_each, next_position}
+use Rattle.wb_promise.specs.Clerk.{Position, Entering, enter, enter_each, next_position}
 use Rattle.wb_link.proofs.Actors.{job_on}
 use Rattle.wb_simulation.specs.Noting.{AreEntries}
 use Rattle.wb_simulation.specs.Noted.{told, AreNewest}

@@ -18,9 +18,9 @@ use Rattle.wb_link.specs.World.{Actor as AbstractActor, is_alone}
 use Rattle.wb_refines.specs.Models.{IsAt, HasStopped, IsBelow}
 use Rattle.wb_refines.specs.Flushes.{IsFlushing, IsOnMetadata}
 use Rattle.wb_refines.specs.Tasks.{IsResting}
-use Rattle.wb_runs.specs.declared.job.Job.{Job}
-use Rattle.wb_runs.specs.declared.job.Job.TheVariants.{Read, Write, Flush, Open, Migrate, Replace}
-use Rattle.wb_runs.specs.States.{Actor}
+use Rattle.wb_promise.specs.declared.job.Job.{Job}
+use Rattle.wb_promise.specs.declared.job.Job.TheVariants.{Read, Write, Flush, Open, Migrate, Replace}
+use Rattle.wb_promise.specs.States.{Actor}
 use Rattle.wb_simulation.specs.Steps.{IsPart, AreOfBlock}
 
 -- A task that began though its actor has still what it kept at a failure: there it has none, and it ends at its look at the fail word.

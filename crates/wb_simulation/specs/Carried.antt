@@ -26,8 +26,8 @@ use Rattle.wb_refines.specs.Translation.{location_at}
 use Rattle.wb_refines.specs.Models.{plan_of}
 use Rattle.wb_refines.specs.Migrations.{order_on, source, Fills}
 use Rattle.wb_refines.specs.Carried.{IsMigrationAt, HasKept}
-use Rattle.wb_runs.specs.States.{Actor}
-use Rattle.wb_runs.specs.Happenings.{order_for}
+use Rattle.wb_promise.specs.States.{Actor}
+use Rattle.wb_promise.specs.Happenings.{order_for}
 use Rattle.wb_simulation.specs.Actors.{IsLate}
 use Rattle.wb_simulation.specs.Steps.{IsPart, AreOfBlock, ArePaired, IsTail}
 

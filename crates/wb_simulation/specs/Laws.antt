@@ -33,9 +33,9 @@ use Rattle.wb_link.specs.Tables.{Job as AbstractJob, Flushing as FlushingFor}
 use Rattle.wb_refines.specs.Translation.{job_for}
 use Rattle.wb_link.specs.World.{World, begins as world_begins}
 use Rattle.wb_refines.specs.Flushes.{IsNoBegin, IsWrittenAfter}
-use Rattle.wb_runs.specs.declared.job.Job.{Job}
-use Rattle.wb_runs.specs.declared.job.Job.TheVariants.{Read, Write, Flush}
-use Rattle.wb_runs.specs.States.{Actor, resting, with_device}
+use Rattle.wb_promise.specs.declared.job.Job.{Job}
+use Rattle.wb_promise.specs.declared.job.Job.TheVariants.{Read, Write, Flush}
+use Rattle.wb_promise.specs.States.{Actor, resting, with_device}
 use Rattle.wb_runs.specs.Holding.{cards_of, AllSuited}
 use Rattle.wb_simulation.specs.Carried.{held}
 use Rattle.wb_simulation.specs.Steps.{IsPart}

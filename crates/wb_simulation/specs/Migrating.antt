@@ -23,9 +23,9 @@ use Rattle.wb_tasks.specs.declared.step.Migration.{Migration}
 use Rattle.wb_tasks.specs.declared.step.Want.TheVariants.{Cell, Device, Desk, End}
 use Rattle.wb_devices.specs.declared.devices.Devices.{Devices}
 use Rattle.wb_devices.specs.Moving.{device_in}
-use Rattle.wb_runs.specs.declared.job.Job.{Job}
-use Rattle.wb_runs.specs.declared.job.Job.TheVariants.{Migrate}
-use Rattle.wb_runs.specs.States.{Actor, with_device}
+use Rattle.wb_promise.specs.declared.job.Job.{Job}
+use Rattle.wb_promise.specs.declared.job.Job.TheVariants.{Migrate}
+use Rattle.wb_promise.specs.States.{Actor, with_device}
 use Rattle.wb_simulation.specs.Telling.{Telling, Resumes, Carries, Rests}
 use Rattle.wb_simulation.specs.Laws.{went, after_step, IsOnlyOf}
 use Rattle.wb_words.specs.Rule.{LockRule}
@@ -39,7 +39,7 @@ use Rattle.wb_tasks.specs.declared.step.Migration.TheVariants.{Promote, Demote}
 use Rattle.wb_link.specs.World.{World, Shared, Free, Mapped, Reserved, Apart}
 use Rattle.wb_link.specs.Tables.{Order as AbstractOrder}
 use Rattle.wb_refines.specs.Migrations.{IsWhere}
-use Rattle.wb_runs.specs.Effects.{contents_at, dropped, replacing}
+use Rattle.wb_promise.specs.Effects.{contents_at, dropped, replacing}
 use Rattle.wb_runs.specs.Holding.{cards_of, AllSuited}
 use Rattle.wb_contents.specs.Volume.{Locations}
 use Rattle.wb_simulation.specs.Carried.{order_there, IsOrderFor}

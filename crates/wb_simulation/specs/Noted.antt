@@ -12,9 +12,9 @@ use Rattle.wb_link.specs.Tables.{Job as AbstractJob, Reading, Writing, Flushing}
 use Rattle.wb_link.specs.World.{World, Shared, Record, Actor as AbstractActor, after_all}
 use Rattle.wb_link.specs.Clerk.{Notes as AbstractNotes, opened}
 use Rattle.wb_link.specs.Openings.{On, noted, AllRight, emptied}
-use Rattle.wb_runs.specs.declared.job.Job.{Job}
-use Rattle.wb_runs.specs.Clerk.{Notes, Doing, begins, begun, put, nobody, entering, enter_each, write_note, all_raised, greater_of}
-use Rattle.wb_runs.specs.States.{Actor}
+use Rattle.wb_promise.specs.declared.job.Job.{Job}
+use Rattle.wb_promise.specs.Clerk.{Notes, Doing, begins, begun, put, nobody, entering, enter_each, write_note, all_raised, greater_of}
+use Rattle.wb_promise.specs.States.{Actor}
 use Rattle.wb_simulation.specs.Noting.{NotesAgree}
 use Rattle.wb_simulation.specs.Telling.{Telling, Quietly, Reads, Writes, Answers, Starts, Resumes, Carries, Rests, Releases}
 use Rattle.wb_simulation.specs.Worlds.{zeros, Turn, FollowsBy}

@@ -4,7 +4,7 @@ use Rattle.wb_contents.specs.Devices.{by_block}
 use Rattle.wb_link.specs.Tables.{Script, Job as AbstractJob}
 use Rattle.wb_link.specs.World.{World, Actor as AbstractActor}
 use Rattle.wb_link.specs.Clerk.{Notes as AbstractNotes, Entry, raised as raised_there}
-use Rattle.wb_runs.specs.Clerk.{Notes, Doing, Position, all_raised}
+use Rattle.wb_promise.specs.Clerk.{Notes, Doing, Position, all_raised}
 use Rattle.wb_simulation.specs.Worlds.{zeros}
 
 -- numbers of sectors, seen by block and offset; behind a block's last offset, and where there is no such sector, 0

@@ -9,9 +9,9 @@ use Rattle.wb_tree.specs.Mapping.{IsMapping}
 use Rattle.wb_devices.specs.declared.devices.Devices.{Devices}
 use Rattle.wb_link.specs.World.{Block, Shared, resting as idle}
 use Rattle.wb_link.specs.Openings.{Learnt, opened_on}
-use Rattle.wb_runs.specs.States.{Actor}
-use Rattle.wb_runs.specs.Effects.{sealing_steps, words_by}
-use Rattle.wb_runs.specs.Headline.{place_of}
+use Rattle.wb_promise.specs.States.{Actor}
+use Rattle.wb_promise.specs.Effects.{sealing_steps, words_by}
+use Rattle.wb_promise.specs.Headline.{place_of}
 use Rattle.wb_simulation.specs.Worlds.{zeros, Agrees}
 
 -- where these entries have each block

@@ -18,7 +18,7 @@ use Rattle.wb_devices.specs.declared.devices.Devices.{Devices}
 use Rattle.wb_contents.specs.Conditions.{IsUnnamed}
 use Rattle.wb_link.specs.World.{Shared, Block, Free, Mapped}
 use Rattle.wb_link.specs.Openings.{Site, Phase, Stands, Gone, Opens, Learnt, Stage, Settling, Caching, Basing, Looking, Rooting, Renewing, Answering, Event, MayOpen, MayHappen, after_event}
-use Rattle.wb_runs.specs.Headline.{place_of}
+use Rattle.wb_promise.specs.Headline.{place_of}
 use Rattle.wb_simulation.specs.Worlds.{zeros, Stays, Begins, Puts, Ends, TurnedTo}
 
 -- where a state that is stored has each block

@@ -11,11 +11,11 @@ use Rattle.wb_link.specs.Tables.{Script, Order as AbstractOrder}
 use Rattle.wb_types.specs.declared.number.OBlock.{OBlock}
 use Rattle.wb_tasks.specs.Plan.{Plan}
 use Rattle.wb_tasks.specs.declared.step.Migration.{Migration}
-use Rattle.wb_runs.specs.declared.job.Job.TheVariants.{Migrate}
+use Rattle.wb_promise.specs.declared.job.Job.TheVariants.{Migrate}
 use Rattle.wb_simulation.specs.Carried.{held, live_there, IsOf, IsAtMigration}
 use Rattle.wb_link.specs.World.{World, Shared, Block, Mapped, Reserved, removed, begun, ended, given_back, Record, IsRun, after_all, Actor as AbstractActor}
 use Rattle.wb_refines.specs.Models.{WordsAgree}
-use Rattle.wb_runs.specs.States.{Actor}
+use Rattle.wb_promise.specs.States.{Actor}
 use Rattle.wb_simulation.specs.Actors.{StandsFor}
 use Rattle.wb_simulation.specs.Telling.{Telling, IsTold}
 

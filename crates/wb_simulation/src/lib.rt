@@ -1,4 +1,4 @@
-//! Runs of reads, writes, flushes, migrations and openings on three devices (wb_runs) as runs of the abstract world of all tasks (wb_link):
+//! Runs of reads, writes, flushes, migrations and openings on three devices (wb_promise) as runs of the abstract world of all tasks (wb_link):
 //! definitions and laws, no code.
 #![tactic(auto)]
 

@@ -22,7 +22,7 @@ use self::views::VIEWS;
 use std::alloc::Global;
 use std::test::Fail;
 use wb_disk::{Base, CrashChoice, NamedContent};
-use wb_runs::{Event, Job, What};
+use wb_promise::{Event, Job, What};
 use wb_tasks::{Answer, Got, Migration, Want};
 use wb_types::{Content, Dev, Extent, Geometry, Mode, Refusal, SECTOR_BYTES};
 use wb_world::World;

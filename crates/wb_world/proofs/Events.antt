@@ -1,8 +1,8 @@
 -- Events that have run, and those that are left.
 use Rattle.std.proofs.Common.{◌≡◌, ◌∙◌, ◌++◌, ◌∷◌, [], List, ap, reverse}
 use Rattle.std.proofs.lemmas.List.{append_assoc, map-append, reverse-append}
-use Rattle.wb_runs.specs.declared.event.Event.{Event}
-use Rattle.wb_runs.specs.declared.event.Record.{Record}
+use Rattle.wb_promise.specs.declared.event.Event.{Event}
+use Rattle.wb_promise.specs.declared.event.Record.{Record}
 use Rattle.wb_machine.specs.Life.{GoesOn, Life}
 use Rattle.wb_world.specs.Running.{events_of}
 

@@ -1,11 +1,11 @@
 -- What is promised of the trace of events that ran on a new world, one after the other.
 use Rattle.std.specs.Prelude.{◌≡◌, List, map}
-use Rattle.wb_runs.specs.declared.event.Event.{Event}
-use Rattle.wb_runs.specs.declared.event.Record.{Record}
-use Rattle.wb_runs.specs.Clerk.{formatted}
-use Rattle.wb_runs.specs.Headline.{Headline}
-use Rattle.wb_runs.specs.Latest.{AllReadRightly}
-use Rattle.wb_runs.specs.States.{Shape, start}
+use Rattle.wb_promise.specs.declared.event.Event.{Event}
+use Rattle.wb_promise.specs.declared.event.Record.{Record}
+use Rattle.wb_promise.specs.Clerk.{formatted}
+use Rattle.wb_promise.specs.Headline.{Headline}
+use Rattle.wb_promise.specs.Latest.{AllReadRightly}
+use Rattle.wb_promise.specs.States.{Shape, start}
 use Rattle.wb_machine.specs.Life.{IsReached, Life}
 
 -- the events of these records, in order

@@ -2,7 +2,7 @@
 
 ghost use Rattle.std.specs.declared.alloc.Global.{Global as GlobalValue};
 ghost use Rattle.wb_policy.specs.declared.quiet.Quiet.{Quiet as QuietValue};
-ghost use Rattle.wb_runs.specs.Headline.{AllRunsAreRight};
+ghost use Rattle.wb_promise.specs.Headline.{AllRunsAreRight};
 
 use std::alloc::Global;
 use wb_policy::Quiet;

@@ -9,7 +9,7 @@ ghost use Rattle.wb_world.specs.Running.{IsRightRun, events_of};
 use crate::world::World;
 use std::alloc::Global;
 use wb_machine::Trace;
-use wb_runs::Event;
+use wb_promise::Event;
 use wb_types::{Geometry, Refusal};
 
 /// Events one after the other on a new world of this geometry, and its trace: a record for each of them, in order. `Memory` where

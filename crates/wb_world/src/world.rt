@@ -2,7 +2,7 @@
 
 ghost use Rattle.std.specs.Prelude.{◌≡◌, [], OnOk, OnErr, IfOk, IfErr, slice_get};
 ghost use Rattle.wb_types.specs.declared.refusal.Refusal.TheVariants.{Memory};
-ghost use Rattle.wb_runs.specs.Headline.{shown};
+ghost use Rattle.wb_promise.specs.Headline.{shown};
 ghost use Rattle.wb_machine.specs.declared.machine.TheConstants.{ACTORS};
 ghost use Rattle.wb_machine.specs.Life.{GoesOn, IsReached, shape_of};
 ghost use Rattle.wb_machine.specs.Showing.{opened_of};
@@ -14,7 +14,7 @@ use std::marker::Model;
 use wb_headline::reads_give_the_latest_write;
 use wb_machine::{Machine, Trace};
 use wb_policy::Quiet;
-use wb_runs::Event;
+use wb_promise::Event;
 use wb_types::{Content, Geometry, Refusal};
 
 /// Three devices in memory, what stands over them, and the trace of what happened, of which all holds that is promised of every run.

@@ -1,7 +1,7 @@
 //! Blocks that leave the cache, or are written back: what the cache and the origin show of them.
 
 use super::line::{Act, Line, Row};
-use wb_runs::What;
+use wb_promise::What;
 use wb_types::{CBlock, Extent, Mode, OBlock, Refusal};
 
 const BOTH_SECTORS: Extent = Extent { first: 0, count: 2 };

@@ -5,7 +5,7 @@ use super::line::{
     SECOND_READ, Task,
 };
 use wb_disk::Base;
-use wb_runs::What;
+use wb_promise::What;
 use wb_tasks::{Answer, CellStep, Got, Want};
 use wb_types::{Dev, Mode, Refusal};
 

@@ -1,7 +1,7 @@
 //! What is to happen line by line, and what each line is to do.
 
 use wb_disk::Base;
-use wb_runs::What;
+use wb_promise::What;
 use wb_tasks::{Answer, CellStep, DeskStep, DeviceStep, Got, Want};
 use wb_types::{CBlock, Dev, Extent, Mode, OBlock};
 use wb_words::{Access, Kind, Word};

@@ -5,7 +5,7 @@ use super::line::{
     Task,
 };
 use wb_disk::Base;
-use wb_runs::What;
+use wb_promise::What;
 use wb_tasks::{Answer, Got, Want};
 use wb_types::{Dev, Mode, Refusal};
 

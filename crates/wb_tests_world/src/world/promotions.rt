@@ -1,7 +1,7 @@
 //! Blocks that are promoted: what the cache and the origin show of them after crashes.
 
 use super::line::{Act, FIRST_SECTOR, Line, Row};
-use wb_runs::What;
+use wb_promise::What;
 use wb_types::{CBlock, Dev, Extent, Mode, OBlock, Refusal};
 
 const BOTH_SECTORS: Extent = Extent { first: 0, count: 2 };

@@ -1,7 +1,7 @@
 //! Blocks that make way for others: what the cache and the origin show of both.
 
 use super::line::{Act, FIRST_SECTOR, Line, Row};
-use wb_runs::What;
+use wb_promise::What;
 use wb_types::{CBlock, Extent, Mode, OBlock, Refusal};
 
 const OLD: OBlock = OBlock(0);

@@ -5,7 +5,7 @@ use super::line::{
     READ_FIRST, READ_SECOND, Row, SHARE, SHARE_NO_MORE, Task, WRITE_FIRST,
 };
 use wb_disk::Base;
-use wb_runs::What;
+use wb_promise::What;
 use wb_tasks::{Answer, CellStep, DeviceStep, Got, Want};
 use wb_types::{Dev, Extent, Mode, Refusal};
 use wb_words::Access;

@@ -7,7 +7,7 @@ use super::line::{
 };
 use super::{event_of, small};
 use std::alloc::Global;
-use wb_runs::{Event, Record, What};
+use wb_promise::{Event, Record, What};
 use wb_tasks::{Got, Want};
 use wb_types::{Dev, Extent, Mode, Refusal, SECTOR_BYTES};
 use wb_world::run;

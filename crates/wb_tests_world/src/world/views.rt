@@ -1,7 +1,7 @@
 //! What the target shows, and of which root it was opened.
 
 use super::line::{Act, Line, Row, Task};
-use wb_runs::What;
+use wb_promise::What;
 
 pub const VIEWS: [Row; 2] = [
     Row {

@@ -1,6 +1,6 @@
 use Rattle.std.proofs.Common.{◌≡◌, ◌<◌, ◌∙◌, suc, None, Some, add-one, ap, arith, cond, drop, length, refl, subst, sym, true}
 use Rattle.wb_cells.specs.Crews.{CrewState}
-use Rattle.wb_runs.specs.Effects.{sealing_steps}
+use Rattle.wb_promise.specs.Effects.{sealing_steps}
 use Rattle.wb_machine.specs.Making.{AllFree, block_seals, crew_by}
 use Rattle.wb_machine.proofs.Seals.{as_many, blocks_stay, free_again, none_left, seals_more}
 use Rattle.wb_machine.proofs.sealing.seal_all.Goals as goal

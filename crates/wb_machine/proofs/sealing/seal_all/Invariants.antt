@@ -1,7 +1,7 @@
 use Rattle.std.proofs.Common.{◌≡◌, ◌<◌, drop, length}
 use Rattle.wb_words.specs.declared.card.Hold.TheVariants.{Nothing}
 use Rattle.wb_cells.specs.Crews.{card_of}
-use Rattle.wb_runs.specs.Effects.{sealing_steps}
+use Rattle.wb_promise.specs.Effects.{sealing_steps}
 use Rattle.wb_machine.specs.Making.{AllFree, crew_by}
 use Rattle.wb_machine.proofs.sealing.seal_all.Given as goal
 

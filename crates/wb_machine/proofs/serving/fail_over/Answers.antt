@@ -1,7 +1,7 @@
 use Rattle.std.proofs.Common.{◌∙◌, ap, arith, length-set, refl}
 use Rattle.std.proofs.lemmas.Option.{slice_get_past, slice_get_read}
 use Rattle.wb_types.specs.Limits.{node_count}
-use Rattle.wb_runs.specs.declared.event.Event.TheVariants.{FaultStep}
+use Rattle.wb_promise.specs.declared.event.Event.TheVariants.{FaultStep}
 use Rattle.wb_machine.specs.declared.machine.TheConstants.{ACTORS}
 use Rattle.wb_machine.specs.declared.phase.Phase.TheVariants.{Standing}
 use Rattle.wb_devices.specs.declared.running.RunningCommit.{RunningCommit}

@@ -3,7 +3,7 @@ use Rattle.std.proofs.lemmas.Option.{slice_get_past, slice_get_read}
 use Rattle.wb_types.specs.Limits.{node_count}
 use Rattle.wb_desk.specs.Desks.{DeskState}
 use Rattle.wb_policy.specs.declared.quiet.Quiet.{Quiet}
-use Rattle.wb_runs.specs.declared.event.Event.TheVariants.{Start}
+use Rattle.wb_promise.specs.declared.event.Event.TheVariants.{Start}
 use Rattle.wb_machine.specs.declared.machine.TheConstants.{ACTORS}
 use Rattle.wb_machine.specs.declared.phase.Phase.TheVariants.{Standing}
 use Rattle.wb_machine.specs.Life.{contents_of, shape_of, state_of}

@@ -2,7 +2,7 @@ use Rattle.std.proofs.Common.{◌∙◌, arith, length-set, subst, sym}
 use Rattle.std.proofs.lemmas.Option.{slice_get_past, slice_get_read}
 use Rattle.wb_types.specs.Limits.{node_count}
 use Rattle.wb_types.specs.declared.geometry.Geometry.{Geometry}
-use Rattle.wb_runs.specs.declared.event.Event.TheVariants.{Step}
+use Rattle.wb_promise.specs.declared.event.Event.TheVariants.{Step}
 use Rattle.wb_machine.specs.declared.machine.TheConstants.{ACTORS}
 use Rattle.wb_machine.specs.declared.phase.Phase.TheVariants.{Standing}
 use Rattle.wb_machine.specs.Life.{contents_of, shape_of, state_of}

@@ -1,6 +1,6 @@
 use Rattle.std.proofs.Common.{◌∙◌, None, arith, refl, sym}
-use Rattle.wb_runs.specs.declared.event.Event.TheVariants.{Start}
-use Rattle.wb_runs.specs.Happenings.{DoesNotApply}
+use Rattle.wb_promise.specs.declared.event.Event.TheVariants.{Start}
+use Rattle.wb_promise.specs.Happenings.{DoesNotApply}
 use Rattle.wb_machine.specs.declared.machine.TheConstants.{ACTORS}
 use Rattle.wb_machine.specs.Life.{shape_of, state_of}
 use Rattle.wb_machine.specs.Standing.{AtMetadata}

@@ -1,6 +1,6 @@
 use Rattle.std.proofs.Common.{◌∙◌, ap, refl, sym, subst}
-use Rattle.wb_runs.specs.declared.event.Event.TheVariants.{FaultStep}
-use Rattle.wb_runs.specs.Happenings.{MayFailAt}
+use Rattle.wb_promise.specs.declared.event.Event.TheVariants.{FaultStep}
+use Rattle.wb_promise.specs.Happenings.{MayFailAt}
 use Rattle.wb_machine.specs.declared.machine.TheConstants.{ACTORS}
 use Rattle.wb_machine.specs.Life.{IsThere, contents_of, device_step_of, shape_of, state_of}
 use Rattle.wb_machine.proofs.Openings.{only_busy, idle, idle_beside, is_device_step, nobody_opens, cannot_fail, on_false, on_true, passes}

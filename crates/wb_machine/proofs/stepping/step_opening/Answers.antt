@@ -1,5 +1,5 @@
 use Rattle.std.proofs.Common.{◌∙◌, ap, refl, sym, subst}
-use Rattle.wb_runs.specs.declared.event.Event.TheVariants.{Step}
+use Rattle.wb_promise.specs.declared.event.Event.TheVariants.{Step}
 use Rattle.wb_machine.specs.declared.machine.TheConstants.{ACTORS}
 use Rattle.wb_machine.specs.declared.phase.Phase.TheVariants.{Underway}
 use Rattle.wb_machine.specs.Life.{IsThere, device_step_of, shape_of, state_of}

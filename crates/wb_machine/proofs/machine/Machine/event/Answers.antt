@@ -1,6 +1,6 @@
 use Rattle.std.proofs.Common.{◌≡◌, ◌∙◌, ◌++◌, ◌∷◌, [], ap, refl, subst}
 use Rattle.wb_meta.specs.declared.read_steps.ReadSteps.TheVariants.{Begun}
-use Rattle.wb_runs.specs.declared.event.Record.{Record}
+use Rattle.wb_promise.specs.declared.event.Record.{Record}
 use Rattle.wb_runs.specs.Holding.{AreUsedRightly}
 use Rattle.wb_runs.specs.Progress.{IsFree}
 use Rattle.wb_machine.specs.declared.machine.TheConstants.{ACTORS}

@@ -1,5 +1,5 @@
 use Rattle.std.proofs.Common.{◌≡◌, length, subst}
-use Rattle.wb_runs.specs.States.{cache_sector_count, sector_count}
+use Rattle.wb_promise.specs.States.{cache_sector_count, sector_count}
 use Rattle.wb_machine.specs.declared.machine.TheConstants.{ACTORS}
 use Rattle.wb_machine.specs.Life.{Now, shape_of}
 use Rattle.wb_machine.proofs.Sizes.{sizes_are}

@@ -1,6 +1,6 @@
 use Rattle.std.proofs.Common.{◌≡◌, ◌∙◌, Bool, None, ap, sym, subst, List}
 use Rattle.wb_types.specs.declared.refusal.Refusal.TheVariants.{Busy}
-use Rattle.wb_runs.specs.declared.event.What.TheVariants.{Refused, Started}
+use Rattle.wb_promise.specs.declared.event.What.TheVariants.{Refused, Started}
 use Rattle.wb_machine.specs.declared.machine.TheConstants.{ACTORS}
 use Rattle.wb_machine.specs.Life.{shape_of}
 use Rattle.wb_machine.specs.Members.{Member}
@@ -9,8 +9,8 @@ use Rattle.wb_machine.proofs.Orders.{none_of, refused_busy, refused_request, sta
 use Rattle.wb_machine.proofs.member.Member.start.Goals as goal
 use Rattle.wb_policy.specs.declared.order.Order.{Order}
 use Rattle.wb_tasks.specs.Plan.{table}
-use Rattle.wb_runs.specs.declared.job.Job.{Job}
-use Rattle.wb_runs.specs.Happenings.{begun_as, task_job}
+use Rattle.wb_promise.specs.declared.job.Job.{Job}
+use Rattle.wb_promise.specs.Happenings.{begun_as, task_job}
 use Rattle.wb_machine.proofs.member.Member.start.Goals.{then-is_ordered+in_ok-has_order+else-not-has_order, else-is_ordered}
 
 pub returns-in-Some-clause-ok : goal.returns-in-Some-clause-ok

@@ -1,5 +1,5 @@
 use Rattle.std.proofs.Common.{◌≡◌, ◌∙◌, Bool, true, false, if◌then◌else◌, [], sym, ap, subst}
-use Rattle.wb_runs.specs.declared.event.What.{What}
+use Rattle.wb_promise.specs.declared.event.What.{What}
 use Rattle.wb_machine.specs.Life.{contents_of}
 use Rattle.wb_machine.specs.Members.{Member}
 use Rattle.wb_machine.specs.Serving.{Steps, held_for, is_copied}

@@ -1,6 +1,6 @@
 use Rattle.std.proofs.Common.{◌∙◌, List, ap, subst}
 use Rattle.wb_policy.specs.declared.order.Order.{Order}
-use Rattle.wb_runs.specs.Happenings.{KeepsReplacement}
+use Rattle.wb_promise.specs.Happenings.{KeepsReplacement}
 use Rattle.wb_machine.specs.Members.{Member}
 use Rattle.wb_machine.proofs.Kept.{if_ok}
 use Rattle.wb_machine.proofs.Orders.{takes_replacement}

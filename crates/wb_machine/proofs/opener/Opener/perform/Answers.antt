@@ -6,8 +6,8 @@ use Rattle.wb_tasks.specs.declared.step.DeviceStep.TheVariants.{Sync, ReadMetada
 use Rattle.wb_tasks.specs.declared.step.Got.TheVariants.{Done}
 use Rattle.wb_tasks.specs.declared.step.Want.TheVariants.{Device}
 use Rattle.wb_devices.specs.Opened.{DidTell}
-use Rattle.wb_runs.specs.declared.event.Event.TheVariants.{Step}
-use Rattle.wb_runs.specs.declared.event.What.TheVariants.{Stepped}
+use Rattle.wb_promise.specs.declared.event.Event.TheVariants.{Step}
+use Rattle.wb_promise.specs.declared.event.What.TheVariants.{Stepped}
 use Rattle.wb_machine.specs.declared.machine.TheConstants.{ACTORS}
 use Rattle.wb_machine.specs.declared.phase.Phase.TheVariants.{Underway}
 use Rattle.wb_machine.specs.Life.{Happens, contents_of, shape_of, state_of}

@@ -5,17 +5,17 @@ use Rattle.wb_disk.specs.Device.{Content as Bytes}
 use Rattle.wb_tasks.specs.declared.step.DeviceStep.TheVariants.{Read as ReadExtent}
 use Rattle.wb_tasks.specs.declared.step.Want.TheVariants.{Device}
 use Rattle.wb_tasks.specs.declared.step.Got.TheVariants.{Done}
-use Rattle.wb_runs.specs.declared.job.Job.{Job}
-use Rattle.wb_runs.specs.declared.job.Job.TheVariants.{Read, Migrate}
-use Rattle.wb_runs.specs.declared.event.Event.{Event}
-use Rattle.wb_runs.specs.declared.event.Event.TheVariants.{Step}
-use Rattle.wb_runs.specs.declared.event.What.{What}
-use Rattle.wb_runs.specs.declared.event.What.TheVariants.{Stepped}
-use Rattle.wb_runs.specs.States.{Shape, State, start}
-use Rattle.wb_runs.specs.Happenings.{Happening}
-use Rattle.wb_runs.specs.Effects.{after_happening}
-use Rattle.wb_runs.specs.Clerk.{Notes, Doing, sector_for, readings_from, formatted}
-use Rattle.wb_runs.specs.Headline.{IsLatest, InEveryRun, note_happening}
+use Rattle.wb_promise.specs.declared.job.Job.{Job}
+use Rattle.wb_promise.specs.declared.job.Job.TheVariants.{Read, Migrate}
+use Rattle.wb_promise.specs.declared.event.Event.{Event}
+use Rattle.wb_promise.specs.declared.event.Event.TheVariants.{Step}
+use Rattle.wb_promise.specs.declared.event.What.{What}
+use Rattle.wb_promise.specs.declared.event.What.TheVariants.{Stepped}
+use Rattle.wb_promise.specs.States.{Shape, State, start}
+use Rattle.wb_promise.specs.Happenings.{Happening}
+use Rattle.wb_promise.specs.Effects.{after_happening}
+use Rattle.wb_promise.specs.Clerk.{Notes, Doing, sector_for, readings_from, formatted}
+use Rattle.wb_promise.specs.Headline.{IsLatest, InEveryRun, note_happening}
 
 -- Each sector that a step of a read is given is the last entry of its history. What a migration reads is not told.
 abbrev pub GivesLatest : Shape → Notes → Job → Extent → List Bytes → Type 0

@@ -1,6 +1,5 @@
 -- What is promised of every run.
-use Rattle.std.specs.List.{count_by}
-use Rattle.std.specs.Prelude.{true, is_some, ◌≡◌, ◌≤◌, ◌+◌, ◌*◌, ◌/◌, ◌%◌, ◌==◌, ℕ, suc, List, [], ◌∷◌, Option, Some, None, All, IsPermutation, Contains, map, length, slice_get, unwrap_or, if◌then◌else◌}
+use Rattle.std.specs.Prelude.{◌≡◌, ◌≤◌, ◌+◌, ◌*◌, ◌/◌, ◌%◌, ◌==◌, ℕ, suc, List, [], ◌∷◌, Option, Some, None, All, IsPermutation, Contains, map, length, slice_get, unwrap_or, if◌then◌else◌}
 use Rattle.wb_types.specs.declared.entry.Entry.{Entry}
 use Rattle.wb_types.specs.Extents.{sectors_in, rising}
 use Rattle.wb_types.specs.declared.refusal.Refusal.{Refusal}
@@ -11,20 +10,18 @@ use Rattle.wb_meta.specs.Formats.{IsFormatted}
 use Rattle.wb_meta.specs.Representing.{Represents, Stored}
 use Rattle.wb_tasks.specs.declared.step.Answer.{Answer}
 use Rattle.wb_tasks.specs.declared.step.Answer.TheVariants.{Done as Finished, Refused as Refuses}
-use Rattle.wb_tasks.specs.declared.step.Want.{Want}
 use Rattle.wb_tasks.specs.declared.step.Want.TheVariants.{End}
-use Rattle.wb_tasks.specs.declared.step.Got.{Got}
 use Rattle.wb_devices.specs.declared.devices.Devices.{Devices}
-use Rattle.wb_runs.specs.declared.job.Job.{Job}
-use Rattle.wb_runs.specs.declared.job.Job.TheVariants.{Read, Write, Open}
-use Rattle.wb_runs.specs.declared.event.Event.{Event}
-use Rattle.wb_runs.specs.declared.event.Event.TheVariants.{Step}
-use Rattle.wb_runs.specs.declared.event.What.{What}
-use Rattle.wb_runs.specs.declared.event.What.TheVariants.{Skipped, Stepped}
-use Rattle.wb_runs.specs.States.{Shape, State, Phase, Stands, block_size, sector_count, start}
-use Rattle.wb_runs.specs.Happenings.{Happening, Chosen, DoesNotApply, MayBe}
-use Rattle.wb_runs.specs.Effects.{after_happening, after_all, IsRun}
-use Rattle.wb_runs.specs.Clerk.{Notes, Doing, Reading, Position, note, formatted}
+use Rattle.wb_promise.specs.declared.job.Job.{Job}
+use Rattle.wb_promise.specs.declared.job.Job.TheVariants.{Read, Write, Open}
+use Rattle.wb_promise.specs.declared.event.Event.{Event}
+use Rattle.wb_promise.specs.declared.event.Event.TheVariants.{Step}
+use Rattle.wb_promise.specs.declared.event.What.{What}
+use Rattle.wb_promise.specs.declared.event.What.TheVariants.{Skipped, Stepped}
+use Rattle.wb_promise.specs.States.{Shape, State, Phase, Stands, block_size, sector_count, start}
+use Rattle.wb_promise.specs.Happenings.{Happening, DoesNotApply}
+use Rattle.wb_promise.specs.Effects.{after_happening, after_all, IsRun}
+use Rattle.wb_promise.specs.Clerk.{Notes, Doing, Reading, Position, note, formatted}
 
 -- ---- what entries show
 
@@ -125,21 +122,6 @@ abbrev pub CrashConsistent : Shape → Notes → Devices (List History) → Type
 CrashConsistent shape n devices = (metadata cache origin : List Bytes) → MayLeave devices.metadata metadata → MayLeave devices.cache cache → MayLeave devices.origin origin
     → ShowsOpened shape n metadata cache origin
 
--- Metadata represent a root of this geometry, and a tree, of which a root that is marked clean says nothing but that it is empty.
-pub record CanBeRead (shape : Shape) (metadata : List Bytes) : Type 0 where
-  pub stored : Stored
-  pub represents : Represents metadata stored.root stored.found
-  pub geometry : stored.root.geometry ≡ shape.geometry
-  pub clean : stored.root.clean ≡ true → count_by is_some stored.found.entries ≡ 0
-
--- an actor may do a step, and it is not skipped
-pub record GivesSomething {P A : Type 0} (shape : Shape) (w : State P A) (a : ℕ) : Type 0 where
-  pub next : Want
-  pub got : Got
-  pub read : List Bytes
-  pub chosen : Chosen P A
-  pub may : MayBe shape w (Step a) (Stepped next got) read chosen
-
 -- An opening that is answered done shows of each sector what is allowed.
 abbrev pub ShownBy : Notes → List Bytes → Job → Type 0
 ShownBy n shown (Open mode) = ShowsAllowed n shown
@@ -159,34 +141,12 @@ AllOpenRightly shape w n [] = Unit {0}
 AllOpenRightly shape w n (h ∷ hs) = OpensRightly (shown shape (after_happening shape w h)) n h.record_is.event h.record_is.what
     × AllOpenRightly shape (after_happening shape w h) (note_happening shape w n h) hs
 
--- An opening that is refused has a cause: a step of it has failed on that device, memory was wanted, or no generation is left.
-abbrev pub RefusedBy : Doing → Job → Refusal → Type 0
-RefusedBy doing (Open mode) refusal = MayRefuse doing refusal
-RefusedBy doing job refusal = Unit {0}
-
-abbrev pub RefusedRightly : Option (Option Doing) → Refusal → Type 0
-RefusedRightly (Some (Some doing)) refusal = RefusedBy doing doing.job refusal
-RefusedRightly doing refusal = Unit {0}
-
-abbrev pub RefusesByCause : Notes → Event → What → Type 0
-RefusesByCause n (Step a) (Stepped (End (Refuses refusal)) got) = RefusedRightly (slice_get n.doings a) refusal
-RefusesByCause n event what = Unit {0}
-
--- every opening of a run that is refused does
-abbrev pub AllRefuseByCause : {P A : Type 0} → Shape → State P A → Notes → List (Happening P A) → Type 0
-AllRefuseByCause shape w n [] = Unit {0}
-AllRefuseByCause shape w n (h ∷ hs) = RefusesByCause n h.record_is.event h.record_is.what × AllRefuseByCause shape (after_happening shape w h) (note_happening shape w n h) hs
-
 -- ---- laws
 
 -- A run from formatted metadata, and what is so after it.
 abbrev pub InEveryRun : (P A : Type 0) → (Shape → List History → List (Happening P A) → Type 0) → Type 0
 InEveryRun P A Holds = (shape : Shape) (metadata : List History) (hs : List (Happening P A)) → IsFormatted shape.geometry metadata → length metadata ≡ shape.geometry.meta_sectors
     → IsRun shape (start shape metadata) hs → Holds shape metadata hs
-
--- whatever a crash leaves of the metadata represents a root and a tree
-abbrev pub MetadataAreRead : (P A : Type 0) → Type 0
-MetadataAreRead P A = InEveryRun P A (λ shape metadata hs. (sectors : List Bytes) → MayLeave (after_all shape (start shape metadata) hs).devices.metadata sectors → CanBeRead shape sectors)
 
 -- whatever a crash leaves of the three devices, what an opening then shows is allowed
 abbrev pub AllCrashConsistent : (P A : Type 0) → Type 0
@@ -195,33 +155,6 @@ AllCrashConsistent P A = InEveryRun P A (λ shape metadata hs. CrashConsistent s
 -- what every opening shows that is answered done is allowed
 abbrev pub AllOpeningsShowAllowed : (P A : Type 0) → Type 0
 AllOpeningsShowAllowed P A = InEveryRun P A (λ shape metadata hs. AllOpenRightly shape (start shape metadata) (formatted shape) hs)
-
--- no opening is refused for what the metadata hold
-abbrev pub OpeningsRefuseByCause : (P A : Type 0) → Type 0
-OpeningsRefuseByCause P A = InEveryRun P A (λ shape metadata hs. AllRefuseByCause shape (start shape metadata) (formatted shape) hs)
-
--- A read that is answered done was given each of its sectors exactly once, and a write that is has entered each of its own so.
-abbrev pub IsCovered : Doing → Job → Answer → Type 0
-IsCovered doing (Read extent) Finished = IsPermutation (sectors_in extent) (map (λ (r : Reading). r.sector) doing.readings)
-IsCovered doing (Write extent content) Finished = IsPermutation (sectors_in extent) (map (λ (p : Position). p.sector) doing.entered)
-IsCovered doing job answer = Unit {0}
-
-abbrev pub DoingCovers : Option (Option Doing) → Answer → Type 0
-DoingCovers (Some (Some doing)) answer = IsCovered doing doing.job answer
-DoingCovers doing answer = ⊥
-
--- only an actor that is at something answers
-abbrev pub AnswerCovers : Notes → Event → What → Type 0
-AnswerCovers n (Step a) (Stepped (End answer) got) = DoingCovers (slice_get n.doings a) answer
-AnswerCovers n event what = Unit {0}
-
--- so it is of every answer of a run
-abbrev pub AllCover : {P A : Type 0} → Shape → State P A → Notes → List (Happening P A) → Type 0
-AllCover shape w n [] = Unit {0}
-AllCover shape w n (h ∷ hs) = AnswerCovers n h.record_is.event h.record_is.what × AllCover shape (after_happening shape w h) (note_happening shape w n h) hs
-
-abbrev pub AnswersCoverTheirSectors : (P A : Type 0) → Type 0
-AnswersCoverTheirSectors P A = InEveryRun P A (λ shape metadata hs. AllCover shape (start shape metadata) (formatted shape) hs)
 
 -- an event is skipped only where it does not apply
 abbrev pub SkipsRightly : {P A : Type 0} → State P A → Event → What → Type 0
@@ -232,10 +165,6 @@ SkipsRightly w event what = Unit {0}
 abbrev pub AllSkipRightly : {P A : Type 0} → Shape → State P A → List (Happening P A) → Type 0
 AllSkipRightly shape w [] = Unit {0}
 AllSkipRightly shape w (h ∷ hs) = SkipsRightly w h.record_is.event h.record_is.what × AllSkipRightly shape (after_happening shape w h) hs
-
--- so it is in every run
-abbrev pub EventsSkipRightly : (P A : Type 0) → Type 0
-EventsSkipRightly P A = InEveryRun P A (λ shape metadata hs. AllSkipRightly shape (start shape metadata) hs)
 
 -- The whole promise of a run: no event is skipped that applies, each answer is right, and whatever a crash leaves after it is
 -- consistent.

@@ -7,11 +7,11 @@ use Rattle.wb_words.specs.SharedWords.{Words, word_at, place_in}
 use Rattle.wb_words.specs.declared.step.CellStep.TheVariants.{Seal}
 use Rattle.wb_tasks.specs.Plan.{Plan, want}
 use Rattle.wb_tasks.specs.declared.step.Want.TheVariants.{Cell}
-use Rattle.wb_runs.specs.declared.job.Job.{Job}
-use Rattle.wb_runs.specs.States.{State, Actor, Target, Stands}
-use Rattle.wb_runs.specs.Effects.{after_all}
-use Rattle.wb_runs.specs.States.{start}
-use Rattle.wb_runs.specs.Headline.{InEveryRun, place_of}
+use Rattle.wb_promise.specs.declared.job.Job.{Job}
+use Rattle.wb_promise.specs.States.{State, Actor, Target, Stands}
+use Rattle.wb_promise.specs.Effects.{after_all}
+use Rattle.wb_promise.specs.States.{start}
+use Rattle.wb_promise.specs.Headline.{InEveryRun, place_of}
 
 abbrev pub number_of : Option CBlock → Option ℕ
 number_of None = None

@@ -15,7 +15,7 @@ use Rattle.wb_desk.specs.Desks.{DeskState}
 use Rattle.wb_tasks.specs.Plan.{Plan}
 use Rattle.wb_devices.specs.declared.devices.Devices.{Devices}
 use Rattle.wb_devices.specs.declared.running.RunningCommit.{RunningCommit}
-use Rattle.wb_runs.specs.declared.job.Job.{Job}
+use Rattle.wb_promise.specs.declared.job.Job.{Job}
 
 -- the sizes of the devices, how many sectors orders may ask for at once, and how many actors there are
 pub record Shape : Type 0 where

@@ -55,14 +55,14 @@ use Rattle.wb_stage.specs.Asking.{DidRelease, DidUnmap, HasBegun}
 use Rattle.wb_devices.specs.Committing.{goes_on}
 use Rattle.wb_stage.specs.Stages.{is_all_done}
 use Rattle.wb_devices.specs.Opened.{HasCome, got_of_refusal}
-use Rattle.wb_runs.specs.declared.job.Job.{Job}
-use Rattle.wb_runs.specs.declared.job.Job.TheVariants.{Read, Write, Flush, Open, Migrate, Replace}
-use Rattle.wb_runs.specs.declared.event.Event.{Event}
-use Rattle.wb_runs.specs.declared.event.Event.TheVariants.{Start, Step, FaultStep, Stop}
-use Rattle.wb_runs.specs.declared.event.What.{What}
-use Rattle.wb_runs.specs.declared.event.What.TheVariants.{Skipped, Refused, Started, Stepped, Stopped}
-use Rattle.wb_runs.specs.declared.event.Record.{Record}
-use Rattle.wb_runs.specs.States.{Shape, State, Actor, Phase, Opens, OfTarget, OfReading, sector_count, block_size}
+use Rattle.wb_promise.specs.declared.job.Job.{Job}
+use Rattle.wb_promise.specs.declared.job.Job.TheVariants.{Read, Write, Flush, Open, Migrate, Replace}
+use Rattle.wb_promise.specs.declared.event.Event.{Event}
+use Rattle.wb_promise.specs.declared.event.Event.TheVariants.{Start, Step, FaultStep, Stop}
+use Rattle.wb_promise.specs.declared.event.What.{What}
+use Rattle.wb_promise.specs.declared.event.What.TheVariants.{Skipped, Refused, Started, Stepped, Stopped}
+use Rattle.wb_promise.specs.declared.event.Record.{Record}
+use Rattle.wb_promise.specs.States.{Shape, State, Actor, Phase, Opens, OfTarget, OfReading, sector_count, block_size}
 
 -- What no record holds of what was free at it: into which extents a job's sectors are cut, in the order in which they are
 -- taken, and the cache block of an order that is given; a reading that has read nothing; how far it has come after a step, and the commit of the opening's root once all was
