@@ -1,6 +1,4 @@
 pub mod Laws
 pub mod Holding
-pub mod Progress
-pub mod Possible
 pub mod Inside
-pub mod Excluded
+pub mod Progress
