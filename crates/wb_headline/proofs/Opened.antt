@@ -86,6 +86,30 @@ module _ (P A : Type 0) (shape : Shape) (images : Images) (devices : Devices (Li
         gone P A shape images f.phase.later GoneThere devices (put n a None) (rests P A shape images w n (put n a None) f same images.committed f.phase.later GoneThere devices f.phase.devices_follow.idle over.phase_is f.phase.devices_follow.agree) f.phase.devices_follow.fit (λ e. absurd (cc))
         (slice_set actors a y) (sized_so P A shape actors (slice_set actors a y) n (put n a None) same (length-set actors a y) f.sized) None readable
 
+    -- one that is answered done has read all, and its root is durable
+    pub record Answered (chosen : Chosen P A) : Type 0 where
+      pub learnt : Learnt
+      pub phase_is : f.site.phase ≡ OpensThere Writeback (Answering learnt)
+      pub read : HasReadAt (Answering learnt) reading commit f.phase.later
+      pub policy : P
+      pub done : is_all_done commit ≡ true
+      pub stands : phase_opened shape mode reading chosen ≡ Stands (target_over shape mode policy read.0.stored)
+
+    pub answered : (chosen : Chosen P A) → End Finished ≡ want plan → DoesOpen (Opens mode reading) commit chosen → Answered chosen
+    answered chosen next d = by_at (f.phase.each a x (Open opened_in) plan ex xt)
+      where
+        by_chosen : (i : Learnt) → f.site.phase ≡ OpensThere Writeback (Answering i) → HasReadAt (Answering i) reading commit f.phase.later → (c : Chosen P A) → DoesOpen (Opens mode reading) commit c → Answered c
+        by_chosen i ph rd (Opened policy) d = record { learnt = i; phase_is = ph; read = rd; policy = policy; done = d.1; stands = ap (λ (r : Option (ReadSteps A)). phase_opened shape mode r (Opened policy)) rd.0.reading_is }
+        by_chosen i ph rd c d = absurd d
+
+        by_stage : (total left : ℕ) (stage : Stage) → f.site.phase ≡ OpensThere Writeback stage → HasReadAt stage reading commit f.phase.later → End Finished ≡ want (opening_at total left stage) → Answered chosen
+        by_stage total left (Answering i) ph rd e = by_chosen i ph rd chosen d
+        by_stage total left stage ph rd e = absurd (cc)
+
+        by_at : AtStage reading commit f.phase.later plan f.site.phase ⊎ IsOver plan f.site.phase → Answered chosen
+        by_at (inl s) = by_stage s.total s.left s.stage s.phase_is s.read (next ∙ ap want s.is)
+        by_at (inr over) = absurd (over.refused (let same : End Finished ≡ End plan.answer = next ∙ ap (λ (ws : List Want). first_step ws plan.answer) over.nothing in let is : Finished ≡ plan.answer = cc in sym is))
+
     module _ (i : Learnt) (ph : f.site.phase ≡ OpensThere Writeback (Answering i)) (rd : HasReadAt (Answering i) reading commit f.phase.later) (policy : P) (done : is_all_done commit ≡ true) (cache_size : length devices.cache ≡ cache_sector_count shape) (origin_size : length devices.origin ≡ sector_count shape) where
       abbrev stored : StoredThere A
       stored = rd.0.stored
@@ -320,24 +344,16 @@ module _ (P A : Type 0) (shape : Shape) (images : Images) (devices : Devices (Li
     no_orders : (answer : Answer) → NoOrders (slice_set actors a (actor_then {P = P} {A = A} shape (Opens mode reading) devices x (End answer) got))
     no_orders answer = none_goes P A shape (Opens mode reading) devices actors a x (End answer) got ex none
 
-    finished : (chosen : Chosen P A) → End Finished ≡ want plan → DoesOpen (Opens mode reading) commit chosen → Then Finished (phase_opened shape mode reading chosen)
-    finished chosen next d = by_at (f.phase.each a x (Open opened_in) plan ex xt)
-      where
-        by_stage : (total left : ℕ) (stage : Stage) → f.site.phase ≡ OpensThere Writeback stage → HasReadAt stage reading commit f.phase.later → End Finished ≡ want (opening_at total left stage) → Then Finished (phase_opened shape mode reading chosen)
-        by_stage total left (Answering i) ph rd e = by_chosen chosen d
-          where
-            by_chosen : (c : Chosen P A) → DoesOpen (Opens mode reading) commit c → Then Finished (phase_opened shape mode reading c)
-            by_chosen (Opened policy) d = subst (λ (r : Option (ReadSteps A)). Then Finished (phase_opened shape mode r (Opened policy))) (sym rd.0.reading_is)
-                (made_keeps P (target_over shape mode policy rd.0.stored) (slice_set actors a (actor_then {P = P} {A = A} shape (Opens mode reading) devices x (End Finished) got)) (no_orders Finished)
-                (at_rest known f alone a x ex opened_in plan xt got i ph rd policy d.1 cache_size origin_size)
-                (λ block. sym (same_number (place_in (word_at (target_over shape mode policy rd.0.stored).words.seals block))) ∙ opened_tells known f alone a x ex opened_in plan xt got i ph rd policy d.1 cache_size origin_size block))
-            by_chosen c d = absurd d
-        by_stage total left stage ph rd e = absurd (cc)
-
-        by_at : AtStage reading commit f.phase.later plan f.site.phase ⊎ IsOver plan f.site.phase → Then Finished (phase_opened shape mode reading chosen)
-        by_at (inl s) = by_stage s.total s.left s.stage s.phase_is s.read (next ∙ ap want s.is)
-        by_at (inr over) = absurd (over.refused (let same : End Finished ≡ End plan.answer = next ∙ ap (λ (ws : List Want). first_step ws plan.answer) over.nothing in let is : Finished ≡ plan.answer = cc in sym is))
-
     pub opening_keeps : (answer : Answer) (chosen : Chosen P A) → End answer ≡ want plan → Gives shape w x (Open opened_in) (End answer) got read chosen → Then answer (phase_then {P = P} {A = A} shape (Opens mode reading) (End answer) got chosen)
-    opening_keeps Finished chosen next g = finished chosen next g.2
+    opening_keeps Finished chosen next g =
+        let o = answered known f alone a x ex opened_in plan xt got chosen next g.2 in
+        subst (λ (p : Phase P A). Then Finished p) (sym o.stands) (made_keeps P (target_over shape mode o.policy o.read.0.stored) (slice_set actors a (actor_then {P = P} {A = A} shape (Opens mode reading) devices x (End Finished) got)) (no_orders Finished)
+        (at_rest known f alone a x ex opened_in plan xt got o.learnt o.phase_is o.read o.policy o.done cache_size origin_size)
+        (λ block. sym (same_number (place_in (word_at (target_over shape mode o.policy o.read.0.stored).words.seals block))) ∙ opened_tells known f alone a x ex opened_in plan xt got o.learnt o.phase_is o.read o.policy o.done cache_size origin_size block))
     opening_keeps (Refuses refusal) chosen next g = subst (λ (c : Chosen P A). Then (Refuses refusal) (phase_opened shape mode reading c)) (sym g.0.1) (no_orders (Refuses refusal))
+
+    -- what it shows is allowed
+    pub opening_shows : (chosen : Chosen P A) → End Finished ≡ want plan → Gives shape w x (Open opened_in) (End Finished) got read chosen → ShowsAllowed n (shown_in shape devices (phase_then {P = P} {A = A} shape (Opens mode reading) (End Finished) got chosen))
+    opening_shows chosen next g =
+        let o = answered known f alone a x ex opened_in plan xt got chosen next g.2 in
+        subst (λ (p : Phase P A). ShowsAllowed n (shown_in shape devices p)) (sym o.stands) (shows known f alone a x ex opened_in plan xt got o.learnt o.phase_is o.read o.policy o.done cache_size origin_size)

@@ -38,7 +38,7 @@ use Rattle.wb_runs.proofs.LinkedRuns.{run_refuses, run_covers, all_skip}
 use Rattle.wb_link.specs.Openings.{Stage, Settling, Caching, Basing, Looking, Rooting, Renewing, Answering}
 use Rattle.wb_promise.specs.Sealed.{SealsTell}
 use Rattle.wb_headline.proofs.Following.{opening_at, AtStage, IsOver}
-use Rattle.wb_headline.proofs.Opened.{shows}
+use Rattle.wb_headline.proofs.Opened.{opening_shows}
 use Rattle.wb_headline.proofs.Requests.{given_latest}
 use Rattle.wb_headline.proofs.Showing.{crash_consistent}
 use Rattle.wb_headline.proofs.Doings.{AllLatest, IsFault, what_latest}
@@ -69,23 +69,8 @@ module _ (P A : Type 0) (shape : Shape) where
       (got : Got) (read : List Bytes) (chosen : Chosen P A) → End Finished ≡ want plan → Gives shape (record { devices = devices; commit = commit; phase = phase; actors = actors }) x (Open opened_in) (End Finished) got read chosen → ShowsAllowed n (shown_in shape devices (phase_then shape phase (End Finished) got chosen))
   shows_by_phase devices commit (Stands t) actors n b a x opened_in plan ex xt got read chosen next g = absurd (subst (λ (o : Option (Job × Plan)). TaskHere {P = P} {A = A} (Stands t) o) xt (b.linked.here a x ex))
   shows_by_phase devices commit Gone actors n b a x opened_in plan ex xt got read chosen next g = absurd (subst (λ (o : Option (Job × Plan)). TaskHere {P = P} {A = A} Gone o) xt (b.linked.here a x ex))
-  shows_by_phase devices commit (Opens mode reading) actors n b a x opened_in plan ex xt got read chosen next g = by_at (f.phase.each a x (Open opened_in) plan ex xt)
-    where
-      f : Rattle.wb_headline.proofs.Following.Followed P A shape b.goes.images (record { devices = devices; commit = commit; phase = Opens mode reading; actors = actors }) n
-      f = b.goes.followed
-
-      by_stage : (later : Option Rattle.wb_meta.specs.Representing.Stored) (total left : ℕ) (stage : Stage) → f.site.phase ≡ Rattle.wb_link.specs.Openings.Opens Writeback stage → Rattle.wb_headline.proofs.Following.HasReadAt stage reading commit f.phase.later → plan ≡ opening_at total left stage → End Finished ≡ want (opening_at total left stage) → later ≡ f.phase.later → ShowsAllowed n (shown_in shape devices (phase_opened shape mode reading chosen))
-      by_stage later total left (Answering i) ph rd is e l = by_chosen chosen g.2
-        where
-          by_chosen : (c : Chosen P A) → DoesOpen (Opens mode reading) commit c → ShowsAllowed n (shown_in shape devices (phase_opened shape mode reading c))
-          by_chosen (Opened policy) d = subst (λ (r : Option (ReadSteps A)). ShowsAllowed n (shown_in shape devices (phase_opened shape mode r (Opened policy)))) (sym rd.0.reading_is)
-              (shows P A shape b.goes.images devices commit mode reading actors n b.goes.known f b.linked.alone a x ex opened_in plan xt got i ph rd policy d.1 b.inside.cache b.inside.origin)
-          by_chosen c d = absurd d
-      by_stage later total left stage ph rd is e l = absurd (cc)
-
-      by_at : AtStage reading commit f.phase.later plan f.site.phase ⊎ IsOver plan f.site.phase → ShowsAllowed n (shown_in shape devices (phase_opened shape mode reading chosen))
-      by_at (inl s) = by_stage f.phase.later s.total s.left s.stage s.phase_is s.read s.is (next ∙ ap want s.is) refl
-      by_at (inr over) = absurd (over.refused (let same : End Finished ≡ End plan.answer = next ∙ ap (λ (ws : List Want). first_step ws plan.answer) over.nothing in let is : Finished ≡ plan.answer = cc in sym is))
+  shows_by_phase devices commit (Opens mode reading) actors n b a x opened_in plan ex xt got read chosen next g =
+      opening_shows P A shape b.goes.images devices commit mode reading actors n b.goes.known b.goes.followed b.linked.alone b.keeping a x ex opened_in plan xt b.inside.cache b.inside.origin got read chosen next g
 
   module _ (w : State P A) (n : Notes) (b : Whole P A shape w n) (a : ℕ) where
     read_rightly : (device : Dev) (ext : Extent) (read : List Bytes) (chosen : Chosen P A) (o : Option Actor) → slice_get w.actors a ≡ o → OfSome o (λ x. OfSome x.task (λ doing. (Device (ReadExtent device ext) ≡ want doing.1) × Gives shape w x doing.0 (Device (ReadExtent device ext)) Done read chosen)) → IsGiven shape n (slice_get n.doings a) ext read
