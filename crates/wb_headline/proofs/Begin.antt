@@ -63,9 +63,6 @@ module _ (P A : Type 0) (shape : Shape) (metadata : List History) (f : IsFormatt
   images : Images
   images = none_images shape.geometry metadata (formatted_none shape.geometry metadata f)
 
-  nobody : (a : ℕ) (d : Doing) → slice_get (replicate shape.actors None) a ≡ Some (Some d) → length d.then_finished ≡ sector_count shape
-  nobody a d e = absurd (let same : ◌≡◌ {A = Option Doing} None (Some d) = replicated_there shape.actors a None (Some d) e in cc)
-
   pub whole_start : Whole P A shape (start shape metadata) (formatted shape)
   whole_start = record {
     goes = record {
@@ -117,7 +114,7 @@ module _ (P A : Type 0) (shape : Shape) (metadata : List History) (f : IsFormatt
       seals = tt;
       tasks = λ a x e. subst (λ (v : Actor). PlanInside shape v.task) (sym (replicated shape.actors a resting x e)) tt;
     };
-    asked = nobody;
+    noted_so = λ a d e. absurd (let same : ◌≡◌ {A = Option Doing} None (Some d) = replicated_there shape.actors a None (Some d) e in cc);
     keeping = λ a x e. subst (λ (v : Actor). HasNone v) (sym (replicated shape.actors a resting x e)) (refl, refl);
     placed = λ a x e. subst (λ (v : Actor). TaskPlaced (block_size shape) v.card v.task) (sym (replicated shape.actors a resting x e)) tt;
   }

@@ -55,11 +55,10 @@ use Rattle.wb_simulation.proofs.Orders.{cache_there}
 use Rattle.wb_headline.proofs.Showing.{there}
 use Rattle.wb_headline.proofs.Desking.{desk_stays, desk_reserves}
 use Rattle.wb_headline.proofs.Following.{size, most, Followed, Goes}
-use Rattle.wb_headline.proofs.Migrations.{any_step, any_fault}
 use Rattle.wb_runs.proofs.Located.{stands_there, unmapped_there}
 use Rattle.wb_headline.proofs.Seeing.{live_here, named, orders_set, slot_there, slot_within, vacant_there}
 use Rattle.wb_headline.proofs.Targets.{standing, beside, noted_within, leads_on, stays_on}
-use Rattle.wb_headline.proofs.Whole.{Whole, at_target, MigrationsGo}
+use Rattle.wb_headline.proofs.Whole.{Whole, at_target}
 
 -- ---- starts
 
@@ -235,7 +234,7 @@ module _ (P A : Type 0) (shape : Shape) (t : Target P) (commit : Option RunningC
         (sym v.0, g.phase.desk.blocks c.0 ∙ ap (λ (b : Block). block_there b) is),
       )
 
-  any_start : (migration : Migration) (block : OBlock) (chosen : Chosen P A) → StartGives shape (Stands t) (Some x) (Migrate migration block) Started chosen →
+  pub any_start : (migration : Migration) (block : OBlock) (chosen : Chosen P A) → StartGives shape (Stands t) (Some x) (Migrate migration block) Started chosen →
       Goes P A shape (record { devices = devices; commit = commit; phase = phase_given {P = P} {A = A} (Stands t) (Migrate migration block) chosen; actors = slice_set actors a (given shape x (Migrate migration block) chosen) }) (put n a (Some (begun n (Migrate migration block))))
   any_start (Promote cache) block (Cut cut) h = elim h.1 [
     | inl has ↦ again_plain (Promote cache) block cut h.0 has
@@ -250,7 +249,7 @@ module _ (P A : Type 0) (shape : Shape) (t : Target P) (commit : Option RunningC
   leaves_there : (old new : OBlock) (k : CBlock) (c : ℕ) → IsMappedAt (holdings t.desk) old.0 c → order_there g.site.world.shared.mapping c (ReplaceOrder old new k) ≡ record { block = old.0; cache = c; next = Some new.0 }
   leaves_there old new k c at = ap (λ (l : Option ℕ). replacement_there (is_at l c) old.0 new.0 c) (mapped_here old c at).0 ∙ ap (λ (v : Bool). replacement_there v old.0 new.0 c) (eq-eqb c c refl)
 
-  any_replacement : (old new : OBlock) (chosen : Chosen P A) → StartGives shape (Stands t) (Some x) (Replace old new) Started chosen →
+  pub any_replacement : (old new : OBlock) (chosen : Chosen P A) → StartGives shape (Stands t) (Some x) (Replace old new) Started chosen →
       Goes P A shape (record { devices = devices; commit = commit; phase = phase_given {P = P} {A = A} (Stands t) (Replace old new) chosen; actors = slice_set actors a (given shape x (Replace old new) chosen) }) (put n a (Some (begun n (begun_as (Replace old new)))))
   any_replacement old new (Cut cut) (cuts, (cache, has, m)) = again Demote old cut cuts (ReplaceOrder old new cache) (Some new.0) has (inr (refl, refl))
       (λ c here. let v = names c.0 (ReplaceOrder old new cache) here in let at = subst (λ (k : ℕ). IsMappedAt (holdings t.desk) old.0 k) (sym v.0) m in (leaves_there old new cache c.0 at, (mapped_here old c.0 at).1))
@@ -262,13 +261,3 @@ module _ (P A : Type 0) (shape : Shape) (t : Target P) (commit : Option RunningC
       named_by v (inl e) = inl e
       named_by v (inr e) = inr (let both : Some new.0 ≡ Some v = e in cc)
   any_replacement old new chosen h = absurd h
-
--- ---- all of them
-
-pub migrations_go : (P A : Type 0) (shape : Shape) → MigrationsGo P A shape
-migrations_go P A shape = record {
-  steps = λ t commit devices actors n b a x migration block plan doing ex xt noted job_is. any_step P A shape t commit devices actors n b a x migration block plan doing ex xt noted job_is;
-  faults = λ t commit devices actors n b a x migration block plan doing ex xt noted job_is. any_fault P A shape t commit devices actors n b a x migration block plan doing ex xt noted job_is;
-  starts = λ t commit devices actors n b a x migration block chosen ex xt. any_start P A shape t commit devices actors n b a x ex xt migration block chosen;
-  replaces = λ t commit devices actors n b a x old new chosen ex xt. any_replacement P A shape t commit devices actors n b a x ex xt old new chosen;
-}
