@@ -18,7 +18,6 @@ mod Whole
 mod Begin
 mod Promise
 mod Migrations
-mod Migrating
 mod Seeing
 mod Carried
 mod Placed

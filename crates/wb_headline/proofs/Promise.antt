@@ -53,10 +53,9 @@ use Rattle.wb_runs.proofs.InsideRuns.{Inside, inside_what, want_inside}
 use Rattle.wb_headline.proofs.Kept.{fault_keeps, none_goes, none_rest, none_set, start_keeps, step_keeps}
 use Rattle.wb_headline.proofs.Targets.{never_replaces}
 use Rattle.wb_headline.proofs.Arriving.{crash_goes}
-use Rattle.wb_headline.proofs.Starts.{read_starts, write_starts, flush_starts, opening_starts}
+use Rattle.wb_headline.proofs.Starts.{any_start, any_replacement, read_starts, write_starts, flush_starts, opening_starts}
 use Rattle.wb_headline.proofs.Stands.{read_steps, read_faults, write_steps, write_faults, flush_steps, flush_faults}
 use Rattle.wb_headline.proofs.Migrations.{any_step, any_fault}
-use Rattle.wb_headline.proofs.Migrating.{any_start, any_replacement}
 
 module _ (P A : Type 0) (shape : Shape) where
   -- what an event leads to: it is followed, and its orders and seals are kept
