@@ -13,7 +13,6 @@ mod Requests
 mod Flushes
 mod Doings
 mod Starts
-mod Stands
 mod Whole
 mod Begin
 mod Promise

@@ -1,6 +1,6 @@
 -- Whatever step an opening takes, done or failing, it is followed, and its answer; a target that it makes has seals that tell where it has each
 -- block, and no orders.
-use Rattle.std.proofs.Common.{◌≡◌, ◌∙◌, ◌≤◌, ◌^◌, inl, inr, ℕ, true, false, List, Option, Some, None, refl, sym, ap, subst, arith, length, map, replicate, slice_get, slice_set, Contains, ◌⊎◌, Bool, []}
+use Rattle.std.proofs.Common.{◌≡◌, ◌∙◌, ◌≤◌, ◌^◌, inl, inr, ℕ, true, false, List, Option, Some, None, refl, sym, ap, subst, arith, length, map, replicate, slice_get, slice_set, Contains, ◌⊎◌, []}
 use Rattle.std.proofs.lemmas.List.{length-replicate, length-set, length-map}
 use Rattle.wb_types.proofs.Lists.{set_cases}
 use Rattle.wb_types.specs.declared.entry.Entry.{Entry}
@@ -48,7 +48,7 @@ use Rattle.wb_simulation.proofs.Opened.{opened_followed}
 use Rattle.wb_types.specs.declared.mode.Dev.TheVariants.{Metadata, Cache, Origin}
 use Rattle.wb_disk.specs.Crash.{Choice}
 use Rattle.wb_disk.specs.Failing.{lands, synced_where}
-use Rattle.wb_meta.specs.Steps.{DoesStep, coming_step}
+use Rattle.wb_meta.specs.Steps.{coming_step}
 use Rattle.wb_tasks.specs.declared.step.Answer.{Answer}
 use Rattle.wb_tasks.specs.declared.step.DeviceStep.TheVariants.{Sync, ReadMetadata, WriteRoot}
 use Rattle.wb_tasks.specs.declared.step.Want.{Want}
@@ -67,6 +67,7 @@ use Rattle.wb_headline.proofs.Answering.{no_orders_live, opened_state, view_of, 
 use Rattle.wb_headline.proofs.Opening.{settle_done, settle_fails, cache_done, cache_fails, origin_done, origin_fails, looks, look_fails, root_done, root_fails, renew_done, renew_fails}
 use Rattle.wb_headline.proofs.Keeping.{NoOrders, Keeping}
 use Rattle.wb_headline.proofs.Kept.{made_keeps, none_goes}
+use Rattle.wb_headline.proofs.Targets.{landed_or}
 
 same_number : (place : Option CBlock) → number_there place ≡ number_of place
 same_number None = refl
@@ -278,13 +279,6 @@ module _ (P A : Type 0) (shape : Shape) (images : Images) (devices : Devices (Li
           by_chosen c d = absurd d
 
     -- a step that fails
-    failing : (c : RunningCommit) (old new : List History) (choice : Choice) → LandedOr (lands Metadata choice (sector_put (coming_step c.image c.steps))) (DoesStep c.image c.steps old new) (new ≡ old) → DoesStep c.image c.steps old new ⊎ (new ≡ old)
-    failing c old new choice h = by (lands Metadata choice (sector_put (coming_step c.image c.steps))) h
-      where
-        by : (t : Bool) → LandedOr t (DoesStep c.image c.steps old new) (new ≡ old) → DoesStep c.image c.steps old new ⊎ (new ≡ old)
-        by true h = inl h
-        by false h = inr h
-
     module _ (total left : ℕ) (choice : Choice) (job : Job) (buffer : List Bytes) (read : List Bytes) (chosen : Chosen P A) where
       fails_at : (stage : Stage) → f.site.phase ≡ OpensThere Writeback stage → HasReadAt stage reading commit f.phase.later → x.task ≡ Some (Open opened_in, opening_at total left stage) → Falters w choice (want (opening_at total left stage)) chosen → Failed_by choice job buffer (want (opening_at total left stage)) read chosen
       fails_at Settling ph rd xt g = settle_fails P A shape images devices commit mode reading actors n known f alone a x ex opened_in [] doing job_is total left ph rd xt read chosen (lands Metadata choice)
@@ -296,7 +290,7 @@ module _ (P A : Type 0) (shape : Shape) (images : Images) (devices : Devices (Li
         where
           by_chosen : (c : Chosen P A) → FailsPut (Some rd.0.running) choice WriteRoot devices.metadata c → Failed_by choice job buffer (Device WriteRoot) read c
           by_chosen (Puts new) d = root_fails P A shape images devices commit mode reading actors n known f alone a x ex opened_in [] doing job_is total left i ph rd xt new read
-              (put_fails rd.0.running.image rd.0.running.steps WriteRoot devices.metadata new tt d.0 (failing rd.0.running devices.metadata new choice d.1))
+              (put_fails rd.0.running.image rd.0.running.steps WriteRoot devices.metadata new tt d.0 (landed_or (lands Metadata choice (sector_put (coming_step rd.0.running.image rd.0.running.steps))) d.1))
           by_chosen c d = absurd d
       fails_at (Renewing i) ph rd xt g =
           let s = subst (λ (c : Option RunningCommit). FailsSync {P = P} {A = A} (Opens mode reading) c devices.metadata) rd.0.commit_is g.1 in

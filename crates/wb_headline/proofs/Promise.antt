@@ -37,7 +37,7 @@ use Rattle.wb_runs.proofs.LinkedRuns.{run_refuses, run_covers, all_skip, links_w
 use Rattle.wb_promise.specs.Sealed.{SealsTell}
 use Rattle.wb_headline.proofs.Following.{Goes}
 use Rattle.wb_headline.proofs.Opened.{opening_keeps, opening_steps, opening_faults, opening_shows}
-use Rattle.wb_headline.proofs.Requests.{given_latest}
+use Rattle.wb_headline.proofs.Requests.{given_latest, read_steps, read_faults, write_steps, write_faults}
 use Rattle.wb_headline.proofs.Showing.{crash_consistent}
 use Rattle.wb_headline.proofs.Doings.{IsFault, what_noted}
 use Rattle.wb_headline.proofs.Keeping.{Keeping}
@@ -54,7 +54,7 @@ use Rattle.wb_headline.proofs.Kept.{fault_keeps, none_goes, none_rest, none_set,
 use Rattle.wb_headline.proofs.Targets.{never_replaces}
 use Rattle.wb_headline.proofs.Arriving.{crash_goes}
 use Rattle.wb_headline.proofs.Starts.{any_start, any_replacement, read_starts, write_starts, flush_starts, opening_starts}
-use Rattle.wb_headline.proofs.Stands.{read_steps, read_faults, write_steps, write_faults, flush_steps, flush_faults}
+use Rattle.wb_headline.proofs.Flushes.{flush_steps, flush_faults}
 use Rattle.wb_headline.proofs.Migrations.{any_step, any_fault}
 
 module _ (P A : Type 0) (shape : Shape) where
@@ -85,7 +85,7 @@ module _ (P A : Type 0) (shape : Shape) where
         by_job : (job : Job) → x.task ≡ Some (job, plan) → (d : Noted shape job plan (slice_get n.doings a)) → Gives shape (in_phase (Stands t)) x job next got read chosen → Stepped_to P A shape (in_phase (Stands t)) n a x job next got read chosen d.doing
         by_job (Read extent) xt d g = read_steps P A shape b.goes.images t commit devices actors n b.goes.known b.goes.followed b.used.here b.used.suited a x ex plan suits d.doing d.is extent xt d.job_is d.claim next got read chosen e g
         by_job (Write extent content) xt d g = write_steps P A shape b.goes.images t commit devices actors n b.goes.known b.goes.followed b.used.here b.used.suited a x ex plan suits d.doing d.is extent content xt d.job_is d.claim (λ device ext f. written_beside P A shape t commit devices actors n b a x extent content plan ex xt d.doing d.claim device ext f) next got read chosen e g
-        by_job Flush xt d g = flush_steps P A shape b.goes.images t commit devices actors n b.goes.known b.goes.followed b.used.here b.used.suited a x ex plan suits d.doing d.is xt d.job_is b.keeping.owned next got read chosen (asked d.doing d.is) e g
+        by_job Flush xt d g = flush_steps P A shape b.goes.images t commit devices actors n b.goes.known b.goes.followed b.used.here a x ex plan xt d.doing d.is d.job_is suits b.keeping.owned next got read chosen (asked d.doing d.is) e g
         by_job (Open mode) xt d g = absurd (subst (λ (o : Option (Job × Plan)). TaskHere {P = P} {A = A} (Stands t) o) xt (b.linked.here a x ex))
         by_job (Migrate migration block) xt d g = any_step P A shape t commit devices actors n b a x migration block plan d.doing ex xt d.is d.job_is next got read chosen e g
         by_job (Replace old new) xt d g = absurd (never_replaces P A shape b.goes.images t commit devices actors n b.goes.known b.goes.followed a x ex old new plan xt)
@@ -118,7 +118,7 @@ module _ (P A : Type 0) (shape : Shape) where
         by_job : (job : Job) → x.task ≡ Some (job, plan) → (d : Noted shape job plan (slice_get n.doings a)) → Faulted_to P A shape (in_phase (Stands t)) n a x choice job next read chosen d.doing
         by_job (Read extent) xt d = read_faults P A shape b.goes.images t commit devices actors n b.goes.known b.goes.followed b.used.here b.used.suited a x ex plan suits d.doing d.is extent xt d.job_is d.claim choice next read chosen e m g
         by_job (Write extent content) xt d = write_faults P A shape b.goes.images t commit devices actors n b.goes.known b.goes.followed b.used.here b.used.suited a x ex plan suits d.doing d.is extent content xt d.job_is d.claim (λ device ext f. written_beside P A shape t commit devices actors n b a x extent content plan ex xt d.doing d.claim device ext f) choice next read chosen inside b.inside.cache b.inside.origin e m g
-        by_job Flush xt d = flush_faults P A shape b.goes.images t commit devices actors n b.goes.known b.goes.followed b.used.here b.used.suited a x ex plan suits d.doing d.is xt d.job_is b.keeping.owned choice next read chosen e m g
+        by_job Flush xt d = flush_faults P A shape b.goes.images t commit devices actors n b.goes.known b.goes.followed b.used.here a x ex plan xt d.doing d.is d.job_is suits b.keeping.owned choice next read chosen e m g
         by_job (Open mode) xt d = absurd (subst (λ (o : Option (Job × Plan)). TaskHere {P = P} {A = A} (Stands t) o) xt (b.linked.here a x ex))
         by_job (Migrate migration block) xt d = any_fault P A shape t commit devices actors n b a x migration block plan d.doing ex xt d.is d.job_is choice next read chosen e m g
         by_job (Replace old new) xt d = absurd (never_replaces P A shape b.goes.images t commit devices actors n b.goes.known b.goes.followed a x ex old new plan xt)

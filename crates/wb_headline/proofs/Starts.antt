@@ -73,6 +73,7 @@ use Rattle.wb_headline.proofs.Desking.{desk_stays, desk_reserves}
 use Rattle.wb_runs.proofs.Located.{stands_there, unmapped_there}
 use Rattle.wb_headline.proofs.Seeing.{live_here, named, orders_set, slot_there, slot_within, vacant_there}
 use Rattle.wb_headline.proofs.Whole.{Whole, at_target}
+
 -- ---- the extents of a request are of its block
 
 within_of : (whole : Extent) (cut : List Extent) → AllWithin whole cut → (e : Extent) → Contains cut e → Within whole e

@@ -1,5 +1,5 @@
 -- Where a target stands, what follows a happening in the abstract world leads to a state that is followed.
-use Rattle.std.proofs.Common.{true, ◌≡◌, ◌∙◌, ◌<◌, ℕ, false, List, [], ◌∷◌, Option, Some, None, refl, sym, subst, arith, length, slice_get, slice_set}
+use Rattle.std.proofs.Common.{◌⊎◌, inl, inr, Bool, true, ◌≡◌, ◌∙◌, ◌<◌, ℕ, false, List, [], ◌∷◌, Option, Some, None, refl, sym, subst, arith, length, slice_get, slice_set}
 use Rattle.std.proofs.lemmas.List.{length-set}
 use Rattle.std.proofs.lemmas.Option.{slice_get_within}
 use Rattle.wb_disk.specs.Device.{History}
@@ -39,6 +39,7 @@ use Rattle.wb_headline.proofs.Following.{many, size, most, Followed, Goes}
 use Rattle.wb_simulation.proofs.Followed.{doing_of}
 use Rattle.wb_types.specs.declared.number.OBlock.{OBlock}
 use Rattle.wb_promise.specs.declared.job.Job.TheVariants.{Replace}
+use Rattle.wb_promise.specs.Happenings.{LandedOr}
 
 -- ---- what is told starts no suspend
 
@@ -95,6 +96,11 @@ pub metadata_same : (device : Dev) (devices : Devices (List History)) (list : Li
 metadata_same Cache devices list h = refl
 metadata_same Origin devices list h = refl
 metadata_same Metadata devices list h = absurd h
+
+-- what a step that failed on the metadata left of them: all that it writes, or nothing
+pub landed_or : {X Y : Type 0} (landed : Bool) → LandedOr landed X Y → X ⊎ Y
+landed_or true h = inl h
+landed_or false h = inr h
 
 -- records leave as many actors
 many_stay : (s : World) (r : Record) → length (after_record s r).actors ≡ length s.actors
