@@ -22,7 +22,6 @@ use Rattle.wb_simulation.specs.Noting.{counts_by_block, IsNotedSo}
 use Rattle.wb_simulation.specs.Worlds.{zeros}
 use Rattle.wb_simulation.proofs.Possible.{empty_device}
 use Rattle.wb_headline.proofs.Events.{start_reached, event_reaches}
-use Rattle.wb_headline.proofs.Unclean.{IsPlainTask}
 use Rattle.wb_headline.proofs.Following.{many, size}
 use Rattle.wb_headline.proofs.Keeping.{HasNone}
 use Rattle.wb_headline.proofs.Placed.{TaskPlaced}
@@ -72,11 +71,7 @@ module _ (P A : Type 0) (shape : Shape) (metadata : List History) (f : IsFormatt
         site = begun;
         notes = opened (λ b o. zeros);
         reached = event_reaches (size P A shape) (many P A shape) first (opened (λ b o. zeros)) (Stopped crash) (start_reached (size P A shape) (many P A shape))
-            (record { root = λ e. absurd (cc); origin = λ b o. Contains-first zeros []; cache = λ k o. Contains-first zeros [] });
-        clean = record {
-          tasks = λ a y e. subst IsPlainTask (sym (idle_there a y e)) tt;
-          images = (λ b. refl, λ b. refl);
-        };
+            (record { root = λ e. absurd (cc); origin = λ b o. Contains-first zeros []; cache = λ k o. Contains-first zeros [] }) tt;
         as_many = length-replicate (length first.world.actors) idle ∙ length-replicate (many P A shape) idle;
         notes_agree = record {
           histories = empty_device zeros (size P A shape) (sector_count shape);

@@ -31,7 +31,6 @@ use Rattle.wb_simulation.specs.Sites.{ImagesAgree, DevicesAgree, locations}
 use Rattle.wb_simulation.specs.Worlds.{Agrees}
 use Rattle.wb_headline.specs.Desks.{DeskAgrees, live_orders}
 use Rattle.wb_headline.proofs.Events.{Reached}
-use Rattle.wb_headline.proofs.Unclean.{NeverClean}
 
 -- ---- an opening
 
@@ -139,7 +138,6 @@ module _ (P A : Type 0) (shape : Shape) where
     pub site : Site
     pub notes : AbstractNotes
     pub reached : Reached size many site notes
-    pub clean : NeverClean site.world
     pub as_many : length site.world.actors ≡ many
     pub notes_agree : NotesAgree size n site.world notes
     pub sized : Sized w.actors n

@@ -59,7 +59,6 @@ use Rattle.wb_types.specs.declared.number.CBlock.{CBlock}
 use Rattle.wb_promise.specs.Sealed.{number_of}
 use Rattle.wb_headline.specs.Desks.{block_there, live_orders}
 use Rattle.wb_headline.proofs.Events.{Reached, event_reaches}
-use Rattle.wb_headline.proofs.Unclean.{NeverClean, event_on}
 use Rattle.wb_headline.proofs.Following.{HasReadAt, IsOver, many, size, most, Followed, Goes, opening_at, AtStage}
 use Rattle.wb_headline.proofs.Arriving.{SameSectors, sized_so, rests, gone}
 use Rattle.wb_headline.proofs.Showing.{shows_allowed, length-rising, state_allowed}
@@ -207,8 +206,7 @@ module _ (P A : Type 0) (shape : Shape) (images : Images) (devices : Devices (Li
             followed = record {
               site = site_now;
               notes = opened_notes (view_of f.site i);
-              reached = subst (λ (v : Site). Reached (size P A shape) (many P A shape) v (opened_notes (view_of f.site i))) leads (event_reaches (size P A shape) (many P A shape) f.site f.notes (answer_of f.site i tree) f.reached may);
-              clean = subst (λ (v : Site). NeverClean v.world) leads (event_on f.site (answer_of f.site i tree) tt f.clean);
+              reached = subst (λ (v : Site). Reached (size P A shape) (many P A shape) v (opened_notes (view_of f.site i))) leads (event_reaches (size P A shape) (many P A shape) f.site f.notes (answer_of f.site i tree) f.reached may tt);
               as_many = length-replicate (length f.site.world.actors) idle ∙ f.as_many;
               notes_agree = notes_followed.anew (size P A shape) (length n.doings) shown_now (view_of f.site i) f.site.world (opened_on f.site.world.shared Writeback i blocks_now)
                   (shown_view shape devices cache_size origin_size tree mapping ∙ (λ j b o. only (view_is b o j)));

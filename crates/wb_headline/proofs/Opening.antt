@@ -43,7 +43,8 @@ use Rattle.wb_link.specs.Openings.{Phase as PhaseThere, Stands as StandsThere, G
 use Rattle.wb_simulation.specs.Opened.{located}
 use Rattle.wb_simulation.specs.Sites.{ImagesAgree, DevicesAgree, LeadsTo, locations}
 use Rattle.wb_simulation.proofs.Opening.{openings_followed}
-use Rattle.wb_headline.proofs.Following.{opening_at, HasLearnt, HasRoot, HasReadAt, AtStage, IsOver, size, Followed, Goes}
+use Rattle.wb_headline.proofs.Events.{never_clean}
+use Rattle.wb_headline.proofs.Following.{opening_at, HasLearnt, HasRoot, HasReadAt, AtStage, IsOver, many, size, Followed, Goes}
 use Rattle.wb_headline.proofs.Arriving.{SameSectors, sized_so, Arrived, arrives, rests, opens, one_fit}
 use Rattle.wb_headline.proofs.Rooted.{same_one, rooted_on, leads_so, two_read, two_left, both_left, nowhere}
 
@@ -251,7 +252,7 @@ module _ (P A : Type 0) (shape : Shape) (images : Images) (devices : Devices (Li
                   running = running;
                   commit_is = refl;
                   same = located_so;
-                  unclean = f.clean.images.0;
+                  unclean = never_clean (size P A shape) (many P A shape) f.site f.notes f.reached;
                   bare = λ c block. nowhere stored.tree.entries (ap (λ es. Rattle.std.specs.List.count_by Rattle.std.specs.Prelude.is_some es) entries_are ∙ readable.fit (ap (λ (s : Stored). s.root.clean) one ∙ ap (λ r. r.clean) (sym is.0) ∙ c)) block;
                 },
                 refl,

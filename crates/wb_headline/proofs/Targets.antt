@@ -33,7 +33,7 @@ use Rattle.wb_simulation.proofs.Opening.{images_followed}
 use Rattle.wb_headline.specs.Desks.{DeskAgrees, live_orders}
 use Rattle.wb_headline.proofs.Showing.{there}
 use Rattle.wb_headline.proofs.Events.{gone_on, records_reach}
-use Rattle.wb_headline.proofs.Unclean.{ArePlainRecords, records_on, steps_plain}
+use Rattle.wb_headline.proofs.Unclean.{ArePlainRecords, steps_plain}
 use Rattle.wb_headline.proofs.Desking.{desk_stays}
 use Rattle.wb_headline.proofs.Following.{many, size, most, Followed, Goes}
 use Rattle.wb_simulation.proofs.Followed.{doing_of}
@@ -164,8 +164,7 @@ module _ (P A : Type 0) (shape : Shape) (images : Images) (t : Target P) (commit
       followed = record {
         site = gone_on f.site g.records;
         notes = told f.notes g.records;
-        reached = records_reach (size P A shape) (many P A shape) f.site f.notes g.records f.reached f.phase.phase_is g.run;
-        clean = records_on f.site.world g.records (told_plain telling a beside.0.task g.records plain (g.told beside.0 beside.1)) f.clean;
+        reached = records_reach (size P A shape) (many P A shape) f.site f.notes g.records f.reached f.phase.phase_is g.run (told_plain telling a beside.0.task g.records plain (g.told beside.0 beside.1));
         as_many = all_stay f.site.world g.records ∙ f.as_many;
         notes_agree = notes;
         sized = record { actors_many = length-set actors a y ∙ f.sized.actors_many; doings_many = d ∙ f.sized.doings_many; sectors = h ∙ f.sized.sectors };
