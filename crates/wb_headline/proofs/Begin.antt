@@ -1,5 +1,5 @@
 -- A run begins as the abstract world does once it has crashed: no target stands, and every sector is as formatting leaves it.
-use Rattle.std.proofs.Common.{◌≡◌, ◌∙◌, ◌+◌, ◌*◌, ℕ, zero, suc, Bool, true, false, cond, nat_lt, unwrap_or, List, [], Option, Some, None, refl, sym, ap, subst, length, replicate, slice_get}
+use Rattle.std.proofs.Common.{arith, ◌≡◌, ◌∙◌, ◌+◌, ◌*◌, ℕ, zero, suc, Bool, true, false, cond, nat_lt, unwrap_or, List, [], Option, Some, None, refl, sym, ap, subst, length, replicate, slice_get}
 use Rattle.std.proofs.lemmas.List.{length-replicate}
 use Rattle.wb_types.proofs.Lists.{Contains-first}
 use Rattle.wb_disk.specs.Device.{History, only}
@@ -110,6 +110,6 @@ module _ (P A : Type 0) (shape : Shape) (metadata : List History) (f : IsFormatt
       tasks = λ a x e. subst (λ (v : Actor). PlanInside shape v.task) (sym (replicated shape.actors a resting x e)) tt;
     };
     noted_so = λ a d e. absurd (let same : ◌≡◌ {A = Option Doing} None (Some d) = replicated_there shape.actors a None (Some d) e in cc);
-    keeping = λ a x e. subst (λ (v : Actor). HasNone v) (sym (replicated shape.actors a resting x e)) (refl, refl);
+    keeping = λ a x e. subst (λ (v : Actor). HasNone v) (sym (replicated shape.actors a resting x e)) (λ order h. absurd (omega (arith, h.1)));
     placed = λ a x e. subst (λ (v : Actor). TaskPlaced (block_size shape) v.card v.task) (sym (replicated shape.actors a resting x e)) tt;
   }

@@ -1,6 +1,6 @@
 -- Where a target stands, the orders that actors have live, the seals tell where the desk has each block, and each seal that is left is right:
 -- so it stays, whoever goes on.
-use Rattle.std.proofs.Common.{if◌then◌else◌, ◌≡◌, ◌≢◌, ◌∙◌, ◌<◌, ◌==◌, ◌⊎◌, ◌++◌, inl, inr, ℕ, Bool, true, false, List, [], ◌∷◌, Option, Some, None, refl, sym, ap, subst, arith, unwrap_or, slice_get, slice_set, Contains}
+use Rattle.std.proofs.Common.{if◌then◌else◌, ◌≡◌, ◌≢◌, ◌∙◌, ◌<◌, ◌==◌, ◌⊎◌, ◌++◌, inl, inr, ℕ, Bool, true, false, List, ◌∷◌, Option, Some, None, refl, sym, ap, subst, arith, unwrap_or, slice_get, slice_set, Contains}
 use Rattle.std.proofs.lemmas.Bool.{cases_eq}
 use Rattle.std.proofs.lemmas.List.Elements.{Contains-append_cases, Contains-append_left, Contains-append_right}
 use Rattle.wb_types.proofs.Lists.{set_cases}
@@ -97,7 +97,7 @@ pub record KeepingAt {P : Type 0} (t : Target P) (actors : List Actor) : Type 0 
   pub right : (a : ℕ) (x : Actor) → slice_get actors a ≡ Some x → TaskRight t.desk.tree.entries x.card x.task
 
 abbrev pub HasNone : Actor → Type 0
-HasNone x = (x.orders ≡ []) × (x.awaiting ≡ [])
+HasNone x = (order : Order) → Contains (held_of x) order → ⊥
 
 abbrev pub NoOrders : List Actor → Type 0
 NoOrders actors = (a : ℕ) (x : Actor) → slice_get actors a ≡ Some x → HasNone x

@@ -1,5 +1,5 @@
 -- One recursion over a run: what each kind of event leads to, and that every answer on the way is right.
-use Rattle.std.proofs.Common.{◌≡◌, ◌∙◌, inl, inr, ℕ, List, [], ◌∷◌, Option, Some, None, All, refl, sym, ap, subst, length, slice_get, slice_set}
+use Rattle.std.proofs.Common.{arith, ◌≡◌, ◌∙◌, inl, inr, ℕ, List, [], ◌∷◌, Option, Some, None, All, refl, sym, ap, subst, length, slice_get, slice_set}
 use Rattle.wb_types.specs.declared.mode.Mode.{Mode}
 use Rattle.wb_types.specs.declared.refusal.Refusal.{Refusal}
 use Rattle.wb_types.specs.declared.extent.Extent.{Extent}
@@ -74,7 +74,7 @@ module _ (P A : Type 0) (shape : Shape) where
     step_by_phase : (phase : Phase P A) → Whole P A shape (in_phase phase) n → (job : Job) (plan : Plan) → x.task ≡ Some (job, plan) → (d : Noted shape job plan (slice_get n.doings a)) (next : Want) (got : Got) (read : List Bytes) (chosen : Chosen P A) → next ≡ want plan → Gives shape (in_phase phase) x job next got read chosen →
         Stepped_to P A shape (in_phase phase) n a x job next got read chosen d.doing × Keeps phase next got chosen
     step_by_phase (Stands t) b job plan xt d next got read chosen e g =
-        (by_job job xt d g, step_keeps P A shape b.goes.images t commit devices actors n b.goes.known b.goes.followed b.used.here b.used.suited b.keeping a x ex job plan xt next got read chosen e g)
+        (by_job job xt d g, step_keeps P A shape b.goes.images t commit devices actors n b.goes.known b.goes.followed b.used.here b.used.suited b.keeping a x ex plan job xt next got read chosen e g)
       where
         suits : Suits shape.geometry.origin_blocks plan x.card
         suits = subst (λ (o : Option (Job × Plan)). TaskSuits shape.geometry.origin_blocks x.card o) xt (b.used.suited a x ex)
@@ -101,7 +101,7 @@ module _ (P A : Type 0) (shape : Shape) where
         by_job job xt d g h = absurd h
 
     keep_fault : (phase : Phase P A) → Whole P A shape (in_phase phase) n → (job : Job) (plan : Plan) → x.task ≡ Some (job, plan) → (choice : Choice) (next : Want) (chosen : Chosen P A) → next ≡ want plan → MayFailAt devices choice next → Keeps phase next Fault chosen
-    keep_fault (Stands t) b job plan xt choice (Device step) chosen e m = fault_keeps P A shape b.goes.images t commit devices actors n b.goes.known b.goes.followed b.used.here b.used.suited b.keeping a x ex job plan xt step chosen e
+    keep_fault (Stands t) b job plan xt choice (Device step) chosen e m = fault_keeps P A shape b.goes.images t commit devices actors n b.goes.known b.goes.followed b.used.here b.used.suited b.keeping a x ex plan job xt step chosen e
     keep_fault phase b job plan xt choice (Device step) chosen e m = none_goes P A shape phase devices actors a x (Device step) Fault ex b.keeping
     keep_fault phase b job plan xt choice next chosen e m = absurd m
 
@@ -156,7 +156,7 @@ module _ (P A : Type 0) (shape : Shape) where
 
   start_opening : (w : State P A) (n : Notes) → Whole P A shape w n → (a : ℕ) (x : Actor) (mode : Mode) (chosen : Chosen P A) → slice_get w.actors a ≡ Some x → (¬ IsOutOfPlace w.phase (Open mode)) → Begun_to w n a (Open mode) chosen
   start_opening w n b a x mode chosen ex place = put_there (cleared w (Open mode)) (put (starting n (Open mode)) a (Some (begun n (Open mode)))) a resting (Open mode) chosen (there_rests w.actors a x ex)
-      (opening_starts P A shape b.goes.images w n b.goes.known b.goes.followed a mode x (given shape resting (Open mode) chosen) (λ o. place (inl o)) (λ o. place (inr o)) refl, none_set (all_resting w.actors) a (given shape resting (Open mode) chosen) (refl, refl) (none_rest w.actors))
+      (opening_starts P A shape b.goes.images w n b.goes.known b.goes.followed a mode x (given shape resting (Open mode) chosen) (λ o. place (inl o)) (λ o. place (inr o)) refl, none_set (all_resting w.actors) a (given shape resting (Open mode) chosen) (λ order h. absurd (omega (arith, h.1))) (none_rest w.actors))
 
   module _ (t : Target P) (commit : Option RunningCommit) (devices : Devices (List History)) (actors : List Actor) (n : Notes) (b : Whole P A shape (at_target P A shape t commit devices actors) n) (a : ℕ) (x : Actor) (ex : slice_get actors a ≡ Some x) (xt : x.task ≡ None) where
     abbrev w_now : State P A
