@@ -85,7 +85,7 @@ use Rattle.wb_headline.proofs.Targets.{landed_or, standing, actor_is, beside, fa
 use Rattle.wb_disk.specs.Crash.{Choice}
 use Rattle.wb_tasks.proofs.Readiness.{is_own_step}
 use Rattle.wb_stage.specs.Stages.{is_all_done}
-use Rattle.wb_promise.specs.Happenings.{Chosen, Plain, Puts, Commits, Asks, Gives, Falters, MayFailAt, DoesPut, DoesSync, DoesBegin, DoesRelease, FailsPut, FailsSync, sector_put}
+use Rattle.wb_promise.specs.Happenings.{Chosen, Plain, Puts, Commits, Asks, Gives, Falters, MayFailAt, DoesPut, DoesSync, FailsPut, FailsSync, sector_put}
 use Rattle.wb_promise.specs.Headline.{shown}
 use Rattle.wb_types.proofs.Truth.{and_true}
 
@@ -466,18 +466,9 @@ module _ (P A : Type 0) (shape : Shape) (images : Images) (t : Target P) (commit
     by_sync_fault choice read (Some c) runs d e = put_failed (Sync Metadata) refl e read c runs (and_true _ _ d.0).0 (synced_where (lands Metadata choice) devices.metadata) refl (commit_sync_fails c.image c.steps (lands Metadata choice) devices.metadata d.0)
     by_sync_fault choice read None runs d e = absurd d
 
-    by_begin : (clean : Bool) (allowed : ℕ) (got : Got) (read : List Bytes) (chosen : Chosen P A) → Desk (BeginCommit clean allowed) ≡ want plan → DoesBegin allowed t.desk got chosen → Done_by (Desk (BeginCommit clean allowed)) got read chosen
-    by_begin clean allowed (Began nodes) read (Commits c tree) e d = begins nodes allowed clean c tree e d.2 d.3
-    by_begin clean allowed (GotRefused refusal) read Plain e d = begin_refused refusal allowed clean e d
-    by_begin clean allowed got read chosen e d = absurd d
-
     by_end : (read : List Bytes) (o : Option RunningCommit) → commit ≡ o → is_all_done o ≡ true → Desk EndCommit ≡ want plan → (chosen : Chosen P A) → Done_by (Desk EndCommit) Done read chosen
     by_end read (Some c) runs d e chosen = ends c runs e d
     by_end read None runs d e chosen = absurd (cc)
-
-    by_release : (block : OBlock) (read : List Bytes) (chosen : Chosen P A) → Desk (ReleaseOrder block) ≡ want plan → DoesRelease x.awaiting block t.desk chosen → Done_by (Desk (ReleaseOrder block)) Done read chosen
-    by_release block read (Asks new) e d = gives_up block new owned e d
-    by_release block read chosen e d = absurd d
 
     pub flush_steps : (next : Want) (got : Got) (read : List Bytes) (chosen : Chosen P A) → length doing.then_finished ≡ length n.floors → next ≡ want plan → Gives shape w x Flush next got read chosen → Done_by next got read chosen
     flush_steps (Cell step) got read chosen asked e g = subst (λ (v : Got). Done_by (Cell step) v read chosen) (sym g.1) (on_words step (which step (mine (Cell step) e)) e)
@@ -490,11 +481,14 @@ module _ (P A : Type 0) (shape : Shape) (images : Images) (t : Target P) (commit
     flush_steps (Device WriteRoot) got read chosen asked e g =
         let p = by_put WriteRoot refl e read refl chosen commit refl g.2 in
         subst (λ (v : Got). Done_by (Device WriteRoot) v read chosen) (sym g.1) (subst (λ (c : Chosen P A). Done_by (Device WriteRoot) Done read c) (sym p.1) p.2)
-    flush_steps (Desk (BeginCommit clean allowed)) got read chosen asked e g = by_begin clean allowed got read chosen e g.2
+    flush_steps (Desk (BeginCommit clean allowed)) (Began nodes) read (Commits c tree) asked e g = begins nodes allowed clean c tree e g.2.2 g.2.3
+    flush_steps (Desk (BeginCommit clean allowed)) (GotRefused refusal) read Plain asked e g = begin_refused refusal allowed clean e g.2
+    flush_steps (Desk (BeginCommit clean allowed)) got read chosen asked e g = absurd g.2
     flush_steps (Desk EndCommit) got read chosen asked e g = subst (λ (v : Got). Done_by (Desk EndCommit) v read chosen) (sym g.1) (by_end read commit refl g.2 e chosen)
     flush_steps (End answer) got read chosen asked e g = subst (λ (v : Got). Done_by (End answer) v read chosen) (sym g.1) (subst (λ (c : Chosen P A). Done_by (End answer) Done read c) (sym g.0.1) (answers answer _ read e asked))
     flush_steps (Device (ReadMetadata k)) got read chosen asked e g = absurd (mine (Device (ReadMetadata k)) e)
-    flush_steps (Desk (ReleaseOrder b)) got read chosen asked e g = subst (λ (v : Got). Done_by (Desk (ReleaseOrder b)) v read chosen) (sym g.1) (by_release b read chosen e g.2)
+    flush_steps (Desk (ReleaseOrder b)) got read (Asks new) asked e g = subst (λ (v : Got). Done_by (Desk (ReleaseOrder b)) v read (Asks new)) (sym g.1) (gives_up b new owned e g.2)
+    flush_steps (Desk (ReleaseOrder b)) got read chosen asked e g = absurd g.2
     flush_steps next got read chosen asked e g = absurd g
 
     pub flush_faults : (choice : Choice) (next : Want) (read : List Bytes) (chosen : Chosen P A) → next ≡ want plan → MayFailAt devices choice next → Falters w choice next chosen → Failed_by choice next read chosen

@@ -69,7 +69,7 @@ use Rattle.wb_tasks.specs.Tables.{BlockRange, Migrating, OnBlock}
 use Rattle.wb_tasks.specs.declared.step.Migration.TheVariants.{Demote}
 use Rattle.wb_tasks.specs.declared.step.Want.{Want}
 use Rattle.wb_refines.specs.Translation.{number_of}
-use Rattle.wb_promise.specs.Happenings.{Chosen, Plain, Asks, Gives, Falters, MayFailAt, DoesMap, DoesUnmap, DoesRelease}
+use Rattle.wb_promise.specs.Happenings.{Chosen, Plain, Asks, Gives, Falters, MayFailAt}
 use Rattle.wb_promise.specs.Headline.{place_of}
 use Rattle.wb_runs.specs.Inside.{StepInside}
 use Rattle.wb_runs.proofs.Desks.{mapped_stands, unmapped_stands, released_for}
@@ -341,19 +341,6 @@ module _ (P A : Type 0) (shape : Shape) (t : Target P) (commit : Option RunningC
           (subst (λ (k : DeskState P). AtDesk shape.geometry b.goes.images k commit devices.metadata) is (released_for P shape.geometry b.goes.images t.desk commit devices.metadata new (order_found bl x.orders) b.goes.known d))
           (sym (orders_set t.desk.orders.slots c None)) (desk_releases P t.desk s (after_all f.site.world g.records).shared f.phase.desk (record { 0 = c }) (omega (arith, inside, at, many_slots, many_blocks)) g.desk.0 g.desk.1))
 
-  by_map : (bl : OBlock) (c : CBlock) (got : Got) (read : List Bytes) (chosen : Chosen P A) → Desk (Map bl c) ≡ want plan → DoesMap bl c t.desk got chosen → To (Desk (Map bl c)) got read chosen
-  by_map bl c Done read (Asks new) e d = subst (λ (v : DeskState P). To (Desk (Map bl c)) Done read (Asks v)) (sym d.2) (maps_on bl c new.tree new.policy read d.0 d.1 e)
-  by_map bl c (GotRefused refusal) read Plain e d = map_refused P A shape b.goes.images t commit devices actors n b.goes.known f a x ex migration block plan xt suits doing noted job_is bl c refusal e
-  by_map bl c got read chosen e d = absurd d
-
-  by_unmap : (bl : OBlock) (read : List Bytes) (chosen : Chosen P A) → Desk (Unmap bl) ≡ want plan → DoesUnmap bl t.desk chosen → To (Desk (Unmap bl)) Done read chosen
-  by_unmap bl read (Asks new) e d = unmaps_on bl read new e d
-  by_unmap bl read chosen e d = absurd d
-
-  by_release : (bl : OBlock) (read : List Bytes) (chosen : Chosen P A) → Desk (ReleaseOrder bl) ≡ want plan → DoesRelease x.orders bl t.desk chosen → To (Desk (ReleaseOrder bl)) Done read chosen
-  by_release bl read (Asks new) e d = releases_on bl read new e d
-  by_release bl read chosen e d = absurd d
-
   -- any step that is done or refused
   pub any_step : (next : Want) (got : Got) (read : List Bytes) (chosen : Chosen P A) → next ≡ want plan → Gives shape w x job next got read chosen → To next got read chosen
   any_step (Cell step) got read chosen e g = subst (λ (v : Got). To (Cell step) v read chosen) (sym g.1)
@@ -365,11 +352,15 @@ module _ (P A : Type 0) (shape : Shape) (t : Target P) (commit : Option RunningC
   any_step (Device (WriteExtent d ext)) got read chosen e g = subst (λ (v : Got). To (Device (WriteExtent d ext)) v read chosen) (sym g.2)
       (subst (λ (c : Chosen P A). To (Device (WriteExtent d ext)) Done read c) (sym g.1.1)
       (write_done P A shape b.goes.images t commit devices actors n b.goes.known f a x ex migration block plan xt suits doing noted job_is b.used.here b.used.suited d ext read g.0 e g.3))
-  any_step (Desk (Map bl c)) got read chosen e g = by_map bl c got read chosen e g.1
-  any_step (Desk (ReleaseOrder bl)) got read chosen e g = subst (λ (v : Got). To (Desk (ReleaseOrder bl)) v read chosen) (sym g.1) (by_release bl read chosen e g.2)
+  any_step (Desk (Map bl c)) Done read (Asks new) e g = subst (λ (v : DeskState P). To (Desk (Map bl c)) Done read (Asks v)) (sym g.1.2) (maps_on bl c new.tree new.policy read g.1.0 g.1.1 e)
+  any_step (Desk (Map bl c)) (GotRefused refusal) read Plain e g = map_refused P A shape b.goes.images t commit devices actors n b.goes.known b.goes.followed a x ex migration block plan xt suits doing noted job_is bl c refusal e
+  any_step (Desk (Map bl c)) got read chosen e g = absurd g.1
+  any_step (Desk (ReleaseOrder bl)) got read (Asks new) e g = subst (λ (v : Got). To (Desk (ReleaseOrder bl)) v read (Asks new)) (sym g.1) (releases_on bl read new e g.2)
+  any_step (Desk (ReleaseOrder bl)) got read chosen e g = absurd g.2
   any_step (End answer) got read chosen e g = subst (λ (v : Got). To (End answer) v read chosen) (sym g.1) (subst (λ (c : Chosen P A). To (End answer) Done read c) (sym g.0.1)
       (answers P A shape b.goes.images t commit devices actors n b.goes.known f a x ex migration block plan xt suits doing noted job_is answer _ read e))
-  any_step (Desk (Unmap bl)) got read chosen e g = subst (λ (v : Got). To (Desk (Unmap bl)) v read chosen) (sym g.1) (by_unmap bl read chosen e g.2)
+  any_step (Desk (Unmap bl)) got read (Asks new) e g = subst (λ (v : Got). To (Desk (Unmap bl)) v read (Asks new)) (sym g.1) (unmaps_on bl read new e g.2)
+  any_step (Desk (Unmap bl)) got read chosen e g = absurd g.2
   any_step next got read chosen e g = absurd ((own_step next e (λ v q. absurd (cc)) (λ ws o. o)).2)
 
   room : (d : Dev) (ext : Extent) → HoldsBlocks d → StepInside shape (Device (WriteExtent d ext)) → ext.first + ext.count ≤ length (Rattle.wb_devices.specs.Moving.device_in d devices)
