@@ -1,9 +1,9 @@
 -- That the promises exclude wrong answers: each of them by hand.
-use Rattle.std.proofs.Common.{◌≡◌, ◌∙◌, ◌≤◌, inl, inr, ℕ, zero, suc, [], ◌∷◌, Some, refl, arith, slice_get}
+use Rattle.std.proofs.Common.{◌≡◌, ◌∙◌, ◌≤◌, ℕ, zero, suc, [], ◌∷◌, Some, refl, sym, arith, slice_get}
 use Rattle.std.specs.Prelude.{Contains, IsPermutation}
 use Rattle.std.proofs.lemmas.List.Sorted.{IsPermutation-refl, length_permutation, Contains-permutation}
-use Rattle.std.proofs.lemmas.List.Elements.{All-cons, All-head, All-nil, Contains-push_cases}
-use Rattle.wb_types.proofs.Lists.{Contains-first}
+use Rattle.std.proofs.lemmas.List.Elements.{All-cons, All-head, All-nil}
+use Rattle.wb_types.proofs.Lists.{Contains-first, Contains-one}
 use Rattle.wb_types.specs.declared.mode.Dev.TheVariants.{Cache, Origin}
 use Rattle.wb_disk.specs.Device.{Content as Bytes}
 use Rattle.wb_promise.specs.Clerk.{Doing}
@@ -11,14 +11,11 @@ use Rattle.wb_examples.specs.Excluded.{ExcludesWrongAnswers, older, newer, forei
 use Rattle.wb_promise.specs.Headline.{IsAllowedAt, IsLatest, ShowsAllowed}
 
 -- one place, or another
-one_alone : {X : Type 0} (x y : X) → Contains (x ∷ []) y → x ≡ y
-one_alone x y c = elim (Contains-push_cases [] x y c) [ inl none ↦ absurd (omega (arith, none.1)) | inr same ↦ same ]
-
 moved : IsPermutation {X = ℕ} (0 ∷ []) (1 ∷ []) → ⊥
-moved p = let same = one_alone 1 0 (Contains-permutation (0 ∷ []) (1 ∷ []) 0 p (Contains-first 0 [])) in omega (arith, same)
+moved p = let same = sym (Contains-one 1 0 (Contains-permutation (0 ∷ []) (1 ∷ []) 0 p (Contains-first 0 []))) in omega (arith, same)
 
 another_device : Contains (Cache ∷ []) Origin → ⊥
-another_device c = let same : Cache ≡ Origin = one_alone Cache Origin c in cc
+another_device c = let same : Cache ≡ Origin = sym (Contains-one Cache Origin c) in cc
 
 -- an entry at the floor or later may be shown, and nothing else
 shows : (floor position : ℕ) (doing : Doing) (content : Bytes) → floor ≤ position → slice_get (older ∷ newer ∷ []) position ≡ Some content → ShowsAllowed (with_floor floor doing) (content ∷ [])

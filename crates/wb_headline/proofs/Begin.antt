@@ -17,7 +17,6 @@ use Rattle.wb_link.specs.Tables.{Script}
 use Rattle.wb_link.specs.World.{Actor as AbstractActor, resting as idle}
 use Rattle.wb_link.specs.Clerk.{opened}
 use Rattle.wb_link.specs.Openings.{Site, Stopping, Stopped, site, after_event}
-use Rattle.wb_link.proofs.Lists.{replicated as replicated_there}
 use Rattle.wb_simulation.specs.Noting.{counts_by_block, IsNotedSo}
 use Rattle.wb_simulation.specs.Worlds.{zeros}
 use Rattle.wb_simulation.proofs.Possible.{empty_device}
@@ -57,7 +56,7 @@ module _ (P A : Type 0) (shape : Shape) (metadata : List History) (f : IsFormatt
   begun = after_event first (Stopped crash)
 
   idle_there : (a : ℕ) (y : AbstractActor) → slice_get begun.world.actors a ≡ Some y → y.task ≡ None
-  idle_there a y e = ap (λ (v : AbstractActor). v.task) (sym (replicated_there (length first.world.actors) a idle y e))
+  idle_there a y e = ap (λ (v : AbstractActor). v.task) (replicated (length first.world.actors) a idle y e)
 
   images : Images
   images = none_images shape.geometry metadata (formatted_none shape.geometry metadata f)
@@ -109,7 +108,7 @@ module _ (P A : Type 0) (shape : Shape) (metadata : List History) (f : IsFormatt
       seals = tt;
       tasks = λ a x e. subst (λ (v : Actor). PlanInside shape v.task) (sym (replicated shape.actors a resting x e)) tt;
     };
-    noted_so = λ a d e. absurd (let same : ◌≡◌ {A = Option Doing} None (Some d) = replicated_there shape.actors a None (Some d) e in cc);
+    noted_so = λ a d e. absurd (let same : ◌≡◌ {A = Option Doing} None (Some d) = sym (replicated shape.actors a None (Some d) e) in cc);
     keeping = λ a x e. subst (λ (v : Actor). HasNone v) (sym (replicated shape.actors a resting x e)) (λ order h. absurd (omega (arith, h.1)));
     placed = λ a x e. subst (λ (v : Actor). TaskPlaced (block_size shape) v.card v.task) (sym (replicated shape.actors a resting x e)) tt;
   }

@@ -81,13 +81,14 @@ use Rattle.wb_headline.proofs.Following.{size, most, Followed, Goes}
 use Rattle.wb_headline.proofs.Rooted.{same_one}
 use Rattle.wb_headline.proofs.Seeing.{orders_set, slot_there, slot_within}
 use Rattle.wb_headline.proofs.Orders.{found_of, none_dropped}
-use Rattle.wb_headline.proofs.Targets.{landed_or, standing, actor_is, beside, failing_same, metadata_same, noted_within, leads_on, stays_on}
+use Rattle.wb_headline.proofs.Targets.{landed_or, standing, actor_is, beside, failing_same, noted_within, leads_on, stays_on}
 use Rattle.wb_disk.specs.Crash.{Choice}
 use Rattle.wb_tasks.proofs.Readiness.{is_own_step}
 use Rattle.wb_stage.specs.Stages.{is_all_done}
 use Rattle.wb_promise.specs.Happenings.{Chosen, Plain, Puts, Commits, Asks, Gives, Falters, MayFailAt, DoesPut, DoesSync, FailsPut, FailsSync, sector_put}
 use Rattle.wb_promise.specs.Headline.{shown}
 use Rattle.wb_types.proofs.Truth.{and_true}
+use Rattle.wb_runs.proofs.Stepping.{data_device}
 
 -- ---- the commit, by itself
 
@@ -188,7 +189,7 @@ module _ (P A : Type 0) (shape : Shape) (images : Images) (t : Target P) (commit
     synced_so : (got : Got) → (list : List History) → Follows Quietly (size P A shape) (most P A shape) a f.site.world t.words t.desk.space.committing slots (with_device device devices list) (slice_set actors a (after_step Flush plan got x)) →
         Goes P A shape (then_is t commit (with_device device devices list) (Device (Sync device)) got) (noted_step shape [] n a (Some (Some doing)) (Device (Sync device)) got contents)
     synced_so got list g =
-        let known' = subst (λ (m : List History). AtDesk shape.geometry images t.desk commit m) (sym (metadata_same device devices list holds)) known in
+        let known' = subst (λ (m : List History). AtDesk shape.geometry images t.desk commit m) (sym (data_device device holds devices list)) known in
         let s' = (after_all f.site.world g.records).shared in
         let readable = kept_readable shape.geometry images (with_device device devices list).metadata P A (Stands t) commit known' in
         on_device Stays (Sync device) got contents t commit (with_device device devices list) images refl next g known' (desk_stays P t.desk s s' f.phase.desk t.desk refl refl g.desk.0 g.desk.1)

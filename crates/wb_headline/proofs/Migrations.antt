@@ -83,12 +83,13 @@ use Rattle.wb_simulation.specs.Carried.{IsOrderFor}
 use Rattle.wb_runs.proofs.Located.{stands_alone, unmapped_there}
 use Rattle.wb_headline.specs.Desks.{live_orders, orders_of, DeskAgrees, block_there}
 use Rattle.wb_headline.proofs.Following.{size, most, Followed, Goes}
-use Rattle.wb_headline.proofs.Targets.{standing, actor_is, beside, failing_same, metadata_same, noted_within, stays_on, leads_on}
+use Rattle.wb_headline.proofs.Targets.{standing, actor_is, beside, failing_same, noted_within, stays_on, leads_on}
 use Rattle.wb_headline.proofs.Orders.{keeps_so, leaves_from, left, none_waits, of_order, past, stands_so, at_there, live_at, for_block, only_held, only_of}
 use Rattle.wb_headline.proofs.Carried.{own, looks_seal, looks_number}
 use Rattle.wb_headline.proofs.Desking.{desk_maps, desk_releases, desk_unmaps}
 use Rattle.wb_headline.proofs.Seeing.{named, orders_set, seal_tells_order, slot_within}
 use Rattle.wb_headline.proofs.Whole.{Whole, Stepped_to, Faulted_to, at_target, held_tells}
+use Rattle.wb_runs.proofs.Stepping.{data_device}
 
 -- a migration that is answered leaves its actor the orders that it has
 answered_still : (orders awaiting : List Order) (migration : Migration) (block : OBlock) (answer : Answer) → (orders_then orders awaiting (Migrate migration block) (End answer) Done ≡ orders) × (awaiting_then orders awaiting (Migrate migration block) (End answer) Done ≡ awaiting)
@@ -154,14 +155,14 @@ module _ (P A : Type 0) (shape : Shape) (images : Images) (t : Target P) (commit
     write_done rule all_suited device e contents holds next inside =
         on_device (WriteExtent device e) Done contents (with_device device devices (written_each (device_in device devices) e.first x.buffer)) (after_step migrating_job plan Done x) (actor_is P A shape (Stands t) devices x migrating_job plan (Device (WriteExtent device e)) Done xt)
         (migrations_followed.write_done (size P A shape) (most P A shape) shape.geometry.origin_blocks t.words t.desk.space.committing live_now devices actors a x migration block plan device e f.site.world rule all_suited ex xt suits (sym next) inside f.phase.agrees)
-        (metadata_same device devices (written_each (device_in device devices) e.first x.buffer) holds)
+        (data_device device holds devices (written_each (device_in device devices) e.first x.buffer))
 
     pub write_fails : LockRule shape.geometry.origin_blocks t.words (cards_of actors) → AllSuited shape.geometry.origin_blocks actors → (device : Dev) (e : Extent) (contents : List Bytes) (lands : ℕ → Bool) → HoldsBlocks device → Device (WriteExtent device e) ≡ want plan → e.first + e.count ≤ length (device_in device devices) →
         Goes P A shape (record { devices = with_device device devices (written_where lands (device_in device devices) e.first x.buffer); commit = commit; phase = Stands t; actors = slice_set actors a (actor_then {P = P} {A = A} shape (Stands t) devices x (Device (WriteExtent device e)) Fault) }) (noted_step shape [] n a (Some (Some doing)) (Device (WriteExtent device e)) Fault contents)
     write_fails rule all_suited device e contents lands holds next inside =
         on_device (WriteExtent device e) Fault contents (with_device device devices (written_where lands (device_in device devices) e.first x.buffer)) (after_step migrating_job plan Fault x) (actor_is P A shape (Stands t) devices x migrating_job plan (Device (WriteExtent device e)) Fault xt)
         (migrations_followed.write_fails (size P A shape) (most P A shape) shape.geometry.origin_blocks t.words t.desk.space.committing live_now devices actors a x migration block plan device e lands f.site.world rule all_suited ex xt suits (sym next) inside f.phase.agrees)
-        (metadata_same device devices (written_where lands (device_in device devices) e.first x.buffer) holds)
+        (data_device device holds devices (written_where lands (device_in device devices) e.first x.buffer))
 
     -- the desk has no memory for its entry
     pub map_refused : (b : OBlock) (c : CBlock) (refusal : Refusal) → Desk (Map b c) ≡ want plan →

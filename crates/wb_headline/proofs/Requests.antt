@@ -58,7 +58,7 @@ use Rattle.wb_contents.proofs.Devices.{is_there}
 use Rattle.wb_promise.specs.Headline.{IsLatest, shown}
 use Rattle.wb_headline.specs.Desks.{live_orders}
 use Rattle.wb_headline.proofs.Following.{size, most, Followed, Goes, many}
-use Rattle.wb_headline.proofs.Targets.{standing, actor_is, beside, metadata_same, noted_within, stays_on}
+use Rattle.wb_headline.proofs.Targets.{standing, actor_is, beside, noted_within, stays_on}
 use Rattle.wb_headline.proofs.Showing.{there}
 use Rattle.wb_headline.proofs.Events.{records_happen, is_right}
 use Rattle.wb_types.specs.declared.mode.Dev.TheVariants.{Metadata, Cache, Origin}
@@ -66,6 +66,7 @@ use Rattle.wb_disk.specs.Crash.{Choice}
 use Rattle.wb_disk.specs.Failing.{lands}
 use Rattle.wb_tasks.proofs.Readiness.{is_own_step}
 use Rattle.wb_runs.specs.Inside.{StepInside}
+use Rattle.wb_runs.proofs.Stepping.{data_device}
 
 module _ (P A : Type 0) (shape : Shape) (images : Images) (t : Target P) (commit : Option RunningCommit) (devices : Devices (List History)) (actors : List Actor) (n : Notes) (known : MetadataKept {P = P} {A = A} shape.geometry images (Stands t) commit devices.metadata)
     (f : Followed P A shape images (standing P A shape images t commit devices actors n) n) (rule : LockRule shape.geometry.origin_blocks t.words (cards_of actors)) (all_suited : AllSuited shape.geometry.origin_blocks actors) (a : ℕ) (x : Actor) (ex : slice_get actors a ≡ Some x) (job : Job) (plan : Plan) (xt : x.task ≡ Some (job, plan)) (suits : Suits shape.geometry.origin_blocks plan x.card)
@@ -206,7 +207,7 @@ module _ (P A : Type 0) (shape : Shape) (images : Images) (t : Target P) (commit
           let less1 = subst (λ (k : ℕ). a < k) (sym (length-set n.doings a (Some mid))) noted_less in
           let second = notes_followed.write written_part.block.0 (e.first % size P A shape) e.count content Stays (size P A shape) (most P A shape) a f.site.world t.words t.desk.space.committing slots_now (with_device device devices list) (slice_set actors a (after_step (Write extent content) plan got x)) g b.0 n1 f.notes b.1 less1 first mid
           (set_there n.doings a (Some doing) (Some mid) noted) in_block in_range in
-          stays_on P A shape images t commit devices actors n known f a x ex (Writes written_part.block.0 (e.first % size P A shape) e.count content) t.words (with_device device devices list) (after_step (Write extent content) plan got x) n2 g tt second (length-set n1.doings a _ ∙ length-set n.doings a (Some mid)) (entered_many (rising (sector_for shape extent e) e.count) (entering n1 mid)) (metadata_same device devices list holds)
+          stays_on P A shape images t commit devices actors n known f a x ex (Writes written_part.block.0 (e.first % size P A shape) e.count content) t.words (with_device device devices list) (after_step (Write extent content) plan got x) n2 g tt second (length-set n1.doings a _ ∙ length-set n.doings a (Some mid)) (entered_many (rising (sector_for shape extent e) e.count) (entering n1 mid)) (data_device device holds devices list)
 
     pub writes : (contents : List Bytes) → e.first + e.count ≤ length (device_in device devices) → IsBesideOrders (size P A shape) slots_now written_part.block device e →
         Goes P A shape (record { devices = with_device device devices (written_each (device_in device devices) e.first (replicate e.count content)); commit = commit; phase = Stands (record { words = t.words; desk = t.desk }); actors = slice_set actors a (actor_then {P = P} {A = A} shape (Stands t) devices x (Device (WriteExtent device e)) Done) })

@@ -1,9 +1,8 @@
 -- Whatever is started is followed: a read, a write, a flush, an opening, and a migration or a replacement, under an order that is given or again under one that was kept.
-use Rattle.std.proofs.Common.{◌≡◌, ◌≢◌, ◌∙◌, ◌<◌, ◌≤◌, ◌+◌, ◌-◌, ◌*◌, ◌/◌, ◌%◌, inl, inr, ℕ, zero, suc, true, false, List, [], ◌∷◌, Option, Some, None, refl, sym, ap, subst, arith, length, slice_get, slice_set, Contains, ◌^◌, Bool, get_or}
-use Rattle.std.proofs.Math.Nat.{div-add-mod', mod-lt}
+use Rattle.std.proofs.Common.{◌≡◌, ◌≢◌, ◌∙◌, ◌<◌, ◌+◌, ◌-◌, ◌/◌, inl, inr, ℕ, zero, suc, true, false, List, [], ◌∷◌, Option, Some, None, refl, sym, ap, subst, arith, length, slice_get, slice_set, Contains, ◌^◌, Bool, get_or}
 use Rattle.std.proofs.lemmas.List.{length-set, length-map}
-use Rattle.std.proofs.lemmas.List.Elements.{Contains-append_cases, Contains-append_left}
-use Rattle.wb_types.proofs.Lists.{Contains-one, set_cases}
+use Rattle.std.proofs.lemmas.List.Elements.{Contains-append_left}
+use Rattle.wb_types.proofs.Lists.{set_cases}
 use Rattle.wb_types.specs.Extents.{IsCutInto}
 use Rattle.wb_types.specs.declared.extent.Extent.{Extent}
 use Rattle.wb_types.specs.declared.mode.Mode.{Mode}
@@ -24,7 +23,7 @@ use Rattle.wb_promise.specs.Effects.{all_resting, phase_given, given}
 use Rattle.wb_promise.specs.Clerk.{Notes, Doing, begun, put, nobody}
 use Rattle.wb_runs.proofs.Images.{Images, later_of}
 use Rattle.wb_runs.proofs.Metadata.{MetadataKept, kept_readable, unknowing}
-use Rattle.wb_runs.proofs.Extents.{Within, AllWithin, MayStart, may_start, some_sectors, cut_within, cut_of_block}
+use Rattle.wb_runs.proofs.Extents.{AllWithin, MayStart, may_start, some_sectors, cut_within, cut_of_block}
 use Rattle.wb_runs.proofs.Lists.{rests}
 use Rattle.wb_link.specs.Tables.{Job as AbstractJob, Flushing as FlushingFor}
 use Rattle.wb_link.specs.World.{World, after_all, job_alone, Shared, Mapped as MappedThere, Names as NamesThere}
@@ -60,6 +59,7 @@ use Rattle.wb_tasks.specs.declared.step.Migration.{Migration}
 use Rattle.wb_tasks.specs.declared.step.Migration.TheVariants.{Promote, Demote, Clean}
 use Rattle.wb_promise.specs.declared.event.What.TheVariants.{Started}
 use Rattle.wb_runs.specs.Holding.{TaskSuits}
+use Rattle.wb_runs.proofs.InsideRuns.{some_there, in_one_block}
 use Rattle.wb_runs.proofs.Desks.{reserved_stands}
 use Rattle.wb_contents.specs.Volume.{Locations}
 use Rattle.std.proofs.lemmas.Bool.{eq-eqb}
@@ -76,22 +76,15 @@ use Rattle.wb_headline.proofs.Whole.{Whole, at_target}
 
 -- ---- the extents of a request are of its block
 
-within_of : (whole : Extent) (cut : List Extent) → AllWithin whole cut → (e : Extent) → Contains cut e → Within whole e
-within_of whole [] i e c = absurd (omega (arith, c.1))
-within_of whole (x ∷ xs) i e c = elim (Contains-append_cases (x ∷ []) xs e c) [
-  | inl s ↦ subst (λ (y : Extent). Within whole y) (sym (Contains-one x e s)) i.0
-  | inr r ↦ within_of whole xs i.1 e r
-]
-
 pub part_of : (shape : Shape) (extent : Extent) (cut : List Extent) → extent_refusal shape extent ≡ None → IsCutInto extent cut → IsPart (block_size shape) (block_range shape extent cut)
 part_of shape extent cut inside cuts = record {
   some = some_sectors shape extent m;
   sized = refl;
   each = λ e c.
-      let w = within_of extent cut all e c in
+      let w = some_there extent cut all e c in
       let first = cut_of_block shape extent cut m all e c e.first (omega arith) (let s = w.some in omega (arith, s)) in
       let last = cut_of_block shape extent cut m all e c (e.first + e.count - 1) (let s = w.some in omega (arith, s)) (let s = w.some in omega (arith, s)) in
-      record { some = w.some; block_is = first; room = room e w.some (last ∙ sym first) };
+      record { some = w.some; block_is = first; room = in_one_block (block_size shape) e.first e.count (extent.first / block_size shape) (some_sectors shape extent m) w.some first last };
 }
   where
     m : MayStart shape extent
@@ -99,13 +92,6 @@ part_of shape extent cut inside cuts = record {
 
     all : AllWithin extent cut
     all = cut_within extent cut cuts
-
-    room : (e : Extent) → 1 ≤ e.count → (e.first + e.count - 1) / block_size shape ≡ e.first / block_size shape → e.first % block_size shape + e.count ≤ block_size shape
-    room e s same =
-        let low = div-add-mod' e.first (block_size shape) in
-        let high = subst (λ (q : ℕ). q * block_size shape + (e.first + e.count - 1) % block_size shape ≡ e.first + e.count - 1) same (div-add-mod' (e.first + e.count - 1) (block_size shape)) in
-        let less = mod-lt (e.first + e.count - 1) (some_sectors shape extent m) in
-        omega (arith, s, low, high, less)
 
 module _ (P A : Type 0) (shape : Shape) (images : Images) (t : Target P) (commit : Option RunningCommit) (devices : Devices (List History)) (actors : List Actor) (n : Notes) (known : MetadataKept {P = P} {A = A} shape.geometry images (Stands t) commit devices.metadata)
     (f : Followed P A shape images (standing P A shape images t commit devices actors n) n) (a : ℕ) (x : Actor) (ex : slice_get actors a ≡ Some x) (xt : x.task ≡ None) where

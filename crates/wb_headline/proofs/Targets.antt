@@ -11,13 +11,10 @@ use Rattle.wb_tasks.specs.declared.step.Want.{Want}
 use Rattle.wb_tasks.specs.declared.step.Got.{Got}
 use Rattle.wb_tasks.specs.declared.step.Got.TheVariants.{Fault}
 use Rattle.wb_tasks.specs.declared.step.DeviceStep.{DeviceStep}
-use Rattle.wb_tasks.specs.Ready.{HoldsBlocks}
-use Rattle.wb_types.specs.declared.mode.Dev.{Dev}
-use Rattle.wb_types.specs.declared.mode.Dev.TheVariants.{Metadata, Cache, Origin}
 use Rattle.wb_devices.specs.declared.devices.Devices.{Devices}
 use Rattle.wb_devices.specs.declared.running.RunningCommit.{RunningCommit}
 use Rattle.wb_promise.specs.declared.job.Job.{Job}
-use Rattle.wb_promise.specs.States.{Shape, State, Actor, Target, Phase, Stands, with_device}
+use Rattle.wb_promise.specs.States.{Shape, State, Actor, Target, Phase, Stands}
 use Rattle.wb_promise.specs.Effects.{actor_then, task_then, card_then, orders_then, awaiting_then, buffer_then, job_of}
 use Rattle.wb_promise.specs.Clerk.{Notes, Doing, failing}
 use Rattle.wb_runs.proofs.Images.{Images, later_of}
@@ -90,12 +87,6 @@ actor_is P A shape phase devices x job plan next got xt = λ i. record {
 pub failing_same : (doing : Doing) (step : DeviceStep) (got : Got) → ((failing doing step got).entered ≡ doing.entered) × ((failing doing step got).then_finished ≡ doing.then_finished)
 failing_same doing step Fault = (refl, refl)
 failing_same doing step got = (refl, refl)
-
--- a data device with another list leaves the metadata
-pub metadata_same : (device : Dev) (devices : Devices (List History)) (list : List History) → HoldsBlocks device → (with_device device devices list).metadata ≡ devices.metadata
-metadata_same Cache devices list h = refl
-metadata_same Origin devices list h = refl
-metadata_same Metadata devices list h = absurd h
 
 -- what a step that failed on the metadata left of them: all that it writes, or nothing
 pub landed_or : {X Y : Type 0} (landed : Bool) → LandedOr landed X Y → X ⊎ Y

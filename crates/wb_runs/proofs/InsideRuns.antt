@@ -84,12 +84,12 @@ same_with Origin devices new h = (refl, h tt)
 
 -- ---- extents of a job
 
-some_there : (whole : Extent) (cut : List Extent) → AllWithin whole cut → (e : Extent) → Contains cut e → Within whole e
+pub some_there : (whole : Extent) (cut : List Extent) → AllWithin whole cut → (e : Extent) → Contains cut e → Within whole e
 some_there whole [] i e c = absurd (omega (arith, c.1))
 some_there whole (x ∷ xs) i e c = first_or x e xs (Within whole e) c (λ s. subst (λ (y : Extent). Within whole y) (sym s) i.0) (λ r. some_there whole xs i.1 e r)
 
 -- sectors of one block
-in_one_block : (b first count q : ℕ) → 0 < b → 1 ≤ count → first / b ≡ q → (first + count - 1) / b ≡ q → first % b + count ≤ b
+pub in_one_block : (b first count q : ℕ) → 0 < b → 1 ≤ count → first / b ≡ q → (first + count - 1) / b ≡ q → first % b + count ≤ b
 in_one_block b first count q some many f l =
     let low = div-add-mod first b in
     let high = div-add-mod (first + count - 1) b in

@@ -38,7 +38,7 @@ use Rattle.wb_types.specs.declared.number.OBlock.{OBlock}
 use Rattle.wb_stage.specs.Asking.{order_of}
 
 -- a device on which blocks stand is not the metadata device
-data_device : (device : Dev) → HoldsBlocks device → (devices : Devices (List History)) (new : List History) → (with_device device devices new).metadata ≡ devices.metadata
+pub data_device : (device : Dev) → HoldsBlocks device → (devices : Devices (List History)) (new : List History) → (with_device device devices new).metadata ≡ devices.metadata
 data_device Metadata h devices new = absurd h
 data_device Cache h devices new = refl
 data_device Origin h devices new = refl
