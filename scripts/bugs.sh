@@ -1,10 +1,11 @@
 #!/bin/sh
 # Tries the wrong bodies in crates/NAME/bugs, which the gate leaves out, as must-fail edits on a copy: the prover has to refuse each. Crates
-# go side by side, once what they stand on is proved.
+# go side by side, once what they stand on is proved. Where a crate is of definitions alone, wrong ones are refused by the crates above that
+# prove something of them: its file bugs/refused-by names these, each after those that it stands on.
 #
 #     sh scripts/bugs.sh [NAME..]
 #
-# Those of every crate where none is named. Before a crate lands, and after a change of its contracts. Each that is not refused, or that
+# Those of every crate where none is named. EDITS, where it is set, is a pattern of the names of the edits to try. Before a crate lands, and after a change of its contracts. Each that is not refused, or that
 # cannot be tried, stands on standard output with its reason, and last 'N refused, M not refused, K bad'; the status is 0 where M and K are 0.
 # Progress goes to standard error. An interrupt ends all that was started. JOBS as for scripts/build.sh.
 set -eu
@@ -13,7 +14,9 @@ top=$(cd "$(dirname "$0")/.." && pwd)
 cd "$top"
 . scripts/side-by-side.sh
 
-edits_of() { find "crates/$1/bugs" -name '*.edit' 2>/dev/null | wc -l; }
+edits_in() { find "$1" -name "${EDITS:-*}.edit" 2>/dev/null | LC_ALL=C sort; }
+edits_of() { edits_in "crates/$1/bugs" | wc -l; }
+above() { cat "crates/$1/bugs/refused-by" 2>/dev/null || true; }
 look_at_machine 3000 5000
 # shellcheck disable=SC2046 # names are words
 test $# != 0 || set -- $(for folder in crates/*/bugs; do basename "${folder%/bugs}"; done)
@@ -22,7 +25,9 @@ for name in "$@"; do
 done
 work_alone
 
-libraries=$(for name in $(with_those_below "$@"); do
+crates=$(for name in "$@"; do echo "$name" && above "$name"; done)
+# shellcheck disable=SC2086 # names are words
+libraries=$(for name in $(with_those_below $crates); do
   test -e "crates/$name/src/main.rt" || echo "$name"
 done)
 # shellcheck disable=SC2086 # names are words
@@ -32,28 +37,85 @@ prove $libraries
 copy=$work/copy
 mkdir -p "$copy/crates"
 test ! -e HANDLES || cp HANDLES "$copy/"
-lines_of "$(with_those_below "$@" | tr '\n' ' ')" >"$copy/crates.txt"
-for name in $(with_those_below "$@"); do
+# shellcheck disable=SC2086 # names are words
+crates=$(with_those_below $crates | tr '\n' ' ')
+lines_of "$crates" >"$copy/crates.txt"
+for name in $crates; do
   copy_crate "$name" "$copy"
   test ! -d "crates/$name/out/rlib" || cp -Rl "crates/$name/out/rlib" "$copy/crates/$name/out/"
 done
 : >"$work/plan.bugs"
 for name in "$@"; do
-  cp -R "crates/$name/bugs" "$copy/crates/$name/must-fail"
-  test ! -d "crates/$name/out/incremental" || cp -Rl "crates/$name/out/incremental" "$copy/crates/$name/out/"
-  echo "$name $((30 * $(edits_of "$name")))" >>"$work/plan.bugs"
+  mkdir "$copy/crates/$name/must-fail"
+  edits_in "crates/$name/bugs" | while read -r edit; do cp "$edit" "$copy/crates/$name/must-fail/"; done
+  for crate in "$name" $(above "$name"); do
+    test ! -d "crates/$crate/out/incremental" || test -e "$copy/crates/$crate/out/incremental" || cp -Rl "crates/$crate/out/incremental" "$copy/crates/$crate/out/"
+  done
+  # those that crates above are to refuse are a job each
+  if test -e "crates/$name/bugs/refused-by"; then
+    edits_in "crates/$name/bugs" | while read -r edit; do echo "$name/$(basename "$edit")" 60; done >>"$work/plan.bugs"
+    mkdir -p "$work/$name"
+  else
+    echo "$name $((30 * $(edits_of "$name")))" >>"$work/plan.bugs"
+  fi
 done
 
+# The one pair of an edit, applied in the folder of its crate: its old text has to stand once in its file.
+# shellcheck disable=SC2016 # it is the text of a script
+apply='
+  file=$(sed -n "s/^file: //p" "$1") OLD=$(sed -n "s/^old: //p" "$1") NEW=$(sed -n "s/^new: \{0,1\}//p" "$1")
+  export OLD NEW
+  test -f "$file" || exit 1
+  awk "{
+    at = index(\$0, ENVIRON[\"OLD\"])
+    if (at) { found++; \$0 = substr(\$0, 1, at - 1) ENVIRON[\"NEW\"] substr(\$0, at + length(ENVIRON[\"OLD\"])) }
+    print
+  } END { exit found != 1 }" "$file" >"$file.new" && mv "$file.new" "$file"'
+
+# A wrong definition in a copy of its own, by links: its crate has to be proved with it, and then one of those above not to be.
+# shellcheck disable=SC2016 # it is the text of a script
+try_above='
+  copy=$1 room=$2 name=$3 edit=$4 apply=$5
+  shift 5
+  label="rt: must-fail $name/$edit"
+  cp -Rl "$copy" "$room"
+  trap "rm -rf \"\$room\"" EXIT
+  cd "$room/crates/$name" || exit
+  rm -rf must-fail
+  sh -c "$apply" apply "$copy/crates/$name/must-fail/$edit" || { echo "$label: BAD EDIT: it cannot be applied"; exit 1; }
+  RT_JOBS=1 rt lib >"$room/said" 2>&1 || { echo "$label: BAD EDIT: $name is not proved with it: $(grep -m 1 error "$room/said")"; exit 1; }
+  for crate in "$@"; do
+    cd "$room/crates/$crate" || exit
+    RT_JOBS=1 rt lib >"$room/said" 2>&1 && continue
+    if grep -q "^logic=not-proved" "$room/said"; then
+      echo "$label: refused, as it must be, by $crate: $(grep -m 1 ": error" "$room/said")"
+      exit 0
+    fi
+    echo "$label: NOT TRIED: $crate came to no verdict: $(tail -n 1 "$room/said")"
+    exit 1
+  done
+  echo "$label: NOT REFUSED: $* are still proved with it"
+  exit 1'
+
 refused=0 proved=0 bad=0
-begin_edits() { # crate, how many processors it may use, how much it gives way
-  # shellcheck disable=SC2016 # it is the text of a script
-  start "$1" 1 "$3" sh -c 'cd "$1" && RT_JOBS=1 exec rt must-fail "$2"' begin_edits "$copy" "$1"
+begin_edits() { # crate or one of its edits, how many processors it may use, how much it gives way
+  case $1 in
+    */*)
+      # shellcheck disable=SC2046 # names are words
+      start "$1" 1 "$3" sh -c "$try_above" try_above "$copy" "$work/$1.room" "${1%/*}" "${1#*/}" "$apply" $(above "${1%/*}")
+      ;;
+    *)
+      # shellcheck disable=SC2016 # it is the text of a script
+      start "$1" 1 "$3" sh -c 'cd "$1" && RT_JOBS=1 exec rt must-fail "$2"' begin_edits "$copy" "$1"
+      ;;
+  esac
 }
 counted() { grep -c "$1" "$log" || true; }
-end_edits() { # crate, status
+tried() { case $1 in */*) echo 1 ;; *) edits_of "$1" ;; esac; }
+end_edits() { # crate or edit, status
   log=$work/$1.log
   set -- "$1" "$(counted ': refused, as it must be')" "$(counted ': NOT REFUSED: ')" "$(counted ': BAD EDIT: \|: NOT TRIED: ')"
-  if test $(($2 + $3 + $4)) != "$(edits_of "$1")"; then
+  if test $(($2 + $3 + $4)) != "$(tried "$1")"; then
     tail -n 30 "$log" >&2
     fail "the edits of $1 were not tried (see above)"
   fi

@@ -52,6 +52,10 @@ if grep -rq BROKEN src 2>/dev/null; then
   echo 'error: BROKEN does not parse'
   exit 1
 fi
+if test "$name" = left && grep -q WRONG ../low/src/lib.rt; then
+  printf 'src/lib.rt:1:1: error: it is wrong\nlogic=not-proved\n'
+  exit 1
+fi
 case $1 in
   lib) echo built >out/rlib/stamp ;;
   run)
@@ -222,6 +226,17 @@ rmdir "$tree/crates/right/bugs"
 said=$(call_script "$work/bin" scripts/bugs.sh)
 check 'wrong bodies of all crates' "$(printf '%s' "$said" | tail -n 2 | tr '\n' ' ')" '2 refused, 1 not refused, 1 bad status 1'
 has 'one that is not refused is named' "$said" 'long/three.edit: NOT REFUSED'
+printf 'file: src/lib.rt\nold: fn low\nnew: fn WRONG\n' >"$tree/crates/low/bugs/one.edit"
+printf 'file: src/lib.rt\nold: fn low\nnew: fn other\n' >"$tree/crates/low/bugs/other.edit"
+printf 'file: src/lib.rt\nold: fn none\nnew: fn other\n' >"$tree/crates/low/bugs/none.edit"
+echo left >"$tree/crates/low/bugs/refused-by"
+said=$(call_script "$work/bin" scripts/bugs.sh low)
+check 'wrong definitions that a crate above refuses' "$(printf '%s' "$said" | tail -n 2 | tr '\n' ' ')" '1 refused, 1 not refused, 1 bad status 1'
+has 'one that is proved above is named' "$said" 'low/other.edit: NOT REFUSED'
+has 'one that cannot be applied is named' "$said" 'low/none.edit: BAD EDIT'
+check 'they change nothing' "$(tail -n 1 "$tree/crates/low/src/lib.rt")" '// changed'
+said=$(EDITS=one call_script "$work/bin" scripts/bugs.sh low)
+check 'those of a pattern' "$(printf '%s' "$said" | tail -n 2 | tr '\n' ' ')" '1 refused, 0 not refused, 0 bad status 0'
 said=$(call_script "$work/bin" scripts/bugs.sh right)
 has 'a crate without wrong bodies' "$said" 'there is no edit in crates/right/bugs'
 

@@ -7,7 +7,7 @@ use Rattle.wb_link.specs.World.{World, Shared, Actor as AbstractActor, resting a
 use Rattle.wb_link.specs.Clerk.{Notes as AbstractNotes}
 use Rattle.wb_link.specs.Openings.{Site, Stage, Answering, Outcome, Shown, Event, On, Stopped, Begins, Advances, after_event, note_event, MayHappen, Yields, advance, advanced, next_phase, emptied, Phase as PhaseThere, Stands as StandsThere, Gone as GoneThere}
 use Rattle.wb_link.proofs.Lists.{replicated}
-use Rattle.wb_runs.specs.Clerk.{Notes, Doing, nobody}
+use Rattle.wb_promise.specs.Clerk.{Notes, Doing, nobody}
 use Rattle.wb_simulation.specs.Noting.{NotesAgree, IsNotedSo}
 use Rattle.wb_types.specs.declared.mode.Mode.TheVariants.{Writeback}
 use Rattle.wb_disk.specs.Device.{History}
@@ -16,23 +16,23 @@ use Rattle.wb_meta.specs.declared.read_steps.ReadSteps.{ReadSteps}
 use Rattle.wb_tasks.specs.Plan.{Plan}
 use Rattle.wb_devices.specs.declared.devices.Devices.{Devices}
 use Rattle.wb_devices.specs.declared.running.RunningCommit.{RunningCommit}
-use Rattle.wb_runs.specs.declared.job.Job.{Job}
-use Rattle.wb_runs.specs.States.{Shape, State, Actor, Phase, Stands, Gone, Opens, resting}
+use Rattle.wb_promise.specs.declared.job.Job.{Job}
+use Rattle.wb_promise.specs.States.{Shape, State, Actor, Phase, Stands, Gone, Opens, resting}
 use Rattle.wb_runs.proofs.Images.{Images, later_of, IsFitToo, one_image, IsFit}
 use Rattle.wb_runs.proofs.Metadata.{MetadataKept, kept_readable}
 use Rattle.wb_simulation.specs.Sites.{DevicesAgree, LeadsTo}
 use Rattle.wb_types.specs.declared.mode.Dev.TheVariants.{Metadata, Cache, Origin}
 use Rattle.wb_disk.specs.Crash.{Choice}
 use Rattle.wb_disk.proofs.Crashes.{Crashed-crashed_from}
-use Rattle.wb_runs.specs.Effects.{all_crashed, after_crash, all_resting}
+use Rattle.wb_promise.specs.Effects.{all_crashed, after_crash, all_resting}
 use Rattle.wb_simulation.proofs.Opening.{openings_followed}
-use Rattle.wb_headline.proofs.Unclean.{IsNoRecord, NeverClean, event_on}
+use Rattle.wb_headline.proofs.Unclean.{IsPlainEvent}
 use Rattle.wb_headline.proofs.Events.{Reached, event_reaches}
 use Rattle.wb_headline.proofs.Following.{AtStage, IsOver, many, size, Sized, DevicesFollow, PhaseFollows, Followed, Goes}
 
 -- it leaves nobody at anything, and nothing is noted of it
 pub record Quietens (v : Site) (e : Event) (m : AbstractNotes) : Type 0 where
-  pub plain : IsNoRecord e
+  pub plain : IsPlainEvent e
   pub shared : Shared
   pub world_is : (after_event v e).world ≡ emptied v.world shared
   pub notes_are : note_event m e ≡ m
@@ -98,7 +98,6 @@ module _ (P A : Type 0) (shape : Shape) where
     pub site : Site
     pub notes : AbstractNotes
     pub reached : Reached (size P A shape) (many P A shape) site notes
-    pub clean : NeverClean site.world
     pub as_many : length site.world.actors ≡ many P A shape
     pub notes_agree : NotesAgree (size P A shape) n site.world notes
     pub idle : (a : ℕ) (y : AbstractActor) → slice_get site.world.actors a ≡ Some y → y.task ≡ None
@@ -114,8 +113,7 @@ module _ (P A : Type 0) (shape : Shape) where
         record {
           site = after_event f.site l.event;
           notes = f.notes;
-          reached = subst (λ (m : AbstractNotes). Reached (size P A shape) (many P A shape) (after_event f.site l.event) m) q.notes_are (event_reaches (size P A shape) (many P A shape) f.site f.notes l.event f.reached l.may);
-          clean = event_on f.site l.event q.plain f.clean;
+          reached = subst (λ (m : AbstractNotes). Reached (size P A shape) (many P A shape) (after_event f.site l.event) m) q.notes_are (event_reaches (size P A shape) (many P A shape) f.site f.notes l.event f.reached l.may q.plain);
           as_many = ap (λ (v : World). length v.actors) q.world_is ∙ emptied_many f.site.world q.shared ∙ f.as_many;
           notes_agree = notes_at_rest (size P A shape) n n' f.site.world (after_event f.site l.event).world f.notes f.notes_agree same.histories same.finished same.floors same.doings idle;
           idle = idle;
@@ -129,7 +127,6 @@ module _ (P A : Type 0) (shape : Shape) where
       site = f.site;
       notes = f.notes;
       reached = f.reached;
-      clean = f.clean;
       as_many = f.as_many;
       notes_agree = notes_at_rest (size P A shape) n n' f.site.world f.site.world f.notes f.notes_agree same.histories same.finished same.floors same.doings idle;
       idle = idle;
@@ -146,7 +143,7 @@ module _ (P A : Type 0) (shape : Shape) where
     gone commit known = record {
       images = images;
       known = known;
-      followed = record { site = r.site; notes = r.notes; reached = r.reached; clean = r.clean; as_many = r.as_many; notes_agree = r.notes_agree; sized = sized; phase = record { later = later; devices_follow = follow } };
+      followed = record { site = r.site; notes = r.notes; reached = r.reached; as_many = r.as_many; notes_agree = r.notes_agree; sized = sized; phase = record { later = later; devices_follow = follow } };
     }
 
     -- an opening is at work
@@ -160,7 +157,6 @@ module _ (P A : Type 0) (shape : Shape) where
         site = r.site;
         notes = r.notes;
         reached = r.reached;
-        clean = r.clean;
         as_many = r.as_many;
         notes_agree = r.notes_agree;
         sized = sized;

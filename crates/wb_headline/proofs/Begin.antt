@@ -1,12 +1,12 @@
 -- A run begins as the abstract world does once it has crashed: no target stands, and every sector is as formatting leaves it.
-use Rattle.std.proofs.Common.{◌≡◌, ◌∙◌, ◌+◌, ◌*◌, ℕ, zero, suc, Bool, true, false, cond, nat_lt, unwrap_or, List, [], Option, Some, None, refl, sym, ap, subst, length, replicate, slice_get}
+use Rattle.std.proofs.Common.{arith, ◌≡◌, ◌∙◌, ◌+◌, ◌*◌, ℕ, zero, suc, Bool, true, false, cond, nat_lt, unwrap_or, List, [], Option, Some, None, refl, sym, ap, subst, length, replicate, slice_get}
 use Rattle.std.proofs.lemmas.List.{length-replicate}
 use Rattle.wb_types.proofs.Lists.{Contains-first}
 use Rattle.wb_disk.specs.Device.{History, only}
 use Rattle.wb_meta.specs.Formats.{IsFormatted}
-use Rattle.wb_runs.specs.States.{Shape, Actor, start, resting, block_size, sector_count, cache_sector_count}
-use Rattle.wb_runs.specs.Clerk.{Doing, formatted}
-use Rattle.wb_runs.specs.Headline.{cached_from}
+use Rattle.wb_promise.specs.States.{Shape, Actor, start, resting, block_size, sector_count, cache_sector_count}
+use Rattle.wb_promise.specs.Clerk.{Doing, formatted}
+use Rattle.wb_promise.specs.Headline.{cached_from}
 use Rattle.wb_runs.proofs.Lists.{replicated}
 use Rattle.wb_runs.proofs.Images.{Images}
 use Rattle.wb_runs.proofs.Formatted.{formatted_none, none_images, none_readable}
@@ -17,12 +17,10 @@ use Rattle.wb_link.specs.Tables.{Script}
 use Rattle.wb_link.specs.World.{Actor as AbstractActor, resting as idle}
 use Rattle.wb_link.specs.Clerk.{opened}
 use Rattle.wb_link.specs.Openings.{Site, Stopping, Stopped, site, after_event}
-use Rattle.wb_link.proofs.Lists.{replicated as replicated_there}
 use Rattle.wb_simulation.specs.Noting.{counts_by_block, IsNotedSo}
 use Rattle.wb_simulation.specs.Worlds.{zeros}
 use Rattle.wb_simulation.proofs.Possible.{empty_device}
 use Rattle.wb_headline.proofs.Events.{start_reached, event_reaches}
-use Rattle.wb_headline.proofs.Unclean.{IsPlainTask}
 use Rattle.wb_headline.proofs.Following.{many, size}
 use Rattle.wb_headline.proofs.Keeping.{HasNone}
 use Rattle.wb_headline.proofs.Whole.{Whole}
@@ -57,13 +55,10 @@ module _ (P A : Type 0) (shape : Shape) (metadata : List History) (f : IsFormatt
   begun = after_event first (Stopped crash)
 
   idle_there : (a : ℕ) (y : AbstractActor) → slice_get begun.world.actors a ≡ Some y → y.task ≡ None
-  idle_there a y e = ap (λ (v : AbstractActor). v.task) (sym (replicated_there (length first.world.actors) a idle y e))
+  idle_there a y e = ap (λ (v : AbstractActor). v.task) (replicated (length first.world.actors) a idle y e)
 
   images : Images
   images = none_images shape.geometry metadata (formatted_none shape.geometry metadata f)
-
-  nobody : (a : ℕ) (d : Doing) → slice_get (replicate shape.actors None) a ≡ Some (Some d) → length d.then_finished ≡ sector_count shape
-  nobody a d e = absurd (let same : ◌≡◌ {A = Option Doing} None (Some d) = replicated_there shape.actors a None (Some d) e in cc)
 
   pub whole_start : Whole P A shape (start shape metadata) (formatted shape)
   whole_start = record {
@@ -74,11 +69,7 @@ module _ (P A : Type 0) (shape : Shape) (metadata : List History) (f : IsFormatt
         site = begun;
         notes = opened (λ b o. zeros);
         reached = event_reaches (size P A shape) (many P A shape) first (opened (λ b o. zeros)) (Stopped crash) (start_reached (size P A shape) (many P A shape))
-            (record { root = λ e. absurd (cc); origin = λ b o. Contains-first zeros []; cache = λ k o. Contains-first zeros [] });
-        clean = record {
-          tasks = λ a y e. subst IsPlainTask (sym (idle_there a y e)) tt;
-          images = (λ b. refl, λ b. refl);
-        };
+            (record { root = λ e. absurd (cc); origin = λ b o. Contains-first zeros []; cache = λ k o. Contains-first zeros [] }) tt;
         as_many = length-replicate (length first.world.actors) idle ∙ length-replicate (many P A shape) idle;
         notes_agree = record {
           histories = empty_device zeros (size P A shape) (sector_count shape);
@@ -116,6 +107,6 @@ module _ (P A : Type 0) (shape : Shape) (metadata : List History) (f : IsFormatt
       seals = tt;
       tasks = λ a x e. subst (λ (v : Actor). PlanInside shape v.task) (sym (replicated shape.actors a resting x e)) tt;
     };
-    asked = nobody;
-    keeping = λ a x e. subst (λ (v : Actor). HasNone v) (sym (replicated shape.actors a resting x e)) (refl, refl);
+    noted_so = λ a d e. absurd (let same : ◌≡◌ {A = Option Doing} None (Some d) = sym (replicated shape.actors a None (Some d) e) in cc);
+    keeping = λ a x e. subst (λ (v : Actor). HasNone v) (sym (replicated shape.actors a resting x e)) (λ order h. absurd (omega (arith, h.1)));
   }

@@ -18,7 +18,7 @@ use Rattle.wb_desk.specs.Desks.{DeskState}
 use Rattle.wb_desk.specs.Calls.{reserved, released}
 use Rattle.wb_desk.specs.Commits.{commit_begun, commit_ended}
 use Rattle.wb_desk.specs.Entries.{entry_of, keeps, mapped, unmapped}
-use Rattle.wb_runs.specs.Headline.{cached_from, place_of}
+use Rattle.wb_promise.specs.Headline.{cached_from, place_of}
 use Rattle.wb_runs.proofs.Located.{StandsAlone, alone_later, none_from}
 use Rattle.wb_link.specs.World.{Shared, Block as AbstractBlock, Mapped as MappedThere, Reserved as ReservedThere, begun, ended, given_back, removed}
 use Rattle.wb_simulation.specs.Opened.{located}

@@ -1,16 +1,16 @@
 -- Each step of a flush, with each result that it may have, is followed.
-use Rattle.std.proofs.Common.{◌≡◌, ◌≢◌, ◌∙◌, ◌≤◌, ◌&&◌, ◌==◌, ◌⊎◌, inl, inr, ℕ, Bool, true, false, if◌then◌else◌, List, [], ◌∷◌, ◌++◌, Option, Some, None, refl, sym, ap, subst, arith, length, slice_get, slice_set, Contains}
+use Rattle.std.proofs.Common.{◌≡◌, ◌≢◌, ◌∙◌, ◌≤◌, ◌&&◌, ◌==◌, ◌⊎◌, inl, inr, ℕ, Bool, true, false, if◌then◌else◌, List, [], ◌∷◌, ◌++◌, Option, Some, None, refl, sym, ap, subst, arith, length, slice_get, slice_set, Contains, ◌+◌, ◌/◌}
 use Rattle.std.proofs.lemmas.List.{length-set}
 use Rattle.std.proofs.lemmas.List.Elements.{Contains-append_cases, Contains-append_left, Contains-append_right}
 use Rattle.wb_types.specs.declared.number.OBlock.{OBlock}
 use Rattle.wb_types.specs.declared.geometry.Geometry.{Geometry}
 use Rattle.wb_types.specs.declared.number.Place.{Place}
 use Rattle.wb_types.specs.declared.mode.Dev.{Dev}
-use Rattle.wb_types.specs.declared.mode.Dev.TheVariants.{Metadata}
+use Rattle.wb_types.specs.declared.mode.Dev.TheVariants.{Metadata, Cache, Origin}
 use Rattle.wb_types.specs.declared.refusal.Refusal.{Refusal}
 use Rattle.wb_types.specs.declared.refusal.Refusal.TheVariants.{Busy, Memory, GenerationEnd}
 use Rattle.wb_disk.specs.Device.{Content as Bytes, History, synced}
-use Rattle.wb_disk.specs.Failing.{synced_where}
+use Rattle.wb_disk.specs.Failing.{synced_where, lands}
 use Rattle.wb_words.specs.Rule.{LockRule}
 use Rattle.wb_words.specs.SharedWords.{Words}
 use Rattle.wb_words.specs.Effects.{result_of, words_after}
@@ -21,7 +21,7 @@ use Rattle.wb_format.specs.declared.node.Node.{Node}
 use Rattle.wb_tree.specs.declared.image.Image.{Image}
 use Rattle.wb_tree.specs.Mapping.{Mapping}
 use Rattle.wb_meta.specs.Representing.{Stored}
-use Rattle.wb_meta.specs.Steps.{DoesStep, FailsStep, steps_after, after_node}
+use Rattle.wb_meta.specs.Steps.{DoesStep, FailsStep, steps_after, after_node, coming_step}
 use Rattle.wb_meta.specs.Commits.{HasFailed}
 use Rattle.wb_meta.specs.declared.commit_steps.CommitSteps.{CommitSteps}
 use Rattle.wb_meta.specs.declared.commit_steps.CommitSteps.TheVariants.{NodesWritten, NodesSynced, RootWritten, Done as Committed}
@@ -31,12 +31,12 @@ use Rattle.wb_desk.specs.Desks.{DeskState}
 use Rattle.wb_desk.specs.Calls.{released}
 use Rattle.wb_desk.specs.Commits.{IsBeginRefused, commit_begun, commit_ended}
 use Rattle.wb_tasks.specs.Plan.{Plan, want, after, got_of, device_of}
-use Rattle.wb_tasks.specs.Tables.{Flushing}
-use Rattle.wb_tasks.specs.Ready.{HoldsBlocks}
+use Rattle.wb_tasks.specs.Tables.{Flushing, TaskJob}
+use Rattle.wb_tasks.specs.Ready.{HoldsBlocks, Suits, IsOwnStep}
 use Rattle.wb_tasks.specs.declared.step.Answer.{Answer}
 use Rattle.wb_tasks.specs.declared.step.Answer.TheVariants.{Done as Finished, Refused as Refuses}
 use Rattle.wb_tasks.specs.declared.step.DeviceStep.{DeviceStep}
-use Rattle.wb_tasks.specs.declared.step.DeviceStep.TheVariants.{Sync, WriteNode, WriteRoot}
+use Rattle.wb_tasks.specs.declared.step.DeviceStep.TheVariants.{Sync, WriteNode, WriteRoot, ReadMetadata}
 use Rattle.wb_tasks.specs.declared.step.DeskStep.TheVariants.{BeginCommit, EndCommit, ReleaseOrder}
 use Rattle.wb_tasks.specs.declared.step.Want.{Want}
 use Rattle.wb_tasks.specs.declared.step.Want.TheVariants.{Cell, Device, Desk, End}
@@ -49,17 +49,17 @@ use Rattle.wb_devices.specs.Committing.{is_coming, is_committed}
 use Rattle.wb_stage.specs.Asking.{DidRelease, HasBegun, IsGivenUp, ended}
 use Rattle.wb_roots.specs.Roots.{MayBeReadAs, Commit}
 use Rattle.wb_roots.proofs.Leading.{after_failure, after_failed_node}
-use Rattle.wb_runs.specs.declared.job.Job.{Job}
-use Rattle.wb_runs.specs.declared.job.Job.TheVariants.{Flush}
-use Rattle.wb_runs.specs.States.{Shape, State, Actor, Target, Stands, with_device}
-use Rattle.wb_runs.specs.Effects.{actor_then, awaiting_then, dropped, orders_then}
+use Rattle.wb_promise.specs.declared.job.Job.{Job}
+use Rattle.wb_promise.specs.declared.job.Job.TheVariants.{Flush}
+use Rattle.wb_promise.specs.States.{Shape, State, Actor, Target, Stands, with_device}
+use Rattle.wb_promise.specs.Effects.{actor_then, awaiting_then, dropped, orders_then, device_done, device_failed, stepped, led}
 use Rattle.wb_runs.specs.Holding.{cards_of}
-use Rattle.wb_runs.specs.Clerk.{Notes, Doing, noted_step, device_note, failing, put, finished_note, greater_of}
+use Rattle.wb_promise.specs.Clerk.{Notes, Doing, noted_step, device_note, failing, put, finished_note, greater_of}
 use Rattle.wb_runs.proofs.Desks.{given_up_stands}
 use Rattle.wb_runs.proofs.Owning.{Owned}
 use Rattle.wb_runs.proofs.Ordering.{held_of}
 use Rattle.wb_runs.proofs.Images.{Images, later_of, one_image}
-use Rattle.wb_runs.proofs.Underway.{Underway, Readable, images_of, is_written, led_on}
+use Rattle.wb_runs.proofs.Underway.{Underway, Readable, images_of, is_written, led_on, sync_does, sync_fails as commit_sync_fails, put_fails, IsPut}
 use Rattle.wb_runs.proofs.Metadata.{MetadataKept, AtDesk, Leading, Quiet, begins_over, ends_over, kept_readable}
 use Rattle.wb_link.specs.Tables.{Flushing as FlushingFor}
 use Rattle.wb_link.specs.World.{World, Shared, after_all}
@@ -70,8 +70,8 @@ use Rattle.wb_simulation.specs.Noting.{NotesAgree}
 use Rattle.wb_simulation.specs.Noted.{told}
 use Rattle.wb_simulation.specs.Sites.{ImagesAgree, IsRunning, locations}
 use Rattle.wb_simulation.specs.Telling.{Quietly, Releases, Answers}
-use Rattle.wb_simulation.specs.Worlds.{Agrees, Turn, Stays, Begins, Puts, Ends, GivesUp, FollowsBy, Follows}
-use Rattle.wb_simulation.specs.Laws.{went, after_step}
+use Rattle.wb_simulation.specs.Worlds.{TurnedTo, DeskTurnedTo, Agrees, Turn, Stays, Begins, Puts, Ends, GivesUp, FollowsBy, Follows}
+use Rattle.wb_simulation.specs.Laws.{went, after_step, turn_of}
 use Rattle.wb_simulation.proofs.Flushes.{flush_steps_followed}
 use Rattle.wb_simulation.proofs.Noted.{notes_followed}
 use Rattle.wb_simulation.proofs.Opening.{images_followed}
@@ -81,7 +81,14 @@ use Rattle.wb_headline.proofs.Following.{size, most, Followed, Goes}
 use Rattle.wb_headline.proofs.Rooted.{same_one}
 use Rattle.wb_headline.proofs.Seeing.{orders_set, slot_there, slot_within}
 use Rattle.wb_headline.proofs.Orders.{found_of, none_dropped}
-use Rattle.wb_headline.proofs.Targets.{standing, actor_is, beside, failing_same, metadata_same, noted_within, leads_on, stays_on}
+use Rattle.wb_headline.proofs.Targets.{landed_or, standing, actor_is, beside, failing_same, noted_within, leads_on, stays_on}
+use Rattle.wb_disk.specs.Crash.{Choice}
+use Rattle.wb_tasks.proofs.Readiness.{is_own_step}
+use Rattle.wb_stage.specs.Stages.{is_all_done}
+use Rattle.wb_promise.specs.Happenings.{Chosen, Plain, Puts, Commits, Asks, Gives, Falters, MayFailAt, DoesPut, DoesSync, FailsPut, FailsSync, sector_put}
+use Rattle.wb_promise.specs.Headline.{shown}
+use Rattle.wb_types.proofs.Truth.{and_true}
+use Rattle.wb_runs.proofs.Stepping.{data_device}
 
 -- ---- the commit, by itself
 
@@ -132,12 +139,12 @@ some_is a b e = ap (λ o. Rattle.std.proofs.Common.unwrap_or o a) e
 
 module _ (P A : Type 0) (shape : Shape) (images : Images) (t : Target P) (commit : Option RunningCommit) (devices : Devices (List History)) (actors : List Actor) (n : Notes) (known : MetadataKept {P = P} {A = A} shape.geometry images (Stands t) commit devices.metadata)
     (f : Followed P A shape images (standing P A shape images t commit devices actors n) n) (rule : LockRule shape.geometry.origin_blocks t.words (cards_of actors)) (a : ℕ) (x : Actor) (ex : slice_get actors a ≡ Some x) (plan : Plan) (xt : x.task ≡ Some (Flush, plan))
-    (shown : List Bytes) (doing : Doing) (noted : slice_get n.doings a ≡ Some (Some doing)) (job_is : doing.job ≡ Flush) where
+    (doing : Doing) (noted : slice_get n.doings a ≡ Some (Some doing)) (job_is : doing.job ≡ Flush) where
   abbrev slots : List (Option Order)
   slots = live_orders t.desk
 
   -- it serves these blocks
-  pub serving : (serves : List OBlock) × (plan.job ≡ Flushing serves (most P A shape))
+  serving : (serves : List OBlock) × (plan.job ≡ Flushing serves (most P A shape))
   serving =
       let b = beside P A shape images t commit devices actors n known f a x ex in
       let r : IsFlushAt (size P A shape) (most P A shape) t.words plan b.0 = doing_of (size P A shape) (most P A shape) t.words x b.0 Flush plan (f.phase.agrees.each a x b.0 ex b.1) xt in
@@ -165,13 +172,13 @@ module _ (P A : Type 0) (shape : Shape) (images : Images) (t : Target P) (commit
 
   -- ---- steps on devices
 
-  module _ (turn : Turn) (step : DeviceStep) (got : Got) (contents : List Bytes) (t' : Target P) (commit' : Option RunningCommit) (devices' : Devices (List History)) (images' : Images) (plain : Rattle.wb_runs.specs.Effects.buffer_then devices x.buffer (Device step) got Flush ≡ x.buffer) (next : Device step ≡ want plan)
+  module _ (turn : Turn) (step : DeviceStep) (got : Got) (contents : List Bytes) (t' : Target P) (commit' : Option RunningCommit) (devices' : Devices (List History)) (images' : Images) (plain : Rattle.wb_promise.specs.Effects.buffer_then devices x.buffer (Device step) got Flush ≡ x.buffer) (next : Device step ≡ want plan)
       (g : FollowsBy turn Quietly (size P A shape) (most P A shape) a f.site.world t'.words t'.desk.space.committing (live_orders t'.desk) devices' (slice_set actors a (after_step Flush plan got x))) where
     device_notes : NotesAgree (size P A shape) (device_n step got) (after_all f.site.world g.records) (told f.notes g.records)
     device_notes = let e = failing_same doing step got in notes_followed.redone (size P A shape) n (after_all f.site.world g.records) (told f.notes g.records) a doing (failing doing step got) (quiet_notes turn t'.words t'.desk.space.committing (live_orders t'.desk) devices' (after_step Flush plan got x) g) noted e.0 e.1
 
     on_device : AtDesk shape.geometry images' t'.desk commit' devices'.metadata → DeskAgrees t'.desk (after_all f.site.world g.records).shared → ImagesAgree shape.geometry images'.committed (later_of images') devices'.metadata (after_all f.site.world g.records).shared →
-        ((state : Stored) → images'.running ≡ Some state → (after_all f.site.world g.records).shared.running ≡ locations state) → Goes P A shape (then_is t' commit' devices' (Device step) got) (noted_step shape shown n a (Some (Some doing)) (Device step) got contents)
+        ((state : Stored) → images'.running ≡ Some state → (after_all f.site.world g.records).shared.running ≡ locations state) → Goes P A shape (then_is t' commit' devices' (Device step) got) (noted_step shape [] n a (Some (Some doing)) (Device step) got contents)
     on_device known' desk images_agree running =
         subst (λ (q : Job). Goes P A shape (then_is t' commit' devices' (Device step) got) (device_note shape (device_n step got) a (failing doing step got) q step got contents)) (sym job_is)
         (subst (λ (y : Actor). Goes P A shape (record { devices = devices'; commit = commit'; phase = Stands t'; actors = slice_set actors a y }) (device_n step got)) (sym (actor_is P A shape (Stands t) devices x Flush plan (Device step) got xt ∙ (λ i. record (after_step Flush plan got x) { buffer = plain i })))
@@ -180,18 +187,18 @@ module _ (P A : Type 0) (shape : Shape) (images : Images) (t : Target P) (commit
   -- cache and origin are synced, or fail to be
   module _ (device : Dev) (holds : HoldsBlocks device) (next : Device (Sync device) ≡ want plan) (contents : List Bytes) where
     synced_so : (got : Got) → (list : List History) → Follows Quietly (size P A shape) (most P A shape) a f.site.world t.words t.desk.space.committing slots (with_device device devices list) (slice_set actors a (after_step Flush plan got x)) →
-        Goes P A shape (then_is t commit (with_device device devices list) (Device (Sync device)) got) (noted_step shape shown n a (Some (Some doing)) (Device (Sync device)) got contents)
+        Goes P A shape (then_is t commit (with_device device devices list) (Device (Sync device)) got) (noted_step shape [] n a (Some (Some doing)) (Device (Sync device)) got contents)
     synced_so got list g =
-        let known' = subst (λ (m : List History). AtDesk shape.geometry images t.desk commit m) (sym (metadata_same device devices list holds)) known in
+        let known' = subst (λ (m : List History). AtDesk shape.geometry images t.desk commit m) (sym (data_device device holds devices list)) known in
         let s' = (after_all f.site.world g.records).shared in
         let readable = kept_readable shape.geometry images (with_device device devices list).metadata P A (Stands t) commit known' in
         on_device Stays (Sync device) got contents t commit (with_device device devices list) images refl next g known' (desk_stays P t.desk s s' f.phase.desk t.desk refl refl g.desk.0 g.desk.1)
         (images_followed.stay shape.geometry images.committed (later_of images) devices.metadata (with_device device devices list).metadata s s' f.phase.images_agree g.turned readable.read) (λ state e. g.turned.1 ∙ f.phase.running state e)
 
-    pub syncs : Goes P A shape (then_is t commit (with_device device devices (synced (device_in device devices))) (Device (Sync device)) Done) (noted_step shape shown n a (Some (Some doing)) (Device (Sync device)) Done contents)
+    syncs : Goes P A shape (then_is t commit (with_device device devices (synced (device_in device devices))) (Device (Sync device)) Done) (noted_step shape [] n a (Some (Some doing)) (Device (Sync device)) Done contents)
     syncs = synced_so Done (synced (device_in device devices)) (flush_steps_followed.syncs (size P A shape) (most P A shape) device t.words t.desk.space.committing slots devices actors a x plan f.site.world holds ex xt (sym next) f.phase.agrees)
 
-    pub sync_fails : (lands : ℕ → Bool) → Goes P A shape (then_is t commit (with_device device devices (synced_where lands (device_in device devices))) (Device (Sync device)) Fault) (noted_step shape shown n a (Some (Some doing)) (Device (Sync device)) Fault contents)
+    sync_fails : (lands : ℕ → Bool) → Goes P A shape (then_is t commit (with_device device devices (synced_where lands (device_in device devices))) (Device (Sync device)) Fault) (noted_step shape [] n a (Some (Some doing)) (Device (Sync device)) Fault contents)
     sync_fails lands = synced_so Fault (synced_where lands (device_in device devices)) (flush_steps_followed.sync_fails (size P A shape) (most P A shape) device lands t.words t.desk.space.committing slots devices actors a x plan f.site.world holds ex xt (sym next) f.phase.agrees)
 
   -- ---- steps of the commit on the metadata
@@ -219,88 +226,47 @@ module _ (P A : Type 0) (shape : Shape) (images : Images) (t : Target P) (commit
     abbrev c' : RunningCommit
     c' = record c { steps = steps_after c.image c.steps }
 
-    module _ (turn : Turn) (plain : Rattle.wb_runs.specs.Effects.buffer_then devices x.buffer (Device step) Done Flush ≡ x.buffer)
-        (g : FollowsBy turn Quietly (size P A shape) (most P A shape) a f.site.world t.words t.desk.space.committing slots devices' (slice_set actors a (after_step Flush plan Done x))) where
-      abbrev s' : Shared
-      s' = (after_all f.site.world g.records).shared
+    -- what comes there of one that was done
+    parts : (v : DeviceStep) → is_coming c.image c.steps v ≡ true → (s' : Shared) → DeskTurnedTo (turn_of v) s s' → TurnedTo (turn_of v) s s' → (s'.mapping ≡ s.mapping) × (s'.blocks ≡ s.blocks) × (s'.committed ≡ s.committed) × (s'.running ≡ s.running) × (is_written (steps_after c.image c.steps) ≡ true → s'.root_written ≡ true)
+    parts WriteRoot coming s' d u = (d.0, d.1, u.0, u.1, λ w. u.2)
+    parts v coming s' d u = (d.0, d.1, u.0, u.1, λ w. u.2 ∙ written_now (written_before c.image c.steps v coming (λ e. absurd (cc)) w))
 
-      done_on : s'.mapping ≡ s.mapping → s'.blocks ≡ s.blocks → s'.committed ≡ s.committed → s'.running ≡ s.running → (is_written (steps_after c.image c.steps) ≡ true → s'.root_written ≡ true) → DoesStep c.image c.steps devices.metadata new →
-          Goes P A shape (then_is t (Some c') devices' (Device step) Done) (noted_step shape shown n a (Some (Some doing)) (Device step) Done contents)
-      done_on m b cm r w does =
-          let u = led_on shape.geometry images c l.of devices.metadata new l.under does in
-          let same : u.now.committed ≡ images.committed = ap (λ (i : Images). i.committed) u.kept.are ∙ committed_now in
-          let known' : AtDesk shape.geometry u.now t.desk (Some c') new = record { is = k.is; stands = record { of = l.of; under = u.kept; edited = l.edited; entries = l.entries; places = l.places; generation = l.generation; busy = l.busy } } in
-          let readable = kept_readable shape.geometry u.now new P A (Stands t) (Some c') known' in
-          let there : s'.running ≡ locations l.of.new = r ∙ f.phase.running l.of.new running_now in
-          on_device turn step Done contents t (Some c') devices' u.now plain next g known' (desk_stays P t.desk s s' f.phase.desk t.desk refl refl m b)
-          (record {
-            read = readable.read;
-            committed_is = cm ∙ f.phase.images_agree.committed_is ∙ ap locations (sym same);
-            later_is = subst (λ (i : Images). IsRunning (later_of i) s') (sym u.kept.are) (runs_there l.of (is_written (steps_after c.image c.steps)) s' w there);
-          })
-          (λ state e. there ∙ ap locations (some_is l.of.new state (sym (ap (λ (i : Images). i.running) u.kept.are) ∙ e)))
+    put_done : Rattle.wb_promise.specs.Effects.buffer_then devices x.buffer (Device step) Done Flush ≡ x.buffer → DoesStep c.image c.steps devices.metadata new → Goes P A shape (then_is t (led commit Done) devices' (Device step) Done) (noted_step shape [] n a (Some (Some doing)) (Device step) Done contents)
+    put_done plain does =
+        let g = flush_steps_followed.on_metadata (size P A shape) (most P A shape) step new t.words t.desk.space.committing slots devices actors a x plan f.site.world of_metadata ex xt (sym next) f.phase.agrees in
+        let s' = (after_all f.site.world g.records).shared in
+        let so = parts step coming s' g.desk g.turned in
+        let u = led_on shape.geometry images c l.of devices.metadata new l.under does in
+        let same : u.now.committed ≡ images.committed = ap (λ (i : Images). i.committed) u.kept.are ∙ committed_now in
+        let known' : AtDesk shape.geometry u.now t.desk (Some c') new = record { is = k.is; stands = record { of = l.of; under = u.kept; edited = l.edited; entries = l.entries; places = l.places; generation = l.generation; busy = l.busy } } in
+        let readable = kept_readable shape.geometry u.now new P A (Stands t) (Some c') known' in
+        let there : s'.running ≡ locations l.of.new = so.3 ∙ f.phase.running l.of.new running_now in
+        subst (λ (m : Option RunningCommit). Goes P A shape (then_is t m devices' (Device step) Done) (noted_step shape [] n a (Some (Some doing)) (Device step) Done contents)) (sym (ap (λ (m : Option RunningCommit). led m Done) runs))
+        (on_device (turn_of step) step Done contents t (Some c') devices' u.now plain next g known' (desk_stays P t.desk s s' f.phase.desk t.desk refl refl so.0 so.1)
+        (record {
+          read = readable.read;
+          committed_is = so.2 ∙ f.phase.images_agree.committed_is ∙ ap locations (sym same);
+          later_is = subst (λ (i : Images). IsRunning (later_of i) s') (sym u.kept.are) (runs_there l.of (is_written (steps_after c.image c.steps)) s' so.4 there);
+        })
+        (λ state e. there ∙ ap locations (some_is l.of.new state (sym (ap (λ (i : Images). i.running) u.kept.are) ∙ e))))
 
-    module _ (written : Bool) (plain : Rattle.wb_runs.specs.Effects.buffer_then devices x.buffer (Device step) Fault Flush ≡ x.buffer) (after_is : IsWrittenAfter step s.root_written written)
-        (g : FollowsBy (Puts written) Quietly (size P A shape) (most P A shape) a f.site.world t.words t.desk.space.committing slots devices' (slice_set actors a (after_step Flush plan Fault x))) where
-      failed_on : FailsStep c.image c.steps devices.metadata new → Goes P A shape (then_is t None devices' (Device step) Fault) (noted_step shape shown n a (Some (Some doing)) (Device step) Fault contents)
-      failed_on bad =
-          let images' = images_of l.of (failed_written c.steps) in
-          let s'' = (after_all f.site.world g.records).shared in
-          let readable = failed_read shape.geometry images c l.of devices.metadata new l.under bad in
-          let there : s''.running ≡ locations l.of.new = g.turned.1 ∙ f.phase.running l.of.new running_now in
-          on_device (Puts written) step Fault contents t None devices' images' plain next g (record { is = k.is; stands = inr (record { readable = readable; busy = l.busy }) }) (desk_stays P t.desk s s'' f.phase.desk t.desk refl refl g.desk.0 g.desk.1)
-          (record {
-            read = readable.read;
-            committed_is = g.turned.0 ∙ f.phase.images_agree.committed_is ∙ ap locations (sym committed_now);
-            later_is = runs_there l.of (failed_written c.steps) s'' (λ e. g.turned.2 ∙ written_there c.image c.steps step s.root_written written coming written_now after_is e) there;
-          })
-          (λ state e. there ∙ ap locations (some_is l.of.new state e))
-
-  -- the step of a commit that runs is one of these, done or failing
-  module _ (contents : List Bytes) (c : RunningCommit) (runs : commit ≡ Some c) (new : List History) where
-    abbrev put_devices : Devices (List History)
-    put_devices = record devices { metadata = new }
-
-    abbrev next_commit : RunningCommit
-    next_commit = record c { steps = steps_after c.image c.steps }
-
-    pub node_done : (number : ℕ) → Device (WriteNode number) ≡ want plan → is_coming c.image c.steps (WriteNode number) ≡ true → DoesStep c.image c.steps devices.metadata new →
-        Goes P A shape (then_is t (Some next_commit) put_devices (Device (WriteNode number)) Done) (noted_step shape shown n a (Some (Some doing)) (Device (WriteNode number)) Done contents)
-    node_done number next coming does =
-        let g = flush_steps_followed.on_metadata (size P A shape) (most P A shape) (WriteNode number) new t.words t.desk.space.committing slots devices actors a x plan f.site.world refl ex xt (sym next) f.phase.agrees in
-        done_on (WriteNode number) refl next contents c runs coming new Stays refl g g.desk.0 g.desk.1 g.turned.0 g.turned.1
-        (λ w. g.turned.2 ∙ written_now (WriteNode number) refl next contents c runs coming new (written_before c.image c.steps (WriteNode number) coming (λ e. absurd (cc)) w)) does
-
-    pub sync_done : Device (Sync Metadata) ≡ want plan → is_coming c.image c.steps (Sync Metadata) ≡ true → DoesStep c.image c.steps devices.metadata new →
-        Goes P A shape (then_is t (Some next_commit) put_devices (Device (Sync Metadata)) Done) (noted_step shape shown n a (Some (Some doing)) (Device (Sync Metadata)) Done contents)
-    sync_done next coming does =
-        let g = flush_steps_followed.on_metadata (size P A shape) (most P A shape) (Sync Metadata) new t.words t.desk.space.committing slots devices actors a x plan f.site.world refl ex xt (sym next) f.phase.agrees in
-        done_on (Sync Metadata) refl next contents c runs coming new Stays refl g g.desk.0 g.desk.1 g.turned.0 g.turned.1
-        (λ w. g.turned.2 ∙ written_now (Sync Metadata) refl next contents c runs coming new (written_before c.image c.steps (Sync Metadata) coming (λ e. absurd (cc)) w)) does
-
-    pub root_done : Device WriteRoot ≡ want plan → is_coming c.image c.steps WriteRoot ≡ true → DoesStep c.image c.steps devices.metadata new →
-        Goes P A shape (then_is t (Some next_commit) put_devices (Device WriteRoot) Done) (noted_step shape shown n a (Some (Some doing)) (Device WriteRoot) Done contents)
-    root_done next coming does =
-        let g = flush_steps_followed.on_metadata (size P A shape) (most P A shape) WriteRoot new t.words t.desk.space.committing slots devices actors a x plan f.site.world refl ex xt (sym next) f.phase.agrees in
-        done_on WriteRoot refl next contents c runs coming new (Puts true) refl g g.desk.0 g.desk.1 g.turned.0 g.turned.1 (λ w. g.turned.2) does
-
-    pub node_fails : (number : ℕ) → Device (WriteNode number) ≡ want plan → is_coming c.image c.steps (WriteNode number) ≡ true → FailsStep c.image c.steps devices.metadata new →
-        Goes P A shape (then_is t None put_devices (Device (WriteNode number)) Fault) (noted_step shape shown n a (Some (Some doing)) (Device (WriteNode number)) Fault contents)
-    node_fails number next coming bad =
-        let g = flush_steps_followed.metadata_fails (size P A shape) (most P A shape) (WriteNode number) new t.words t.desk.space.committing slots devices actors a x plan f.site.world refl ex xt (sym next) f.phase.agrees in
-        failed_on (WriteNode number) refl next contents c runs coming new g.0 refl g.1 g.2 bad
-
-    pub metadata_sync_fails : Device (Sync Metadata) ≡ want plan → is_coming c.image c.steps (Sync Metadata) ≡ true → FailsStep c.image c.steps devices.metadata new →
-        Goes P A shape (then_is t None put_devices (Device (Sync Metadata)) Fault) (noted_step shape shown n a (Some (Some doing)) (Device (Sync Metadata)) Fault contents)
-    metadata_sync_fails next coming bad =
-        let g = flush_steps_followed.metadata_fails (size P A shape) (most P A shape) (Sync Metadata) new t.words t.desk.space.committing slots devices actors a x plan f.site.world refl ex xt (sym next) f.phase.agrees in
-        failed_on (Sync Metadata) refl next contents c runs coming new g.0 refl g.1 g.2 bad
-
-    pub root_fails : Device WriteRoot ≡ want plan → is_coming c.image c.steps WriteRoot ≡ true → FailsStep c.image c.steps devices.metadata new →
-        Goes P A shape (then_is t None put_devices (Device WriteRoot) Fault) (noted_step shape shown n a (Some (Some doing)) (Device WriteRoot) Fault contents)
-    root_fails next coming bad =
-        let g = flush_steps_followed.metadata_fails (size P A shape) (most P A shape) WriteRoot new t.words t.desk.space.committing slots devices actors a x plan f.site.world refl ex xt (sym next) f.phase.agrees in
-        failed_on WriteRoot refl next contents c runs coming new g.0 refl g.1 g.2 bad
+    put_failed : Rattle.wb_promise.specs.Effects.buffer_then devices x.buffer (Device step) Fault Flush ≡ x.buffer → FailsStep c.image c.steps devices.metadata new → Goes P A shape (then_is t (led commit Fault) devices' (Device step) Fault) (noted_step shape [] n a (Some (Some doing)) (Device step) Fault contents)
+    put_failed plain bad =
+        let fails = flush_steps_followed.metadata_fails (size P A shape) (most P A shape) step new t.words t.desk.space.committing slots devices actors a x plan f.site.world of_metadata ex xt (sym next) f.phase.agrees in
+        let written = fails.0 in
+        let g = fails.2 in
+        let images' = images_of l.of (failed_written c.steps) in
+        let s' = (after_all f.site.world g.records).shared in
+        let readable = failed_read shape.geometry images c l.of devices.metadata new l.under bad in
+        let there : s'.running ≡ locations l.of.new = g.turned.1 ∙ f.phase.running l.of.new running_now in
+        subst (λ (m : Option RunningCommit). Goes P A shape (then_is t m devices' (Device step) Fault) (noted_step shape [] n a (Some (Some doing)) (Device step) Fault contents)) (sym (ap (λ (m : Option RunningCommit). led m Fault) runs))
+        (on_device (Puts written) step Fault contents t None devices' images' plain next g (record { is = k.is; stands = inr (record { readable = readable; busy = l.busy }) }) (desk_stays P t.desk s s' f.phase.desk t.desk refl refl g.desk.0 g.desk.1)
+        (record {
+          read = readable.read;
+          committed_is = g.turned.0 ∙ f.phase.images_agree.committed_is ∙ ap locations (sym committed_now);
+          later_is = runs_there l.of (failed_written c.steps) s' (λ e. g.turned.2 ∙ written_there c.image c.steps step s.root_written written coming written_now fails.1 e) there;
+        })
+        (λ state e. there ∙ ap locations (some_is l.of.new state e)))
 
   -- ---- the desk
 
@@ -311,7 +277,7 @@ module _ (P A : Type 0) (shape : Shape) (images : Images) (t : Target P) (commit
   no_begin refusal r = absurd r
 
   -- a commit begins, of the desk's mapping
-  pub begins : (nodes allowed : ℕ) (clean : Bool) (c : RunningCommit) (tree : Mapping) → Desk (BeginCommit clean allowed) ≡ want plan → c.steps ≡ NodesWritten 0 → HasBegun t.desk c.image (commit_begun t.desk tree) →
+  begins : (nodes allowed : ℕ) (clean : Bool) (c : RunningCommit) (tree : Mapping) → Desk (BeginCommit clean allowed) ≡ want plan → c.steps ≡ NodesWritten 0 → HasBegun t.desk c.image (commit_begun t.desk tree) →
       Goes P A shape (then_is (record { words = t.words; desk = commit_begun t.desk tree }) (Some c) devices (Desk (BeginCommit clean allowed)) (Began nodes)) n
   begins nodes allowed clean c tree next steps begun = by_commit commit refl known
     where
@@ -342,7 +308,7 @@ module _ (P A : Type 0) (shape : Shape) (images : Images) (t : Target P) (commit
           elim k'.stands [ inl q ↦ quiet q k' | inr b ↦ absurd (let bad : false ≡ true = sym idle ∙ b.busy in cc) ]
 
   -- or none begins
-  pub begin_refused : (refusal : Refusal) (allowed : ℕ) (clean : Bool) → Desk (BeginCommit clean allowed) ≡ want plan → IsBeginRefused t.desk refusal → Goes P A shape (then_is t commit devices (Desk (BeginCommit clean allowed)) (GotRefused refusal)) n
+  begin_refused : (refusal : Refusal) (allowed : ℕ) (clean : Bool) → Desk (BeginCommit clean allowed) ≡ want plan → IsBeginRefused t.desk refusal → Goes P A shape (then_is t commit devices (Desk (BeginCommit clean allowed)) (GotRefused refusal)) n
   begin_refused refusal allowed clean next r =
       let g = flush_steps_followed.is_refused (size P A shape) (most P A shape) allowed clean refusal t.words t.desk.space.committing slots devices actors a x plan f.site.world (no_begin refusal r) ex xt (sym next) f.phase.agrees in
       let y = after_step Flush plan (GotRefused refusal) x in
@@ -350,7 +316,7 @@ module _ (P A : Type 0) (shape : Shape) (images : Images) (t : Target P) (commit
       (stays_on P A shape images t commit devices actors n known f a x ex Quietly t.words devices y n g tt (quiet_notes Stays t.words t.desk.space.committing slots devices (after_step Flush plan (GotRefused refusal) x) g) refl refl refl)
 
   -- the commit ends
-  pub ends : (c : RunningCommit) → commit ≡ Some c → Desk EndCommit ≡ want plan → is_committed c.steps ≡ true → Goes P A shape (then_is (record { words = t.words; desk = ended t.desk }) None devices (Desk EndCommit) Done) n
+  ends : (c : RunningCommit) → commit ≡ Some c → Desk EndCommit ≡ want plan → is_committed c.steps ≡ true → Goes P A shape (then_is (record { words = t.words; desk = ended t.desk }) None devices (Desk EndCommit) Done) n
   ends c runs next done =
       let k = subst (λ (m : Option RunningCommit). AtDesk shape.geometry images t.desk m devices.metadata) runs known in
       let e = ends_over P shape.geometry images t.desk devices.metadata c k done in
@@ -379,7 +345,7 @@ module _ (P A : Type 0) (shape : Shape) (images : Images) (t : Target P) (commit
       (stays_on P A shape images t commit devices actors n known f a x ex Quietly (words_after t.words step) devices y n g tt
       (quiet_notes Stays (words_after t.words step) t.desk.space.committing slots devices (went t.words Flush plan step x) g) refl refl refl)
 
-  pub on_words : (step : CellStep) → (step ≡ Look Fail) ⊎ (step ≡ SetFailed) → Cell step ≡ want plan → Goes P A shape (then_is (record { words = words_after t.words step; desk = t.desk }) commit devices (Cell step) (got_of (result_of t.words step))) n
+  on_words : (step : CellStep) → (step ≡ Look Fail) ⊎ (step ≡ SetFailed) → Cell step ≡ want plan → Goes P A shape (then_is (record { words = words_after t.words step; desk = t.desk }) commit devices (Cell step) (got_of (result_of t.words step))) n
   on_words step (inl is) next = subst (λ (v : CellStep). Goes P A shape (then_is (record { words = words_after t.words v; desk = t.desk }) commit devices (Cell v) (got_of (result_of t.words v))) n) (sym is)
       (told_so (Look Fail) (ap (λ (v : CellStep). Cell v) (sym is) ∙ next)
       (flush_steps_followed.looks (size P A shape) (most P A shape) t.words t.desk.space.committing slots devices actors a x plan f.site.world ex xt (sym (ap (λ (v : CellStep). Cell v) (sym is) ∙ next)) f.phase.agrees))
@@ -387,8 +353,8 @@ module _ (P A : Type 0) (shape : Shape) (images : Images) (t : Target P) (commit
       (told_so SetFailed (ap (λ (v : CellStep). Cell v) (sym is) ∙ next)
       (flush_steps_followed.fails (size P A shape) (most P A shape) _ _ t.words t.desk.space.committing slots devices actors a x plan f.site.world rule.logs.fail ex xt (sym (ap (λ (v : CellStep). Cell v) (sym is) ∙ next)) f.phase.agrees))
 
-  pub answers : (answer : Answer) (contents : List Bytes) → End answer ≡ want plan → length doing.then_finished ≡ length n.floors → Goes P A shape (then_is t commit devices (End answer) Done) (noted_step shape shown n a (Some (Some doing)) (End answer) Done contents)
-  answers answer contents next asked = by_answer answer next
+  answers : (answer : Answer) (shown contents : List Bytes) → End answer ≡ want plan → length doing.then_finished ≡ length n.floors → Goes P A shape (then_is t commit devices (End answer) Done) (noted_step shape shown n a (Some (Some doing)) (End answer) Done contents)
+  answers answer shown contents next asked = by_answer answer next
     where
       b : (y : Rattle.wb_link.specs.World.Actor) × (slice_get f.site.world.actors a ≡ Some y)
       b = beside P A shape images t commit devices actors n known f a x ex
@@ -422,7 +388,7 @@ module _ (P A : Type 0) (shape : Shape) (images : Images) (t : Target P) (commit
 
   -- ---- orders that it gives up
 
-  pub gives_up : (block : OBlock) (new : DeskState P) → Owned t.desk actors → Desk (ReleaseOrder block) ≡ want plan → DidRelease x.awaiting block t.desk new → Goes P A shape (then_is (record { words = t.words; desk = new }) commit devices (Desk (ReleaseOrder block)) Done) n
+  gives_up : (block : OBlock) (new : DeskState P) → Owned t.desk actors → Desk (ReleaseOrder block) ≡ want plan → DidRelease x.awaiting block t.desk new → Goes P A shape (then_is (record { words = t.words; desk = new }) commit devices (Desk (ReleaseOrder block)) Done) n
   gives_up block new owned next did =
       subst (λ (v : Actor). Goes P A shape (record { devices = devices; commit = commit; phase = Stands (record { words = t.words; desk = new }); actors = slice_set actors a v }) n) (sym (actor_is P A shape (Stands t) devices x Flush plan (Desk (ReleaseOrder block)) Done xt))
       (by_order (Rattle.wb_stage.specs.Asking.order_of block x.awaiting) refl did)
@@ -455,3 +421,82 @@ module _ (P A : Type 0) (shape : Shape) (images : Images) (t : Target P) (commit
           refl refl (subst (λ (v : DeskState P). AtDesk shape.geometry images v commit devices.metadata) is (given_up_stands P shape.geometry images t.desk commit devices.metadata new order known d))
           (sym (orders_set t.desk.orders.slots l.cache.0 None)) (desk_releases P t.desk s s' f.phase.desk l.cache (omega (arith, inside, many_slots, many_blocks)) g.desk.0 g.desk.1)
           (images_followed.stay shape.geometry images.committed (later_of images) devices.metadata devices.metadata s s' f.phase.images_agree g.turned readable.read) (λ state e. g.turned.1 ∙ f.phase.running state e))
+
+  -- ---- any step
+
+  module _ (suits : Suits shape.geometry.origin_blocks plan x.card) (owned : Owned t.desk actors) where
+    abbrev w : State P A
+    w = standing P A shape images t commit devices actors n
+
+    abbrev Done_by : Want → Got → List Bytes → Chosen P A → Type 0
+    Done_by next got read chosen = Goes P A shape (stepped shape w a x next got chosen (λ step. device_done Flush x.buffer step chosen))
+        (noted_step shape (shown shape (stepped shape w a x next got chosen (λ step. device_done Flush x.buffer step chosen))) n a (Some (Some doing)) next got read)
+
+    abbrev Failed_by : Choice → Want → List Bytes → Chosen P A → Type 0
+    Failed_by choice next read chosen = Goes P A shape (stepped shape w a x next Fault chosen (λ step. device_failed (lands (device_of step) choice) Flush x.buffer step chosen))
+        (noted_step shape (shown shape (stepped shape w a x next Fault chosen (λ step. device_failed (lands (device_of step) choice) Flush x.buffer step chosen))) n a (Some (Some doing)) next Fault read)
+
+    mine : (next : Want) → next ≡ want plan → IsOwnStep (Flushing serving.0 (most P A shape)) next
+    mine next e = subst (λ (v : Want). IsOwnStep (Flushing serving.0 (most P A shape)) v) (sym e) (subst (λ (q : TaskJob). IsOwnStep q (want plan)) serving.1 (is_own_step shape.geometry.origin_blocks plan x.card suits))
+
+    which : (step : CellStep) → IsOwnStep (Flushing serving.0 (most P A shape)) (Cell step) → (step ≡ Look Fail) ⊎ (step ≡ SetFailed)
+    which (Look Fail) o = inl refl
+    which SetFailed o = inr refl
+    which step o = absurd o
+
+    -- a step of the commit, done or failing
+    module _ (step : DeviceStep) (of_metadata : device_of step ≡ Metadata) (next : Device step ≡ want plan) (read : List Bytes) where
+      abbrev Put_to : Got → List History → Type 0
+      Put_to got new = Goes P A shape (then_is t (led commit got) (record devices { metadata = new }) (Device step) got) (noted_step shape [] n a (Some (Some doing)) (Device step) got read)
+
+      by_put : Rattle.wb_promise.specs.Effects.buffer_then devices x.buffer (Device step) Done Flush ≡ x.buffer → (chosen : Chosen P A) (o : Option RunningCommit) → commit ≡ o → DoesPut o step devices.metadata chosen → (new : List History) × (chosen ≡ Puts new) × Put_to Done new
+      by_put plain (Puts new) (Some c) runs d = (new, refl, put_done step of_metadata next read c runs (and_true _ _ d.0).0 new plain d.1)
+      by_put plain chosen o runs d = absurd d
+
+      by_put_fault : IsPut step → Rattle.wb_promise.specs.Effects.buffer_then devices x.buffer (Device step) Fault Flush ≡ x.buffer → (choice : Choice) (chosen : Chosen P A) (o : Option RunningCommit) → commit ≡ o → FailsPut o choice step devices.metadata chosen → (new : List History) × (chosen ≡ Puts new) × Put_to Fault new
+      by_put_fault put plain choice (Puts new) (Some c) runs d =
+          (new, refl, put_failed step of_metadata next read c runs (and_true _ _ d.0).0 new plain (put_fails c.image c.steps step devices.metadata new put d.0 (landed_or (lands Metadata choice (sector_put (coming_step c.image c.steps))) d.1)))
+      by_put_fault put plain choice chosen o runs d = absurd d
+
+    by_sync : (read : List Bytes) (chosen : Chosen P A) (o : Option RunningCommit) → commit ≡ o → DoesSync {P = P} {A = A} (Stands t) o devices.metadata chosen → Device (Sync Metadata) ≡ want plan → Done_by (Device (Sync Metadata)) Done read chosen
+    by_sync read chosen (Some c) runs d e = subst (λ (ch : Chosen P A). Done_by (Device (Sync Metadata)) Done read ch) (sym d.1)
+        (put_done (Sync Metadata) refl e read c runs (and_true _ _ d.0).0 (synced devices.metadata) refl (sync_does c.image c.steps devices.metadata d.0))
+    by_sync read chosen None runs d e = absurd d
+
+    by_sync_fault : (choice : Choice) (read : List Bytes) (o : Option RunningCommit) → commit ≡ o → FailsSync {P = P} {A = A} (Stands t) o devices.metadata → Device (Sync Metadata) ≡ want plan → Failed_by choice (Device (Sync Metadata)) read Plain
+    by_sync_fault choice read (Some c) runs d e = put_failed (Sync Metadata) refl e read c runs (and_true _ _ d.0).0 (synced_where (lands Metadata choice) devices.metadata) refl (commit_sync_fails c.image c.steps (lands Metadata choice) devices.metadata d.0)
+    by_sync_fault choice read None runs d e = absurd d
+
+    by_end : (read : List Bytes) (o : Option RunningCommit) → commit ≡ o → is_all_done o ≡ true → Desk EndCommit ≡ want plan → (chosen : Chosen P A) → Done_by (Desk EndCommit) Done read chosen
+    by_end read (Some c) runs d e chosen = ends c runs e d
+    by_end read None runs d e chosen = absurd (cc)
+
+    pub flush_steps : (next : Want) (got : Got) (read : List Bytes) (chosen : Chosen P A) → length doing.then_finished ≡ length n.floors → next ≡ want plan → Gives shape w x Flush next got read chosen → Done_by next got read chosen
+    flush_steps (Cell step) got read chosen asked e g = subst (λ (v : Got). Done_by (Cell step) v read chosen) (sym g.1) (on_words step (which step (mine (Cell step) e)) e)
+    flush_steps (Device (Sync Cache)) got read chosen asked e g = subst (λ (v : Got). Done_by (Device (Sync Cache)) v read chosen) (sym g.1) (syncs Cache tt e read)
+    flush_steps (Device (Sync Origin)) got read chosen asked e g = subst (λ (v : Got). Done_by (Device (Sync Origin)) v read chosen) (sym g.1) (syncs Origin tt e read)
+    flush_steps (Device (Sync Metadata)) got read chosen asked e g = subst (λ (v : Got). Done_by (Device (Sync Metadata)) v read chosen) (sym g.1) (by_sync read chosen commit refl g.2 e)
+    flush_steps (Device (WriteNode k)) got read chosen asked e g =
+        let p = by_put (WriteNode k) refl e read refl chosen commit refl g.2 in
+        subst (λ (v : Got). Done_by (Device (WriteNode k)) v read chosen) (sym g.1) (subst (λ (c : Chosen P A). Done_by (Device (WriteNode k)) Done read c) (sym p.1) p.2)
+    flush_steps (Device WriteRoot) got read chosen asked e g =
+        let p = by_put WriteRoot refl e read refl chosen commit refl g.2 in
+        subst (λ (v : Got). Done_by (Device WriteRoot) v read chosen) (sym g.1) (subst (λ (c : Chosen P A). Done_by (Device WriteRoot) Done read c) (sym p.1) p.2)
+    flush_steps (Desk (BeginCommit clean allowed)) (Began nodes) read (Commits c tree) asked e g = begins nodes allowed clean c tree e g.2.2 g.2.3
+    flush_steps (Desk (BeginCommit clean allowed)) (GotRefused refusal) read Plain asked e g = begin_refused refusal allowed clean e g.2
+    flush_steps (Desk (BeginCommit clean allowed)) got read chosen asked e g = absurd g.2
+    flush_steps (Desk EndCommit) got read chosen asked e g = subst (λ (v : Got). Done_by (Desk EndCommit) v read chosen) (sym g.1) (by_end read commit refl g.2 e chosen)
+    flush_steps (End answer) got read chosen asked e g = subst (λ (v : Got). Done_by (End answer) v read chosen) (sym g.1) (subst (λ (c : Chosen P A). Done_by (End answer) Done read c) (sym g.0.1) (answers answer _ read e asked))
+    flush_steps (Device (ReadMetadata k)) got read chosen asked e g = absurd (mine (Device (ReadMetadata k)) e)
+    flush_steps (Desk (ReleaseOrder b)) got read (Asks new) asked e g = subst (λ (v : Got). Done_by (Desk (ReleaseOrder b)) v read (Asks new)) (sym g.1) (gives_up b new owned e g.2)
+    flush_steps (Desk (ReleaseOrder b)) got read chosen asked e g = absurd g.2
+    flush_steps next got read chosen asked e g = absurd g
+
+    pub flush_faults : (choice : Choice) (next : Want) (read : List Bytes) (chosen : Chosen P A) → next ≡ want plan → MayFailAt devices choice next → Falters w choice next chosen → Failed_by choice next read chosen
+    flush_faults choice (Device (Sync Cache)) read chosen e m g = sync_fails Cache tt e read (lands Cache choice)
+    flush_faults choice (Device (Sync Origin)) read chosen e m g = sync_fails Origin tt e read (lands Origin choice)
+    flush_faults choice (Device (Sync Metadata)) read chosen e m g = subst (λ (c : Chosen P A). Failed_by choice (Device (Sync Metadata)) read c) (sym g.0) (by_sync_fault choice read commit refl g.1 e)
+    flush_faults choice (Device (WriteNode k)) read chosen e m g = (let p = by_put_fault (WriteNode k) refl e read tt refl choice chosen commit refl g in subst (λ (c : Chosen P A). Failed_by choice (Device (WriteNode k)) read c) (sym p.1) p.2)
+    flush_faults choice (Device WriteRoot) read chosen e m g = (let p = by_put_fault WriteRoot refl e read tt refl choice chosen commit refl g in subst (λ (c : Chosen P A). Failed_by choice (Device WriteRoot) read c) (sym p.1) p.2)
+    flush_faults choice (Device step) read chosen e m g = absurd (mine (Device step) e)
+    flush_faults choice next read chosen e m g = absurd m

@@ -17,9 +17,9 @@ use Rattle.wb_tasks.specs.declared.step.Want.{Want}
 use Rattle.wb_tasks.specs.declared.step.Want.TheVariants.{Device}
 use Rattle.wb_devices.specs.declared.devices.Devices.{Devices}
 use Rattle.wb_devices.specs.declared.running.RunningCommit.{RunningCommit}
-use Rattle.wb_runs.specs.declared.job.Job.{Job}
-use Rattle.wb_runs.specs.States.{Shape, State, Actor, Target, Phase, Stands, Gone, Opens, block_size, sector_count}
-use Rattle.wb_runs.specs.Clerk.{Notes}
+use Rattle.wb_promise.specs.declared.job.Job.{Job}
+use Rattle.wb_promise.specs.States.{Shape, State, Actor, Target, Phase, Stands, Gone, Opens, block_size, sector_count}
+use Rattle.wb_promise.specs.Clerk.{Notes}
 use Rattle.wb_runs.proofs.Images.{Images, later_of, IsFitToo}
 use Rattle.wb_runs.proofs.Metadata.{MetadataKept}
 use Rattle.wb_link.specs.World.{Actor as AbstractActor}
@@ -31,7 +31,6 @@ use Rattle.wb_simulation.specs.Sites.{ImagesAgree, DevicesAgree, locations}
 use Rattle.wb_simulation.specs.Worlds.{Agrees}
 use Rattle.wb_headline.specs.Desks.{DeskAgrees, live_orders}
 use Rattle.wb_headline.proofs.Events.{Reached}
-use Rattle.wb_headline.proofs.Unclean.{NeverClean}
 
 -- ---- an opening
 
@@ -139,7 +138,6 @@ module _ (P A : Type 0) (shape : Shape) where
     pub site : Site
     pub notes : AbstractNotes
     pub reached : Reached size many site notes
-    pub clean : NeverClean site.world
     pub as_many : length site.world.actors ≡ many
     pub notes_agree : NotesAgree size n site.world notes
     pub sized : Sized w.actors n

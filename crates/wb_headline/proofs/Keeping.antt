@@ -1,6 +1,6 @@
 -- Where a target stands, the orders that actors have live, the seals tell where the desk has each block, and each seal that is left is right:
 -- so it stays, whoever goes on.
-use Rattle.std.proofs.Common.{if◌then◌else◌, ◌≡◌, ◌≢◌, ◌∙◌, ◌<◌, ◌==◌, ◌⊎◌, ◌++◌, inl, inr, ℕ, Bool, true, false, List, [], ◌∷◌, Option, Some, None, refl, sym, ap, subst, arith, unwrap_or, slice_get, slice_set, Contains}
+use Rattle.std.proofs.Common.{if◌then◌else◌, ◌≡◌, ◌≢◌, ◌∙◌, ◌<◌, ◌==◌, ◌⊎◌, ◌++◌, inl, inr, ℕ, Bool, true, false, List, ◌∷◌, Option, Some, None, refl, sym, ap, subst, arith, unwrap_or, slice_get, slice_set, Contains}
 use Rattle.std.proofs.lemmas.Bool.{cases_eq}
 use Rattle.std.proofs.lemmas.List.Elements.{Contains-append_cases, Contains-append_left, Contains-append_right}
 use Rattle.wb_types.proofs.Lists.{set_cases}
@@ -53,14 +53,14 @@ use Rattle.wb_tasks.specs.declared.step.Got.{Got}
 use Rattle.wb_tasks.specs.declared.step.Got.TheVariants.{Done, Fault, Refused as GotRefused}
 use Rattle.wb_devices.specs.declared.devices.Devices.{Devices}
 use Rattle.wb_devices.specs.declared.running.RunningCommit.{RunningCommit}
-use Rattle.wb_runs.specs.declared.job.Job.{Job}
-use Rattle.wb_runs.specs.declared.job.Job.TheVariants.{Read, Write, Flush, Open, Migrate, Replace}
-use Rattle.wb_runs.specs.States.{Shape, Actor, Target, Phase, Stands, Gone, Opens}
-use Rattle.wb_runs.specs.Effects.{actor_then, awaiting_answered, awaiting_released, awaiting_then, dropped, job_of, orders_answered, orders_released, orders_then, replacing}
-use Rattle.wb_runs.specs.Clerk.{Notes}
-use Rattle.wb_runs.specs.Headline.{place_of}
+use Rattle.wb_promise.specs.declared.job.Job.{Job}
+use Rattle.wb_promise.specs.declared.job.Job.TheVariants.{Read, Write, Flush, Open, Migrate, Replace}
+use Rattle.wb_promise.specs.States.{Shape, Actor, Target, Phase, Stands, Gone, Opens}
+use Rattle.wb_promise.specs.Effects.{actor_then, awaiting_answered, awaiting_released, awaiting_then, dropped, job_of, orders_answered, orders_released, orders_then, replacing}
+use Rattle.wb_promise.specs.Clerk.{Notes}
+use Rattle.wb_promise.specs.Headline.{place_of}
 use Rattle.wb_runs.specs.Holding.{cards_of, AllSuited, TaskSuits}
-use Rattle.wb_runs.specs.Sealed.{SealsNext, Tells, number_of}
+use Rattle.wb_promise.specs.Sealed.{SealsNext, Tells, number_of}
 use Rattle.wb_runs.proofs.Images.{Images}
 use Rattle.wb_runs.proofs.Lists.{set_other, set_there}
 use Rattle.wb_runs.proofs.Metadata.{MetadataKept, unknowing}
@@ -97,7 +97,7 @@ pub record KeepingAt {P : Type 0} (t : Target P) (actors : List Actor) : Type 0 
   pub right : (a : ℕ) (x : Actor) → slice_get actors a ≡ Some x → TaskRight t.desk.tree.entries x.card x.task
 
 abbrev pub HasNone : Actor → Type 0
-HasNone x = (x.orders ≡ []) × (x.awaiting ≡ [])
+HasNone x = (order : Order) → Contains (held_of x) order → ⊥
 
 abbrev pub NoOrders : List Actor → Type 0
 NoOrders actors = (a : ℕ) (x : Actor) → slice_get actors a ≡ Some x → HasNone x
@@ -219,8 +219,8 @@ module _ (P A : Type 0) (shape : Shape) (images : Images) (t : Target P) (commit
     y_parted next got = parted_then x.orders x.awaiting (job_of x.task) next got (k.parted a x ex)
 
     -- after a step that leaves its task
-    mine : (entries : List (Option Entry)) (next : Want) (got : Got) → (task : Option (Job × Plan)) → Rattle.wb_runs.specs.Effects.task_then (Some (job, plan)) next got ≡ task → TaskRight entries (y next got).card task → TaskRight entries (y next got).card (y next got).task
-    mine entries next got task e r = subst (λ (o : Option (Job × Plan)). TaskRight entries (y next got).card (Rattle.wb_runs.specs.Effects.task_then o next got)) (sym xt) (subst (λ (o : Option (Job × Plan)). TaskRight entries (y next got).card o) (sym e) r)
+    mine : (entries : List (Option Entry)) (next : Want) (got : Got) → (task : Option (Job × Plan)) → Rattle.wb_promise.specs.Effects.task_then (Some (job, plan)) next got ≡ task → TaskRight entries (y next got).card task → TaskRight entries (y next got).card (y next got).task
+    mine entries next got task e r = subst (λ (o : Option (Job × Plan)). TaskRight entries (y next got).card (Rattle.wb_promise.specs.Effects.task_then o next got)) (sym xt) (subst (λ (o : Option (Job × Plan)). TaskRight entries (y next got).card o) (sym e) r)
 
     -- ---- on the words
 
@@ -399,7 +399,7 @@ module _ (P A : Type 0) (shape : Shape) (images : Images) (t : Target P) (commit
               subst (λ (v : OBlock). SealsRight (place_of desk'.tree.entries v.0) (after plan Done).steps) same still
 
           task_is : (y (Desk step) Done).task ≡ Some (job, after plan Done)
-          task_is = ap (λ (o : Option (Job × Plan)). Rattle.wb_runs.specs.Effects.task_then o (Desk step) Done) xt
+          task_is = ap (λ (o : Option (Job × Plan)). Rattle.wb_promise.specs.Effects.task_then o (Desk step) Done) xt
 
           tells : (o : OBlock) → Untold (record { words = t.words; desk = desk' }) o ⊎ Tells t.words desk'.tree.entries (slice_set actors a (y (Desk step) Done)) o
           tells o = elim (cases_eq o.0 b.0) [

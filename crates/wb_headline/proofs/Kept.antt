@@ -1,11 +1,10 @@
 -- What is kept of orders and seals is kept by each step, each start and an opening's answer.
-use Rattle.std.proofs.Common.{◌≡◌, ◌∙◌, ◌++◌, inl, inr, ℕ, zero, suc, Bool, true, false, cond, List, [], ◌∷◌, Option, Some, None, refl, sym, ap, subst, arith, slice_get, slice_set, Contains}
+use Rattle.std.proofs.Common.{◌≡◌, ◌∙◌, inl, inr, ℕ, zero, suc, Bool, true, false, cond, List, [], ◌∷◌, Option, Some, None, refl, sym, ap, subst, arith, slice_get, slice_set, Contains}
 use Rattle.wb_types.proofs.Lists.{set_cases}
 use Rattle.wb_types.specs.declared.entry.Entry.{Entry}
 use Rattle.wb_types.specs.declared.number.OBlock.{OBlock}
 use Rattle.wb_disk.specs.Device.{Content as Bytes, History}
 use Rattle.wb_words.specs.declared.card.Hold.TheVariants.{Nothing, Held}
-use Rattle.wb_words.specs.Effects.{result_of}
 use Rattle.wb_words.specs.SharedWords.{word_at, place_in}
 use Rattle.wb_words.specs.Rule.{LockRule}
 use Rattle.wb_policy.specs.declared.order.Order.{Order}
@@ -13,12 +12,12 @@ use Rattle.wb_policy.specs.declared.order.Order.TheVariants.{Replace as ReplaceO
 use Rattle.wb_types.specs.declared.number.CBlock.{CBlock}
 use Rattle.wb_orders.specs.Named.{first_of}
 use Rattle.wb_tasks.specs.declared.step.Migration.TheVariants.{Demote}
-use Rattle.std.proofs.lemmas.List.Elements.{Contains-append_right}
+use Rattle.std.proofs.lemmas.List.Elements.{Contains-append_left, Contains-append_right}
 use Rattle.std.proofs.lemmas.Option.{get_or_from_slice_get}
 use Rattle.wb_desk.specs.Desks.{DeskState, MayReserve}
 use Rattle.wb_desk.specs.Commits.{commit_ended}
 use Rattle.wb_tasks.specs.Tables.{BlockJob, Reading, Writing, Migrating, OnBlock}
-use Rattle.wb_tasks.specs.Plan.{Plan, want, got_of}
+use Rattle.wb_tasks.specs.Plan.{Plan, want}
 use Rattle.wb_tasks.specs.Ready.{IsJobs}
 use Rattle.wb_tasks.specs.declared.step.DeviceStep.{DeviceStep}
 use Rattle.wb_tasks.specs.declared.step.DeviceStep.TheVariants.{Read as ReadExtent, Write as WriteExtent}
@@ -26,25 +25,24 @@ use Rattle.wb_tasks.specs.declared.step.DeskStep.TheVariants.{Map, Unmap, Releas
 use Rattle.wb_tasks.specs.declared.step.Want.{Want}
 use Rattle.wb_tasks.specs.declared.step.Want.TheVariants.{Cell, Device, Desk, End}
 use Rattle.wb_tasks.specs.declared.step.Got.{Got}
-use Rattle.wb_tasks.specs.declared.step.Answer.TheVariants.{Done as Finished}
 use Rattle.wb_tasks.specs.declared.step.Got.TheVariants.{Done, Fault, Began, Refused as GotRefused}
 use Rattle.wb_devices.specs.declared.devices.Devices.{Devices}
 use Rattle.wb_devices.specs.declared.running.RunningCommit.{RunningCommit}
-use Rattle.wb_runs.specs.declared.job.Job.{Job}
-use Rattle.wb_runs.specs.declared.job.Job.TheVariants.{Read, Write, Flush, Migrate, Replace}
-use Rattle.wb_runs.specs.declared.event.What.TheVariants.{Started}
-use Rattle.wb_runs.specs.States.{Shape, State, Actor, Target, Phase, Stands, resting}
-use Rattle.wb_runs.specs.Happenings.{Chosen, Plain, Cut, Orders, Asks, Commits, Gives, DoesBegin, DoesMap, DoesUnmap, DoesRelease, StartGives, order_for}
-use Rattle.wb_runs.specs.Effects.{actor_then, phase_then, phase_given, given, orders_then, awaiting_then, orders_released, awaiting_released, orders_answered, awaiting_answered, dropped, replacing, job_of, begun_desk, all_resting}
-use Rattle.wb_runs.specs.Clerk.{Notes}
-use Rattle.wb_runs.specs.Headline.{place_of}
+use Rattle.wb_promise.specs.declared.job.Job.{Job}
+use Rattle.wb_promise.specs.declared.job.Job.TheVariants.{Read, Write, Flush, Migrate, Replace}
+use Rattle.wb_promise.specs.declared.event.What.TheVariants.{Started}
+use Rattle.wb_promise.specs.States.{Shape, State, Actor, Target, Phase, Stands, resting}
+use Rattle.wb_promise.specs.Happenings.{Chosen, Plain, Cut, Orders, Asks, Commits, Gives, DoesBegin, StartGives, order_for}
+use Rattle.wb_promise.specs.Effects.{actor_then, phase_then, phase_given, given, job_of, begun_desk, all_resting}
+use Rattle.wb_promise.specs.Clerk.{Notes}
+use Rattle.wb_promise.specs.Headline.{place_of}
 use Rattle.wb_runs.specs.Holding.{cards_of, AllSuited, TaskSuits}
-use Rattle.wb_runs.specs.Sealed.{SealsNext, number_of}
+use Rattle.wb_promise.specs.Sealed.{SealsNext, number_of}
 use Rattle.wb_runs.proofs.Images.{Images}
 use Rattle.wb_runs.proofs.Metadata.{MetadataKept}
 use Rattle.wb_runs.proofs.Lists.{first_or}
-use Rattle.wb_runs.proofs.Ordering.{held_of}
-use Rattle.wb_runs.proofs.Owning.{Owned, owned_given, owned_none, owned_same}
+use Rattle.wb_runs.proofs.Ordering.{held_of, then_had}
+use Rattle.wb_runs.proofs.Owning.{Owned, owned_given, owned_same}
 use Rattle.wb_headline.proofs.Orders.{AreParted}
 use Rattle.wb_headline.proofs.Following.{Followed}
 use Rattle.wb_headline.proofs.Keeping.{KeepingAt, Keeping, HasNone, NoOrders, TaskRight, plainly, own, cell_keeps, device_keeps, answer_keeps, desk_plain, map_keeps, map_refused_keeps, unmap_keeps, release_keeps, flush_release_keeps, ready}
@@ -58,35 +56,20 @@ none_set actors a y here none b z e = elim (set_cases actors a b y z e) [
   | inr o ↦ none b z o.1
 ]
 
-none_released : (b : OBlock) (job : Job) (orders awaiting : List Order) → orders ≡ [] → awaiting ≡ [] → (orders_released b job orders ≡ []) × (awaiting_released b job awaiting ≡ [])
-none_released b Flush orders awaiting e f = (e, ap (λ (os : List Order). dropped b os) f)
-none_released b job orders awaiting e f = (ap (λ (os : List Order). dropped b os) e, f)
-
-none_answered : (job : Job) (orders awaiting : List Order) → orders ≡ [] → awaiting ≡ [] → (orders_answered job orders awaiting ≡ []) × (awaiting_answered job awaiting ≡ [])
-none_answered Flush orders awaiting e f = (ap (λ (os : List Order). os ++ orders) f ∙ e, refl)
-none_answered job orders awaiting e f = (e, f)
-
-none_then : (orders awaiting : List Order) (job : Job) (next : Want) (got : Got) → orders ≡ [] → awaiting ≡ [] → (orders_then orders awaiting job next got ≡ []) × (awaiting_then orders awaiting job next got ≡ [])
-none_then orders awaiting job (Desk (Map b c)) Done e f = (ap (λ (os : List Order). dropped b os) e, f)
-none_then orders awaiting job (Desk (Unmap b)) Done e f = (ap (λ (os : List Order). dropped b os) e, ap (λ (os : List Order). replacing b os ++ awaiting) e ∙ f)
-none_then orders awaiting job (Desk (ReleaseOrder b)) Done e f = none_released b job orders awaiting e f
-none_then orders awaiting job (End Finished) Done e f = none_answered job orders awaiting e f
-none_then orders awaiting job next got e f = (e, f)
-
 pub none_rest : (actors : List Actor) → NoOrders (all_resting actors)
 none_rest [] a x e = absurd (cc)
-none_rest (z ∷ zs) zero x e = (let both : resting ≡ x = cc in subst (λ (v : Actor). HasNone v) both (refl, refl))
+none_rest (z ∷ zs) zero x e = (let both : resting ≡ x = cc in subst (λ (v : Actor). HasNone v) both (λ order h. absurd (omega (arith, h.1))))
 none_rest (z ∷ zs) (suc a) x e = none_rest zs a x e
 
 pub none_goes : (P A : Type 0) (shape : Shape) (phase : Phase P A) (devices : Devices (List History)) (actors : List Actor) (a : ℕ) (x : Actor) (next : Want) (got : Got) → slice_get actors a ≡ Some x → NoOrders actors → NoOrders (slice_set actors a (actor_then shape phase devices x next got))
-none_goes P A shape phase devices actors a x next got ex none = none_set actors a (actor_then shape phase devices x next got) (none_then x.orders x.awaiting (job_of x.task) next got (none a x ex).0 (none a x ex).1) none
+none_goes P A shape phase devices actors a x next got ex none = none_set actors a (actor_then shape phase devices x next got) (λ order h. none a x ex order (then_had x (job_of x.task) next got order h)) none
 
 -- ---- where one is made nobody is at anything
 
 pub made_keeps : (P : Type 0) (t : Target P) (actors : List Actor) → NoOrders actors → ((b : ℕ) (z : Actor) → slice_get actors b ≡ Some z → z.task ≡ None) → ((block : OBlock) → number_of (place_in (word_at t.words.seals block)) ≡ place_of t.desk.tree.entries block.0) → KeepingAt t actors
 made_keeps P t actors none rest told = record {
-  owned = owned_none P t.desk actors (λ a x e. ap (λ (os : List Order). os ++ x.awaiting) (none a x e).0 ∙ (none a x e).1);
-  parted = λ a x e order h i. (let k = subst (λ (os : List Order). Contains os order) (none a x e).0 h in omega (arith, k.1));
+  owned = record { live = λ a x order e h. absurd (none a x e order h); one = λ a b x z order e q h i. absurd (none a x e order h) };
+  parted = λ a x e order h i. none a x e order (Contains-append_left x.orders x.awaiting order h);
   tells = λ b. inl (told b);
   right = λ a x e. subst (λ (o : Option (Job × Plan)). TaskRight t.desk.tree.entries x.card o) (sym (rest a x e)) tt;
 }
@@ -157,13 +140,13 @@ module _ (P A : Type 0) (shape : Shape) (images : Images) (t : Target P) (commit
       by_job (Replace old new) chosen h = absurd h
       by_job job chosen h = plain job (given shape x job chosen) _ refl refl refl (k.parted a x ex)
 
-  module _ (job : Job) (plan : Plan) (xt : x.task ≡ Some (job, plan)) where
+  module _ (plan : Plan) where
     abbrev After : Want → Got → Chosen P A → Type 0
     After next got chosen = Keeping (phase_then {P = P} {A = A} shape (Stands t) next got chosen) (slice_set actors a (actor_then {P = P} {A = A} shape (Stands t) devices x next got))
 
     -- a commit begins, or does not
-    begins_keeps : (clean : Bool) (most : ℕ) (got : Got) (chosen : Chosen P A) → Desk (BeginCommit clean most) ≡ want plan → DoesBegin most t.desk got chosen → After (Desk (BeginCommit clean most)) got chosen
-    begins_keeps clean most got chosen e d = desk_plain P A shape images t commit devices actors n known f rule all_suited k a x ex job plan xt (BeginCommit clean most) got (begun_desk chosen t.desk) e
+    begins_keeps : (job : Job) → x.task ≡ Some (job, plan) → (clean : Bool) (most : ℕ) (got : Got) (chosen : Chosen P A) → Desk (BeginCommit clean most) ≡ want plan → DoesBegin most t.desk got chosen → After (Desk (BeginCommit clean most)) got chosen
+    begins_keeps job xt clean most got chosen e d = desk_plain P A shape images t commit devices actors n known f rule all_suited k a x ex job plan xt (BeginCommit clean most) got (begun_desk chosen t.desk) e
         (ready P A shape images t commit devices actors n known f rule all_suited k a x ex job plan xt (Desk (BeginCommit clean most)) e) (by got chosen d)
         (owned_same P t.desk actors a x (actor_then {P = P} {A = A} shape (Stands t) devices x (Desk (BeginCommit clean most)) got) ex k.owned (begun_desk chosen t.desk) refl (begun_orders P A chosen t.desk))
       where
@@ -172,65 +155,31 @@ module _ (P A : Type 0) (shape : Shape) (images : Images) (t : Target P) (commit
         by (GotRefused refusal) Plain d b = refl
         by got chosen d b = absurd d
 
-    ends_keeps : (got : Got) (chosen : Chosen P A) → Desk EndCommit ≡ want plan → After (Desk EndCommit) got chosen
-    ends_keeps got chosen e = desk_plain P A shape images t commit devices actors n known f rule all_suited k a x ex job plan xt EndCommit got (cond t.desk.space.committing (commit_ended t.desk) t.desk) e
+    ends_keeps : (job : Job) → x.task ≡ Some (job, plan) → (got : Got) (chosen : Chosen P A) → Desk EndCommit ≡ want plan → After (Desk EndCommit) got chosen
+    ends_keeps job xt got chosen e = desk_plain P A shape images t commit devices actors n known f rule all_suited k a x ex job plan xt EndCommit got (cond t.desk.space.committing (commit_ended t.desk) t.desk) e
         (ready P A shape images t commit devices actors n known f rule all_suited k a x ex job plan xt (Desk EndCommit) e)
         (λ b. ended_same P (Option ℕ) (λ (d : DeskState P). place_of d.tree.entries b) t.desk refl)
         (owned_same P t.desk actors a x (actor_then {P = P} {A = A} shape (Stands t) devices x (Desk EndCommit) got) ex k.owned (cond t.desk.space.committing (commit_ended t.desk) t.desk) refl (ended_same P Rattle.wb_orders.specs.Orders.Orders (λ (d : DeskState P). d.orders) t.desk refl))
 
     -- it goes on
-    pub step_keeps : (next : Want) (got : Got) (read : List Bytes) (chosen : Chosen P A) → next ≡ want plan → Gives shape (standing P A shape images t commit devices actors n) x job next got read chosen → After next got chosen
-    step_keeps (Cell step) got read chosen e g = by (given_word job g)
-      where
-        given_word : (j : Job) → Gives shape (standing P A shape images t commit devices actors n) x j (Cell step) got read chosen → got ≡ got_of (result_of t.words step)
-        given_word (Read extent) g = g.1
-        given_word j g = g.1
-
-        by : got ≡ got_of (result_of t.words step) → After (Cell step) got chosen
-        by is = subst (λ (v : Got). After (Cell step) v chosen) (sym is) (cell_keeps P A shape images t commit devices actors n known f rule all_suited k a x ex job plan xt step e)
-    step_keeps (Device step) got read chosen e g = device_keeps P A shape images t commit devices actors n known f rule all_suited k a x ex job plan xt step e got
+    pub step_keeps : (job : Job) → x.task ≡ Some (job, plan) → (next : Want) (got : Got) (read : List Bytes) (chosen : Chosen P A) → next ≡ want plan → Gives shape (standing P A shape images t commit devices actors n) x job next got read chosen → After next got chosen
+    step_keeps (Migrate m b) xt (Desk (Map bl c)) Done read (Asks new) e g = map_keeps P A shape images t commit devices actors n known f rule all_suited k a x ex m b plan xt bl c new e g.1.0 g.1.1 g.1.2
+    step_keeps (Migrate m b) xt (Desk (Map bl c)) (GotRefused refusal) read Plain e g = map_refused_keeps P A shape images t commit devices actors n known f rule all_suited k a x ex m b plan xt bl c refusal e
+    step_keeps (Migrate m b) xt (Desk (Map bl c)) got read chosen e g = absurd g.1
+    step_keeps (Migrate m b) xt (Desk (Unmap bl)) got read (Asks new) e g = subst (λ (v : Got). After (Desk (Unmap bl)) v (Asks new)) (sym g.1) (unmap_keeps P A shape images t commit devices actors n known f rule all_suited k a x ex m b plan xt bl new e g.2)
+    step_keeps (Migrate m b) xt (Desk (Unmap bl)) got read chosen e g = absurd g.2
+    step_keeps (Migrate m b) xt (Desk (ReleaseOrder bl)) got read (Asks new) e g = subst (λ (v : Got). After (Desk (ReleaseOrder bl)) v (Asks new)) (sym g.1) (release_keeps P A shape images t commit devices actors n known f rule all_suited k a x ex m b plan xt bl new e g.2)
+    step_keeps (Migrate m b) xt (Desk (ReleaseOrder bl)) got read chosen e g = absurd g.2
+    step_keeps Flush xt (Desk (ReleaseOrder bl)) got read (Asks new) e g = subst (λ (v : Got). After (Desk (ReleaseOrder bl)) v (Asks new)) (sym g.1) (flush_release_keeps P A shape images t commit devices actors n known f rule all_suited k a x ex plan xt bl new e g.2)
+    step_keeps Flush xt (Desk (ReleaseOrder bl)) got read chosen e g = absurd g.2
+    step_keeps job xt (Cell step) got read chosen e g = subst (λ (v : Got). After (Cell step) v chosen) (sym g.1) (cell_keeps P A shape images t commit devices actors n known f rule all_suited k a x ex job plan xt step e)
+    step_keeps job xt (Device step) got read chosen e g = device_keeps P A shape images t commit devices actors n known f rule all_suited k a x ex job plan xt step e got
         (λ j is. inl (gives_done P A shape (standing P A shape images t commit devices actors n) x job j step got read chosen (own P A shape images t commit devices actors n known f rule all_suited k a x ex job plan xt (OnBlock j) (Device step) is e) g))
-    step_keeps (End answer) got read chosen e g = answer_keeps P A shape images t commit devices actors n known f rule all_suited k a x ex job plan xt answer got e
-    step_keeps (Desk EndCommit) got read chosen e g = ends_keeps got chosen e
-    step_keeps (Desk (BeginCommit clean most)) got read chosen e g = begins_keeps clean most got chosen e (given_begin job g)
-      where
-        given_begin : (j : Job) → Gives shape (standing P A shape images t commit devices actors n) x j (Desk (BeginCommit clean most)) got read chosen → DoesBegin most t.desk got chosen
-        given_begin (Read extent) g = g.2
-        given_begin j g = g.2
-    step_keeps (Desk (Map bl c)) got read chosen e g = by job xt g
-      where
-        by : (j : Job) → x.task ≡ Some (j, plan) → Gives shape (standing P A shape images t commit devices actors n) x j (Desk (Map bl c)) got read chosen → After (Desk (Map bl c)) got chosen
-        by (Migrate m b) jt g = by_got got chosen g.1
-          where
-            by_got : (got : Got) (chosen : Chosen P A) → DoesMap bl c t.desk got chosen → After (Desk (Map bl c)) got chosen
-            by_got Done (Asks new) d = map_keeps P A shape images t commit devices actors n known f rule all_suited k a x ex m b plan jt bl c new e d.0 d.1 d.2
-            by_got (GotRefused refusal) Plain d = map_refused_keeps P A shape images t commit devices actors n known f rule all_suited k a x ex m b plan jt bl c refusal e
-            by_got got chosen d = absurd d
-        by j jt g = absurd g
-    step_keeps (Desk (Unmap bl)) got read chosen e g = by job xt g
-      where
-        by : (j : Job) → x.task ≡ Some (j, plan) → Gives shape (standing P A shape images t commit devices actors n) x j (Desk (Unmap bl)) got read chosen → After (Desk (Unmap bl)) got chosen
-        by (Migrate m b) jt g = subst (λ (v : Got). After (Desk (Unmap bl)) v chosen) (sym g.1) (by_chosen chosen g.2)
-          where
-            by_chosen : (chosen : Chosen P A) → DoesUnmap bl t.desk chosen → After (Desk (Unmap bl)) Done chosen
-            by_chosen (Asks new) d = unmap_keeps P A shape images t commit devices actors n known f rule all_suited k a x ex m b plan jt bl new e d
-            by_chosen chosen d = absurd d
-        by j jt g = absurd g
-    step_keeps (Desk (ReleaseOrder bl)) got read chosen e g = by job xt g
-      where
-        by : (j : Job) → x.task ≡ Some (j, plan) → Gives shape (standing P A shape images t commit devices actors n) x j (Desk (ReleaseOrder bl)) got read chosen → After (Desk (ReleaseOrder bl)) got chosen
-        by (Migrate m b) jt g = subst (λ (v : Got). After (Desk (ReleaseOrder bl)) v chosen) (sym g.1) (by_chosen chosen g.2)
-          where
-            by_chosen : (chosen : Chosen P A) → DoesRelease x.orders bl t.desk chosen → After (Desk (ReleaseOrder bl)) Done chosen
-            by_chosen (Asks new) d = release_keeps P A shape images t commit devices actors n known f rule all_suited k a x ex m b plan jt bl new e d
-            by_chosen chosen d = absurd d
-        by Flush jt g = subst (λ (v : Got). After (Desk (ReleaseOrder bl)) v chosen) (sym g.1) (by_chosen chosen g.2)
-          where
-            by_chosen : (chosen : Chosen P A) → DoesRelease x.awaiting bl t.desk chosen → After (Desk (ReleaseOrder bl)) Done chosen
-            by_chosen (Asks new) d = flush_release_keeps P A shape images t commit devices actors n known f rule all_suited k a x ex plan jt bl new e d
-            by_chosen chosen d = absurd d
-        by j jt g = absurd g
+    step_keeps job xt (End answer) got read chosen e g = answer_keeps P A shape images t commit devices actors n known f rule all_suited k a x ex job plan xt answer got e
+    step_keeps job xt (Desk EndCommit) got read chosen e g = ends_keeps job xt got chosen e
+    step_keeps job xt (Desk (BeginCommit clean most)) got read chosen e g = begins_keeps job xt clean most got chosen e g.2
+    step_keeps job xt next got read chosen e g = absurd g
 
     -- a step on a device that fails
-    pub fault_keeps : (step : DeviceStep) (chosen : Chosen P A) → Device step ≡ want plan → After (Device step) Fault chosen
-    fault_keeps step chosen e = device_keeps P A shape images t commit devices actors n known f rule all_suited k a x ex job plan xt step e Fault (λ j is. inr refl)
+    pub fault_keeps : (job : Job) → x.task ≡ Some (job, plan) → (step : DeviceStep) (chosen : Chosen P A) → Device step ≡ want plan → After (Device step) Fault chosen
+    fault_keeps job xt step chosen e = device_keeps P A shape images t commit devices actors n known f rule all_suited k a x ex job plan xt step e Fault (λ j is. inr refl)

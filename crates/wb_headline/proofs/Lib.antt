@@ -13,12 +13,10 @@ mod Requests
 mod Flushes
 mod Doings
 mod Starts
-mod Stands
 mod Whole
 mod Begin
 mod Promise
 mod Migrations
-mod Migrating
 mod Seeing
 mod Carried
 mod Telling

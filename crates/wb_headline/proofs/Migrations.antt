@@ -27,12 +27,12 @@ use Rattle.wb_tasks.specs.declared.step.Got.TheVariants.{Done, Fault, Refused as
 use Rattle.wb_devices.specs.declared.devices.Devices.{Devices}
 use Rattle.wb_devices.specs.declared.running.RunningCommit.{RunningCommit}
 use Rattle.wb_devices.specs.Moving.{device_in}
-use Rattle.wb_runs.specs.declared.job.Job.{Job}
-use Rattle.wb_runs.specs.declared.job.Job.TheVariants.{Migrate}
-use Rattle.wb_runs.specs.States.{Shape, Actor, Target, Stands, with_device, State}
-use Rattle.wb_runs.specs.Effects.{actor_then, awaiting_then, contents_at, orders_then, dropped, replacing}
+use Rattle.wb_promise.specs.declared.job.Job.{Job}
+use Rattle.wb_promise.specs.declared.job.Job.TheVariants.{Migrate}
+use Rattle.wb_promise.specs.States.{Shape, Actor, Target, Stands, with_device, State}
+use Rattle.wb_promise.specs.Effects.{actor_then, awaiting_then, contents_at, orders_then, dropped, replacing}
 use Rattle.wb_runs.specs.Holding.{cards_of, AllSuited, TaskSuits}
-use Rattle.wb_runs.specs.Clerk.{Notes, Doing, noted_step, device_note, finished_note, failing, put}
+use Rattle.wb_promise.specs.Clerk.{Notes, Doing, noted_step, device_note, finished_note, failing, put}
 use Rattle.wb_runs.proofs.Images.{Images, later_of}
 use Rattle.wb_runs.proofs.Metadata.{MetadataKept, AtDesk, unknowing, kept_readable}
 use Rattle.wb_link.specs.World.{after_all, Shared, removed}
@@ -69,8 +69,8 @@ use Rattle.wb_tasks.specs.Tables.{BlockRange, Migrating, OnBlock}
 use Rattle.wb_tasks.specs.declared.step.Migration.TheVariants.{Demote}
 use Rattle.wb_tasks.specs.declared.step.Want.{Want}
 use Rattle.wb_refines.specs.Translation.{number_of}
-use Rattle.wb_runs.specs.Happenings.{Chosen, Plain, Asks, Gives, Falters, MayFailAt, DoesMap, DoesUnmap, DoesRelease}
-use Rattle.wb_runs.specs.Headline.{place_of}
+use Rattle.wb_promise.specs.Happenings.{Chosen, Plain, Asks, Gives, Falters, MayFailAt}
+use Rattle.wb_promise.specs.Headline.{place_of}
 use Rattle.wb_runs.specs.Inside.{StepInside}
 use Rattle.wb_runs.proofs.Desks.{mapped_stands, unmapped_stands, released_for}
 use Rattle.wb_runs.proofs.InsideRuns.{PlanInside, want_inside}
@@ -83,12 +83,13 @@ use Rattle.wb_simulation.specs.Carried.{IsOrderFor}
 use Rattle.wb_runs.proofs.Located.{stands_alone, unmapped_there}
 use Rattle.wb_headline.specs.Desks.{live_orders, orders_of, DeskAgrees, block_there}
 use Rattle.wb_headline.proofs.Following.{size, most, Followed, Goes}
-use Rattle.wb_headline.proofs.Targets.{standing, actor_is, beside, failing_same, metadata_same, noted_within, stays_on, leads_on}
+use Rattle.wb_headline.proofs.Targets.{standing, actor_is, beside, failing_same, noted_within, stays_on, leads_on}
 use Rattle.wb_headline.proofs.Orders.{keeps_so, leaves_from, left, none_waits, of_order, past, stands_so, at_there, live_at, for_block, only_held, only_of}
 use Rattle.wb_headline.proofs.Carried.{own, looks_seal, looks_number}
 use Rattle.wb_headline.proofs.Desking.{desk_maps, desk_releases, desk_unmaps}
 use Rattle.wb_headline.proofs.Seeing.{named, orders_set, seal_tells_order, slot_within}
 use Rattle.wb_headline.proofs.Whole.{Whole, Stepped_to, Faulted_to, at_target, held_tells}
+use Rattle.wb_runs.proofs.Stepping.{data_device}
 
 -- a migration that is answered leaves its actor the orders that it has
 answered_still : (orders awaiting : List Order) (migration : Migration) (block : OBlock) (answer : Answer) → (orders_then orders awaiting (Migrate migration block) (End answer) Done ≡ orders) × (awaiting_then orders awaiting (Migrate migration block) (End answer) Done ≡ awaiting)
@@ -154,14 +155,14 @@ module _ (P A : Type 0) (shape : Shape) (images : Images) (t : Target P) (commit
     write_done device e contents holds next inside =
         on_device (WriteExtent device e) Done contents (with_device device devices (written_each (device_in device devices) e.first x.buffer)) (after_step migrating_job plan Done x) (actor_is P A shape (Stands t) devices x migrating_job plan (Device (WriteExtent device e)) Done xt)
         (migrations_followed.write_done (size P A shape) (most P A shape) shape.geometry.origin_blocks t.words t.desk.space.committing live_now devices actors a x migration block plan device e f.site.world ex xt suits (sym next) inside f.phase.agrees)
-        (metadata_same device devices (written_each (device_in device devices) e.first x.buffer) holds)
+        (data_device device holds devices (written_each (device_in device devices) e.first x.buffer))
 
     pub write_fails : (device : Dev) (e : Extent) (contents : List Bytes) (lands : ℕ → Bool) → HoldsBlocks device → Device (WriteExtent device e) ≡ want plan → e.first + e.count ≤ length (device_in device devices) →
         Goes P A shape (record { devices = with_device device devices (written_where lands (device_in device devices) e.first x.buffer); commit = commit; phase = Stands t; actors = slice_set actors a (actor_then {P = P} {A = A} shape (Stands t) devices x (Device (WriteExtent device e)) Fault) }) (noted_step shape [] n a (Some (Some doing)) (Device (WriteExtent device e)) Fault contents)
     write_fails device e contents lands holds next inside =
         on_device (WriteExtent device e) Fault contents (with_device device devices (written_where lands (device_in device devices) e.first x.buffer)) (after_step migrating_job plan Fault x) (actor_is P A shape (Stands t) devices x migrating_job plan (Device (WriteExtent device e)) Fault xt)
         (migrations_followed.write_fails (size P A shape) (most P A shape) shape.geometry.origin_blocks t.words t.desk.space.committing live_now devices actors a x migration block plan device e lands f.site.world ex xt suits (sym next) inside f.phase.agrees)
-        (metadata_same device devices (written_where lands (device_in device devices) e.first x.buffer) holds)
+        (data_device device holds devices (written_where lands (device_in device devices) e.first x.buffer))
 
     -- the desk has no memory for its entry
     pub map_refused : (b : OBlock) (c : CBlock) (refusal : Refusal) → Desk (Map b c) ≡ want plan →
@@ -340,19 +341,6 @@ module _ (P A : Type 0) (shape : Shape) (t : Target P) (commit : Option RunningC
           (goes_to (GivesUp c) (released t.desk (record { 0 = c })) (then_actor bl x.awaiting) (Desk (ReleaseOrder bl)) (slice_set slots c None) (actor_is P A shape (Stands t) devices x job plan (Desk (ReleaseOrder bl)) Done xt) g (λ v. v)
           (subst (λ (k : DeskState P). AtDesk shape.geometry b.goes.images k commit devices.metadata) is (released_for P shape.geometry b.goes.images t.desk commit devices.metadata new (order_found bl x.orders) b.goes.known d))
           (sym (orders_set t.desk.orders.slots c None)) (desk_releases P t.desk s (after_all f.site.world g.records).shared f.phase.desk (record { 0 = c }) (omega (arith, inside, at, many_slots, many_blocks)) g.desk.0 g.desk.1))
-
-  by_map : (bl : OBlock) (c : CBlock) (got : Got) (read : List Bytes) (chosen : Chosen P A) → Desk (Map bl c) ≡ want plan → DoesMap bl c t.desk got chosen → To (Desk (Map bl c)) got read chosen
-  by_map bl c Done read (Asks new) e d = subst (λ (v : DeskState P). To (Desk (Map bl c)) Done read (Asks v)) (sym d.2) (maps_on bl c new.tree new.policy read d.0 d.1 e)
-  by_map bl c (GotRefused refusal) read Plain e d = map_refused P A shape b.goes.images t commit devices actors n b.goes.known f a x ex migration block plan xt suits doing noted job_is bl c refusal e
-  by_map bl c got read chosen e d = absurd d
-
-  by_unmap : (bl : OBlock) (read : List Bytes) (chosen : Chosen P A) → Desk (Unmap bl) ≡ want plan → DoesUnmap bl t.desk chosen → To (Desk (Unmap bl)) Done read chosen
-  by_unmap bl read (Asks new) e d = unmaps_on bl read new e d
-  by_unmap bl read chosen e d = absurd d
-
-  by_release : (bl : OBlock) (read : List Bytes) (chosen : Chosen P A) → Desk (ReleaseOrder bl) ≡ want plan → DoesRelease x.orders bl t.desk chosen → To (Desk (ReleaseOrder bl)) Done read chosen
-  by_release bl read (Asks new) e d = releases_on bl read new e d
-  by_release bl read chosen e d = absurd d
 
   -- any step that is done or refused
   pub any_step : (next : Want) (got : Got) (read : List Bytes) (chosen : Chosen P A) → next ≡ want plan → Gives shape w x job next got read chosen → To next got read chosen

@@ -1,6 +1,6 @@
 -- Whatever step an opening takes, done or failing, it is followed, and its answer; a target that it makes has seals that tell where it has each
 -- block, and no orders.
-use Rattle.std.proofs.Common.{◌≡◌, ◌∙◌, ◌≤◌, ◌^◌, inl, inr, ℕ, true, false, List, Option, Some, None, refl, sym, ap, subst, arith, length, map, replicate, slice_get, slice_set, Contains, ◌⊎◌, Bool, []}
+use Rattle.std.proofs.Common.{◌≡◌, ◌∙◌, ◌≤◌, ◌^◌, inl, inr, ℕ, true, false, List, Option, Some, None, refl, sym, ap, subst, arith, length, map, replicate, slice_get, slice_set, Contains, ◌⊎◌, []}
 use Rattle.std.proofs.lemmas.List.{length-replicate, length-set, length-map}
 use Rattle.wb_types.proofs.Lists.{set_cases}
 use Rattle.wb_types.specs.declared.entry.Entry.{Entry}
@@ -28,12 +28,12 @@ use Rattle.wb_devices.specs.declared.running.RunningCommit.{RunningCommit}
 use Rattle.wb_devices.specs.Committing.{is_committed}
 use Rattle.wb_stage.specs.Stages.{is_all_done}
 use Rattle.wb_refines.specs.Translation.{number_of as number_there}
-use Rattle.wb_runs.specs.declared.job.Job.{Job}
-use Rattle.wb_runs.specs.declared.job.Job.TheVariants.{Open}
-use Rattle.wb_runs.specs.States.{Shape, State, Actor, Stands, Gone, Opens, sector_count, cache_sector_count, block_size, OfReading, Phase}
-use Rattle.wb_runs.specs.Effects.{actor_then, task_then, target_over, device_done, device_failed, stepped, phase_opened, phase_then}
-use Rattle.wb_runs.specs.Clerk.{Notes, begins, put, Doing, noted_step}
-use Rattle.wb_runs.specs.Headline.{place_of, shown_by, ShowsAllowed, shown, shown_in}
+use Rattle.wb_promise.specs.declared.job.Job.{Job}
+use Rattle.wb_promise.specs.declared.job.Job.TheVariants.{Open}
+use Rattle.wb_promise.specs.States.{Shape, State, Actor, Stands, Gone, Opens, sector_count, cache_sector_count, block_size, OfReading, Phase}
+use Rattle.wb_promise.specs.Effects.{actor_then, task_then, target_over, device_done, device_failed, stepped, phase_opened, phase_then}
+use Rattle.wb_promise.specs.Clerk.{Notes, begins, put, Doing, noted_step}
+use Rattle.wb_promise.specs.Headline.{place_of, shown_by, ShowsAllowed, shown, shown_in}
 use Rattle.wb_runs.proofs.Images.{Images, later_of}
 use Rattle.wb_runs.proofs.Metadata.{MetadataKept, AtDesk, AtOpening, Quiet, Rooting as RootingKept, kept_readable, target_stands}
 use Rattle.wb_runs.proofs.Linking.{IsTask, AtPhase}
@@ -48,18 +48,17 @@ use Rattle.wb_simulation.proofs.Opened.{opened_followed}
 use Rattle.wb_types.specs.declared.mode.Dev.TheVariants.{Metadata, Cache, Origin}
 use Rattle.wb_disk.specs.Crash.{Choice}
 use Rattle.wb_disk.specs.Failing.{lands, synced_where}
-use Rattle.wb_meta.specs.Steps.{DoesStep, coming_step}
+use Rattle.wb_meta.specs.Steps.{coming_step}
 use Rattle.wb_tasks.specs.declared.step.Answer.{Answer}
 use Rattle.wb_tasks.specs.declared.step.DeviceStep.TheVariants.{Sync, ReadMetadata, WriteRoot}
 use Rattle.wb_tasks.specs.declared.step.Want.{Want}
 use Rattle.wb_tasks.specs.declared.step.Got.TheVariants.{Done, Fault}
-use Rattle.wb_runs.specs.Happenings.{Chosen, Plain, Cut, Orders, Begins, Reaches, Puts, Commits, Asks, Opened, Gives, Falters, MayFailAt, IsNextOf, DoesPut, DoesSync, FailsSync, FailsPut, LandedOr, sector_put, DoesOpen}
+use Rattle.wb_promise.specs.Happenings.{Chosen, Plain, Cut, Orders, Begins, Reaches, Puts, Commits, Asks, Opened, Gives, Falters, MayFailAt, IsNextOf, DoesPut, DoesSync, FailsSync, FailsPut, LandedOr, sector_put, DoesOpen}
 use Rattle.wb_runs.proofs.Underway.{sync_does, sync_fails, put_fails}
 use Rattle.wb_types.specs.declared.number.CBlock.{CBlock}
-use Rattle.wb_runs.specs.Sealed.{number_of}
+use Rattle.wb_promise.specs.Sealed.{number_of}
 use Rattle.wb_headline.specs.Desks.{block_there, live_orders}
 use Rattle.wb_headline.proofs.Events.{Reached, event_reaches}
-use Rattle.wb_headline.proofs.Unclean.{NeverClean, event_on}
 use Rattle.wb_headline.proofs.Following.{HasReadAt, IsOver, many, size, most, Followed, Goes, opening_at, AtStage}
 use Rattle.wb_headline.proofs.Arriving.{SameSectors, sized_so, rests, gone}
 use Rattle.wb_headline.proofs.Showing.{shows_allowed, length-rising, state_allowed}
@@ -67,6 +66,7 @@ use Rattle.wb_headline.proofs.Answering.{no_orders_live, opened_state, view_of, 
 use Rattle.wb_headline.proofs.Opening.{settle_done, settle_fails, cache_done, cache_fails, origin_done, origin_fails, looks, look_fails, root_done, root_fails, renew_done, renew_fails}
 use Rattle.wb_headline.proofs.Keeping.{NoOrders, Keeping}
 use Rattle.wb_headline.proofs.Kept.{made_keeps, none_goes}
+use Rattle.wb_headline.proofs.Targets.{landed_or}
 
 same_number : (place : Option CBlock) → number_there place ≡ number_of place
 same_number None = refl
@@ -85,6 +85,30 @@ module _ (P A : Type 0) (shape : Shape) (images : Images) (devices : Devices (Li
         let readable = kept_readable shape.geometry images devices.metadata P A (Opens mode reading) commit known in
         gone P A shape images f.phase.later GoneThere devices (put n a None) (rests P A shape images w n (put n a None) f same images.committed f.phase.later GoneThere devices f.phase.devices_follow.idle over.phase_is f.phase.devices_follow.agree) f.phase.devices_follow.fit (λ e. absurd (cc))
         (slice_set actors a y) (sized_so P A shape actors (slice_set actors a y) n (put n a None) same (length-set actors a y) f.sized) None readable
+
+    -- one that is answered done has read all, and its root is durable
+    pub record Answered (chosen : Chosen P A) : Type 0 where
+      pub learnt : Learnt
+      pub phase_is : f.site.phase ≡ OpensThere Writeback (Answering learnt)
+      pub read : HasReadAt (Answering learnt) reading commit f.phase.later
+      pub policy : P
+      pub done : is_all_done commit ≡ true
+      pub stands : phase_opened shape mode reading chosen ≡ Stands (target_over shape mode policy read.0.stored)
+
+    pub answered : (chosen : Chosen P A) → End Finished ≡ want plan → DoesOpen (Opens mode reading) commit chosen → Answered chosen
+    answered chosen next d = by_at (f.phase.each a x (Open opened_in) plan ex xt)
+      where
+        by_chosen : (i : Learnt) → f.site.phase ≡ OpensThere Writeback (Answering i) → HasReadAt (Answering i) reading commit f.phase.later → (c : Chosen P A) → DoesOpen (Opens mode reading) commit c → Answered c
+        by_chosen i ph rd (Opened policy) d = record { learnt = i; phase_is = ph; read = rd; policy = policy; done = d.1; stands = ap (λ (r : Option (ReadSteps A)). phase_opened shape mode r (Opened policy)) rd.0.reading_is }
+        by_chosen i ph rd c d = absurd d
+
+        by_stage : (total left : ℕ) (stage : Stage) → f.site.phase ≡ OpensThere Writeback stage → HasReadAt stage reading commit f.phase.later → End Finished ≡ want (opening_at total left stage) → Answered chosen
+        by_stage total left (Answering i) ph rd e = by_chosen i ph rd chosen d
+        by_stage total left stage ph rd e = absurd (cc)
+
+        by_at : AtStage reading commit f.phase.later plan f.site.phase ⊎ IsOver plan f.site.phase → Answered chosen
+        by_at (inl s) = by_stage s.total s.left s.stage s.phase_is s.read (next ∙ ap want s.is)
+        by_at (inr over) = absurd (over.refused (let same : End Finished ≡ End plan.answer = next ∙ ap (λ (ws : List Want). first_step ws plan.answer) over.nothing in let is : Finished ≡ plan.answer = cc in sym is))
 
     module _ (i : Learnt) (ph : f.site.phase ≡ OpensThere Writeback (Answering i)) (rd : HasReadAt (Answering i) reading commit f.phase.later) (policy : P) (done : is_all_done commit ≡ true) (cache_size : length devices.cache ≡ cache_sector_count shape) (origin_size : length devices.origin ≡ sector_count shape) where
       abbrev stored : StoredThere A
@@ -182,8 +206,7 @@ module _ (P A : Type 0) (shape : Shape) (images : Images) (devices : Devices (Li
             followed = record {
               site = site_now;
               notes = opened_notes (view_of f.site i);
-              reached = subst (λ (v : Site). Reached (size P A shape) (many P A shape) v (opened_notes (view_of f.site i))) leads (event_reaches (size P A shape) (many P A shape) f.site f.notes (answer_of f.site i tree) f.reached may);
-              clean = subst (λ (v : Site). NeverClean v.world) leads (event_on f.site (answer_of f.site i tree) tt f.clean);
+              reached = subst (λ (v : Site). Reached (size P A shape) (many P A shape) v (opened_notes (view_of f.site i))) leads (event_reaches (size P A shape) (many P A shape) f.site f.notes (answer_of f.site i tree) f.reached may tt);
               as_many = length-replicate (length f.site.world.actors) idle ∙ f.as_many;
               notes_agree = notes_followed.anew (size P A shape) (length n.doings) shown_now (view_of f.site i) f.site.world (opened_on f.site.world.shared Writeback i blocks_now)
                   (shown_view shape devices cache_size origin_size tree mapping ∙ (λ j b o. only (view_is b o j)));
@@ -225,10 +248,10 @@ module _ (P A : Type 0) (shape : Shape) (images : Images) (devices : Devices (Li
           (cache_done P A shape images devices commit mode reading actors n known f alone a x ex opened_in [] doing job_is total left ph rd xt read chosen)
       by_stage Basing ph rd xt g = subst (λ (v : Got). Done_by job buffer (Device (Sync Origin)) v read chosen) (sym g.1)
           (origin_done P A shape images devices commit mode reading actors n known f alone a x ex opened_in [] doing job_is total left ph rd xt read chosen)
-      by_stage Looking ph rd xt g = by_chosen chosen (subst (λ (c : Option RunningCommit). Rattle.wb_runs.specs.Happenings.DoesRead shape.geometry left rd.0.0 devices.metadata c got chosen) rd.1
-          (subst (λ (r : Option (ReadSteps A)). OfReading {P = P} {A = A} (Opens mode r) (λ mode was. Rattle.wb_runs.specs.Happenings.DoesRead shape.geometry left was devices.metadata commit got chosen)) rd.0.1 g.2))
+      by_stage Looking ph rd xt g = by_chosen chosen (subst (λ (c : Option RunningCommit). Rattle.wb_promise.specs.Happenings.DoesRead shape.geometry left rd.0.0 devices.metadata c got chosen) rd.1
+          (subst (λ (r : Option (ReadSteps A)). OfReading {P = P} {A = A} (Opens mode r) (λ mode was. Rattle.wb_promise.specs.Happenings.DoesRead shape.geometry left was devices.metadata commit got chosen)) rd.0.1 g.2))
         where
-          by_chosen : (c : Chosen P A) → Rattle.wb_runs.specs.Happenings.DoesRead shape.geometry left rd.0.0 devices.metadata None got c → Done_by job buffer (Device (ReadMetadata left)) got read c
+          by_chosen : (c : Chosen P A) → Rattle.wb_promise.specs.Happenings.DoesRead shape.geometry left rd.0.0 devices.metadata None got c → Done_by job buffer (Device (ReadMetadata left)) got read c
           by_chosen (Reaches r c) d = looks P A shape images devices commit mode reading actors n known f alone a x ex opened_in [] doing job_is total left ph rd xt got read (Reaches r c) d
           by_chosen c d = absurd d
       by_stage (Rooting i) ph rd xt g = subst (λ (v : Got). Done_by job buffer (Device WriteRoot) v read chosen) (sym g.1) (by_chosen chosen (subst (λ (c : Option RunningCommit). DoesPut c WriteRoot devices.metadata chosen) rd.0.commit_is g.2))
@@ -246,21 +269,14 @@ module _ (P A : Type 0) (shape : Shape) (images : Images) (devices : Devices (Li
           over_reading policy done =
               let o = opened_goes known f alone a x ex opened_in (opening_at total left (Answering i)) xt got i ph rd policy done cache_size origin_size in
               let Then : Option (ReadSteps A) → Job → Type 0 = λ r j. Goes P A shape (record { devices = devices; commit = None; phase = phase_opened shape mode r (Opened policy); actors = slice_set actors a (actor_then {P = P} {A = A} shape (Opens mode reading) devices x (End Finished) got) })
-              (Rattle.wb_runs.specs.Clerk.finished_note n a doing j (shown_in shape devices (phase_opened shape mode r (Opened policy)))) in
+              (Rattle.wb_promise.specs.Clerk.finished_note n a doing j (shown_in shape devices (phase_opened shape mode r (Opened policy)))) in
               subst (λ (j : Job). Then reading j) (sym job_is) (subst (λ (r : Option (ReadSteps A)). Then r (Open opened_in)) (sym rd.0.reading_is) o)
 
-          by_chosen : (c : Chosen P A) → Rattle.wb_runs.specs.Happenings.DoesOpen (Opens mode reading) commit c → Done_by job buffer (End Finished) got read c
+          by_chosen : (c : Chosen P A) → Rattle.wb_promise.specs.Happenings.DoesOpen (Opens mode reading) commit c → Done_by job buffer (End Finished) got read c
           by_chosen (Opened policy) d = over_reading policy d.1
           by_chosen c d = absurd d
 
     -- a step that fails
-    failing : (c : RunningCommit) (old new : List History) (choice : Choice) → LandedOr (lands Metadata choice (sector_put (coming_step c.image c.steps))) (DoesStep c.image c.steps old new) (new ≡ old) → DoesStep c.image c.steps old new ⊎ (new ≡ old)
-    failing c old new choice h = by (lands Metadata choice (sector_put (coming_step c.image c.steps))) h
-      where
-        by : (t : Bool) → LandedOr t (DoesStep c.image c.steps old new) (new ≡ old) → DoesStep c.image c.steps old new ⊎ (new ≡ old)
-        by true h = inl h
-        by false h = inr h
-
     module _ (total left : ℕ) (choice : Choice) (job : Job) (buffer : List Bytes) (read : List Bytes) (chosen : Chosen P A) where
       fails_at : (stage : Stage) → f.site.phase ≡ OpensThere Writeback stage → HasReadAt stage reading commit f.phase.later → x.task ≡ Some (Open opened_in, opening_at total left stage) → Falters w choice (want (opening_at total left stage)) chosen → Failed_by choice job buffer (want (opening_at total left stage)) read chosen
       fails_at Settling ph rd xt g = settle_fails P A shape images devices commit mode reading actors n known f alone a x ex opened_in [] doing job_is total left ph rd xt read chosen (lands Metadata choice)
@@ -272,7 +288,7 @@ module _ (P A : Type 0) (shape : Shape) (images : Images) (devices : Devices (Li
         where
           by_chosen : (c : Chosen P A) → FailsPut (Some rd.0.running) choice WriteRoot devices.metadata c → Failed_by choice job buffer (Device WriteRoot) read c
           by_chosen (Puts new) d = root_fails P A shape images devices commit mode reading actors n known f alone a x ex opened_in [] doing job_is total left i ph rd xt new read
-              (put_fails rd.0.running.image rd.0.running.steps WriteRoot devices.metadata new tt d.0 (failing rd.0.running devices.metadata new choice d.1))
+              (put_fails rd.0.running.image rd.0.running.steps WriteRoot devices.metadata new tt d.0 (landed_or (lands Metadata choice (sector_put (coming_step rd.0.running.image rd.0.running.steps))) d.1))
           by_chosen c d = absurd d
       fails_at (Renewing i) ph rd xt g =
           let s = subst (λ (c : Option RunningCommit). FailsSync {P = P} {A = A} (Opens mode reading) c devices.metadata) rd.0.commit_is g.1 in
@@ -320,24 +336,16 @@ module _ (P A : Type 0) (shape : Shape) (images : Images) (devices : Devices (Li
     no_orders : (answer : Answer) → NoOrders (slice_set actors a (actor_then {P = P} {A = A} shape (Opens mode reading) devices x (End answer) got))
     no_orders answer = none_goes P A shape (Opens mode reading) devices actors a x (End answer) got ex none
 
-    finished : (chosen : Chosen P A) → End Finished ≡ want plan → DoesOpen (Opens mode reading) commit chosen → Then Finished (phase_opened shape mode reading chosen)
-    finished chosen next d = by_at (f.phase.each a x (Open opened_in) plan ex xt)
-      where
-        by_stage : (total left : ℕ) (stage : Stage) → f.site.phase ≡ OpensThere Writeback stage → HasReadAt stage reading commit f.phase.later → End Finished ≡ want (opening_at total left stage) → Then Finished (phase_opened shape mode reading chosen)
-        by_stage total left (Answering i) ph rd e = by_chosen chosen d
-          where
-            by_chosen : (c : Chosen P A) → DoesOpen (Opens mode reading) commit c → Then Finished (phase_opened shape mode reading c)
-            by_chosen (Opened policy) d = subst (λ (r : Option (ReadSteps A)). Then Finished (phase_opened shape mode r (Opened policy))) (sym rd.0.reading_is)
-                (made_keeps P (target_over shape mode policy rd.0.stored) (slice_set actors a (actor_then {P = P} {A = A} shape (Opens mode reading) devices x (End Finished) got)) (no_orders Finished)
-                (at_rest known f alone a x ex opened_in plan xt got i ph rd policy d.1 cache_size origin_size)
-                (λ block. sym (same_number (place_in (word_at (target_over shape mode policy rd.0.stored).words.seals block))) ∙ opened_tells known f alone a x ex opened_in plan xt got i ph rd policy d.1 cache_size origin_size block))
-            by_chosen c d = absurd d
-        by_stage total left stage ph rd e = absurd (cc)
-
-        by_at : AtStage reading commit f.phase.later plan f.site.phase ⊎ IsOver plan f.site.phase → Then Finished (phase_opened shape mode reading chosen)
-        by_at (inl s) = by_stage s.total s.left s.stage s.phase_is s.read (next ∙ ap want s.is)
-        by_at (inr over) = absurd (over.refused (let same : End Finished ≡ End plan.answer = next ∙ ap (λ (ws : List Want). first_step ws plan.answer) over.nothing in let is : Finished ≡ plan.answer = cc in sym is))
-
     pub opening_keeps : (answer : Answer) (chosen : Chosen P A) → End answer ≡ want plan → Gives shape w x (Open opened_in) (End answer) got read chosen → Then answer (phase_then {P = P} {A = A} shape (Opens mode reading) (End answer) got chosen)
-    opening_keeps Finished chosen next g = finished chosen next g.2
+    opening_keeps Finished chosen next g =
+        let o = answered known f alone a x ex opened_in plan xt got chosen next g.2 in
+        subst (λ (p : Phase P A). Then Finished p) (sym o.stands) (made_keeps P (target_over shape mode o.policy o.read.0.stored) (slice_set actors a (actor_then {P = P} {A = A} shape (Opens mode reading) devices x (End Finished) got)) (no_orders Finished)
+        (at_rest known f alone a x ex opened_in plan xt got o.learnt o.phase_is o.read o.policy o.done cache_size origin_size)
+        (λ block. sym (same_number (place_in (word_at (target_over shape mode o.policy o.read.0.stored).words.seals block))) ∙ opened_tells known f alone a x ex opened_in plan xt got o.learnt o.phase_is o.read o.policy o.done cache_size origin_size block))
     opening_keeps (Refuses refusal) chosen next g = subst (λ (c : Chosen P A). Then (Refuses refusal) (phase_opened shape mode reading c)) (sym g.0.1) (no_orders (Refuses refusal))
+
+    -- what it shows is allowed
+    pub opening_shows : (chosen : Chosen P A) → End Finished ≡ want plan → Gives shape w x (Open opened_in) (End Finished) got read chosen → ShowsAllowed n (shown_in shape devices (phase_then {P = P} {A = A} shape (Opens mode reading) (End Finished) got chosen))
+    opening_shows chosen next g =
+        let o = answered known f alone a x ex opened_in plan xt got chosen next g.2 in
+        subst (λ (p : Phase P A). ShowsAllowed n (shown_in shape devices p)) (sym o.stands) (shows known f alone a x ex opened_in plan xt got o.learnt o.phase_is o.read o.policy o.done cache_size origin_size)

@@ -28,12 +28,12 @@ use Rattle.wb_devices.specs.declared.devices.Devices.{Devices}
 use Rattle.wb_devices.specs.declared.running.RunningCommit.{RunningCommit}
 use Rattle.wb_devices.specs.Opened.{HasCome, got_of_refusal}
 use Rattle.wb_roots.proofs.Deciding.{read_is_committed}
-use Rattle.wb_runs.specs.declared.job.Job.{Job}
-use Rattle.wb_runs.specs.declared.job.Job.TheVariants.{Open}
-use Rattle.wb_runs.specs.States.{Shape, State, Actor, Opens}
-use Rattle.wb_runs.specs.Happenings.{Chosen, Plain, Begins, Reaches, Puts, DoesSync, DoesRead}
-use Rattle.wb_runs.specs.Effects.{commit_then, reading_then, actor_then, task_then, led}
-use Rattle.wb_runs.specs.Clerk.{Notes, Doing, noted_step, device_note, failing, put}
+use Rattle.wb_promise.specs.declared.job.Job.{Job}
+use Rattle.wb_promise.specs.declared.job.Job.TheVariants.{Open}
+use Rattle.wb_promise.specs.States.{Shape, State, Actor, Opens}
+use Rattle.wb_promise.specs.Happenings.{Chosen, Plain, Begins, Reaches, Puts, DoesSync, DoesRead}
+use Rattle.wb_promise.specs.Effects.{commit_then, reading_then, actor_then, task_then, led}
+use Rattle.wb_promise.specs.Clerk.{Notes, Doing, noted_step, device_note, failing, put}
 use Rattle.wb_runs.proofs.Images.{Images, one_image, IsFitToo}
 use Rattle.wb_runs.proofs.Underway.{Readable, Found, partly_readable}
 use Rattle.wb_runs.proofs.Metadata.{MetadataKept, HasReached, AtOpening, Rooting as RootingKept, kept_readable, root_begins}
@@ -43,7 +43,8 @@ use Rattle.wb_link.specs.Openings.{Phase as PhaseThere, Stands as StandsThere, G
 use Rattle.wb_simulation.specs.Opened.{located}
 use Rattle.wb_simulation.specs.Sites.{ImagesAgree, DevicesAgree, LeadsTo, locations}
 use Rattle.wb_simulation.proofs.Opening.{openings_followed}
-use Rattle.wb_headline.proofs.Following.{opening_at, HasLearnt, HasRoot, HasReadAt, AtStage, IsOver, size, Followed, Goes}
+use Rattle.wb_headline.proofs.Events.{never_clean}
+use Rattle.wb_headline.proofs.Following.{opening_at, HasLearnt, HasRoot, HasReadAt, AtStage, IsOver, many, size, Followed, Goes}
 use Rattle.wb_headline.proofs.Arriving.{SameSectors, sized_so, Arrived, arrives, rests, opens, one_fit}
 use Rattle.wb_headline.proofs.Rooted.{same_one, rooted_on, leads_so, two_read, two_left, both_left, nowhere}
 
@@ -251,7 +252,7 @@ module _ (P A : Type 0) (shape : Shape) (images : Images) (devices : Devices (Li
                   running = running;
                   commit_is = refl;
                   same = located_so;
-                  unclean = f.clean.images.0;
+                  unclean = never_clean (size P A shape) (many P A shape) f.site f.notes f.reached;
                   bare = λ c block. nowhere stored.tree.entries (ap (λ es. Rattle.std.specs.List.count_by Rattle.std.specs.Prelude.is_some es) entries_are ∙ readable.fit (ap (λ (s : Stored). s.root.clean) one ∙ ap (λ r. r.clean) (sym is.0) ∙ c)) block;
                 },
                 refl,

@@ -6,7 +6,7 @@ use Rattle.wb_types.specs.declared.number.OBlock.{OBlock}
 use Rattle.wb_policy.specs.declared.order.Order.{Order}
 use Rattle.wb_desk.specs.Entries.{is_replacement, HasLeft, IsRemoved, Removes, keeps, orders_past}
 use Rattle.wb_stage.specs.Asking.{is_of, order_of, DidUnmap}
-use Rattle.wb_runs.specs.Effects.{dropped, replacing}
+use Rattle.wb_promise.specs.Effects.{dropped, replacing}
 use Rattle.wb_runs.proofs.Lists.{first_or}
 use Rattle.std.proofs.lemmas.Bool.{eq-eqb}
 use Rattle.std.proofs.lemmas.List.Elements.{Contains-append_cases, Contains-append_left, Contains-append_right}
@@ -17,8 +17,8 @@ use Rattle.wb_orders.specs.Orders.{AreOrders, order_at, Orders, without_order}
 use Rattle.wb_desk.specs.Desks.{DeskState, IsLive, DeskInvariant, Names, holdings}
 use Rattle.wb_tasks.specs.declared.step.Migration.{Migration}
 use Rattle.wb_tasks.specs.declared.step.Migration.TheVariants.{Promote, Demote, Clean}
-use Rattle.wb_runs.specs.States.{Actor}
-use Rattle.wb_runs.specs.Happenings.{order_for}
+use Rattle.wb_promise.specs.States.{Actor}
+use Rattle.wb_promise.specs.Happenings.{order_for}
 use Rattle.wb_runs.proofs.Ordering.{held_of}
 use Rattle.wb_runs.proofs.Owning.{Owned, dropped_is, of_named, owned_over, owned_within}
 use Rattle.wb_types.specs.declared.number.CBlock.{CBlock}

@@ -15,8 +15,8 @@ use Rattle.wb_words.specs.SharedWords.{Words}
 use Rattle.wb_words.specs.Effects.{result_of, words_after}
 use Rattle.wb_words.specs.declared.step.CellStep.{CellStep}
 use Rattle.wb_tasks.specs.Tables.{BlockRange, Reading as ReadingPart, Writing as WritingPart, OnBlock, TaskJob}
-use Rattle.wb_tasks.specs.Plan.{Plan, want, got_of}
-use Rattle.wb_tasks.specs.Ready.{Suits, HoldsBlocks}
+use Rattle.wb_tasks.specs.Plan.{Plan, want, got_of, device_of}
+use Rattle.wb_tasks.specs.Ready.{Suits, HoldsBlocks, IsOwnStep}
 use Rattle.wb_tasks.specs.declared.step.Answer.{Answer}
 use Rattle.wb_tasks.specs.declared.step.Answer.TheVariants.{Done as Finished, Refused as Refuses}
 use Rattle.wb_tasks.specs.declared.step.DeviceStep.TheVariants.{Read as ReadExtent, Write as WriteExtent}
@@ -27,13 +27,13 @@ use Rattle.wb_tasks.specs.declared.step.Got.TheVariants.{Done, Fault}
 use Rattle.wb_devices.specs.declared.devices.Devices.{Devices}
 use Rattle.wb_devices.specs.declared.running.RunningCommit.{RunningCommit}
 use Rattle.wb_devices.specs.Moving.{device_in}
-use Rattle.wb_runs.specs.declared.job.Job.{Job}
-use Rattle.wb_runs.specs.declared.job.Job.TheVariants.{Read, Write}
-use Rattle.wb_runs.specs.States.{Shape, State, Actor, Target, Stands, with_device}
-use Rattle.wb_runs.specs.Happenings.{block_range}
-use Rattle.wb_runs.specs.Effects.{actor_then, orders_then, awaiting_then}
+use Rattle.wb_promise.specs.declared.job.Job.{Job}
+use Rattle.wb_promise.specs.declared.job.Job.TheVariants.{Read, Write}
+use Rattle.wb_promise.specs.States.{Shape, State, Actor, Target, Stands, with_device, Phase, block_size, sector_count}
+use Rattle.wb_promise.specs.Happenings.{block_range, Chosen, Gives, Falters, MayFailAt}
+use Rattle.wb_promise.specs.Effects.{actor_then, orders_then, awaiting_then, device_done, device_failed, stepped}
 use Rattle.wb_runs.specs.Holding.{cards_of, AllSuited}
-use Rattle.wb_runs.specs.Clerk.{Notes, Doing, noted_step, device_note, failing, put, readings_from, sector_for, write_note, enter_each, entering, finished_note, all_raised, Entering, enter}
+use Rattle.wb_promise.specs.Clerk.{Notes, Doing, noted_step, device_note, failing, put, readings_from, sector_for, write_note, enter_each, entering, finished_note, all_raised, Entering, enter}
 use Rattle.wb_runs.proofs.Lists.{set_there}
 use Rattle.wb_runs.proofs.Images.{Images}
 use Rattle.wb_runs.proofs.Metadata.{MetadataKept}
@@ -49,18 +49,24 @@ use Rattle.wb_simulation.specs.Telling.{Quietly, Reads, Writes, Answers}
 use Rattle.wb_simulation.specs.Worlds.{Stays, Follows, zeros}
 use Rattle.wb_simulation.specs.Laws.{IsRequestJob, went, after_step, content_of}
 use Rattle.wb_simulation.proofs.Followed.{begins_by, cell_steps_followed, doing_of}
-use Rattle.wb_simulation.proofs.Moving.{extent_steps_followed}
+use Rattle.wb_simulation.proofs.Moving.{extent_steps_followed, same_device}
 use Rattle.wb_simulation.proofs.Ending.{answers_followed}
 use Rattle.wb_simulation.proofs.Noted.{notes_followed}
 use Rattle.std.proofs.lemmas.List.Elements.{All-cons}
 use Rattle.wb_contents.specs.Devices.{by_block}
 use Rattle.wb_contents.proofs.Devices.{is_there}
-use Rattle.wb_runs.specs.Headline.{IsLatest}
+use Rattle.wb_promise.specs.Headline.{IsLatest, shown}
 use Rattle.wb_headline.specs.Desks.{live_orders}
 use Rattle.wb_headline.proofs.Following.{size, most, Followed, Goes, many}
-use Rattle.wb_headline.proofs.Targets.{standing, actor_is, beside, metadata_same, noted_within, stays_on}
+use Rattle.wb_headline.proofs.Targets.{standing, actor_is, beside, noted_within, stays_on}
 use Rattle.wb_headline.proofs.Showing.{there}
 use Rattle.wb_headline.proofs.Events.{records_happen, is_right}
+use Rattle.wb_types.specs.declared.mode.Dev.TheVariants.{Metadata, Cache, Origin}
+use Rattle.wb_disk.specs.Crash.{Choice}
+use Rattle.wb_disk.specs.Failing.{lands}
+use Rattle.wb_tasks.proofs.Readiness.{is_own_step}
+use Rattle.wb_runs.specs.Inside.{StepInside}
+use Rattle.wb_runs.proofs.Stepping.{data_device}
 
 module _ (P A : Type 0) (shape : Shape) (images : Images) (t : Target P) (commit : Option RunningCommit) (devices : Devices (List History)) (actors : List Actor) (n : Notes) (known : MetadataKept {P = P} {A = A} shape.geometry images (Stands t) commit devices.metadata)
     (f : Followed P A shape images (standing P A shape images t commit devices actors n) n) (rule : LockRule shape.geometry.origin_blocks t.words (cards_of actors)) (all_suited : AllSuited shape.geometry.origin_blocks actors) (a : ℕ) (x : Actor) (ex : slice_get actors a ≡ Some x) (job : Job) (plan : Plan) (xt : x.task ≡ Some (job, plan)) (suits : Suits shape.geometry.origin_blocks plan x.card)
@@ -201,7 +207,7 @@ module _ (P A : Type 0) (shape : Shape) (images : Images) (t : Target P) (commit
           let less1 = subst (λ (k : ℕ). a < k) (sym (length-set n.doings a (Some mid))) noted_less in
           let second = notes_followed.write written_part.block.0 (e.first % size P A shape) e.count content Stays (size P A shape) (most P A shape) a f.site.world t.words t.desk.space.committing slots_now (with_device device devices list) (slice_set actors a (after_step (Write extent content) plan got x)) g b.0 n1 f.notes b.1 less1 first mid
           (set_there n.doings a (Some doing) (Some mid) noted) in_block in_range in
-          stays_on P A shape images t commit devices actors n known f a x ex (Writes written_part.block.0 (e.first % size P A shape) e.count content) t.words (with_device device devices list) (after_step (Write extent content) plan got x) n2 g tt second (length-set n1.doings a _ ∙ length-set n.doings a (Some mid)) (entered_many (rising (sector_for shape extent e) e.count) (entering n1 mid)) (metadata_same device devices list holds)
+          stays_on P A shape images t commit devices actors n known f a x ex (Writes written_part.block.0 (e.first % size P A shape) e.count content) t.words (with_device device devices list) (after_step (Write extent content) plan got x) n2 g tt second (length-set n1.doings a _ ∙ length-set n.doings a (Some mid)) (entered_many (rising (sector_for shape extent e) e.count) (entering n1 mid)) (data_device device holds devices list)
 
     pub writes : (contents : List Bytes) → e.first + e.count ≤ length (device_in device devices) →
         Goes P A shape (record { devices = with_device device devices (written_each (device_in device devices) e.first (replicate e.count content)); commit = commit; phase = Stands (record { words = t.words; desk = t.desk }); actors = slice_set actors a (actor_then {P = P} {A = A} shape (Stands t) devices x (Device (WriteExtent device e)) Done) })
@@ -274,11 +280,11 @@ newest_latest sectors histories b o (c ∷ contents) room inside all =
     (subst (λ (k : ℕ). All IsLatest (readings_from histories k contents)) (let e : b * sectors + (o + 1) ≡ suc (b * sectors + o) = omega arith in e)
     (newest_latest sectors histories b (o + 1) contents (omega (arith, room)) (omega (arith, inside)) all.1))
   where
-    here : IsLatest (record { sector = b * sectors + o; content = c; latest = Rattle.wb_runs.specs.Clerk.latest_of (slice_get histories (b * sectors + o)) })
+    here : IsLatest (record { sector = b * sectors + o; content = c; latest = Rattle.wb_promise.specs.Clerk.latest_of (slice_get histories (b * sectors + o)) })
     here =
         let h = there histories (b * sectors + o) (omega (arith, inside)) in
         let is : by_block sectors zeros histories b o ≡ h.0 = is_there sectors zeros histories b o h.0 (omega (arith, room)) h.1 in
-        ap Rattle.wb_runs.specs.Clerk.latest_of h.1 ∙ ap (λ (g : History). Some (newest g)) (sym is) ∙ ap (λ (x : Bytes). Some x) (sym all.0)
+        ap Rattle.wb_promise.specs.Clerk.latest_of h.1 ∙ ap (λ (g : History). Some (newest g)) (sym is) ∙ ap (λ (x : Bytes). Some x) (sym all.0)
 
 module _ (P A : Type 0) (shape : Shape) (images : Images) (t : Target P) (commit : Option RunningCommit) (devices : Devices (List History)) (actors : List Actor) (n : Notes) (known : MetadataKept {P = P} {A = A} shape.geometry images (Stands t) commit devices.metadata)
     (f : Followed P A shape images (standing P A shape images t commit devices actors n) n) (rule : LockRule shape.geometry.origin_blocks t.words (cards_of actors)) (all_suited : AllSuited shape.geometry.origin_blocks actors) (a : ℕ) (x : Actor) (ex : slice_get actors a ≡ Some x) (plan : Plan) (suits : Suits shape.geometry.origin_blocks plan x.card)
@@ -299,3 +305,74 @@ module _ (P A : Type 0) (shape : Shape) (images : Images) (t : Target P) (commit
       let m1 : (part.block.0 + 1) * shape.geometry.block ≤ shape.geometry.origin_blocks * shape.geometry.block = mul-le-mul_right shape.geometry.block (omega (arith, low)) in
       let sectors = f.sized.sectors in
       newest_latest (size P A shape) n.histories part.block.0 (e.first % size P A shape) contents (omega (arith, room, many_read)) (omega (arith, m1, room, many_read, sectors, mul_comm shape.geometry.block shape.geometry.origin_blocks)) newest
+
+-- ---- any step
+
+module _ (P A : Type 0) (shape : Shape) (images : Images) (t : Target P) (commit : Option RunningCommit) (devices : Devices (List History)) (actors : List Actor) (n : Notes) (known : MetadataKept {P = P} {A = A} shape.geometry images (Stands t) commit devices.metadata)
+    (f : Followed P A shape images (standing P A shape images t commit devices actors n) n) (rule : LockRule shape.geometry.origin_blocks t.words (cards_of actors)) (all_suited : AllSuited shape.geometry.origin_blocks actors) (a : ℕ) (x : Actor) (ex : slice_get actors a ≡ Some x) (plan : Plan) (suits : Suits shape.geometry.origin_blocks plan x.card)
+    (doing : Doing) (noted : slice_get n.doings a ≡ Some (Some doing)) where
+  abbrev w : State P A
+  w = standing P A shape images t commit devices actors n
+
+  abbrev Done_by : Job → Want → Got → List Bytes → Chosen P A → Type 0
+  Done_by job next got read chosen = Goes P A shape (stepped shape w a x next got chosen (λ step. device_done job x.buffer step chosen))
+      (noted_step shape (shown shape (stepped shape w a x next got chosen (λ step. device_done job x.buffer step chosen))) n a (Some (Some doing)) next got read)
+
+  abbrev Failed_by : Choice → Job → Want → List Bytes → Chosen P A → Type 0
+  Failed_by choice job next read chosen = Goes P A shape (stepped shape w a x next Fault chosen (λ step. device_failed (lands (device_of step) choice) job x.buffer step chosen))
+      (noted_step shape (shown shape (stepped shape w a x next Fault chosen (λ step. device_failed (lands (device_of step) choice) job x.buffer step chosen))) n a (Some (Some doing)) next Fault read)
+
+  own : (job : TaskJob) (next : Want) → plan.job ≡ job → next ≡ want plan → IsOwnStep job next
+  own job next j h = subst (λ (v : Want). IsOwnStep job v) (sym h) (subst (λ (q : TaskJob). IsOwnStep q (want plan)) j (is_own_step shape.geometry.origin_blocks plan x.card suits))
+
+  -- ---- reads
+
+  module _ (extent : Extent) (xt : x.task ≡ Some (Read extent, plan)) (job_is : doing.job ≡ Read extent) (claim : JobClaim shape (Read extent) plan doing) where
+    abbrev of_read : TaskJob
+    of_read = OnBlock (ReadingPart (block_range shape extent claim.cut))
+
+    pub read_steps : (next : Want) (got : Got) (read : List Bytes) (chosen : Chosen P A) → next ≡ want plan → Gives shape w x (Read extent) next got read chosen → Done_by (Read extent) next got read chosen
+    read_steps (Cell step) got read chosen e g = subst (λ (v : Got). Done_by (Read extent) (Cell step) v read chosen) (sym g.1)
+        (on_words P A shape images t commit devices actors n known f rule all_suited a x ex (Read extent) plan xt suits [] doing noted job_is step tt e)
+    read_steps (Device (ReadExtent d ex')) got read chosen e g = subst (λ (v : Got). Done_by (Read extent) (Device (ReadExtent d ex')) v read chosen) (sym g.2)
+        (subst (λ (c : Chosen P A). Done_by (Read extent) (Device (ReadExtent d ex')) Done read c) (sym g.1)
+        (subst (λ (ds : Devices (List History)). Goes P A shape (record { devices = ds; commit = commit; phase = Stands t; actors = slice_set actors a (actor_then {P = P} {A = A} shape (Stands t) devices x (Device (ReadExtent d ex')) Done) }) (noted_step shape [] n a (Some (Some doing)) (Device (ReadExtent d ex')) Done read)) (sym (same_device d devices g.0))
+        (reads P A shape images t commit devices actors n known f rule all_suited a x ex [] doing noted extent plan xt suits job_is claim d ex' e g.0 read g.3 g.4)))
+    read_steps (End answer) got read chosen e g = subst (λ (v : Got). Done_by (Read extent) (End answer) v read chosen) (sym g.1) (subst (λ (c : Chosen P A). Done_by (Read extent) (End answer) Done read c) (sym g.0.1)
+        (answers P A shape images t commit devices actors n known f rule all_suited a x ex _ doing noted (Read extent) tt plan xt suits job_is claim answer e read))
+    read_steps (Device (WriteExtent d ex')) got read chosen e g = absurd g
+    read_steps next got read chosen e g = absurd (own of_read next claim.is_job e)
+
+    pub read_faults : (choice : Choice) (next : Want) (read : List Bytes) (chosen : Chosen P A) → next ≡ want plan → MayFailAt devices choice next → Falters w choice next chosen → Failed_by choice (Read extent) next read chosen
+    read_faults choice (Device (ReadExtent d ex')) read chosen e m g = subst (λ (c : Chosen P A). Failed_by choice (Read extent) (Device (ReadExtent d ex')) read c) (sym g.0)
+        (subst (λ (ds : Devices (List History)). Goes P A shape (record { devices = ds; commit = commit; phase = Stands t; actors = slice_set actors a (actor_then {P = P} {A = A} shape (Stands t) devices x (Device (ReadExtent d ex')) Fault) }) (noted_step shape [] n a (Some (Some doing)) (Device (ReadExtent d ex')) Fault read)) (sym (same_device d devices g.1))
+        (read_fails P A shape images t commit devices actors n known f rule all_suited a x ex [] doing noted extent plan xt suits job_is claim d ex' e g.1 read))
+    read_faults choice (Device step) read chosen e m g = absurd (own of_read (Device step) claim.is_job e)
+    read_faults choice next read chosen e m g = absurd m
+
+  -- ---- writes
+
+  module _ (extent : Extent) (content : Bytes) (xt : x.task ≡ Some (Write extent content, plan)) (job_is : doing.job ≡ Write extent content) (claim : JobClaim shape (Write extent content) plan doing) where
+    abbrev of_write : TaskJob
+    of_write = OnBlock (WritingPart (block_range shape extent claim.cut))
+
+    pub write_steps : (next : Want) (got : Got) (read : List Bytes) (chosen : Chosen P A) → next ≡ want plan → Gives shape w x (Write extent content) next got read chosen → Done_by (Write extent content) next got read chosen
+    write_steps (Cell step) got read chosen e g = subst (λ (v : Got). Done_by (Write extent content) (Cell step) v read chosen) (sym g.1)
+        (on_words P A shape images t commit devices actors n known f rule all_suited a x ex (Write extent content) plan xt suits [] doing noted job_is step tt e)
+    write_steps (Device (WriteExtent d ex')) got read chosen e g = subst (λ (v : Got). Done_by (Write extent content) (Device (WriteExtent d ex')) v read chosen) (sym g.2)
+        (writes P A shape images t commit devices actors n known f rule all_suited a x ex [] doing noted extent content plan xt suits job_is claim d ex' e g.0 read g.3)
+    write_steps (End answer) got read chosen e g = subst (λ (v : Got). Done_by (Write extent content) (End answer) v read chosen) (sym g.1) (subst (λ (c : Chosen P A). Done_by (Write extent content) (End answer) Done read c) (sym g.0.1)
+        (answers P A shape images t commit devices actors n known f rule all_suited a x ex _ doing noted (Write extent content) tt plan xt suits job_is claim answer e read))
+    write_steps (Device (ReadExtent d ex')) got read chosen e g = absurd g
+    write_steps next got read chosen e g = absurd (own of_write next claim.is_job e)
+
+    pub write_faults : (choice : Choice) (next : Want) (read : List Bytes) (chosen : Chosen P A) → StepInside shape next → (length devices.cache ≡ Rattle.wb_promise.specs.States.cache_sector_count shape) → (length devices.origin ≡ sector_count shape) → next ≡ want plan → MayFailAt devices choice next → Falters w choice next chosen → Failed_by choice (Write extent content) next read chosen
+    write_faults choice (Device (WriteExtent d ex')) read chosen inside cs os e m g = subst (λ (c : Chosen P A). Failed_by choice (Write extent content) (Device (WriteExtent d ex')) read c) (sym g.0)
+        (write_fails P A shape images t commit devices actors n known f rule all_suited a x ex [] doing noted extent content plan xt suits job_is claim d ex' e g.1 read (lands d choice) (by d g.1 inside))
+      where
+        by : (d : Dev) → HoldsBlocks d → StepInside shape (Device (WriteExtent d ex')) → ex'.first + ex'.count ≤ length (device_in d devices)
+        by Cache h i = subst (λ (k : ℕ). ex'.first + ex'.count ≤ k) (sym cs) i
+        by Origin h i = subst (λ (k : ℕ). ex'.first + ex'.count ≤ k) (sym os) i
+        by Metadata h i = absurd h
+    write_faults choice (Device step) read chosen inside cs os e m g = absurd (own of_write (Device step) claim.is_job e)
+    write_faults choice next read chosen inside cs os e m g = absurd m

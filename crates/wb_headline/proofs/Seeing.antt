@@ -23,7 +23,7 @@ use Rattle.wb_tasks.specs.declared.step.Migration.{Migration}
 use Rattle.wb_tasks.specs.declared.step.Migration.TheVariants.{Promote, Demote, Clean}
 use Rattle.wb_refines.specs.Translation.{location_at, number_of}
 use Rattle.wb_refines.specs.Migrations.{IsWhere}
-use Rattle.wb_runs.specs.Headline.{place_of}
+use Rattle.wb_promise.specs.Headline.{place_of}
 use Rattle.wb_runs.proofs.Located.{same_block, one_there, stands_there}
 use Rattle.wb_runs.proofs.Metadata.{unknowing}
 use Rattle.wb_contents.specs.Volume.{Locations}

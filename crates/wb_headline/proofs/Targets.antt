@@ -1,5 +1,5 @@
 -- Where a target stands, what follows a happening in the abstract world leads to a state that is followed.
-use Rattle.std.proofs.Common.{true, ◌≡◌, ◌∙◌, ◌<◌, ℕ, false, List, [], ◌∷◌, Option, Some, None, refl, sym, subst, arith, length, slice_get, slice_set}
+use Rattle.std.proofs.Common.{◌⊎◌, inl, inr, Bool, true, ◌≡◌, ◌∙◌, ◌<◌, ℕ, false, List, [], ◌∷◌, Option, Some, None, refl, sym, subst, arith, length, slice_get, slice_set}
 use Rattle.std.proofs.lemmas.List.{length-set}
 use Rattle.std.proofs.lemmas.Option.{slice_get_within}
 use Rattle.wb_disk.specs.Device.{History}
@@ -11,15 +11,12 @@ use Rattle.wb_tasks.specs.declared.step.Want.{Want}
 use Rattle.wb_tasks.specs.declared.step.Got.{Got}
 use Rattle.wb_tasks.specs.declared.step.Got.TheVariants.{Fault}
 use Rattle.wb_tasks.specs.declared.step.DeviceStep.{DeviceStep}
-use Rattle.wb_tasks.specs.Ready.{HoldsBlocks}
-use Rattle.wb_types.specs.declared.mode.Dev.{Dev}
-use Rattle.wb_types.specs.declared.mode.Dev.TheVariants.{Metadata, Cache, Origin}
 use Rattle.wb_devices.specs.declared.devices.Devices.{Devices}
 use Rattle.wb_devices.specs.declared.running.RunningCommit.{RunningCommit}
-use Rattle.wb_runs.specs.declared.job.Job.{Job}
-use Rattle.wb_runs.specs.States.{Shape, State, Actor, Target, Phase, Stands, with_device}
-use Rattle.wb_runs.specs.Effects.{actor_then, task_then, card_then, orders_then, awaiting_then, buffer_then, job_of}
-use Rattle.wb_runs.specs.Clerk.{Notes, Doing, failing}
+use Rattle.wb_promise.specs.declared.job.Job.{Job}
+use Rattle.wb_promise.specs.States.{Shape, State, Actor, Target, Phase, Stands}
+use Rattle.wb_promise.specs.Effects.{actor_then, task_then, card_then, orders_then, awaiting_then, buffer_then, job_of}
+use Rattle.wb_promise.specs.Clerk.{Notes, Doing, failing}
 use Rattle.wb_runs.proofs.Images.{Images, later_of}
 use Rattle.wb_runs.proofs.Metadata.{MetadataKept, AtDesk, kept_readable}
 use Rattle.wb_link.specs.Tables.{Flag, table, Script, Order as AbstractOrder, Job as AbstractJob, Promoting, Returning, want}
@@ -33,12 +30,13 @@ use Rattle.wb_simulation.proofs.Opening.{images_followed}
 use Rattle.wb_headline.specs.Desks.{DeskAgrees, live_orders}
 use Rattle.wb_headline.proofs.Showing.{there}
 use Rattle.wb_headline.proofs.Events.{gone_on, records_reach}
-use Rattle.wb_headline.proofs.Unclean.{ArePlainRecords, records_on, steps_plain}
+use Rattle.wb_headline.proofs.Unclean.{ArePlainRecords, steps_plain}
 use Rattle.wb_headline.proofs.Desking.{desk_stays}
 use Rattle.wb_headline.proofs.Following.{many, size, most, Followed, Goes}
 use Rattle.wb_simulation.proofs.Followed.{doing_of}
 use Rattle.wb_types.specs.declared.number.OBlock.{OBlock}
-use Rattle.wb_runs.specs.declared.job.Job.TheVariants.{Replace}
+use Rattle.wb_promise.specs.declared.job.Job.TheVariants.{Replace}
+use Rattle.wb_promise.specs.Happenings.{LandedOr}
 
 -- ---- what is told starts no suspend
 
@@ -90,11 +88,10 @@ pub failing_same : (doing : Doing) (step : DeviceStep) (got : Got) → ((failing
 failing_same doing step Fault = (refl, refl)
 failing_same doing step got = (refl, refl)
 
--- a data device with another list leaves the metadata
-pub metadata_same : (device : Dev) (devices : Devices (List History)) (list : List History) → HoldsBlocks device → (with_device device devices list).metadata ≡ devices.metadata
-metadata_same Cache devices list h = refl
-metadata_same Origin devices list h = refl
-metadata_same Metadata devices list h = absurd h
+-- what a step that failed on the metadata left of them: all that it writes, or nothing
+pub landed_or : {X Y : Type 0} (landed : Bool) → LandedOr landed X Y → X ⊎ Y
+landed_or true h = inl h
+landed_or false h = inr h
 
 -- records leave as many actors
 many_stay : (s : World) (r : Record) → length (after_record s r).actors ≡ length s.actors
@@ -158,8 +155,7 @@ module _ (P A : Type 0) (shape : Shape) (images : Images) (t : Target P) (commit
       followed = record {
         site = gone_on f.site g.records;
         notes = told f.notes g.records;
-        reached = records_reach (size P A shape) (many P A shape) f.site f.notes g.records f.reached f.phase.phase_is g.run;
-        clean = records_on f.site.world g.records (told_plain telling a beside.0.task g.records plain (g.told beside.0 beside.1)) f.clean;
+        reached = records_reach (size P A shape) (many P A shape) f.site f.notes g.records f.reached f.phase.phase_is g.run (told_plain telling a beside.0.task g.records plain (g.told beside.0 beside.1));
         as_many = all_stay f.site.world g.records ∙ f.as_many;
         notes_agree = notes;
         sized = record { actors_many = length-set actors a y ∙ f.sized.actors_many; doings_many = d ∙ f.sized.doings_many; sectors = h ∙ f.sized.sectors };

@@ -28,9 +28,9 @@ use Rattle.wb_tasks.specs.declared.step.Migration.{Migration}
 use Rattle.wb_tasks.specs.declared.step.Migration.TheVariants.{Promote, Demote, Clean}
 use Rattle.wb_tasks.specs.declared.step.Want.{Want}
 use Rattle.wb_tasks.specs.declared.step.Want.TheVariants.{Cell, Desk}
-use Rattle.wb_runs.specs.States.{Actor}
+use Rattle.wb_promise.specs.States.{Actor}
 use Rattle.wb_runs.specs.Holding.{cards_of}
-use Rattle.wb_runs.specs.Sealed.{number_of}
+use Rattle.wb_promise.specs.Sealed.{number_of}
 use Rattle.wb_runs.proofs.Ruling.{card_at}
 
 -- ---- steps

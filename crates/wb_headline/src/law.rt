@@ -1,8 +1,8 @@
 //! The whole promise of every run.
 
-ghost use Rattle.wb_runs.specs.Headline.{AllCrashConsistent, AllOpeningsShowAllowed, AllRunsAreRight};
-ghost use Rattle.wb_runs.specs.Latest.{ReadsGiveLatest};
-ghost use Rattle.wb_runs.specs.Sealed.{SealsTellPlaces};
+ghost use Rattle.wb_promise.specs.Headline.{AllCrashConsistent, AllOpeningsShowAllowed, AllRunsAreRight};
+ghost use Rattle.wb_promise.specs.Latest.{ReadsGiveLatest};
+ghost use Rattle.wb_promise.specs.Sealed.{SealsTellPlaces};
 
 /// The whole promise. In every run from formatted metadata, over any policy: no event is skipped that applies; a read that is answered
 /// done was given each of its sectors once, and the last write to it; a write that is has entered each of its sectors once; an opening

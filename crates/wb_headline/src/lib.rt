@@ -1,4 +1,4 @@
-//! That every run of the machine of three devices (wb_runs) is followed by a run of the abstract world of all tasks (wb_link), and
+//! That every run of the machine of three devices (wb_promise) is followed by a run of the abstract world of all tasks (wb_link), and
 //! so keeps the whole promise: laws, no code.
 #![tactic(auto)]
 

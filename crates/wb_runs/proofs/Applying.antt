@@ -30,10 +30,10 @@ use Rattle.wb_tasks.specs.declared.step.Want.{Want}
 use Rattle.wb_tasks.specs.declared.step.Want.TheVariants.{Cell, Device, Desk, End}
 use Rattle.wb_devices.specs.declared.devices.Devices.{Devices}
 use Rattle.wb_devices.specs.Moving.{device_in}
-use Rattle.wb_runs.specs.declared.job.Job.{Job}
-use Rattle.wb_runs.specs.declared.job.Job.TheVariants.{Read, Write, Flush, Open, Migrate, Replace}
-use Rattle.wb_runs.specs.States.{Phase, Stands, Gone, Opens}
-use Rattle.wb_runs.specs.Happenings.{MayFailAt, MayStop, MayOrder, MayFollow, KeepsMigration, KeepsReplacement, IsOutOfPlace, order_for}
+use Rattle.wb_promise.specs.declared.job.Job.{Job}
+use Rattle.wb_promise.specs.declared.job.Job.TheVariants.{Read, Write, Flush, Open, Migrate, Replace}
+use Rattle.wb_promise.specs.States.{Phase, Stands, Gone, Opens}
+use Rattle.wb_promise.specs.Happenings.{MayFailAt, MayStop, MayOrder, MayFollow, KeepsMigration, KeepsReplacement, IsOutOfPlace, order_for}
 use Rattle.wb_runs.proofs.Spelling.{Decided, two_of, at_most}
 use Rattle.wb_runs.proofs.Lists.{first_or}
 use Rattle.wb_runs.proofs.Desks.{one_order, found_where}

@@ -27,8 +27,8 @@ use Rattle.wb_tasks.specs.declared.step.Want.{Want}
 use Rattle.wb_tasks.specs.declared.step.Want.TheVariants.{Cell, Device, Desk, End}
 use Rattle.wb_tasks.specs.declared.step.Got.{Got}
 use Rattle.wb_tasks.specs.declared.step.Got.TheVariants.{Begin, Done, Word, Lost, Fault, Refused as GotRefused, Began, More}
-use Rattle.wb_runs.specs.States.{Shape, block_size, sector_count, cache_sector_count}
-use Rattle.wb_runs.specs.Effects.{sealing_steps, words_by}
+use Rattle.wb_promise.specs.States.{Shape, block_size, sector_count, cache_sector_count}
+use Rattle.wb_promise.specs.Effects.{sealing_steps, words_by}
 use Rattle.wb_runs.specs.Inside.{StepInside}
 use Rattle.wb_runs.proofs.Plans.{plan_of}
 

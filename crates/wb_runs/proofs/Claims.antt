@@ -20,11 +20,11 @@ use Rattle.wb_tasks.specs.declared.step.DeviceStep.{DeviceStep}
 use Rattle.wb_tasks.specs.declared.step.DeviceStep.TheVariants.{Read as ReadExtent, Write as WriteExtent}
 use Rattle.wb_tasks.specs.declared.step.Want.TheVariants.{Cell, Device, End}
 use Rattle.wb_tasks.specs.declared.step.Got.TheVariants.{Done, Fault}
-use Rattle.wb_runs.specs.declared.job.Job.{Job}
-use Rattle.wb_runs.specs.declared.job.Job.TheVariants.{Read, Write, Open}
-use Rattle.wb_runs.specs.States.{Shape, Actor}
-use Rattle.wb_runs.specs.Happenings.{block_range, extent_refusal}
-use Rattle.wb_runs.specs.Clerk.{Doing, Reading, Position, Entering, enter_each, readings_from, sector_for}
+use Rattle.wb_promise.specs.declared.job.Job.{Job}
+use Rattle.wb_promise.specs.declared.job.Job.TheVariants.{Read, Write, Open}
+use Rattle.wb_promise.specs.States.{Shape, Actor}
+use Rattle.wb_promise.specs.Happenings.{block_range, extent_refusal}
+use Rattle.wb_promise.specs.Clerk.{Doing, Reading, Position, Entering, enter_each, readings_from, sector_for}
 use Rattle.wb_runs.proofs.Lists.{set_other, set_there}
 use Rattle.wb_runs.proofs.Extents.{may_start, cut_within}
 use Rattle.wb_runs.proofs.Covering.{home, homes, extents_left, read_covers, write_covers, read_moves, write_moves}

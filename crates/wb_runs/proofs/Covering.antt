@@ -24,9 +24,9 @@ use Rattle.std.proofs.Math.Nat.{mul-add-mod_self_right, mod-mod}
 use Rattle.wb_types.proofs.Lists.{Contains-first, Contains-behind}
 use Rattle.wb_types.specs.declared.number.CBlock.{CBlock}
 use Rattle.wb_words.specs.SharedWords.{place_in, dirty_in}
-use Rattle.wb_runs.specs.States.{Shape, block_size}
-use Rattle.wb_runs.specs.Happenings.{block_range}
-use Rattle.wb_runs.specs.Clerk.{sector_for}
+use Rattle.wb_promise.specs.States.{Shape, block_size}
+use Rattle.wb_promise.specs.Happenings.{block_range}
+use Rattle.wb_promise.specs.Clerk.{sector_for}
 use Rattle.wb_runs.proofs.Extents.{MayStart, AllWithin, cut_own}
 use Rattle.wb_runs.proofs.Plans.{plan_of}
 

@@ -13,9 +13,9 @@ use Rattle.wb_types.specs.declared.extent.Extent.{Extent}
 use Rattle.wb_types.specs.Extents.{rising, sectors_in, sectors_of, IsCutInto}
 use Rattle.std.proofs.lemmas.Bool.{eqb-true, leb-true}
 use Rattle.wb_types.specs.declared.refusal.Refusal.TheVariants.{Range, Crosses}
-use Rattle.wb_runs.specs.States.{Shape, sector_count}
-use Rattle.wb_runs.specs.Happenings.{extent_refusal, is_in_one_block}
-use Rattle.wb_runs.specs.Clerk.{sector_for}
+use Rattle.wb_promise.specs.States.{Shape, sector_count}
+use Rattle.wb_promise.specs.Happenings.{extent_refusal, is_in_one_block}
+use Rattle.wb_promise.specs.Clerk.{sector_for}
 
 -- an extent of some sectors, and not an empty one
 pub record Within (whole e : Extent) : Type 0 where

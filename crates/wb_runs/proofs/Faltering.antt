@@ -1,6 +1,5 @@
 -- A step that fails keeps what is known of the metadata.
-use Rattle.std.proofs.Common.{◌≡◌, ◌⊎◌, inl, inr, ℕ, Bool, true, false, List, Option, Some, None, refl, sym, subst}
-use Rattle.wb_types.specs.declared.mode.Dev.{Dev}
+use Rattle.std.proofs.Common.{◌≡◌, ◌⊎◌, inl, inr, ℕ, Bool, true, false, List, Option, Some, None, sym, subst}
 use Rattle.wb_types.specs.declared.mode.Dev.TheVariants.{Metadata, Cache, Origin}
 use Rattle.wb_disk.specs.Device.{Content as Bytes, History}
 use Rattle.wb_disk.specs.Failing.{lands, synced_where}
@@ -14,21 +13,14 @@ use Rattle.wb_tasks.specs.declared.step.Got.TheVariants.{Fault}
 use Rattle.wb_tasks.specs.Plan.{device_of}
 use Rattle.wb_tasks.specs.Ready.{HoldsBlocks}
 use Rattle.wb_devices.specs.declared.running.RunningCommit.{RunningCommit}
-use Rattle.wb_devices.specs.declared.devices.Devices.{Devices}
-use Rattle.wb_runs.specs.declared.job.Job.{Job}
-use Rattle.wb_runs.specs.States.{Shape, State, Target, Phase, Stands, Gone, Opens, with_device}
-use Rattle.wb_runs.specs.Happenings.{Chosen, Plain, Puts, LandedOr, sector_put, IsNextOf, FailsPut, FailsSync, Falters}
-use Rattle.wb_runs.specs.Effects.{device_failed, devices_then, commit_then, phase_then}
+use Rattle.wb_promise.specs.declared.job.Job.{Job}
+use Rattle.wb_promise.specs.States.{Shape, State, Target, Phase, Stands, Gone, Opens}
+use Rattle.wb_promise.specs.Happenings.{Chosen, Plain, Puts, LandedOr, sector_put, IsNextOf, FailsPut, FailsSync, Falters}
+use Rattle.wb_promise.specs.Effects.{device_failed, devices_then, commit_then, phase_then}
 use Rattle.wb_runs.proofs.Images.{Images, Turns, stays}
-use Rattle.wb_runs.proofs.Stepping.{IsData, data_same}
+use Rattle.wb_runs.proofs.Stepping.{IsData, data_same, data_device}
 use Rattle.wb_runs.proofs.Underway.{Readable, IsPut, stopped, sync_fails, put_fails, partly_readable}
 use Rattle.wb_runs.proofs.Metadata.{AtDesk, MetadataKept, kept_readable}
-
--- a device on which blocks stand is not the metadata device
-data_device : (device : Dev) → HoldsBlocks device → (devices : Devices (List History)) (new : List History) → (with_device device devices new).metadata ≡ devices.metadata
-data_device Metadata h devices new = absurd h
-data_device Cache h devices new = refl
-data_device Origin h devices new = refl
 
 module _ (P A : Type 0) (shape : Shape) where
   abbrev K : Images → Phase P A → Option RunningCommit → List History → Type 0

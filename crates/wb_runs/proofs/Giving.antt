@@ -49,10 +49,10 @@ use Rattle.wb_devices.specs.declared.devices.Devices.{Devices}
 use Rattle.wb_devices.specs.declared.running.RunningCommit.{RunningCommit}
 use Rattle.wb_devices.specs.Committing.{goes_on, is_coming}
 use Rattle.wb_devices.specs.Moving.{device_in}
-use Rattle.wb_runs.specs.declared.job.Job.{Job}
-use Rattle.wb_runs.specs.declared.job.Job.TheVariants.{Read, Write, Flush, Open, Migrate}
-use Rattle.wb_runs.specs.States.{Shape, State, Actor, Target, Stands, Opens, OfReading}
-use Rattle.wb_runs.specs.Happenings.{Chosen, Plain, Begins, Puts, Asks, Opened, OfSome, LandedOr, sector_put, DoesBegin, DoesPut, FailsPut, Gives, Falters}
+use Rattle.wb_promise.specs.declared.job.Job.{Job}
+use Rattle.wb_promise.specs.declared.job.Job.TheVariants.{Read, Write, Flush, Open, Migrate}
+use Rattle.wb_promise.specs.States.{Shape, State, Actor, Target, Stands, Opens, OfReading}
+use Rattle.wb_promise.specs.Happenings.{Chosen, Plain, Begins, Puts, Asks, Opened, OfSome, LandedOr, sector_put, DoesBegin, DoesPut, FailsPut, Gives, Falters}
 use Rattle.wb_runs.specs.Inside.{StepInside, size_on}
 use Rattle.wb_runs.proofs.Images.{Images}
 use Rattle.wb_runs.proofs.Spelled.{IsSmall, node_spelling, spelled_node}
@@ -281,7 +281,7 @@ module _ (P A : Type 0) (shape : Shape) (devices : Devices (List History)) (comm
       migration_gives sound migration block part (Device WriteRoot) i s = absurd i
 
     -- where a step of a job of a block fails
-    pub block_falters : (job : BlockJob) (choice : Choice) (next : Want) → IsOwnStep (OnBlock job) next → Rattle.wb_runs.specs.Happenings.MayFailAt devices choice next → CanFalter w choice next
+    pub block_falters : (job : BlockJob) (choice : Choice) (next : Want) → IsOwnStep (OnBlock job) next → Rattle.wb_promise.specs.Happenings.MayFailAt devices choice next → CanFalter w choice next
     block_falters (Reading part) choice (Device (ReadExtent d e)) i m = record { chosen = Plain; falters = (refl, i) }
     block_falters (Writing part) choice (Device (WriteExtent d e)) i m = record { chosen = Plain; falters = (refl, i) }
     block_falters (Migrating migration part) choice (Device (ReadExtent d e)) i m = record { chosen = Plain; falters = (refl, subst HoldsBlocks (sym i) (source_holds migration)) }
@@ -313,11 +313,11 @@ module _ (P A : Type 0) (shape : Shape) (devices : Devices (List History)) (comm
 
       sync_gives : (nodes : ℕ) (steps : CommitSteps) → Runs nodes steps commit → ((image : Image) → length image.nodes.items ≡ nodes → is_coming image steps (Sync Metadata) ≡ true) → CanGive shape w x Flush (Device (Sync Metadata))
       sync_gives nodes steps r coming = let s = syncs_next P A nodes commit devices.metadata steps r fits coming in
-          record { got = Done; read = []; chosen = Plain; gives = (refl, refl, subst (λ (c : Option RunningCommit). Rattle.wb_runs.specs.Happenings.DoesSync {P = P} {A = A} (Stands t) c devices.metadata Plain) (sym s.1) (s.2, refl)) }
+          record { got = Done; read = []; chosen = Plain; gives = (refl, refl, subst (λ (c : Option RunningCommit). Rattle.wb_promise.specs.Happenings.DoesSync {P = P} {A = A} (Stands t) c devices.metadata Plain) (sym s.1) (s.2, refl)) }
 
       sync_falters : (choice : Choice) (nodes : ℕ) (steps : CommitSteps) → Runs nodes steps commit → ((image : Image) → length image.nodes.items ≡ nodes → is_coming image steps (Sync Metadata) ≡ true) → CanFalter w choice (Device (Sync Metadata))
       sync_falters choice nodes steps r coming = let s = syncs_next P A nodes commit devices.metadata steps r fits coming in
-          record { chosen = Plain; falters = (refl, subst (λ (c : Option RunningCommit). Rattle.wb_runs.specs.Happenings.FailsSync {P = P} {A = A} (Stands t) c devices.metadata) (sym s.1) (s.2, tt)) }
+          record { chosen = Plain; falters = (refl, subst (λ (c : Option RunningCommit). Rattle.wb_promise.specs.Happenings.FailsSync {P = P} {A = A} (Stands t) c devices.metadata) (sym s.1) (s.2, tt)) }
 
       pub flush_gives : (point : FlushPoint) → AtFlush point commit → CanGive shape w x Flush (want (F point))
       flush_gives ToLook at = cell_gives Flush _
@@ -337,7 +337,7 @@ module _ (P A : Type 0) (shape : Shape) (devices : Devices (List History)) (comm
       flush_gives (ToRelease []) at = record { got = Done; read = []; chosen = Plain; gives = ((refl, refl), refl) }
       flush_gives (ToRelease (block ∷ blocks)) at = let r = releases t.desk x.awaiting block known.is.kept in record { got = Done; read = []; chosen = Asks r.0; gives = (refl, refl, r.1) }
 
-      pub flush_falters : (choice : Choice) (point : FlushPoint) → AtFlush point commit → Rattle.wb_runs.specs.Happenings.MayFailAt devices choice (want (F point)) → CanFalter w choice (want (F point))
+      pub flush_falters : (choice : Choice) (point : FlushPoint) → AtFlush point commit → Rattle.wb_promise.specs.Happenings.MayFailAt devices choice (want (F point)) → CanFalter w choice (want (F point))
       flush_falters choice ToLook at m = absurd m
       flush_falters choice ToBegin at m = absurd m
       flush_falters choice (ToSyncCache nodes) at m = record { chosen = Plain; falters = refl }
@@ -377,23 +377,23 @@ module _ (P A : Type 0) (shape : Shape) (devices : Devices (List History)) (comm
     answers (Some reading) (Some c) k at = (subst (λ (x : ReadSteps A). IsDone x) (sym k.all) tt, ap (λ (s : CommitSteps). Rattle.wb_devices.specs.Committing.is_committed s) at.2)
 
     pub open_gives : (point : OpenPoint) → AtOpen n point reading commit → CanGive shape v x (Open m') (want (O point))
-    open_gives AtFirst at = record { got = Done; read = []; chosen = Begins first; gives = (refl, refl, subst (λ (c : Option RunningCommit). Rattle.wb_runs.specs.Happenings.DoesSync {P = P} {A = A} (Opens mode reading) c devices.metadata (Begins first)) (sym at.0) begins) }
+    open_gives AtFirst at = record { got = Done; read = []; chosen = Begins first; gives = (refl, refl, subst (λ (c : Option RunningCommit). Rattle.wb_promise.specs.Happenings.DoesSync {P = P} {A = A} (Opens mode reading) c devices.metadata (Begins first)) (sym at.0) begins) }
     open_gives AtCache at = record { got = Done; read = []; chosen = Plain; gives = ((refl, refl), refl) }
     open_gives AtOrigin at = record { got = Done; read = []; chosen = Plain; gives = ((refl, refl), refl) }
     open_gives (AtRead left) at = reads_on left reading commit at.0 known at.1
     open_gives AtRoot at = let p = puts_root P A 0 commit devices.metadata at opens_fit in record { got = Done; read = []; chosen = p.0; gives = (refl, refl, p.1) }
     open_gives AtRootSync at = let s = syncs_next P A 0 commit devices.metadata RootWritten at opens_fit (λ i e. refl) in
-        record { got = Done; read = []; chosen = Plain; gives = (refl, refl, subst (λ (c : Option RunningCommit). Rattle.wb_runs.specs.Happenings.DoesSync {P = P} {A = A} (Opens mode reading) c devices.metadata Plain) (sym s.1) (s.2, refl)) }
+        record { got = Done; read = []; chosen = Plain; gives = (refl, refl, subst (λ (c : Option RunningCommit). Rattle.wb_promise.specs.Happenings.DoesSync {P = P} {A = A} (Opens mode reading) c devices.metadata Plain) (sym s.1) (s.2, refl)) }
     open_gives AtEnd at = record { got = Done; read = []; chosen = Opened policy; gives = (refl, refl, answers reading commit known at) }
     open_gives (AtRefusal refusal) at = record { got = Done; read = []; chosen = Plain; gives = ((refl, refl), refl) }
 
-    pub open_falters : (choice : Choice) (point : OpenPoint) → AtOpen n point reading commit → Rattle.wb_runs.specs.Happenings.MayFailAt devices choice (want (O point)) → CanFalter v choice (want (O point))
-    open_falters choice AtFirst at m = record { chosen = Plain; falters = (refl, subst (λ (c : Option RunningCommit). Rattle.wb_runs.specs.Happenings.FailsSync {P = P} {A = A} (Opens mode reading) c devices.metadata) (sym at.0) tt) }
+    pub open_falters : (choice : Choice) (point : OpenPoint) → AtOpen n point reading commit → Rattle.wb_promise.specs.Happenings.MayFailAt devices choice (want (O point)) → CanFalter v choice (want (O point))
+    open_falters choice AtFirst at m = record { chosen = Plain; falters = (refl, subst (λ (c : Option RunningCommit). Rattle.wb_promise.specs.Happenings.FailsSync {P = P} {A = A} (Opens mode reading) c devices.metadata) (sym at.0) tt) }
     open_falters choice AtCache at m = record { chosen = Plain; falters = refl }
     open_falters choice AtOrigin at m = record { chosen = Plain; falters = refl }
     open_falters choice (AtRead left) at m = record { chosen = Plain; falters = (refl, at.0) }
     open_falters choice AtRoot at m = let p = fails_root P A 0 commit choice devices.metadata at opens_fit in record { chosen = p.0; falters = p.1 }
     open_falters choice AtRootSync at m = let s = syncs_next P A 0 commit devices.metadata RootWritten at opens_fit (λ i e. refl) in
-        record { chosen = Plain; falters = (refl, subst (λ (c : Option RunningCommit). Rattle.wb_runs.specs.Happenings.FailsSync {P = P} {A = A} (Opens mode reading) c devices.metadata) (sym s.1) (s.2, tt)) }
+        record { chosen = Plain; falters = (refl, subst (λ (c : Option RunningCommit). Rattle.wb_promise.specs.Happenings.FailsSync {P = P} {A = A} (Opens mode reading) c devices.metadata) (sym s.1) (s.2, tt)) }
     open_falters choice AtEnd at m = absurd m
     open_falters choice (AtRefusal refusal) at m = absurd m

@@ -27,11 +27,11 @@ use Rattle.wb_tasks.specs.declared.step.Got.{Got}
 use Rattle.wb_tasks.specs.declared.step.Got.TheVariants.{Done, Word, Fault, Refused as GotRefused, Began, More}
 use Rattle.wb_devices.specs.declared.running.RunningCommit.{RunningCommit}
 use Rattle.wb_devices.specs.Opened.{HasCome, got_of_refusal}
-use Rattle.wb_runs.specs.declared.job.Job.{Job}
-use Rattle.wb_runs.specs.declared.job.Job.TheVariants.{Flush, Open}
-use Rattle.wb_runs.specs.States.{Shape, State, Actor, Target, Stands, Opens}
-use Rattle.wb_runs.specs.Happenings.{Chosen, Plain, Begins, Reaches, Commits, OfSome, HasGeneration, DoesSync, DoesRead, DoesBegin, Gives, Falters}
-use Rattle.wb_runs.specs.Effects.{commit_then, reading_then, task_then}
+use Rattle.wb_promise.specs.declared.job.Job.{Job}
+use Rattle.wb_promise.specs.declared.job.Job.TheVariants.{Flush, Open}
+use Rattle.wb_promise.specs.States.{Shape, State, Actor, Target, Stands, Opens}
+use Rattle.wb_promise.specs.Happenings.{Chosen, Plain, Begins, Reaches, Commits, OfSome, HasGeneration, DoesSync, DoesRead, DoesBegin, Gives, Falters}
+use Rattle.wb_promise.specs.Effects.{commit_then, reading_then, task_then}
 use Rattle.wb_runs.proofs.Plans.{plan_of}
 use Rattle.wb_runs.proofs.Metadata.{AtDesk}
 use Rattle.wb_runs.proofs.Images.{Images}
@@ -40,7 +40,7 @@ use Rattle.wb_runs.proofs.Points.{Runs, FlushPoint, ToLook, ToBegin, ToSyncCache
 
 -- ---- a commit goes on
 
-leads_on : (nodes : ℕ) (commit : Option RunningCommit) (steps : CommitSteps) → Runs nodes steps commit → (steps' : CommitSteps) → ((image : Image) → length image.nodes.items ≡ nodes → steps_after image steps ≡ steps') → Runs nodes steps' (Rattle.wb_runs.specs.Effects.led commit Done)
+leads_on : (nodes : ℕ) (commit : Option RunningCommit) (steps : CommitSteps) → Runs nodes steps commit → (steps' : CommitSteps) → ((image : Image) → length image.nodes.items ≡ nodes → steps_after image steps ≡ steps') → Runs nodes steps' (Rattle.wb_promise.specs.Effects.led commit Done)
 leads_on nodes None steps r steps' f = absurd r
 leads_on nodes (Some c) steps r steps' f = (r.0, r.1, ap (λ (s : CommitSteps). steps_after c.image s) r.2 ∙ f c.image r.0)
 
@@ -106,7 +106,7 @@ module _ (P A : Type 0) (shape : Shape) (t : Target P) (commit : Option RunningC
       by_test true = quietly answer ToBegin _ refl tt (λ i. absurd i)
       by_test false = quietly (Refuses Failed) (ToRelease []) _ refl tt (λ i. absurd i)
 
-  begins : (got : Got) (chosen : Chosen P A) → DoesBegin most t.desk got chosen → Then (Rattle.wb_runs.specs.Effects.begun_commit chosen commit) (after (F (flush_left serves most ToBegin)) got)
+  begins : (got : Got) (chosen : Chosen P A) → DoesBegin most t.desk got chosen → Then (Rattle.wb_promise.specs.Effects.begun_commit chosen commit) (after (F (flush_left serves most ToBegin)) got)
   begins (Began nodes) (Commits c tree) s = record {
     leader' = a;
     here = record { serves = serves; most = most; answer = answer; point = ToSyncCache nodes; is = refl; at = (sym s.1, image_small shape.geometry t.desk tree c known.is.geometry known.is.kept.mapping s.3 s.4, s.2); leads = λ i. refl };
@@ -143,8 +143,8 @@ module _ (P A : Type 0) (shape : Shape) (t : Target P) (commit : Option RunningC
     done : (next : Want) (ws : List Want) → got ≡ Done → (commit' : Option RunningCommit) → Then commit' (F ws) → Then commit' (after (F (next ∷ ws)) got)
     done next ws e commit' k = subst (λ (g : Got). Then commit' (after (F (next ∷ ws)) g)) (sym e) k
 
-    led_done : (nodes : ℕ) → got ≡ Done → (steps steps' : CommitSteps) → Runs nodes steps commit → ((image : Image) → length image.nodes.items ≡ nodes → steps_after image steps ≡ steps') → Runs nodes steps' (Rattle.wb_runs.specs.Effects.led commit got)
-    led_done nodes e steps steps' r f = subst (λ (g : Got). Runs nodes steps' (Rattle.wb_runs.specs.Effects.led commit g)) (sym e) (leads_on nodes commit steps r steps' f)
+    led_done : (nodes : ℕ) → got ≡ Done → (steps steps' : CommitSteps) → Runs nodes steps commit → ((image : Image) → length image.nodes.items ≡ nodes → steps_after image steps ≡ steps') → Runs nodes steps' (Rattle.wb_promise.specs.Effects.led commit got)
+    led_done nodes e steps steps' r f = subst (λ (g : Got). Runs nodes steps' (Rattle.wb_promise.specs.Effects.led commit g)) (sym e) (leads_on nodes commit steps r steps' f)
 
     pub flush_moves : (point : FlushPoint) → AtFlush point commit → (IsLeading point → a ≡ leader) → Gives shape (record { devices = w.devices; commit = commit; phase = Stands t; actors = w.actors }) x Flush (want (F (flush_left serves most point))) got read chosen → After (want (F (flush_left serves most point))) (F (flush_left serves most point))
     flush_moves ToLook at l g = looks got g.1
@@ -157,7 +157,7 @@ module _ (P A : Type 0) (shape : Shape) (t : Target P) (commit : Option RunningC
     flush_moves (ToWriteNodes (suc left) from) at l g =
         let more : from + suc left ≡ from + 1 + left = omega arith in
         done _ _ g.1 _ (leading _ answer (ToWriteNodes left (from + 1)) _ refl
-        (subst (λ (n : ℕ). Runs n (NodesWritten (from + 1)) (Rattle.wb_runs.specs.Effects.led commit got)) more (led_done (from + suc left) g.1 (NodesWritten from) (NodesWritten (from + 1)) at (node_over left from))) (l tt))
+        (subst (λ (n : ℕ). Runs n (NodesWritten (from + 1)) (Rattle.wb_promise.specs.Effects.led commit got)) more (led_done (from + suc left) g.1 (NodesWritten from) (NodesWritten (from + 1)) at (node_over left from))) (l tt))
     flush_moves (ToWriteRoot nodes) at l g = done _ _ g.1 _ (leading _ answer (ToSyncRoot nodes) _ refl (led_done nodes g.1 NodesSynced RootWritten at (λ i e. refl)) (l tt))
     flush_moves (ToSyncRoot nodes) at l g = done _ _ g.1 _ (leading _ answer (ToEnd nodes) _ refl (led_done nodes g.1 RootWritten Committed at (λ i e. refl)) (l tt))
     flush_moves (ToEnd nodes) at l g = done _ _ g.1 _ (leading None answer (ToRelease []) _ refl tt (l tt))
@@ -197,7 +197,7 @@ module _ (P A : Type 0) (shape : Shape) (mode m' : Mode) (reading : Option (Read
     syncs_first : (c : Option RunningCommit) → c ≡ None → 1 ≤ n → got ≡ Done → (ch : Chosen P A) → DoesSync {P = P} {A = A} (Opens mode reading) c w.devices.metadata ch →
         OpenAt (reading_then reading (want (O AtFirst)) got ch) (commit_then {P = P} {A = A} (Opens mode reading) c (want (O AtFirst)) got ch) (after (O AtFirst) got)
     syncs_first (Some c) e k g ch d = absurd (cc)
-    syncs_first None e k g (Begins now) d = subst (λ (x : Got). OpenAt (reading_then {P = P} {A = A} reading (want (O AtFirst)) x (Begins now)) (Rattle.wb_runs.specs.Effects.led None x) (after (O AtFirst) x)) (sym g)
+    syncs_first None e k g (Begins now) d = subst (λ (x : Got). OpenAt (reading_then {P = P} {A = A} reading (want (O AtFirst)) x (Begins now)) (Rattle.wb_promise.specs.Effects.led None x) (after (O AtFirst) x)) (sym g)
         (record { sectors = n; point = AtCache; is = refl; at = (refl, k) })
     syncs_first None e k g ch d = absurd d
 
@@ -223,13 +223,13 @@ module _ (P A : Type 0) (shape : Shape) (mode m' : Mode) (reading : Option (Read
         by_refusal refusal h = subst (λ (x : Got). OpenAt r c (after (O (AtRead left)) x)) (sym h) (refuses r c refusal _ refl)
     reads left was e ch g = absurd g
 
-    on_reading : (left : ℕ) (r : Option (ReadSteps A)) → commit ≡ None → Rattle.wb_runs.specs.States.OfReading {P = P} {A = A} (Opens mode r) (λ mode was. DoesRead shape.geometry left was w.devices.metadata commit got chosen) →
+    on_reading : (left : ℕ) (r : Option (ReadSteps A)) → commit ≡ None → Rattle.wb_promise.specs.States.OfReading {P = P} {A = A} (Opens mode r) (λ mode was. DoesRead shape.geometry left was w.devices.metadata commit got chosen) →
         OpenAt (reading_then r (want (O (AtRead left))) got chosen) (commit_then {P = P} {A = A} (Opens mode r) commit (want (O (AtRead left))) got chosen) (after (O (AtRead left)) got)
     on_reading left (Some was) e g = reads left was e chosen g
     on_reading left None e g = absurd g
 
-    led_on : got ≡ Done → (steps steps' : CommitSteps) → Runs 0 steps commit → ((image : Image) → length image.nodes.items ≡ 0 → steps_after image steps ≡ steps') → Runs 0 steps' (Rattle.wb_runs.specs.Effects.led commit got)
-    led_on e steps steps' r f = subst (λ (g : Got). Runs 0 steps' (Rattle.wb_runs.specs.Effects.led commit g)) (sym e) (leads_on 0 commit steps r steps' f)
+    led_on : got ≡ Done → (steps steps' : CommitSteps) → Runs 0 steps commit → ((image : Image) → length image.nodes.items ≡ 0 → steps_after image steps ≡ steps') → Runs 0 steps' (Rattle.wb_promise.specs.Effects.led commit got)
+    led_on e steps steps' r f = subst (λ (g : Got). Runs 0 steps' (Rattle.wb_promise.specs.Effects.led commit g)) (sym e) (leads_on 0 commit steps r steps' f)
 
     on_to : (p q : OpenPoint) (r' : Option (ReadSteps A)) (c' : Option RunningCommit) → got ≡ Done → after (O p) Done ≡ O q → AtOpen n q r' c' → OpenAt r' c' (after (O p) got)
     on_to p q r' c' e is at = subst (λ (x : Got). OpenAt r' c' (after (O p) x)) (sym e) (record { sectors = n; point = q; is = is; at = at })

@@ -38,17 +38,17 @@ use Rattle.wb_tasks.specs.declared.step.Got.TheVariants.{Word, Fault}
 use Rattle.wb_devices.specs.declared.devices.Devices.{Devices}
 use Rattle.wb_devices.specs.declared.running.RunningCommit.{RunningCommit}
 use Rattle.wb_devices.specs.Moving.{device_in}
-use Rattle.wb_runs.specs.declared.job.Job.{Job}
-use Rattle.wb_runs.specs.declared.job.Job.TheVariants.{Read, Write, Flush, Open, Migrate, Replace}
-use Rattle.wb_runs.specs.declared.event.Event.{Event}
-use Rattle.wb_runs.specs.declared.event.Event.TheVariants.{Start, Step, FaultStep, Stop}
-use Rattle.wb_runs.specs.declared.event.What.{What}
-use Rattle.wb_runs.specs.declared.event.What.TheVariants.{Skipped, Refused, Started, Stepped, Stopped}
-use Rattle.wb_runs.specs.States.{Shape, State, Actor, Phase, Stands, Gone, Opens, OfTarget, resting, with_device, block_size, sector_count, cache_sector_count, start}
-use Rattle.wb_runs.specs.Happenings.{Chosen, Plain, Cut, Orders, Opened, Happening, OfSome, Gives, Falters, MayFailAt, StartGives, MayBe, orders_in, order_for, task_job, extent_refusal, begun_as}
-use Rattle.wb_runs.specs.Effects.{put_by, contents_for, device_done, device_failed, devices_then, commit_then, phase_then, phase_opened, phase_given, task_then, actor_then, cut_of, stepped, with_actor, cleared, given, started, job_of, all_resting, after_what, after_happening, after_all, IsRun}
-use Rattle.wb_runs.specs.Clerk.{Notes, formatted}
-use Rattle.wb_runs.specs.Headline.{note_happening}
+use Rattle.wb_promise.specs.declared.job.Job.{Job}
+use Rattle.wb_promise.specs.declared.job.Job.TheVariants.{Read, Write, Flush, Open, Migrate, Replace}
+use Rattle.wb_promise.specs.declared.event.Event.{Event}
+use Rattle.wb_promise.specs.declared.event.Event.TheVariants.{Start, Step, FaultStep, Stop}
+use Rattle.wb_promise.specs.declared.event.What.{What}
+use Rattle.wb_promise.specs.declared.event.What.TheVariants.{Skipped, Refused, Started, Stepped, Stopped}
+use Rattle.wb_promise.specs.States.{Shape, State, Actor, Phase, Stands, Gone, Opens, OfTarget, resting, with_device, block_size, sector_count, cache_sector_count, start}
+use Rattle.wb_promise.specs.Happenings.{Chosen, Plain, Cut, Orders, Opened, Happening, OfSome, Gives, Falters, MayFailAt, StartGives, MayBe, orders_in, order_for, task_job, extent_refusal, begun_as}
+use Rattle.wb_promise.specs.Effects.{put_by, contents_for, device_done, device_failed, devices_then, commit_then, phase_then, phase_opened, phase_given, task_then, actor_then, cut_of, stepped, with_actor, cleared, given, started, job_of, all_resting, after_what, after_happening, after_all, IsRun}
+use Rattle.wb_promise.specs.Clerk.{Notes, formatted}
+use Rattle.wb_promise.specs.Headline.{note_happening}
 use Rattle.wb_runs.specs.Inside.{StepInside, TaskInside, StaysInside}
 use Rattle.wb_runs.proofs.Lists.{replicated, first_or}
 use Rattle.wb_runs.proofs.Rooted.{length-grown}
@@ -84,12 +84,12 @@ same_with Origin devices new h = (refl, h tt)
 
 -- ---- extents of a job
 
-some_there : (whole : Extent) (cut : List Extent) → AllWithin whole cut → (e : Extent) → Contains cut e → Within whole e
+pub some_there : (whole : Extent) (cut : List Extent) → AllWithin whole cut → (e : Extent) → Contains cut e → Within whole e
 some_there whole [] i e c = absurd (omega (arith, c.1))
 some_there whole (x ∷ xs) i e c = first_or x e xs (Within whole e) c (λ s. subst (λ (y : Extent). Within whole y) (sym s) i.0) (λ r. some_there whole xs i.1 e r)
 
 -- sectors of one block
-in_one_block : (b first count q : ℕ) → 0 < b → 1 ≤ count → first / b ≡ q → (first + count - 1) / b ≡ q → first % b + count ≤ b
+pub in_one_block : (b first count q : ℕ) → 0 < b → 1 ≤ count → first / b ≡ q → (first + count - 1) / b ≡ q → first % b + count ≤ b
 in_one_block b first count q some many f l =
     let low = div-add-mod first b in
     let high = div-add-mod (first + count - 1) b in
@@ -229,11 +229,11 @@ module _ (P A : Type 0) (shape : Shape) where
   opened_seals mode reading commit got Plain m i k = tt
   opened_seals mode reading commit got (Cut es) m i k = tt
   opened_seals mode reading commit got (Orders es c) m i k = tt
-  opened_seals mode reading commit got (Rattle.wb_runs.specs.Happenings.Begins now) m i k = tt
-  opened_seals mode reading commit got (Rattle.wb_runs.specs.Happenings.Reaches now c) m i k = tt
-  opened_seals mode reading commit got (Rattle.wb_runs.specs.Happenings.Puts new) m i k = tt
-  opened_seals mode reading commit got (Rattle.wb_runs.specs.Happenings.Commits c tree) m i k = tt
-  opened_seals mode reading commit got (Rattle.wb_runs.specs.Happenings.Asks new) m i k = tt
+  opened_seals mode reading commit got (Rattle.wb_promise.specs.Happenings.Begins now) m i k = tt
+  opened_seals mode reading commit got (Rattle.wb_promise.specs.Happenings.Reaches now c) m i k = tt
+  opened_seals mode reading commit got (Rattle.wb_promise.specs.Happenings.Puts new) m i k = tt
+  opened_seals mode reading commit got (Rattle.wb_promise.specs.Happenings.Commits c tree) m i k = tt
+  opened_seals mode reading commit got (Rattle.wb_promise.specs.Happenings.Asks new) m i k = tt
 
   seals_on : (phase : Phase P A) (commit : Option RunningCommit) (m : List History) (next : Want) (got : Got) (chosen : Chosen P A) (i : Images) → SealsHere shape phase → StepInside shape next → MetadataKept shape.geometry i (phase_then shape phase next got chosen) (commit_then phase commit next got chosen) m → SealsHere shape (phase_then shape phase next got chosen)
   seals_on (Stands t) commit m (Cell step) got chosen i s l k = seals_after shape t.words step l s
@@ -300,20 +300,20 @@ module _ (P A : Type 0) (shape : Shape) where
   same_seals (Stands t) (Migrate migration block) (Orders cut cache) s = s
   same_seals (Stands t) (Migrate migration block) Plain s = s
   same_seals (Stands t) (Migrate migration block) (Cut cut) s = s
-  same_seals (Stands t) (Migrate migration block) (Rattle.wb_runs.specs.Happenings.Begins now) s = s
-  same_seals (Stands t) (Migrate migration block) (Rattle.wb_runs.specs.Happenings.Reaches now commit) s = s
-  same_seals (Stands t) (Migrate migration block) (Rattle.wb_runs.specs.Happenings.Puts new) s = s
-  same_seals (Stands t) (Migrate migration block) (Rattle.wb_runs.specs.Happenings.Commits commit tree) s = s
-  same_seals (Stands t) (Migrate migration block) (Rattle.wb_runs.specs.Happenings.Asks new) s = s
+  same_seals (Stands t) (Migrate migration block) (Rattle.wb_promise.specs.Happenings.Begins now) s = s
+  same_seals (Stands t) (Migrate migration block) (Rattle.wb_promise.specs.Happenings.Reaches now commit) s = s
+  same_seals (Stands t) (Migrate migration block) (Rattle.wb_promise.specs.Happenings.Puts new) s = s
+  same_seals (Stands t) (Migrate migration block) (Rattle.wb_promise.specs.Happenings.Commits commit tree) s = s
+  same_seals (Stands t) (Migrate migration block) (Rattle.wb_promise.specs.Happenings.Asks new) s = s
   same_seals (Stands t) (Migrate migration block) (Opened policy) s = s
   same_seals (Stands t) (Replace old new) (Orders cut cache) s = s
   same_seals (Stands t) (Replace old new) Plain s = s
   same_seals (Stands t) (Replace old new) (Cut cut) s = s
-  same_seals (Stands t) (Replace old new) (Rattle.wb_runs.specs.Happenings.Begins now) s = s
-  same_seals (Stands t) (Replace old new) (Rattle.wb_runs.specs.Happenings.Reaches now commit) s = s
-  same_seals (Stands t) (Replace old other) (Rattle.wb_runs.specs.Happenings.Puts new) s = s
-  same_seals (Stands t) (Replace old new) (Rattle.wb_runs.specs.Happenings.Commits commit tree) s = s
-  same_seals (Stands t) (Replace old other) (Rattle.wb_runs.specs.Happenings.Asks new) s = s
+  same_seals (Stands t) (Replace old new) (Rattle.wb_promise.specs.Happenings.Begins now) s = s
+  same_seals (Stands t) (Replace old new) (Rattle.wb_promise.specs.Happenings.Reaches now commit) s = s
+  same_seals (Stands t) (Replace old other) (Rattle.wb_promise.specs.Happenings.Puts new) s = s
+  same_seals (Stands t) (Replace old new) (Rattle.wb_promise.specs.Happenings.Commits commit tree) s = s
+  same_seals (Stands t) (Replace old other) (Rattle.wb_promise.specs.Happenings.Asks new) s = s
   same_seals (Stands t) (Replace old new) (Opened policy) s = s
   same_seals (Stands t) (Read extent) chosen s = s
   same_seals (Stands t) (Write extent content) chosen s = s

@@ -1,7 +1,7 @@
 pub mod Images
 pub mod Underway
 pub mod Metadata
-mod Spelling
+pub mod Spelling
 pub mod Desks
 pub mod Stepping
 pub mod Faltering
@@ -25,21 +25,8 @@ pub mod Claims
 pub mod Linking
 pub mod LinkedRuns
 mod Spelled
-mod Bare
-mod Beginning
-mod Readings
-mod Completing
-mod Rooted
-mod Shown
-mod FirstFlush
-mod FirstOpening
-mod FirstLife
-mod Surviving
-mod FirstPromotion
-mod FirstDemotion
-mod FirstReplacement
-mod FirstWriteBack
-mod FirstFollowing
+pub mod Readings
+pub mod Rooted
 mod Bounds
 pub mod InsideRuns
 mod Points
@@ -49,4 +36,3 @@ mod Giving
 mod Applying
 mod Making
 mod Free
-mod Excluding

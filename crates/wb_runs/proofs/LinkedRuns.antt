@@ -19,17 +19,18 @@ use Rattle.wb_tasks.specs.declared.step.Want.{Want}
 use Rattle.wb_tasks.specs.declared.step.Want.TheVariants.{Cell, Device, Desk, End}
 use Rattle.wb_tasks.specs.declared.step.Got.{Got}
 use Rattle.wb_tasks.specs.declared.step.Got.TheVariants.{Fault}
-use Rattle.wb_runs.specs.declared.job.Job.{Job}
-use Rattle.wb_runs.specs.declared.job.Job.TheVariants.{Read, Write, Flush, Open, Migrate, Replace}
-use Rattle.wb_runs.specs.declared.event.Event.{Event}
-use Rattle.wb_runs.specs.declared.event.Event.TheVariants.{Start, Step, FaultStep, Stop}
-use Rattle.wb_runs.specs.declared.event.What.{What}
-use Rattle.wb_runs.specs.declared.event.What.TheVariants.{Skipped, Refused, Started, Stepped, Stopped}
-use Rattle.wb_runs.specs.States.{Shape, State, Actor, Phase, Stands, Gone, Opens, OfTarget, resting, start}
-use Rattle.wb_runs.specs.Happenings.{Chosen, Plain, Cut, Orders, Begins, Reaches, Puts, Commits, Asks, Opened, Happening, OfSome, Gives, MayFailAt, Falters, DoesNotApply, StartGives, MayBe, task_job, begun_as}
-use Rattle.wb_runs.specs.Effects.{phase_then, phase_opened, phase_given, task_then, actor_then, stepped, with_actor, cleared, given, job_of, cut_of, device_done, device_failed, all_resting, after_what, after_happening, after_all, IsRun}
-use Rattle.wb_runs.specs.Clerk.{Notes, Doing, noted_step, noted_what, finished_note, begun, nobody, put, formatted}
-use Rattle.wb_runs.specs.Headline.{RefusedBy, RefusedRightly, RefusesByCause, AllRefuseByCause, IsCovered, DoingCovers, AnswerCovers, AllCover, SkipsRightly, AllSkipRightly, note_happening, noted}
+use Rattle.wb_promise.specs.declared.job.Job.{Job}
+use Rattle.wb_promise.specs.declared.job.Job.TheVariants.{Read, Write, Flush, Open, Migrate, Replace}
+use Rattle.wb_promise.specs.declared.event.Event.{Event}
+use Rattle.wb_promise.specs.declared.event.Event.TheVariants.{Start, Step, FaultStep, Stop}
+use Rattle.wb_promise.specs.declared.event.What.{What}
+use Rattle.wb_promise.specs.declared.event.What.TheVariants.{Skipped, Refused, Started, Stepped, Stopped}
+use Rattle.wb_promise.specs.States.{Shape, State, Actor, Phase, Stands, Gone, Opens, OfTarget, resting, start}
+use Rattle.wb_promise.specs.Happenings.{Chosen, Plain, Cut, Orders, Begins, Reaches, Puts, Commits, Asks, Opened, Happening, OfSome, Gives, MayFailAt, Falters, DoesNotApply, StartGives, MayBe, task_job, begun_as}
+use Rattle.wb_promise.specs.Effects.{phase_then, phase_opened, phase_given, task_then, actor_then, stepped, with_actor, cleared, given, job_of, cut_of, device_done, device_failed, all_resting, after_what, after_happening, after_all, IsRun}
+use Rattle.wb_promise.specs.Clerk.{Notes, Doing, noted_step, noted_what, finished_note, begun, nobody, put, formatted}
+use Rattle.wb_promise.specs.Headline.{SkipsRightly, AllSkipRightly, note_happening, noted}
+use Rattle.wb_runs.specs.Laws.{RefusedBy, RefusedRightly, RefusesByCause, AllRefuseByCause, IsCovered, DoingCovers, AnswerCovers, AllCover}
 use Rattle.wb_runs.specs.Holding.{TaskSuits}
 use Rattle.wb_runs.proofs.Lists.{set_other, set_there, replicated, replicated_there, rests, there_rests, free}
 use Rattle.wb_runs.proofs.MetadataRuns.{IsKnown, known_after, known_at_start}
@@ -475,7 +476,7 @@ module _ (P A : Type 0) (shape : Shape) where
   base_after w n h b m = record {
     known = known_after P A shape w h b.known m;
     used = used_what P A shape w h.record_is.event h.record_is.what h.record_is.read.items h.chosen b.known b.used m;
-    linked = links_what (Rattle.wb_runs.specs.Headline.shown shape (after_happening shape w h)) w n h.record_is.event h.record_is.what h.record_is.read.items h.chosen b.known b.used b.linked m;
+    linked = links_what (Rattle.wb_promise.specs.Headline.shown shape (after_happening shape w h)) w n h.record_is.event h.record_is.what h.record_is.read.items h.chosen b.known b.used b.linked m;
   }
 
   pub base_start : (metadata : List History) → IsFormatted shape.geometry metadata → length metadata ≡ shape.geometry.meta_sectors → Base (start shape metadata) (formatted shape)

@@ -20,12 +20,12 @@ use Rattle.wb_tasks.specs.declared.step.Want.{Want}
 use Rattle.wb_tasks.specs.declared.step.Want.TheVariants.{Cell, Device, Desk, End}
 use Rattle.wb_tasks.specs.declared.step.Got.{Got}
 use Rattle.wb_tasks.specs.declared.step.Got.TheVariants.{Done, Fault}
-use Rattle.wb_runs.specs.declared.job.Job.{Job}
-use Rattle.wb_runs.specs.declared.job.Job.TheVariants.{Read, Write, Flush, Open, Migrate, Replace}
-use Rattle.wb_runs.specs.States.{Shape, State, Actor, Phase, Stands, Gone, Opens, OfTarget}
-use Rattle.wb_runs.specs.Happenings.{Chosen, Gives, block_range}
-use Rattle.wb_runs.specs.Effects.{task_then}
-use Rattle.wb_runs.specs.Clerk.{Notes, Doing, put, failing, device_note, noted_step, enter_each, entering, sector_for}
+use Rattle.wb_promise.specs.declared.job.Job.{Job}
+use Rattle.wb_promise.specs.declared.job.Job.TheVariants.{Read, Write, Flush, Open, Migrate, Replace}
+use Rattle.wb_promise.specs.States.{Shape, State, Actor, Phase, Stands, Gone, Opens, OfTarget}
+use Rattle.wb_promise.specs.Happenings.{Chosen, Gives, block_range}
+use Rattle.wb_promise.specs.Effects.{task_then}
+use Rattle.wb_promise.specs.Clerk.{Notes, Doing, put, failing, device_note, noted_step, enter_each, entering, sector_for}
 use Rattle.wb_runs.proofs.Lists.{set_other, set_there}
 use Rattle.wb_runs.proofs.Images.{Images}
 use Rattle.wb_runs.proofs.Metadata.{MetadataKept}
@@ -224,10 +224,10 @@ module _ (P A : Type 0) (shape : Shape) where
     open_goes : (mode : Mode) (next : Want) (got : Got) (read : List Bytes) (chosen : Chosen P A) → NoAnswer next → doing.job ≡ Open mode → JobClaim shape (Open mode) plan doing → next ≡ want plan → Gives shape w x (Open mode) next got read chosen → Then_of (Open mode) next got read
     open_goes mode next got read chosen z j c h g = by_next next z (subst (λ (v : Want). IsOpenNext v) (sym h) (open_next plan doing c)) h g
       where
-        on : (step : DeviceStep) → Device step ≡ want plan → Comes got → ((refusal : Refusal) → Causes step got refusal → Rattle.wb_runs.specs.Headline.MayRefuse (failing doing step got) refusal) → Then_of (Open mode) (Device step) got read
+        on : (step : DeviceStep) → Device step ≡ want plan → Comes got → ((refusal : Refusal) → Causes step got refusal → Rattle.wb_promise.specs.Headline.MayRefuse (failing doing step got) refusal) → Then_of (Open mode) (Device step) got read
         on step h comes why = plain_device shape shown n a x doing noted (Open mode) plan j step got read tt (open_on plan doing (failing doing step got) step got c h comes (still_refuses doing step got) why)
 
-        done : (step : DeviceStep) → got ≡ Done → (refusal : Refusal) → Causes step got refusal → Rattle.wb_runs.specs.Headline.MayRefuse (failing doing step got) refusal
+        done : (step : DeviceStep) → got ≡ Done → (refusal : Refusal) → Causes step got refusal → Rattle.wb_promise.specs.Headline.MayRefuse (failing doing step got) refusal
         done step e refusal c = absurd (subst (λ (v : Got). Causes step v refusal) e c)
 
         by_next : (next : Want) → NoAnswer next → IsOpenNext next → next ≡ want plan → Gives shape w x (Open mode) next got read chosen → Then_of (Open mode) next got read

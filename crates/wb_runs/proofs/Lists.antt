@@ -3,10 +3,10 @@ use Rattle.std.proofs.Common.{◌≡◌, ◌≢◌, ◌<◌, inl, inr, ℕ, zero
 use Rattle.std.proofs.lemmas.List.Elements.{Contains-append_cases}
 use Rattle.wb_types.proofs.Lists.{Contains-one}
 use Rattle.wb_tasks.specs.Plan.{Plan}
-use Rattle.wb_runs.specs.declared.job.Job.{Job}
-use Rattle.wb_runs.specs.declared.event.Event.TheVariants.{Start}
-use Rattle.wb_runs.specs.States.{State, Actor, resting}
-use Rattle.wb_runs.specs.Happenings.{DoesNotApply}
+use Rattle.wb_promise.specs.declared.job.Job.{Job}
+use Rattle.wb_promise.specs.declared.event.Event.TheVariants.{Start}
+use Rattle.wb_promise.specs.States.{State, Actor, resting}
+use Rattle.wb_promise.specs.Happenings.{DoesNotApply}
 
 pub set_other : {X : Type 0} (xs : List X) (i j : ℕ) (y : X) → j ≢ i → slice_get (slice_set xs i y) j ≡ slice_get xs j
 set_other [] i j y n = refl

@@ -7,7 +7,7 @@ use Rattle.wb_policy.specs.Law.{Holdings, IsMappedAt, IsUnmapped}
 use Rattle.wb_desk.specs.Desks.{DeskState, DeskInvariant, holdings}
 use Rattle.wb_desk.proofs.Leaving.{entry_there}
 use Rattle.wb_desk.proofs.Seen.{there}
-use Rattle.wb_runs.specs.Headline.{cached_from, place_of}
+use Rattle.wb_promise.specs.Headline.{cached_from, place_of}
 
 -- this cache block has the entry, and no other one has that block
 pub record StandsAlone (entries : List (Option Entry)) (at : ℕ) (entry : Entry) (block : ℕ) : Type 0 where

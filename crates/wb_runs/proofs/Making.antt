@@ -37,7 +37,7 @@ use Rattle.wb_desk.proofs.Committing.{free_for, on_unused}
 use Rattle.wb_devices.specs.declared.running.RunningCommit.{RunningCommit}
 use Rattle.wb_stage.specs.Asking.{HasBegun}
 use denote.RawPtr.{null_ptr}
-use Rattle.wb_runs.specs.Happenings.{Commits, AreWhole}
+use Rattle.wb_promise.specs.Happenings.{Commits, AreWhole}
 use Rattle.wb_runs.specs.Progress.{CanBegin}
 use Rattle.wb_runs.proofs.Images.{Images}
 use Rattle.wb_runs.proofs.Metadata.{AtDesk, unknowing}

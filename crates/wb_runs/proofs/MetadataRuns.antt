@@ -13,18 +13,18 @@ use Rattle.wb_tasks.specs.declared.step.Want.{Want}
 use Rattle.wb_tasks.specs.declared.step.Got.{Got}
 use Rattle.wb_tasks.specs.declared.step.Got.TheVariants.{Fault}
 use Rattle.wb_roots.specs.Roots.{AreOneOf}
-use Rattle.wb_runs.specs.declared.job.Job.{Job}
-use Rattle.wb_runs.specs.declared.job.Job.TheVariants.{Read, Write, Flush, Open, Migrate, Replace}
-use Rattle.wb_runs.specs.declared.event.Event.{Event}
-use Rattle.wb_runs.specs.declared.event.Event.TheVariants.{Start, Step, FaultStep, Stop}
-use Rattle.wb_runs.specs.declared.event.What.{What}
-use Rattle.wb_runs.specs.declared.event.What.TheVariants.{Skipped, Refused, Started, Stepped, Stopped}
+use Rattle.wb_promise.specs.declared.job.Job.{Job}
+use Rattle.wb_promise.specs.declared.job.Job.TheVariants.{Read, Write, Flush, Open, Migrate, Replace}
+use Rattle.wb_promise.specs.declared.event.Event.{Event}
+use Rattle.wb_promise.specs.declared.event.Event.TheVariants.{Start, Step, FaultStep, Stop}
+use Rattle.wb_promise.specs.declared.event.What.{What}
+use Rattle.wb_promise.specs.declared.event.What.TheVariants.{Skipped, Refused, Started, Stepped, Stopped}
 use Rattle.wb_devices.specs.declared.running.RunningCommit.{RunningCommit}
-use Rattle.wb_runs.specs.States.{Shape, State, Actor, Phase, Stands, Gone, Opens, start}
+use Rattle.wb_promise.specs.States.{Shape, State, Actor, Phase, Stands, Gone, Opens, start}
 use Rattle.wb_policy.specs.declared.order.Order.TheVariants.{Replace as ReplaceOrder}
-use Rattle.wb_runs.specs.Happenings.{Chosen, Cut, Orders, Happening, OfSome, Gives, Falters, MayFailAt, StartGives, MayBe, order_for}
-use Rattle.wb_runs.specs.Effects.{device_done, device_failed, devices_then, commit_then, phase_then, stepped, with_actor, job_of, cleared, given, phase_given, started, after_what, after_happening, after_all, IsRun}
-use Rattle.wb_runs.specs.Headline.{CanBeRead}
+use Rattle.wb_promise.specs.Happenings.{Chosen, Cut, Orders, Happening, OfSome, Gives, Falters, MayFailAt, StartGives, MayBe, order_for}
+use Rattle.wb_promise.specs.Effects.{device_done, device_failed, devices_then, commit_then, phase_then, stepped, with_actor, job_of, cleared, given, phase_given, started, after_what, after_happening, after_all, IsRun}
+use Rattle.wb_runs.specs.Laws.{CanBeRead}
 use Rattle.wb_runs.proofs.Images.{Images, Turns, stays, IsFitToo}
 use Rattle.wb_runs.proofs.Desks.{reserved_stands}
 use Rattle.wb_runs.proofs.Formatted.{formatted_none, none_images, none_readable}

@@ -16,10 +16,10 @@ use Rattle.wb_tasks.specs.declared.step.Got.{Got}
 use Rattle.wb_tasks.specs.declared.step.Got.TheVariants.{Done, Fault, Refused as GotRefused, More}
 use Rattle.wb_devices.specs.declared.running.RunningCommit.{RunningCommit}
 use Rattle.wb_devices.specs.Opened.{HasCome, got_of_refusal}
-use Rattle.wb_runs.specs.States.{Shape, Phase, Stands, Gone, Opens, OfReading}
-use Rattle.wb_runs.specs.Happenings.{Chosen, Reaches, DoesRead}
-use Rattle.wb_runs.specs.Clerk.{Doing, failing}
-use Rattle.wb_runs.specs.Headline.{MayRefuse}
+use Rattle.wb_promise.specs.States.{Shape, Phase, Stands, Gone, Opens, OfReading}
+use Rattle.wb_promise.specs.Happenings.{Chosen, Reaches, DoesRead}
+use Rattle.wb_promise.specs.Clerk.{Doing, failing}
+use Rattle.wb_promise.specs.Headline.{MayRefuse}
 use Rattle.wb_runs.proofs.Plans.{plan_of}
 use Rattle.wb_runs.proofs.Images.{Images}
 use Rattle.wb_runs.proofs.Metadata.{MetadataKept, HasReached, AtOpening}

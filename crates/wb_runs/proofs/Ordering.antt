@@ -14,14 +14,14 @@ use Rattle.wb_tasks.specs.declared.step.Got.{Got}
 use Rattle.wb_tasks.specs.declared.step.Got.TheVariants.{Done}
 use Rattle.wb_desk.specs.Desks.{DeskState, MayReserve}
 use Rattle.wb_stage.specs.Asking.{is_of}
-use Rattle.wb_runs.specs.States.{Actor}
-use Rattle.wb_runs.specs.Effects.{dropped, orders_then, awaiting_then, orders_released, awaiting_released, orders_answered, awaiting_answered, replacing}
+use Rattle.wb_promise.specs.States.{Actor}
+use Rattle.wb_promise.specs.Effects.{dropped, orders_then, awaiting_then, orders_released, awaiting_released, orders_answered, awaiting_answered, replacing}
 use Rattle.wb_runs.proofs.Lists.{first_or}
 use Rattle.wb_runs.proofs.Metadata.{IsDesk}
 use Rattle.std.proofs.lemmas.List.Elements.{Contains-append_left, Contains-append_right, Contains-append_cases}
 use Rattle.wb_desk.specs.Entries.{is_replacement}
-use Rattle.wb_runs.specs.declared.job.Job.{Job}
-use Rattle.wb_runs.specs.declared.job.Job.TheVariants.{Flush}
+use Rattle.wb_promise.specs.declared.job.Job.{Job}
+use Rattle.wb_promise.specs.declared.job.Job.TheVariants.{Flush}
 use Rattle.wb_tasks.specs.declared.step.Answer.TheVariants.{Done as Finished}
 
 -- the blocks that an order names are there

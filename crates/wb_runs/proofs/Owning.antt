@@ -13,8 +13,8 @@ use Rattle.wb_orders.specs.Orders.{AreOrders, order_at}
 use Rattle.wb_desk.specs.Desks.{DeskState, IsLive, MayReserve}
 use Rattle.wb_desk.specs.Calls.{reserved}
 use Rattle.wb_stage.specs.Asking.{is_of}
-use Rattle.wb_runs.specs.States.{Actor}
-use Rattle.wb_runs.specs.Effects.{dropped}
+use Rattle.wb_promise.specs.States.{Actor}
+use Rattle.wb_promise.specs.Effects.{dropped}
 use Rattle.wb_runs.proofs.Ordering.{held_of}
 use Rattle.wb_runs.proofs.Lists.{set_other, set_there, first_or}
 
@@ -44,13 +44,6 @@ dropped_is b (o ∷ orders) order h = by_test (is_of b o) refl h (λ later. drop
 pub record Owned {P : Type 0} (desk : DeskState P) (actors : List Actor) : Type 0 where
   pub live : (a : ℕ) (x : Actor) (order : Order) → slice_get actors a ≡ Some x → Contains (held_of x) order → IsLive desk order
   pub one : (a b : ℕ) (x z : Actor) (order : Order) → slice_get actors a ≡ Some x → slice_get actors b ≡ Some z → Contains (held_of x) order → Contains (held_of z) order → a ≡ b
-
--- nobody has one
-pub owned_none : (P : Type 0) (desk : DeskState P) (actors : List Actor) → ((a : ℕ) (x : Actor) → slice_get actors a ≡ Some x → held_of x ≡ []) → Owned desk actors
-owned_none P desk actors none = record { live = λ a x order e h. absurd (nothing a x order e h); one = λ a b x z order e f h i. absurd (nothing a x order e h) }
-  where
-    nothing : (a : ℕ) (x : Actor) (order : Order) → slice_get actors a ≡ Some x → Contains (held_of x) order → ⊥
-    nothing a x order e h = let i = subst (λ (os : List Order). Contains os order) (none a x e) h in omega (arith, i.1)
 
 -- an order that lives in another cache block lives on
 live_beside : (P : Type 0) (desk desk' : DeskState P) (cache : CBlock) (s : Option LiveOrder) (order : Order) → desk'.orders.slots ≡ slice_set desk.orders.slots cache.0 s → (l : IsLive desk order) → l.cache.0 ≢ cache.0 → IsLive desk' order

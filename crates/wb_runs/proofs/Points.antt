@@ -18,10 +18,10 @@ use Rattle.wb_tasks.specs.declared.step.DeskStep.TheVariants.{BeginCommit, EndCo
 use Rattle.wb_tasks.specs.declared.step.Want.{Want}
 use Rattle.wb_tasks.specs.declared.step.Want.TheVariants.{Cell, Device, Desk}
 use Rattle.wb_devices.specs.declared.running.RunningCommit.{RunningCommit}
-use Rattle.wb_runs.specs.declared.job.Job.{Job}
-use Rattle.wb_runs.specs.declared.job.Job.TheVariants.{Flush, Open, Migrate, Replace}
-use Rattle.wb_runs.specs.States.{Actor, Phase, Stands, Gone, Opens}
-use Rattle.wb_runs.specs.Happenings.{OfSome}
+use Rattle.wb_promise.specs.declared.job.Job.{Job}
+use Rattle.wb_promise.specs.declared.job.Job.TheVariants.{Flush, Open, Migrate, Replace}
+use Rattle.wb_promise.specs.States.{Actor, Phase, Stands, Gone, Opens}
+use Rattle.wb_promise.specs.Happenings.{OfSome}
 use Rattle.wb_runs.proofs.Plans.{plan_of}
 use Rattle.wb_runs.proofs.Spelled.{IsSmall}
 

@@ -22,17 +22,17 @@ use Rattle.wb_tasks.specs.declared.step.Got.{Got}
 use Rattle.wb_tasks.specs.declared.step.Got.TheVariants.{Fault}
 use Rattle.wb_devices.specs.declared.devices.Devices.{Devices}
 use Rattle.wb_devices.specs.declared.running.RunningCommit.{RunningCommit}
-use Rattle.wb_runs.specs.declared.job.Job.{Job}
-use Rattle.wb_runs.specs.declared.job.Job.TheVariants.{Read, Write, Flush, Open, Migrate, Replace}
-use Rattle.wb_runs.specs.declared.event.Event.{Event}
-use Rattle.wb_runs.specs.declared.event.Event.TheVariants.{Start, Step, FaultStep, Stop}
-use Rattle.wb_runs.specs.declared.event.What.{What}
-use Rattle.wb_runs.specs.declared.event.What.TheVariants.{Skipped, Refused, Started, Stepped, Stopped}
-use Rattle.wb_runs.specs.States.{Shape, State, Actor, Target, Phase, Stands, Gone, Opens, OfTarget, resting, start}
-use Rattle.wb_runs.specs.Happenings.{Chosen, Plain, Cut, Orders, Begins, Reaches, Puts, Commits, Asks, Opened, Happening, OfSome, Gives, Falters, MayFailAt, DoesNotApply, MayBe, block_range, migrated_range, blocks_left, task_job, begun_as}
-use Rattle.wb_runs.specs.Effects.{device_done, device_failed, commit_then, reading_then, task_then, phase_then, phase_opened, phase_given, actor_then, stepped, with_actor, cleared, given, started, job_of, cut_of, after_what, after_happening, after_all, IsRun}
-use Rattle.wb_runs.specs.Clerk.{Notes, formatted}
-use Rattle.wb_runs.specs.Headline.{note_happening}
+use Rattle.wb_promise.specs.declared.job.Job.{Job}
+use Rattle.wb_promise.specs.declared.job.Job.TheVariants.{Read, Write, Flush, Open, Migrate, Replace}
+use Rattle.wb_promise.specs.declared.event.Event.{Event}
+use Rattle.wb_promise.specs.declared.event.Event.TheVariants.{Start, Step, FaultStep, Stop}
+use Rattle.wb_promise.specs.declared.event.What.{What}
+use Rattle.wb_promise.specs.declared.event.What.TheVariants.{Skipped, Refused, Started, Stepped, Stopped}
+use Rattle.wb_promise.specs.States.{Shape, State, Actor, Target, Phase, Stands, Gone, Opens, OfTarget, resting, start}
+use Rattle.wb_promise.specs.Happenings.{Chosen, Plain, Cut, Orders, Begins, Reaches, Puts, Commits, Asks, Opened, Happening, OfSome, Gives, Falters, MayFailAt, DoesNotApply, MayBe, block_range, migrated_range, blocks_left, task_job, begun_as}
+use Rattle.wb_promise.specs.Effects.{device_done, device_failed, commit_then, reading_then, task_then, phase_then, phase_opened, phase_given, actor_then, stepped, with_actor, cleared, given, started, job_of, cut_of, after_what, after_happening, after_all, IsRun}
+use Rattle.wb_promise.specs.Clerk.{Notes, formatted}
+use Rattle.wb_promise.specs.Headline.{note_happening}
 use Rattle.wb_runs.specs.Holding.{TaskSuits, AllSuited}
 use Rattle.wb_runs.proofs.Lists.{set_other, set_there, rests, free}
 use Rattle.wb_runs.proofs.Images.{Images}

@@ -19,7 +19,7 @@ use Rattle.wb_meta.specs.declared.read_steps.ReadSteps.{ReadSteps}
 use Rattle.wb_meta.specs.declared.read_steps.ReadSteps.TheVariants.{Begun, FirstSlotRead, RootFound, Done as AllRead}
 use Rattle.wb_tasks.specs.declared.step.Got.{Got}
 use Rattle.wb_tasks.specs.declared.step.Got.TheVariants.{Refused as GotRefused, More}
-use Rattle.wb_runs.specs.Happenings.{Chosen, Reaches, DoesRead}
+use Rattle.wb_promise.specs.Happenings.{Chosen, Reaches, DoesRead}
 use Rattle.wb_runs.proofs.Spelling.{root_or_none}
 use Rattle.wb_runs.proofs.Images.{Images}
 use Rattle.wb_runs.proofs.Metadata.{HasReached}

@@ -15,7 +15,7 @@ use Rattle.wb_meta.specs.declared.read_steps.ReadSteps.TheVariants.{Begun, First
 use Rattle.wb_meta.proofs.OneReading.{one_newest, not_refused}
 use Rattle.wb_tasks.specs.declared.step.Got.TheVariants.{Refused as GotRefused}
 use Rattle.wb_devices.specs.Opened.{got_of_refusal}
-use Rattle.wb_runs.specs.Happenings.{Chosen, Reaches, DoesRead}
+use Rattle.wb_promise.specs.Happenings.{Chosen, Reaches, DoesRead}
 use Rattle.wb_runs.proofs.Images.{Images}
 use Rattle.wb_runs.proofs.Metadata.{HasReached}
 

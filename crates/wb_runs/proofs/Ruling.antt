@@ -11,7 +11,7 @@ use Rattle.wb_words.specs.Rule.{LockRule}
 use Rattle.wb_words.specs.Effects.{words_after, card_after}
 use Rattle.wb_words.specs.Ready.{IsReady}
 use Rattle.wb_words.proofs.RuleKept.{step_keeps, fresh_rule}
-use Rattle.wb_runs.specs.States.{Actor, resting}
+use Rattle.wb_promise.specs.States.{Actor, resting}
 use Rattle.wb_runs.specs.Holding.{cards_of}
 use Rattle.wb_runs.proofs.Lists.{set_other, set_there}
 

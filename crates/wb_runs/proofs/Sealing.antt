@@ -17,7 +17,7 @@ use Rattle.wb_words.specs.Cards.{holding, losing, sealing}
 use Rattle.wb_words.specs.Rule.{LockRule}
 use Rattle.wb_words.specs.Effects.{words_after, card_after}
 use Rattle.wb_words.proofs.RuleKept.{step_keeps}
-use Rattle.wb_runs.specs.Effects.{sealing_steps, words_by, card_by}
+use Rattle.wb_promise.specs.Effects.{sealing_steps, words_by, card_by}
 
 set_card : (cards : List Card) (a : ℕ) (c : Card) → get_elem? cards a ≡ some c → slice_set cards a c ≡ cards
 set_card [] a c e = refl

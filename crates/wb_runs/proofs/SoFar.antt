@@ -24,10 +24,10 @@ use Rattle.wb_tasks.specs.declared.step.Want.{Want}
 use Rattle.wb_tasks.specs.declared.step.Want.TheVariants.{Cell, Device, Desk, End}
 use Rattle.wb_tasks.specs.declared.step.Got.{Got}
 use Rattle.wb_tasks.specs.declared.step.Got.TheVariants.{Begin, Done, Word, Lost, Fault, Refused as GotRefused, Began, More}
-use Rattle.wb_runs.specs.States.{Shape}
-use Rattle.wb_runs.specs.Happenings.{block_range}
-use Rattle.wb_runs.specs.Clerk.{Reading, Position, Entering, enter, enter_each, readings_from}
-use Rattle.wb_runs.specs.Happenings.{extent_refusal}
+use Rattle.wb_promise.specs.States.{Shape}
+use Rattle.wb_promise.specs.Happenings.{block_range}
+use Rattle.wb_promise.specs.Clerk.{Reading, Position, Entering, enter, enter_each, readings_from}
+use Rattle.wb_promise.specs.Happenings.{extent_refusal}
 use Rattle.wb_runs.proofs.Plans.{plan_of}
 use Rattle.wb_runs.proofs.Covering.{Covers, home, homes, extents_left, cell_covers}
 

@@ -25,11 +25,11 @@ use Rattle.wb_policy.specs.declared.order.Order.{Order}
 use Rattle.wb_desk.specs.Desks.{DeskState}
 use Rattle.wb_stage.specs.Stages.{is_all_done}
 use Rattle.wb_devices.specs.Opened.{HasCome}
-use Rattle.wb_runs.specs.declared.job.Job.{Job}
-use Rattle.wb_runs.specs.declared.job.Job.TheVariants.{Read, Write, Flush, Open, Migrate, Replace}
-use Rattle.wb_runs.specs.States.{Shape, State, Target, Phase, Stands, Gone, Opens, OfTarget, OfReading, with_device, Actor}
-use Rattle.wb_runs.specs.Happenings.{Chosen, Plain, Cut, Orders, Begins, Reaches, Puts, Commits, Asks, Opened, DoesPut, DoesSync, DoesRead, DoesBegin, DoesMap, DoesRelease, DoesOpen, Gives, DoesUnmap}
-use Rattle.wb_runs.specs.Effects.{device_done, devices_then, commit_then, phase_then}
+use Rattle.wb_promise.specs.declared.job.Job.{Job}
+use Rattle.wb_promise.specs.declared.job.Job.TheVariants.{Read, Write, Flush, Open, Migrate, Replace}
+use Rattle.wb_promise.specs.States.{Shape, State, Target, Phase, Stands, Gone, Opens, OfTarget, OfReading, with_device, Actor}
+use Rattle.wb_promise.specs.Happenings.{Chosen, Plain, Cut, Orders, Begins, Reaches, Puts, Commits, Asks, Opened, DoesPut, DoesSync, DoesRead, DoesBegin, DoesMap, DoesRelease, DoesOpen, Gives, DoesUnmap}
+use Rattle.wb_promise.specs.Effects.{device_done, devices_then, commit_then, phase_then}
 use Rattle.wb_runs.proofs.Images.{Images, Turns, stays}
 use Rattle.wb_runs.proofs.Desks.{mapped_stands, unmapped_stands, released_for}
 use Rattle.wb_runs.proofs.Underway.{Readable, Found, led_on, sync_does, sync_found, found_readable}
@@ -38,7 +38,7 @@ use Rattle.wb_types.specs.declared.number.OBlock.{OBlock}
 use Rattle.wb_stage.specs.Asking.{order_of}
 
 -- a device on which blocks stand is not the metadata device
-data_device : (device : Dev) → HoldsBlocks device → (devices : Devices (List History)) (new : List History) → (with_device device devices new).metadata ≡ devices.metadata
+pub data_device : (device : Dev) → HoldsBlocks device → (devices : Devices (List History)) (new : List History) → (with_device device devices new).metadata ≡ devices.metadata
 data_device Metadata h devices new = absurd h
 data_device Cache h devices new = refl
 data_device Origin h devices new = refl

@@ -30,15 +30,15 @@ use Rattle.wb_tasks.specs.declared.step.Want.{Want}
 use Rattle.wb_tasks.specs.declared.step.Want.TheVariants.{Cell, Device, Desk, End}
 use Rattle.wb_tasks.specs.declared.step.Got.{Got}
 use Rattle.wb_tasks.specs.declared.step.Got.TheVariants.{Fault}
-use Rattle.wb_runs.specs.declared.job.Job.{Job}
-use Rattle.wb_runs.specs.declared.job.Job.TheVariants.{Read, Write, Flush, Open, Migrate, Replace}
-use Rattle.wb_runs.specs.declared.event.Event.{Event}
-use Rattle.wb_runs.specs.declared.event.Event.TheVariants.{Start, Step, FaultStep, Stop}
-use Rattle.wb_runs.specs.declared.event.What.{What}
-use Rattle.wb_runs.specs.declared.event.What.TheVariants.{Skipped, Refused, Started, Stepped, Stopped}
-use Rattle.wb_runs.specs.States.{Shape, State, Actor, Target, Phase, Stands, Gone, Opens, OfTarget, resting, start}
-use Rattle.wb_runs.specs.Happenings.{Chosen, Plain, Cut, Orders, order_for, Opened, Happening, OfSome, DoesNotApply, DoesOpen, MayFailAt, Falters, StartGives, Gives, MayBe, KeepsMigration, blocks_left}
-use Rattle.wb_runs.specs.Effects.{task_then, card_then, actor_then, card_over, card_by, words_by, seals_of, sealing_steps, words_then, desk_then, phase_then, phase_opened, target_over, stepped, with_actor, cleared, given, phase_given, started, job_of, device_done, device_failed, all_resting, after_what, after_happening, after_all, IsRun, orders_then, awaiting_then, orders_given}
+use Rattle.wb_promise.specs.declared.job.Job.{Job}
+use Rattle.wb_promise.specs.declared.job.Job.TheVariants.{Read, Write, Flush, Open, Migrate, Replace}
+use Rattle.wb_promise.specs.declared.event.Event.{Event}
+use Rattle.wb_promise.specs.declared.event.Event.TheVariants.{Start, Step, FaultStep, Stop}
+use Rattle.wb_promise.specs.declared.event.What.{What}
+use Rattle.wb_promise.specs.declared.event.What.TheVariants.{Skipped, Refused, Started, Stepped, Stopped}
+use Rattle.wb_promise.specs.States.{Shape, State, Actor, Target, Phase, Stands, Gone, Opens, OfTarget, resting, start}
+use Rattle.wb_promise.specs.Happenings.{Chosen, Plain, Cut, Orders, order_for, Opened, Happening, OfSome, DoesNotApply, DoesOpen, MayFailAt, Falters, StartGives, Gives, MayBe, KeepsMigration, blocks_left}
+use Rattle.wb_promise.specs.Effects.{task_then, card_then, actor_then, card_over, card_by, words_by, seals_of, sealing_steps, words_then, desk_then, phase_then, phase_opened, target_over, stepped, with_actor, cleared, given, phase_given, started, job_of, device_done, device_failed, all_resting, after_what, after_happening, after_all, IsRun, orders_then, awaiting_then, orders_given}
 use Rattle.wb_runs.specs.Holding.{cards_of, TaskSuits, AllSuited, AreUsedRightly}
 use Rattle.wb_runs.proofs.Extents.{MayStart, may_start, some_sectors}
 use Rattle.wb_types.specs.declared.number.OBlock.{OBlock}
@@ -235,10 +235,10 @@ module _ (P A : Type 0) (shape : Shape) where
         let done : Gives shape w x (Open o.0) (End Finished) got read chosen = subst (λ (j : Job). Gives shape w x j (End Finished) got read chosen) o.1 g in
         let kept = done_kept P A shape w x got read chosen known.images x.buffer (Open o.0) (End Finished) known.known done in
         by_reading reading chosen (subst (λ (q : Phase P A). DoesOpen q w.commit chosen) p done.2)
-        (subst (λ (q : Phase P A). Turns (λ now. Rattle.wb_runs.proofs.Metadata.MetadataKept shape.geometry now (phase_then shape q (End Finished) got chosen) (Rattle.wb_runs.specs.Effects.commit_then q w.commit (End Finished) got chosen) w.devices.metadata) known.images) p kept)
+        (subst (λ (q : Phase P A). Turns (λ now. Rattle.wb_runs.proofs.Metadata.MetadataKept shape.geometry now (phase_then shape q (End Finished) got chosen) (Rattle.wb_promise.specs.Effects.commit_then q w.commit (End Finished) got chosen) w.devices.metadata) known.images) p kept)
       where
         by_reading : (r : Option (ReadSteps A)) (c : Chosen P A) → DoesOpen (Opens mode r) w.commit c →
-            Turns (λ now. Rattle.wb_runs.proofs.Metadata.MetadataKept shape.geometry now (phase_then shape (Opens mode r) (End Finished) got c) (Rattle.wb_runs.specs.Effects.commit_then (Opens mode r) w.commit (End Finished) got c) w.devices.metadata) known.images →
+            Turns (λ now. Rattle.wb_runs.proofs.Metadata.MetadataKept shape.geometry now (phase_then shape (Opens mode r) (End Finished) got c) (Rattle.wb_promise.specs.Effects.commit_then (Opens mode r) w.commit (End Finished) got c) w.devices.metadata) known.images →
             UsedRightly (phase_then shape (Opens mode r) (End Finished) got c) (slice_set w.actors a (actor_then {P = P} {A = A} shape (Opens mode r) w.devices x (End Finished) got))
         by_reading (Some (AllRead stored)) (Opened policy) d k = opened_answer w.devices w.actors a x e job plan xt all ords mode stored policy got i.0 (λ at entry f. (k.kept.is.kept.mapping.within at entry f).0)
         by_reading (Some (Begun alloc global)) (Opened policy) d k = absurd d.0
@@ -314,20 +314,20 @@ module _ (P A : Type 0) (shape : Shape) where
   same_here (Stands t) (Migrate migration block) (Orders cut cache) actors i = i
   same_here (Stands t) (Migrate migration block) Plain actors i = i
   same_here (Stands t) (Migrate migration block) (Cut cut) actors i = i
-  same_here (Stands t) (Migrate migration block) (Rattle.wb_runs.specs.Happenings.Begins now) actors i = i
-  same_here (Stands t) (Migrate migration block) (Rattle.wb_runs.specs.Happenings.Reaches now commit) actors i = i
-  same_here (Stands t) (Migrate migration block) (Rattle.wb_runs.specs.Happenings.Puts new) actors i = i
-  same_here (Stands t) (Migrate migration block) (Rattle.wb_runs.specs.Happenings.Commits commit tree) actors i = i
-  same_here (Stands t) (Migrate migration block) (Rattle.wb_runs.specs.Happenings.Asks new) actors i = i
+  same_here (Stands t) (Migrate migration block) (Rattle.wb_promise.specs.Happenings.Begins now) actors i = i
+  same_here (Stands t) (Migrate migration block) (Rattle.wb_promise.specs.Happenings.Reaches now commit) actors i = i
+  same_here (Stands t) (Migrate migration block) (Rattle.wb_promise.specs.Happenings.Puts new) actors i = i
+  same_here (Stands t) (Migrate migration block) (Rattle.wb_promise.specs.Happenings.Commits commit tree) actors i = i
+  same_here (Stands t) (Migrate migration block) (Rattle.wb_promise.specs.Happenings.Asks new) actors i = i
   same_here (Stands t) (Migrate migration block) (Opened policy) actors i = i
   same_here (Stands t) (Replace old new) (Orders cut cache) actors i = i
   same_here (Stands t) (Replace old new) Plain actors i = i
   same_here (Stands t) (Replace old new) (Cut cut) actors i = i
-  same_here (Stands t) (Replace old new) (Rattle.wb_runs.specs.Happenings.Begins now) actors i = i
-  same_here (Stands t) (Replace old new) (Rattle.wb_runs.specs.Happenings.Reaches now commit) actors i = i
-  same_here (Stands t) (Replace old other) (Rattle.wb_runs.specs.Happenings.Puts new) actors i = i
-  same_here (Stands t) (Replace old new) (Rattle.wb_runs.specs.Happenings.Commits commit tree) actors i = i
-  same_here (Stands t) (Replace old other) (Rattle.wb_runs.specs.Happenings.Asks new) actors i = i
+  same_here (Stands t) (Replace old new) (Rattle.wb_promise.specs.Happenings.Begins now) actors i = i
+  same_here (Stands t) (Replace old new) (Rattle.wb_promise.specs.Happenings.Reaches now commit) actors i = i
+  same_here (Stands t) (Replace old other) (Rattle.wb_promise.specs.Happenings.Puts new) actors i = i
+  same_here (Stands t) (Replace old new) (Rattle.wb_promise.specs.Happenings.Commits commit tree) actors i = i
+  same_here (Stands t) (Replace old other) (Rattle.wb_promise.specs.Happenings.Asks new) actors i = i
   same_here (Stands t) (Replace old new) (Opened policy) actors i = i
   same_here (Stands t) (Read extent) chosen actors i = i
   same_here (Stands t) (Write extent content) chosen actors i = i
@@ -371,8 +371,8 @@ module _ (P A : Type 0) (shape : Shape) where
   kept_inside t kept Clean block o k = o (CleanOrder block) k
 
   pub order_inside : (i : _) (phase : Phase P A) (commit : _) (m : List History) (actor : Option Actor) (migration : Migration) (block : OBlock) (chosen : Chosen P A) → Rattle.wb_runs.proofs.Metadata.MetadataKept shape.geometry i phase commit m →
-      OrdersInside shape.geometry (Rattle.wb_runs.specs.Happenings.orders_in actor) → StartGives shape phase actor (Migrate migration block) Started chosen → OrderInside shape.geometry (order_for migration block)
-  order_inside i (Stands t) commit m actor migration block (Cut cut) k o g = kept_inside t (Rattle.wb_runs.specs.Happenings.orders_in actor) migration block o g.1
+      OrdersInside shape.geometry (Rattle.wb_promise.specs.Happenings.orders_in actor) → StartGives shape phase actor (Migrate migration block) Started chosen → OrderInside shape.geometry (order_for migration block)
+  order_inside i (Stands t) commit m actor migration block (Cut cut) k o g = kept_inside t (Rattle.wb_promise.specs.Happenings.orders_in actor) migration block o g.1
   order_inside i (Stands t) commit m actor migration block (Orders cut cache) k o g = order_given P shape.geometry t.desk cache (order_for migration block) k.is g.1
   order_inside i (Stands t) commit m actor migration block chosen k o g = absurd g
   order_inside i Gone commit m actor migration block (Cut cut) k o g = absurd g.1
@@ -384,7 +384,7 @@ module _ (P A : Type 0) (shape : Shape) where
 
   -- and of a replacement, with the cache block that it takes
   pub replacement_inside : (i : _) (phase : Phase P A) (commit : _) (m : List History) (actor : Option Actor) (old new : OBlock) (chosen : Chosen P A) → Rattle.wb_runs.proofs.Metadata.MetadataKept shape.geometry i phase commit m →
-      OrdersInside shape.geometry (Rattle.wb_runs.specs.Happenings.orders_in actor) → StartGives shape phase actor (Replace old new) Started chosen → (cache : CBlock) × OrderInside shape.geometry (ReplaceOrder old new cache)
+      OrdersInside shape.geometry (Rattle.wb_promise.specs.Happenings.orders_in actor) → StartGives shape phase actor (Replace old new) Started chosen → (cache : CBlock) × OrderInside shape.geometry (ReplaceOrder old new cache)
   replacement_inside i (Stands t) commit m actor old new (Cut cut) k o g = (g.1.0, o (ReplaceOrder old new g.1.0) g.1.1)
   replacement_inside i (Stands t) commit m actor old new (Orders cut cache) k o g = (cache, order_given P shape.geometry t.desk cache (ReplaceOrder old new cache) k.is g.1)
   replacement_inside i (Stands t) commit m actor old new chosen k o g = absurd g
@@ -446,7 +446,7 @@ module _ (P A : Type 0) (shape : Shape) where
       over {actors} u = record { suited = u.suited; here = same_here w.phase (Write extent content) (Cut cut) actors u.here; orders = u.orders }
   starts w a (Migrate migration block) chosen k u applies gives =
       let f = free P A w a (Migrate migration block) applies in
-      let kept = subst (λ (o : Option Actor). OrdersInside shape.geometry (Rattle.wb_runs.specs.Happenings.orders_in o)) (sym f.1) (λ order m. u.orders a f.0 f.1 order (in_orders f.0 order m)) in
+      let kept = subst (λ (o : Option Actor). OrdersInside shape.geometry (Rattle.wb_promise.specs.Happenings.orders_in o)) (sym f.1) (λ order m. u.orders a f.0 f.1 order (in_orders f.0 order m)) in
       let inside = order_inside k.images w.phase w.commit w.devices.metadata (slice_get w.actors a) migration block chosen k.known kept gives in
       subst (λ (o : Option Actor). Started_so w a (Migrate migration block) chosen o) (sym f.1)
       (over (starts_task w.phase w.actors a f.0 (given {P = P} {A = A} shape f.0 (Migrate migration block) chosen) f.1 refl (block_inside migration block inside, (holds_nothing w f.0 a u f.1 f.2, refl))
@@ -456,7 +456,7 @@ module _ (P A : Type 0) (shape : Shape) where
       over {actors} u = record { suited = u.suited; here = same_here w.phase (Migrate migration block) chosen actors u.here; orders = u.orders }
   starts w a (Replace old new) chosen k u applies gives =
       let f = free P A w a (Replace old new) applies in
-      let kept = subst (λ (o : Option Actor). OrdersInside shape.geometry (Rattle.wb_runs.specs.Happenings.orders_in o)) (sym f.1) (λ order m. u.orders a f.0 f.1 order (in_orders f.0 order m)) in
+      let kept = subst (λ (o : Option Actor). OrdersInside shape.geometry (Rattle.wb_promise.specs.Happenings.orders_in o)) (sym f.1) (λ order m. u.orders a f.0 f.1 order (in_orders f.0 order m)) in
       let inside = replacement_inside k.images w.phase w.commit w.devices.metadata (slice_get w.actors a) old new chosen k.known kept gives in
       subst (λ (o : Option Actor). Started_so w a (Replace old new) chosen o) (sym f.1)
       (over (starts_task w.phase w.actors a f.0 (given {P = P} {A = A} shape f.0 (Replace old new) chosen) f.1 refl (inside.1.0, (holds_nothing w f.0 a u f.1 f.2, refl))

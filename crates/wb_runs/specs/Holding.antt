@@ -5,10 +5,10 @@ use Rattle.wb_words.specs.declared.card.Hold.TheVariants.{Nothing}
 use Rattle.wb_words.specs.Rule.{LockRule}
 use Rattle.wb_tasks.specs.Plan.{Plan}
 use Rattle.wb_tasks.specs.Ready.{Suits}
-use Rattle.wb_runs.specs.declared.job.Job.{Job}
-use Rattle.wb_runs.specs.States.{Shape, State, Actor, Target, Stands, start}
-use Rattle.wb_runs.specs.Effects.{after_all}
-use Rattle.wb_runs.specs.Headline.{InEveryRun}
+use Rattle.wb_promise.specs.declared.job.Job.{Job}
+use Rattle.wb_promise.specs.States.{Shape, State, Actor, Target, Stands, start}
+use Rattle.wb_promise.specs.Effects.{after_all}
+use Rattle.wb_promise.specs.Headline.{InEveryRun}
 
 abbrev pub cards_of : List Actor → List Card
 cards_of actors = map (λ (x : Actor). x.card) actors

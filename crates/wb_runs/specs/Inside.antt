@@ -7,10 +7,10 @@ use Rattle.wb_tasks.specs.Plan.{Plan, want}
 use Rattle.wb_tasks.specs.declared.step.DeviceStep.TheVariants.{Read as ReadExtent, Write as WriteExtent}
 use Rattle.wb_tasks.specs.declared.step.Want.{Want}
 use Rattle.wb_tasks.specs.declared.step.Want.TheVariants.{Cell, Device}
-use Rattle.wb_runs.specs.declared.job.Job.{Job}
-use Rattle.wb_runs.specs.States.{Shape, State, Actor, sector_count, cache_sector_count, start}
-use Rattle.wb_runs.specs.Effects.{after_all}
-use Rattle.wb_runs.specs.Headline.{InEveryRun}
+use Rattle.wb_promise.specs.declared.job.Job.{Job}
+use Rattle.wb_promise.specs.States.{Shape, State, Actor, sector_count, cache_sector_count, start}
+use Rattle.wb_promise.specs.Effects.{after_all}
+use Rattle.wb_promise.specs.Headline.{InEveryRun}
 
 -- how many sectors a device has
 abbrev pub size_on : Shape → Dev → ℕ

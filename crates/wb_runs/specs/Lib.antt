@@ -1,12 +1,4 @@
-pub mod States
-pub mod Happenings
-pub mod Effects
-pub mod Clerk
-pub mod Headline
+pub mod Laws
 pub mod Holding
-pub mod Progress
-pub mod Possible
-pub mod Latest
 pub mod Inside
-pub mod Sealed
-pub mod Excluded
+pub mod Progress

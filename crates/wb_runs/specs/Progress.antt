@@ -7,13 +7,17 @@ use Rattle.wb_meta.specs.Reads.{sectors_read}
 use Rattle.wb_meta.specs.declared.read_steps.ReadSteps.{ReadSteps}
 use Rattle.wb_desk.specs.Commits.{MayBegin}
 use Rattle.wb_desk.specs.Desks.{DeskState}
+use Rattle.wb_tasks.specs.declared.step.Got.{Got}
 use Rattle.wb_tasks.specs.declared.step.Got.TheVariants.{Began}
-use Rattle.wb_runs.specs.declared.event.Event.{Event}
-use Rattle.wb_runs.specs.declared.event.What.{What}
-use Rattle.wb_runs.specs.States.{Shape, State, Target, Stands, start}
-use Rattle.wb_runs.specs.Happenings.{Chosen, HasTask, DoesBegin, MayBe}
-use Rattle.wb_runs.specs.Effects.{after_all}
-use Rattle.wb_runs.specs.Headline.{GivesSomething, InEveryRun}
+use Rattle.wb_tasks.specs.declared.step.Want.{Want}
+use Rattle.wb_promise.specs.declared.event.Event.{Event}
+use Rattle.wb_promise.specs.declared.event.Event.TheVariants.{Step}
+use Rattle.wb_promise.specs.declared.event.What.{What}
+use Rattle.wb_promise.specs.declared.event.What.TheVariants.{Stepped}
+use Rattle.wb_promise.specs.States.{Shape, State, Target, Stands, start}
+use Rattle.wb_promise.specs.Happenings.{Chosen, HasTask, DoesBegin, MayBe}
+use Rattle.wb_promise.specs.Effects.{after_all}
+use Rattle.wb_promise.specs.Headline.{InEveryRun}
 
 -- the event does something here, or is skipped where it does not apply
 pub record HasHappening {P A : Type 0} (shape : Shape) (w : State P A) (event : Event) : Type 0 where
@@ -25,6 +29,14 @@ pub record HasHappening {P A : Type 0} (shape : Shape) (w : State P A) (event : 
 -- a commit begins, whose image has at most so many nodes
 abbrev pub CanBegin : (P A : Type 0) → ℕ → DeskState P → Type 0
 CanBegin P A most desk = (nodes : ℕ) × ((chosen : Chosen P A) × DoesBegin most desk (Began nodes) chosen)
+
+-- an actor may do a step, and it is not skipped
+pub record GivesSomething {P A : Type 0} (shape : Shape) (w : State P A) (a : ℕ) : Type 0 where
+  pub next : Want
+  pub got : Got
+  pub read : List Bytes
+  pub chosen : Chosen P A
+  pub may : MayBe shape w (Step a) (Stepped next got) read chosen
 
 -- Every event has a happening, and whoever has a task may do its next step. Where a commit may begin, one can, by each flush that
 -- allows as many nodes as a tree of this size may have, as all of a run do, if no node of the tree is known twice.

@@ -1,0 +1,14 @@
+mod Bare
+mod Beginning
+mod Completing
+mod Shown
+mod FirstFlush
+mod FirstOpening
+mod FirstLife
+mod Surviving
+mod FirstPromotion
+mod FirstDemotion
+mod FirstReplacement
+mod FirstWriteBack
+mod FirstFollowing
+mod Excluding

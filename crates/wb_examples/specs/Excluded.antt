@@ -1,0 +1,94 @@
+-- What the promises exclude: answers that are right and ones that are not, on one sector to which two contents were written. A definition that
+-- were always true, or never, would be caught by one of these.
+use Rattle.std.specs.Prelude.{◌≡◌, ℕ, List, [], ◌∷◌, Some, None, map}
+use Rattle.wb_types.specs.declared.mode.Dev.{Dev}
+use Rattle.wb_types.specs.declared.mode.Dev.TheVariants.{Cache, Origin}
+use Rattle.wb_types.specs.declared.mode.Mode.TheVariants.{Writeback}
+use Rattle.wb_types.specs.declared.number.Place.{Place}
+use Rattle.wb_types.specs.declared.refusal.Refusal.TheVariants.{Io, Memory, GenerationEnd, NotFormatted, Damaged, Mismatch, Geometry}
+use Rattle.wb_disk.specs.Device.{Content as Bytes}
+use Rattle.wb_tasks.specs.declared.step.Answer.{Answer}
+use Rattle.wb_tasks.specs.declared.step.Answer.TheVariants.{Done as Finished, Refused as Refuses}
+use Rattle.wb_tasks.specs.declared.step.Want.TheVariants.{End}
+use Rattle.wb_tasks.specs.declared.step.Got.TheVariants.{Done}
+use Rattle.wb_promise.specs.declared.job.Job.{Job}
+use Rattle.wb_promise.specs.declared.job.Job.TheVariants.{Read, Write, Flush, Open}
+use Rattle.wb_promise.specs.declared.event.Event.TheVariants.{Step}
+use Rattle.wb_promise.specs.declared.event.What.TheVariants.{Skipped, Stepped}
+use Rattle.wb_promise.specs.States.{Shape, State}
+use Rattle.wb_promise.specs.Happenings.{HasTask}
+use Rattle.wb_promise.specs.Clerk.{Notes, Doing, Reading, Position, noted_what}
+use Rattle.wb_promise.specs.Headline.{AnswersRightly, SkipsRightly}
+use Rattle.wb_examples.specs.Possible.{first_sector}
+
+-- what was written first, and last, and something else
+abbrev pub older : Bytes
+older = 1 ∷ []
+
+abbrev pub newer : Bytes
+newer = 2 ∷ []
+
+abbrev pub foreign : Bytes
+foreign = 3 ∷ []
+
+-- the first actor is at this, and a crash may go back to this entry
+abbrev pub with_floor : ℕ → Doing → Notes
+with_floor floor doing = record { histories = record { first = older; later = newer ∷ [] } ∷ []; finished = 1 ∷ []; floors = floor ∷ []; doings = Some doing ∷ [] }
+
+abbrev pub at_job : Job → Doing
+at_job job = record { job = job; readings = []; entered = []; then_finished = 0 ∷ []; failed = [] }
+
+-- it has read so, each time the one sector
+abbrev pub given : Bytes → Reading
+given content = record { sector = 0; content = content; latest = Some newer }
+
+abbrev pub having_read : List Bytes → Doing
+having_read contents = record (at_job (Read first_sector)) { readings = map given contents }
+
+abbrev pub having_entered : List Position → Doing
+having_entered positions = record (at_job (Write first_sector newer)) { entered = positions }
+
+abbrev pub opening : List Dev → Doing
+opening failed = record (at_job (Open Writeback)) { failed = failed }
+
+-- its answer is right, where this is shown after it
+abbrev pub IsRight : ℕ → Doing → Answer → List Bytes → Type 0
+IsRight floor doing answer shown = AnswersRightly shown (with_floor floor doing) (Step 0) (Stepped (End answer) Done)
+
+-- the floors once a flush is answered that began when so much was finished
+abbrev pub floors_after : Shape → ℕ → Answer → List ℕ
+floors_after shape finished answer = (noted_what shape [] (with_floor 0 (record (at_job Flush) { then_finished = finished ∷ [] })) (Step 0) (Stepped (End answer) Done) []).floors
+
+pub record ExcludesWrongAnswers (P A : Type 0) : Type 0 where
+  -- a finished read was given the last entry, once
+  pub read : IsRight 0 (having_read (newer ∷ [])) Finished []
+  pub stale : ¬ IsRight 0 (having_read (older ∷ [])) Finished []
+  pub unread : ¬ IsRight 0 (having_read []) Finished []
+  pub read_twice : ¬ IsRight 0 (having_read (newer ∷ newer ∷ [])) Finished []
+  -- a finished write has entered its sector
+  pub wrote : IsRight 0 (having_entered (record { sector = 0; position = 1 } ∷ [])) Finished []
+  pub unwritten : ¬ IsRight 0 (having_entered []) Finished []
+  pub elsewhere : ¬ IsRight 0 (having_entered (record { sector = 1; position = 1 } ∷ [])) Finished []
+  -- what an opening shows is an entry at the floor or later, of each sector
+  pub unflushed : IsRight 0 (opening []) Finished (older ∷ [])
+  pub kept : IsRight 1 (opening []) Finished (newer ∷ [])
+  pub lost : ¬ IsRight 1 (opening []) Finished (older ∷ [])
+  pub invented : ¬ IsRight 0 (opening []) Finished (foreign ∷ [])
+  pub hidden : ¬ IsRight 0 (opening []) Finished []
+  -- an opening is refused for a device of which a step failed, for memory or for generations, and for nothing that the metadata hold
+  pub failed : IsRight 0 (opening (Cache ∷ [])) (Refuses (Io Cache)) []
+  pub unfailed : ¬ IsRight 0 (opening (Cache ∷ [])) (Refuses (Io Origin)) []
+  pub no_memory : IsRight 0 (opening []) (Refuses Memory) []
+  pub no_generation : IsRight 0 (opening []) (Refuses GenerationEnd) []
+  pub damaged : (place : Place) → ¬ IsRight 0 (opening []) (Refuses (Damaged place)) []
+  pub unformatted : ¬ IsRight 0 (opening []) (Refuses NotFormatted) []
+  pub mismatched : ¬ IsRight 0 (opening []) (Refuses Mismatch) []
+  pub misfit : ¬ IsRight 0 (opening []) (Refuses Geometry) []
+  -- who is at nothing does not answer
+  pub nobody : ¬ AnswersRightly [] (record (with_floor 0 (at_job Flush)) { doings = None ∷ [] }) (Step 0) (Stepped (End Finished) Done)
+  -- a flush that is done raises the floor to what was finished when it began, and to nothing that was finished since; a refused one does not
+  pub raised : (shape : Shape) → floors_after shape 1 Finished ≡ 1 ∷ []
+  pub not_since : (shape : Shape) → floors_after shape 0 Finished ≡ 0 ∷ []
+  pub not_refused : (shape : Shape) → floors_after shape 1 (Refuses Memory) ≡ 0 ∷ []
+  -- whoever has a task is not skipped
+  pub skipped : (w : State P A) (a : ℕ) → HasTask w a → ¬ SkipsRightly w (Step a) Skipped

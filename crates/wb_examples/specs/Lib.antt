@@ -1,0 +1,2 @@
+pub mod Possible
+pub mod Excluded

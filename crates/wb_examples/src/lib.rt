@@ -1,0 +1,12 @@
+//! That what is promised of every run (wb_promise) is neither empty nor always kept: runs that pass through what it speaks of, and answers that it
+//! refuses. Laws, no code.
+#![tactic(auto)]
+
+mod law;
+
+pub use law::{
+    a_block_can_be_demoted, a_block_can_be_promoted, a_block_can_be_replaced,
+    a_block_can_be_written_back, a_flush_can_be_done, a_replacement_can_be_given_up,
+    a_replacement_can_start_again, a_target_can_be_opened, a_write_can_survive,
+    promises_exclude_wrong_answers,
+};

@@ -1,5 +1,0 @@
-use Rattle.wb_runs.proofs.FirstDemotion.{can_demote}
-use Rattle.wb_runs.proofs.law.a_block_can_be_demoted.Goals as goal
-
-pub returns : goal.returns
-returns g c policy reading begun = can_demote g.row.P.Denot g.row.A.Denot policy reading begun

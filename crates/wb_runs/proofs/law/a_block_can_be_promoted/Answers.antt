@@ -1,5 +1,0 @@
-use Rattle.wb_runs.proofs.FirstPromotion.{can_promote}
-use Rattle.wb_runs.proofs.law.a_block_can_be_promoted.Goals as goal
-
-pub returns : goal.returns
-returns g c policy reading begun = can_promote g.row.P.Denot g.row.A.Denot policy reading begun

@@ -1,5 +1,0 @@
-use Rattle.wb_runs.proofs.FirstFollowing.{can_write_back}
-use Rattle.wb_runs.proofs.law.a_block_can_be_written_back.Goals as goal
-
-pub returns : goal.returns
-returns g c policy reading begun = can_write_back g.row.P.Denot g.row.A.Denot policy reading begun

@@ -1,5 +1,0 @@
-use Rattle.wb_runs.proofs.FirstFollowing.{can_start_again}
-use Rattle.wb_runs.proofs.law.a_replacement_can_start_again.Goals as goal
-
-pub returns : goal.returns
-returns g c policy reading begun = can_start_again g.row.P.Denot g.row.A.Denot policy reading begun

@@ -1,5 +1,0 @@
-use Rattle.wb_runs.proofs.FirstOpening.{can_open}
-use Rattle.wb_runs.proofs.law.a_target_can_be_opened.Goals as goal
-
-pub returns : goal.returns
-returns g c policy reading begins shape metadata some f size = can_open g.row.P.Denot g.row.A.Denot policy reading begins shape metadata some f size

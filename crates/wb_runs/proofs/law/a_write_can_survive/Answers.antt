@@ -1,5 +1,0 @@
-use Rattle.wb_runs.proofs.Surviving.{can_survive}
-use Rattle.wb_runs.proofs.law.a_write_can_survive.Goals as goal
-
-pub returns : goal.returns
-returns g c policy reading begun = can_survive g.row.P.Denot g.row.A.Denot policy reading begun

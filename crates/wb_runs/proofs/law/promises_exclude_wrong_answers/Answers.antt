@@ -1,5 +1,0 @@
-use Rattle.wb_runs.proofs.Excluding.{excludes}
-use Rattle.wb_runs.proofs.law.promises_exclude_wrong_answers.Goals as goal
-
-pub returns : goal.returns
-returns g c = excludes g.row.P.Denot g.row.A.Denot

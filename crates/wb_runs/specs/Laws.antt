@@ -1,0 +1,83 @@
+-- What is proved of every run without what the sectors hold: what metadata are read as after a crash, why an opening is refused, which sectors
+-- an answer covers, and which events are skipped.
+use Rattle.std.specs.List.{count_by}
+use Rattle.std.specs.Prelude.{true, is_some, ◌≡◌, List, [], ◌∷◌, Option, Some, IsPermutation, map, slice_get}
+use Rattle.wb_types.specs.Extents.{sectors_in}
+use Rattle.wb_types.specs.declared.refusal.Refusal.{Refusal}
+use Rattle.wb_disk.specs.Device.{Content as Bytes}
+use Rattle.wb_disk.specs.Crashes.{MayLeave}
+use Rattle.wb_meta.specs.Representing.{Represents, Stored}
+use Rattle.wb_tasks.specs.declared.step.Answer.{Answer}
+use Rattle.wb_tasks.specs.declared.step.Answer.TheVariants.{Done as Finished, Refused as Refuses}
+use Rattle.wb_tasks.specs.declared.step.Want.TheVariants.{End}
+use Rattle.wb_promise.specs.declared.job.Job.{Job}
+use Rattle.wb_promise.specs.declared.job.Job.TheVariants.{Read, Write, Open}
+use Rattle.wb_promise.specs.declared.event.Event.{Event}
+use Rattle.wb_promise.specs.declared.event.Event.TheVariants.{Step}
+use Rattle.wb_promise.specs.declared.event.What.{What}
+use Rattle.wb_promise.specs.declared.event.What.TheVariants.{Stepped}
+use Rattle.wb_promise.specs.States.{Shape, State, start}
+use Rattle.wb_promise.specs.Happenings.{Happening}
+use Rattle.wb_promise.specs.Effects.{after_happening, after_all}
+use Rattle.wb_promise.specs.Clerk.{Notes, Doing, Reading, Position, formatted}
+use Rattle.wb_promise.specs.Headline.{note_happening, MayRefuse, InEveryRun, AllSkipRightly}
+
+-- Metadata represent a root of this geometry, and a tree, of which a root that is marked clean says nothing but that it is empty.
+pub record CanBeRead (shape : Shape) (metadata : List Bytes) : Type 0 where
+  pub stored : Stored
+  pub represents : Represents metadata stored.root stored.found
+  pub geometry : stored.root.geometry ≡ shape.geometry
+  pub clean : stored.root.clean ≡ true → count_by is_some stored.found.entries ≡ 0
+
+-- whatever a crash leaves of the metadata represents a root and a tree
+abbrev pub MetadataAreRead : (P A : Type 0) → Type 0
+MetadataAreRead P A = InEveryRun P A (λ shape metadata hs. (sectors : List Bytes) → MayLeave (after_all shape (start shape metadata) hs).devices.metadata sectors → CanBeRead shape sectors)
+
+-- An opening that is refused has a cause: a step of it has failed on that device, memory was wanted, or no generation is left.
+abbrev pub RefusedBy : Doing → Job → Refusal → Type 0
+RefusedBy doing (Open mode) refusal = MayRefuse doing refusal
+RefusedBy doing job refusal = Unit {0}
+
+abbrev pub RefusedRightly : Option (Option Doing) → Refusal → Type 0
+RefusedRightly (Some (Some doing)) refusal = RefusedBy doing doing.job refusal
+RefusedRightly doing refusal = Unit {0}
+
+abbrev pub RefusesByCause : Notes → Event → What → Type 0
+RefusesByCause n (Step a) (Stepped (End (Refuses refusal)) got) = RefusedRightly (slice_get n.doings a) refusal
+RefusesByCause n event what = Unit {0}
+
+-- every opening of a run that is refused does
+abbrev pub AllRefuseByCause : {P A : Type 0} → Shape → State P A → Notes → List (Happening P A) → Type 0
+AllRefuseByCause shape w n [] = Unit {0}
+AllRefuseByCause shape w n (h ∷ hs) = RefusesByCause n h.record_is.event h.record_is.what × AllRefuseByCause shape (after_happening shape w h) (note_happening shape w n h) hs
+
+-- no opening is refused for what the metadata hold
+abbrev pub OpeningsRefuseByCause : (P A : Type 0) → Type 0
+OpeningsRefuseByCause P A = InEveryRun P A (λ shape metadata hs. AllRefuseByCause shape (start shape metadata) (formatted shape) hs)
+
+-- A read that is answered done was given each of its sectors exactly once, and a write that is has entered each of its own so.
+abbrev pub IsCovered : Doing → Job → Answer → Type 0
+IsCovered doing (Read extent) Finished = IsPermutation (sectors_in extent) (map (λ (r : Reading). r.sector) doing.readings)
+IsCovered doing (Write extent content) Finished = IsPermutation (sectors_in extent) (map (λ (p : Position). p.sector) doing.entered)
+IsCovered doing job answer = Unit {0}
+
+abbrev pub DoingCovers : Option (Option Doing) → Answer → Type 0
+DoingCovers (Some (Some doing)) answer = IsCovered doing doing.job answer
+DoingCovers doing answer = ⊥
+
+-- only an actor that is at something answers
+abbrev pub AnswerCovers : Notes → Event → What → Type 0
+AnswerCovers n (Step a) (Stepped (End answer) got) = DoingCovers (slice_get n.doings a) answer
+AnswerCovers n event what = Unit {0}
+
+-- so it is of every answer of a run
+abbrev pub AllCover : {P A : Type 0} → Shape → State P A → Notes → List (Happening P A) → Type 0
+AllCover shape w n [] = Unit {0}
+AllCover shape w n (h ∷ hs) = AnswerCovers n h.record_is.event h.record_is.what × AllCover shape (after_happening shape w h) (note_happening shape w n h) hs
+
+abbrev pub AnswersCoverTheirSectors : (P A : Type 0) → Type 0
+AnswersCoverTheirSectors P A = InEveryRun P A (λ shape metadata hs. AllCover shape (start shape metadata) (formatted shape) hs)
+
+-- in every run an event is skipped only where it does not apply
+abbrev pub EventsSkipRightly : (P A : Type 0) → Type 0
+EventsSkipRightly P A = InEveryRun P A (λ shape metadata hs. AllSkipRightly shape (start shape metadata) hs)
