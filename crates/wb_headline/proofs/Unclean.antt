@@ -3,8 +3,8 @@ use Rattle.std.proofs.Common.{◌∙◌, ap, ◌≡◌, inl, inr, ℕ, Bool, tru
 use Rattle.wb_types.proofs.Lists.{set_cases}
 use Rattle.wb_disk.specs.Device.{Content}
 use Rattle.wb_types.specs.declared.mode.Mode.{Mode}
-use Rattle.wb_link.specs.Tables.{Job, Promoting, Order, Script, Want, Begin, Begin_clean, End_running, Write_at, Sync_cache_device, Sync_origin_device, End, Got, Done, Short, Fault, want}
-use Rattle.wb_link.specs.World.{Gives, is_alone, World, Shared, Actor, Record, Start, Again, Step, Release, release_order, effect, if_landed, put_sector, task_after, actor_after, step_task, step_actor, start_actor, again_actor, reserved, after_record, job_alone, given}
+use Rattle.wb_link.specs.Tables.{Job, Promoting, Order, Script, Want, Begin, Begin_clean, End_running, Write_all, Sync_cache_device, Sync_origin_device, End, Got, Done, Short, Fault, want}
+use Rattle.wb_link.specs.World.{Gives, is_alone, World, Shared, Actor, Record, Start, Again, Step, Release, release_order, effect, if_landed, put_sector, put_where, contents_for, task_after, actor_after, step_task, step_actor, start_actor, again_actor, reserved, after_record, job_alone, given}
 use Rattle.wb_link.specs.Openings.{MayHappen, Happens, after_events, note_event, Site, Phase, Opens, Stage, Settling, Caching, Basing, Rooting, Answering, Outcome, Settled, Fine, Learns, Refused, Broke, Shown, Event, On, Stopped, Begins, Advances, after_event, advance, advanced, found_clean, emptied, stopped}
 use Rattle.wb_link.proofs.Lists.{replicated}
 use Rattle.wb_link.proofs.Actors.{job_on, others_same}
@@ -76,14 +76,18 @@ put_unclean : (s : Shared) (location : Option ℕ) (b o : ℕ) (c : Content) →
 put_unclean s None b o c u = u
 put_unclean s (Some k) b o c u = u
 
-effect_unclean : (s : Shared) (job : Job) (buffer : Content) (w : Want) (got : Got) → IsPlain w → AreUnclean s → AreUnclean (effect s job buffer w got)
+where_unclean : (lands : ℕ → Bool) (s : Shared) (location : Option ℕ) (b : ℕ) (os : List ℕ) (contents : ℕ → Content) → AreUnclean s → AreUnclean (put_where lands s location b os contents)
+where_unclean lands s location b [] contents u = u
+where_unclean lands s location b (o ∷ os) contents u = where_unclean lands (if_landed (lands o) (put_sector s location b o (contents o)) s) location b os contents (landed_unclean (lands o) (put_sector s location b o (contents o)) s (put_unclean s location b o (contents o) u) u)
+
+effect_unclean : (s : Shared) (job : Job) (buffer : ℕ → Content) (w : Want) (got : Got) → IsPlain w → AreUnclean s → AreUnclean (effect s job buffer w got)
 effect_unclean s job buffer Begin_clean got p u = absurd p
 effect_unclean s job buffer (Begin ticket) Done p u = (u.0, λ b. refl)
 effect_unclean s job buffer (Begin ticket) got p u = u
 effect_unclean s job buffer End_running got p u = (u.1, u.1)
-effect_unclean s job buffer (Write_at location b o) Done p u = put_unclean s location b o _ u
-effect_unclean s job buffer (Write_at location b o) (Fault choice) p u = landed_unclean choice.landed _ s (put_unclean s location b o _ u) u
-effect_unclean s job buffer (Write_at location b o) got p u = u
+effect_unclean s job buffer (Write_all location b os) Done p u = where_unclean (λ o. true) s location b os (contents_for job buffer) u
+effect_unclean s job buffer (Write_all location b os) (Fault lands) p u = where_unclean (lands b) s location b os (contents_for job buffer) u
+effect_unclean s job buffer (Write_all location b os) got p u = u
 effect_unclean s job buffer Sync_cache_device got p u = by_got got
   where
     by_got : (got : Got) → AreUnclean (effect s job buffer Sync_cache_device got)
