@@ -353,11 +353,15 @@ module _ (P A : Type 0) (shape : Shape) (t : Target P) (commit : Option RunningC
   any_step (Device (WriteExtent d ext)) got read chosen e g = subst (λ (v : Got). To (Device (WriteExtent d ext)) v read chosen) (sym g.2)
       (subst (λ (c : Chosen P A). To (Device (WriteExtent d ext)) Done read c) (sym g.1.1)
       (write_done P A shape b.goes.images t commit devices actors n b.goes.known f a x ex migration block plan xt suits doing noted job_is d ext read g.0 e g.3))
-  any_step (Desk (Map bl c)) got read chosen e g = by_map bl c got read chosen e g.1
-  any_step (Desk (ReleaseOrder bl)) got read chosen e g = subst (λ (v : Got). To (Desk (ReleaseOrder bl)) v read chosen) (sym g.1) (by_release bl read chosen e g.2)
+  any_step (Desk (Map bl c)) Done read (Asks new) e g = subst (λ (v : DeskState P). To (Desk (Map bl c)) Done read (Asks v)) (sym g.1.2) (maps_on bl c new.tree new.policy read g.1.0 g.1.1 e)
+  any_step (Desk (Map bl c)) (GotRefused refusal) read Plain e g = map_refused P A shape b.goes.images t commit devices actors n b.goes.known b.goes.followed a x ex migration block plan xt suits doing noted job_is bl c refusal e
+  any_step (Desk (Map bl c)) got read chosen e g = absurd g.1
+  any_step (Desk (ReleaseOrder bl)) got read (Asks new) e g = subst (λ (v : Got). To (Desk (ReleaseOrder bl)) v read (Asks new)) (sym g.1) (releases_on bl read new e g.2)
+  any_step (Desk (ReleaseOrder bl)) got read chosen e g = absurd g.2
   any_step (End answer) got read chosen e g = subst (λ (v : Got). To (End answer) v read chosen) (sym g.1) (subst (λ (c : Chosen P A). To (End answer) Done read c) (sym g.0.1)
       (answers P A shape b.goes.images t commit devices actors n b.goes.known f a x ex migration block plan xt suits doing noted job_is answer _ read e))
-  any_step (Desk (Unmap bl)) got read chosen e g = subst (λ (v : Got). To (Desk (Unmap bl)) v read chosen) (sym g.1) (by_unmap bl read chosen e g.2)
+  any_step (Desk (Unmap bl)) got read (Asks new) e g = subst (λ (v : Got). To (Desk (Unmap bl)) v read (Asks new)) (sym g.1) (unmaps_on bl read new e g.2)
+  any_step (Desk (Unmap bl)) got read chosen e g = absurd g.2
   any_step next got read chosen e g = absurd ((own_step next e tt).2)
 
   room : (d : Dev) (ext : Extent) → HoldsBlocks d → StepInside shape (Device (WriteExtent d ext)) → ext.first + ext.count ≤ length (Rattle.wb_devices.specs.Moving.device_in d devices)
