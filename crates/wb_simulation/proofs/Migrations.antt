@@ -31,7 +31,7 @@ use Rattle.wb_runs.specs.declared.job.Job.TheVariants.{Migrate}
 use Rattle.wb_runs.specs.Effects.{contents_at, dropped, replacing}
 use Rattle.wb_runs.specs.States.{Actor, with_device}
 use Rattle.wb_runs.specs.Holding.{cards_of, AllSuited}
-use Rattle.wb_simulation.specs.Steps.{IsWrittenNext, IsOutside}
+use Rattle.wb_simulation.specs.Steps.{IsOutside}
 use Rattle.wb_simulation.specs.Worlds.{Agrees, Stays, Maps, Unmaps, GivesUp}
 use Rattle.wb_simulation.specs.Laws.{after_step}
 use Rattle.wb_simulation.specs.Migrating.{MigrationsFollowed, Carried, EndsOrder, TurnsOrder, LeavesFrom}
@@ -58,11 +58,6 @@ use Rattle.wb_simulation.proofs.Orders.{carries_same, does_none}
 use Rattle.wb_simulation.proofs.Among.{own_there, goes_on, stays_there}
 use Rattle.wb_simulation.proofs.Carrying.{carried_leads, under_migrates}
 use Rattle.wb_simulation.proofs.Deciding.{map_refused, mapped, unmapped, turned_over, given_up}
-
--- a read is followed by a write
-written_after : (size block : ℕ) (e : Extent) (ws : List Want) → IsWrittenNext size e ws → (device : Dev) × (w : Extent) × (rest : List Want) × (ws ≡ Device (Write device w) ∷ rest)
-written_after size block e (Device (Write device w) ∷ rest) n = (device, w, rest, refl)
-written_after size block e ws n = absurd n
 
 -- A migration whose next step is on a device or the desk is at the same there.
 record IsFound (size : ℕ) (orders : List (Option Order)) (devices : Devices (List History)) (migration : Migration) (block : OBlock) (plan : Plan) (next : Want) (x : Actor) (y : AbstractActor) : Type 0 where
