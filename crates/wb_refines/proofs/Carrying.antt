@@ -13,8 +13,7 @@ use Rattle.wb_link.specs.Tables.{Order, Job, Done, Lost, Own, Seen, Disown, Give
 use Rattle.wb_link.specs.World.{order_of as order_of_job, aside, taken, Shared, Nothing, Owns, Actor, start_actor, World, Start, May, MayStart, after_record, reserved, Again, MayAgain, again_actor}
 use Rattle.wb_refines.specs.Translation.{number_of, offsets}
 use Rattle.wb_refines.specs.Going.{WinsBeside}
-use Rattle.wb_refines.specs.Migrations.{job_under, order_on, Fills, IsWhere}
-use Rattle.wb_refines.specs.Copies.{migrating}
+use Rattle.wb_refines.specs.Migrations.{job_under, order_on, Fills, IsWhere, migrating}
 use Rattle.wb_refines.specs.Carrying.{GoesTo, without_block, MigrationsBegin, CarryingFollowed}
 use Rattle.wb_refines.proofs.Migrating.{works}
 use Rattle.wb_types.specs.declared.number.OBlock.{OBlock}

@@ -18,8 +18,7 @@ use Rattle.wb_link.specs.World.{aside, taken, Shared, Nothing, Actor, World, Sta
 use Rattle.wb_refines.specs.Translation.{number_of, offsets}
 use Rattle.wb_refines.specs.Going.{WinsBeside, shared_after, gone, MayGo}
 use Rattle.wb_refines.specs.Tasks.{IsResting, NobodyIsAlone}
-use Rattle.wb_refines.specs.Migrations.{job_under, order_on, Fills, IsWhere}
-use Rattle.wb_refines.specs.Copies.{migrating}
+use Rattle.wb_refines.specs.Migrations.{job_under, order_on, Fills, IsWhere, migrating}
 
 -- An abstract actor can go on with these results, so that this is shared then, and it is this actor.
 pub record GoesTo (actors : List Actor) (a : ℕ) (s : Shared) (y : Actor) (results : List Got) (t : Shared) (z : Actor) : Type 0 where

@@ -7,6 +7,5 @@ pub mod Flushes
 pub mod Tasks
 pub mod Openings
 pub mod Migrations
-pub mod Copies
 pub mod Carrying
 pub mod Carried

@@ -23,8 +23,7 @@ use Rattle.wb_link.proofs.Lists.{get_set_same, get_set_other}
 use Rattle.wb_refines.specs.Tasks.{AllInBlocks}
 use Rattle.wb_refines.specs.Models.{held_of, WordsAgree}
 use Rattle.wb_refines.specs.Translation.{offsets}
-use Rattle.wb_refines.specs.Migrations.{order_on, job_under, Fills}
-use Rattle.wb_refines.specs.Copies.{migrating}
+use Rattle.wb_refines.specs.Migrations.{order_on, job_under, Fills, migrating}
 use Rattle.wb_refines.specs.Carrying.{without_block}
 use Rattle.wb_refines.proofs.Carrying.{under_order, migrations_begin}
 use Rattle.wb_refines.proofs.Tasks.{within_offsets}
