@@ -33,7 +33,7 @@ short (Some p) n size a c s d = releasing n size a p c s d
 -- it leads a commit
 leading : (q : Option Order) (n size a : ℕ) (ticket : Option ℕ) (c : ℕ → Content) (t : Shared) (e : Volume) → Good size t e → e.ticket a ≤ e.began + 1 → e.live ≡ true → t.committing ≡ false → Result q n size a (Begin ticket ∷ Sync_cache_device ∷ Sync_origin_device ∷ Put_root ∷ Sync_metadata ∷ End_running ∷ []) Finished false c t e Done
 leading q n size a ticket c t e g k l idle = record {
-  run = ((l, sym g.agrees.root_written ∙ g.idle idle), tt);
+  run = ((l, sym g.agrees.told.root_written ∙ g.idle idle), tt);
   mine = (idle, tt);
   agrees = begin_agrees t e _ g.agrees;
   ready = refl;

@@ -41,7 +41,7 @@ beginning (suc n) size a c s d k l f = λ t e got o g v r.
     let steps = Begin_clean ∷ Sync_cache_device ∷ Sync_origin_device ∷ Put_root ∷ Sync_metadata ∷ End_running ∷ Set_suspended ∷ [] in
     gives_suspend t (λ w. Receives (suspending steps Finished false c) Suspending Begin_clean w t e → Result n size a steps Finished false c t e w)
     (λ idle rest. record {
-      run = ((o.live ∙ l, sym g.agrees.root_written ∙ g.idle idle, λ b. (rest refl (ap (λ (v : Shared). v.fail) (o.alone refl).0 ∙ f) b (λ bad. absurd (cc))).whole), tt);
+      run = ((o.live ∙ l, sym g.agrees.told.root_written ∙ g.idle idle, λ b. (rest refl (ap (λ (v : Shared). v.fail) (o.alone refl).0 ∙ f) b (λ bad. absurd (cc))).whole), tt);
       mine = ((idle, refl), tt);
       agrees = suspend_agrees t e _ (λ b. rest refl (ap (λ (v : Shared). v.fail) (o.alone refl).0 ∙ f) b (λ bad. absurd (cc))) g.agrees;
       ready = (refl, refl);
