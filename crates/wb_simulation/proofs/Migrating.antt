@@ -124,11 +124,10 @@ pub cells : (size most blocks : ℕ) (words : Words) (committing : Bool) (orders
 cells size most blocks words committing orders devices actors a x migration block plan step s rule ex task suits next sees g =
     let y = own_there size most words committing orders devices actors s g a x ex in
     let d = g.orders_agree.carried a x y.0 migration block plan ex y.1 task in
-    let st = g.each a x y.0 ex y.1 in
     first plan (OnBlock (Migrating migration d.part)) (Cell step) d.job next (λ p. Suits blocks p x.card → At d.part y.0 p → Goal p) (λ rest k suits at. elim at [
       | inl f ↦ goes d.part y.0 y.1 rest (acts size most blocks words committing orders devices actors a x step s y.0 g rule ex y.1 migration block d.part rest plan.answer f suits sees) (is_carried size most blocks words committing orders devices actors a x step s y.0 g rule ex y.1 migration block d.part rest plan.answer f suits sees)
           (carried_job size orders devices migration block d.part (Cell step ∷ rest) plan.answer x y.0 f)
-      | inr o ↦ goes d.part y.0 y.1 rest (acts_over (Migrating migration d.part) IsMigrating words s.actors a x.card s.shared y.0 plan.answer g.words_agree step rest st.below st.among_others o) (λ z (n : ⊥). absurd n)
+      | inr o ↦ goes d.part y.0 y.1 rest (acts_over (Migrating migration d.part) IsMigrating words s.actors a x.card s.shared y.0 plan.answer g.words_agree step rest y.2.below y.2.among_others o) (λ z (n : ⊥). absurd n)
           (elim o [ inl e ↦ subst IsMigratingOf (sym e.0.task) e.1 | inr l ↦ subst IsMigratingOf (sym l.nothing) tt ])
     ]) (λ k q. absurd (cc)) suits d.at
   where
