@@ -83,14 +83,14 @@ flush_steps_followed = record {
   looks = λ size serves most word content actors a s y answer f is. subst (λ (v : Actor). Leads size content actors a s v s (after (flushing serves most (Cell (Look Fail) ∷ Desk (BeginCommit false most) ∷ []) answer) (Word word)) false) (sym is.is) (looks_at size serves most content actors a s is.buffer word answer f);
   begins = λ size serves most nodes content actors a s y later answer c b is. moved is.is (record { results = DoneThere ∷ []; may = ((c, b, tt), tt, tt); quiet = (tt, tt); shared = refl; at = record { buffer = is.buffer; is = λ i. asking size serves most content actors a s is.buffer (Sync_cache_device ∷ Sync_origin_device ∷ sym (nodes_are size nodes 0 root_steps) i) (answer_for (FlushingFor None) answer) true } });
   is_refused = λ size serves most refusal content actors a s y later answer n is. subst (λ (v : Actor). Leads size content actors a s v s (after (flushing serves most (Desk (BeginCommit false most) ∷ later) answer) (Refused refusal)) false) (sym is.is) (refused_by size serves most content actors a s is.buffer refusal later answer n);
-  syncs_cache = λ size serves most content actors a s y later answer is. moved is.is (record { results = DoneThere ∷ []; may = (tt, tt, tt); quiet = (tt, tt); shared = refl; at = record { buffer = is.buffer; is = refl } });
-  syncs_origin = λ size serves most content actors a s y later answer is. moved is.is (record { results = DoneThere ∷ []; may = (tt, tt, tt); quiet = (tt, tt); shared = refl; at = record { buffer = is.buffer; is = refl } });
-  nodes = λ size serves most number content actors a s y later answer is. record { results = []; may = tt; quiet = subst (λ (v : Actor). AreQuiet v.task []) (sym is.is) tt; shared = ap (λ (v : Actor). shared_after s v v.task []) is.is; at = record { buffer = is.buffer; is = ap (λ (v : Actor). gone v v.task []) is.is } };
-  syncs_metadata = λ size serves most content actors a s y later answer is. record { results = []; may = tt; quiet = subst (λ (v : Actor). AreQuiet v.task []) (sym is.is) tt; shared = ap (λ (v : Actor). shared_after s v v.task []) is.is; at = record { buffer = is.buffer; is = ap (λ (v : Actor). gone v v.task []) is.is } };
-  writes_root = λ size serves most content actors a s y later answer is. moved is.is (record { results = DoneThere ∷ []; may = (tt, tt, tt); quiet = (tt, tt); shared = refl; at = record { buffer = is.buffer; is = refl } });
+  syncs_cache = λ later size serves most content actors a s y answer is. moved is.is (record { results = DoneThere ∷ []; may = (tt, tt, tt); quiet = (tt, tt); shared = refl; at = record { buffer = is.buffer; is = refl } });
+  syncs_origin = λ later size serves most content actors a s y answer is. moved is.is (record { results = DoneThere ∷ []; may = (tt, tt, tt); quiet = (tt, tt); shared = refl; at = record { buffer = is.buffer; is = refl } });
+  nodes = λ number later size serves most content actors a s y answer is. record { results = []; may = tt; quiet = subst (λ (v : Actor). AreQuiet v.task []) (sym is.is) tt; shared = ap (λ (v : Actor). shared_after s v v.task []) is.is; at = record { buffer = is.buffer; is = ap (λ (v : Actor). gone v v.task []) is.is } };
+  syncs_metadata = λ later size serves most content actors a s y answer is. record { results = []; may = tt; quiet = subst (λ (v : Actor). AreQuiet v.task []) (sym is.is) tt; shared = ap (λ (v : Actor). shared_after s v v.task []) is.is; at = record { buffer = is.buffer; is = ap (λ (v : Actor). gone v v.task []) is.is } };
+  writes_root = λ later size serves most content actors a s y answer is. moved is.is (record { results = DoneThere ∷ []; may = (tt, tt, tt); quiet = (tt, tt); shared = refl; at = record { buffer = is.buffer; is = refl } });
   ends = λ size serves most content actors a s y answer is. moved is.is (record { results = DoneThere ∷ DoneThere ∷ []; may = (tt, tt, (tt, tt, tt)); quiet = (tt, (tt, tt)); shared = refl; at = record { buffer = is.buffer; is = refl } });
-  fails_cache = λ size serves most content actors a s y later answer settled is. moved is.is (record { results = FaultThere settled ∷ []; may = (tt, tt, tt); quiet = (tt, tt); shared = refl; at = record { buffer = is.buffer; is = refl } });
-  fails_origin = λ size serves most content actors a s y later answer settled is. moved is.is (record { results = FaultThere settled ∷ []; may = (tt, tt, tt); quiet = (tt, tt); shared = refl; at = record { buffer = is.buffer; is = refl } });
+  fails_cache = λ settled later size serves most content actors a s y answer is. moved is.is (record { results = FaultThere settled ∷ []; may = (tt, tt, tt); quiet = (tt, tt); shared = refl; at = record { buffer = is.buffer; is = refl } });
+  fails_origin = λ settled later size serves most content actors a s y answer is. moved is.is (record { results = FaultThere settled ∷ []; may = (tt, tt, tt); quiet = (tt, tt); shared = refl; at = record { buffer = is.buffer; is = refl } });
   fails_metadata = λ size serves most step content actors a s y later answer m is. let one = fails_on size serves most content actors a s is.buffer step later answer m in (one.0, one.1, subst (λ (v : Actor). Leads size content actors a s v (record s { root_written = one.0 }) (after (flushing serves most (Device step ∷ later) answer) Fault) true) (sym is.is) one.2);
   fails = λ size serves most content actors a s y answer is. moved is.is (record { results = DoneThere ∷ DoneThere ∷ []; may = (tt, tt, (tt, tt, tt)); quiet = (tt, (tt, tt)); shared = refl; at = record { buffer = is.buffer; is = refl } });
 }

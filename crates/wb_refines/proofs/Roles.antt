@@ -1,22 +1,24 @@
 -- Reads, writes and migrations play their roles.
-use Rattle.std.proofs.Common.{◌≡◌, ◌<◌, ◌∙◌, ℕ, Bool, List, Option, Some, None, refl, sym, ap, subst}
+use Rattle.std.proofs.Common.{◌≡◌, ◌<◌, ◌∙◌, ℕ, Bool, false, List, [], ◌∷◌, Option, Some, None, refl, sym, ap, subst}
 use Rattle.wb_types.specs.declared.number.CBlock.{CBlock}
 use Rattle.wb_types.specs.declared.refusal.Refusal.{Refusal}
+use Rattle.wb_types.specs.declared.refusal.Refusal.TheVariants.{Busy}
 use Rattle.wb_disk.specs.Device.{Content}
 use Rattle.wb_words.specs.SharedWords.{place_in, dirty_in}
 use Rattle.wb_words.specs.declared.card.Card.{Card}
-use Rattle.wb_tasks.specs.Tables.{BlockJob, TaskJob, BlockRange, Reading, Writing, Migrating, OnBlock, range_of}
-use Rattle.wb_tasks.specs.Plan.{Plan, work_of}
+use Rattle.wb_tasks.specs.Tables.{BlockJob, TaskJob, BlockRange, Reading, Writing, Migrating, OnBlock, range_of, access_of, work}
+use Rattle.wb_tasks.specs.Ready.{block_of}
+use Rattle.wb_tasks.specs.Plan.{Plan}
 use Rattle.wb_tasks.specs.declared.step.Answer.{Answer}
 use Rattle.wb_tasks.specs.declared.step.Want.{Want}
 use Rattle.wb_tasks.specs.declared.step.Answer.TheVariants.{Refused as Refuses}
 use Rattle.wb_tasks.specs.declared.step.Migration.{Migration}
 use Rattle.wb_tasks.specs.declared.step.Migration.TheVariants.{Promote, Demote, Clean}
-use Rattle.wb_link.specs.Tables.{Order, Job as AbstractJob, Seal as SealThere, Answer as AbstractAnswer, Finished as AnsweredDone, work as work_there}
-use Rattle.wb_link.specs.World.{Actor}
+use Rattle.wb_link.specs.Tables.{Order, Job as AbstractJob, Seal as SealThere, Answer as AbstractAnswer, Finished as AnsweredDone, work as work_there, Look_seal, Set_failed, acquire, breaking, Busy as AnsweredBusy}
+use Rattle.wb_link.specs.World.{Actor, job_alone}
 use Rattle.wb_refines.specs.Translation.{number_of, offsets, job_for, answer_for, wants_of}
 use Rattle.wb_refines.specs.Models.{SealAgrees, IsRequest, IsAt, held_for, plan_of}
-use Rattle.wb_refines.specs.Roles.{acting, IsAs, Plays, request_role, RequestCellsFollowed}
+use Rattle.wb_refines.specs.Roles.{acting, IsAs, Plays, request_role, RequestCellsFollowed, claim}
 use Rattle.wb_refines.specs.Migrations.{job_under, order_on, Fills, IsWhere}
 use Rattle.wb_refines.specs.Carried.{migration_role, MigrationCellsFollowed}
 use Rattle.wb_refines.proofs.Cells.{refused_undone}
@@ -45,33 +47,29 @@ at_request size content job plan card y e i = subst (λ (k : TaskJob). IsAt size
     by : IsAs (request_role size content job) (plan_of job plan.steps plan.answer) card y → IsAt size content (plan_of job plan.steps plan.answer) card y
     by i = record { buffer = i.buffer; is = i.is ∙ ap (λ (t : AbstractAnswer). acting (request_role size content job) (wants_of size (job_for size content (OnBlock job)) plan.steps) t (held_for plan.steps card) i.buffer) i.alike; saw = i.saw }
 
+-- So a request plays its part, where its work is this by a seal, and hangs on the dirty bit of a mapped block alone.
+module _ (size : ℕ) (content : Content) (job : BlockJob) (sized : size ≡ (range_of job).block_sectors) where
+  abbrev there : ℕ → AbstractJob
+  there n = job_for n content (OnBlock job)
+
+  request_plays : acquire (there size) ≡ claim (access_of job) (block_of job) ∷ Look_seal (block_of job).0 ∷ [] → breaking (there size) ≡ Set_failed ∷ [] → job_alone (there size) ≡ false → AnsweredBusy ≡ answer_for (there size) (Refuses Busy) → ((d e : Bool) → work_there (there size) (record { location = None; dirty = d }) ≡ work_there (there size) (record { location = None; dirty = e })) →
+      ((place : Option CBlock) (dirty : Bool) → wants_of (range_of job).block_sectors (there (range_of job).block_sectors) (work job place dirty) ≡ work_there (there (range_of job).block_sectors) (record { location = number_of place; dirty = dirty })) → Plays (request_role size content job) job
+  request_plays begins breaks among busy any is = record {
+    begins = begins;
+    steps = λ step later. refl;
+    ends = refl;
+    works = λ word seal f a. same_work (there size) (place_in word) (dirty_in word) seal (λ d. any d (dirty_in word)) a.location a.dirty
+        ∙ subst (λ (n : ℕ). work_there (there n) (record { location = number_of (place_in word); dirty = dirty_in word }) ≡ wants_of n (there n) (work job (place_in word) (dirty_in word))) (sym sized) (sym (is (place_in word) (dirty_in word)));
+    breaks = breaks;
+    among_others = among;
+    failed = refl;
+    busy = busy;
+    undone = undone (there size);
+  }
+
 pub requests_play : (size : ℕ) (content : Content) (job : BlockJob) → IsRequest job → 0 < size → size ≡ (range_of job).block_sectors → Plays (request_role size content job) job
-requests_play size content (Reading part) r some e = record {
-  begins = refl;
-  steps = λ step later. refl;
-  ends = refl;
-  works = λ word seal f a. same_work (job_for size content (OnBlock (Reading part))) (place_in word) (dirty_in word) seal (λ d. refl) a.location a.dirty
-      ∙ subst (λ (n : ℕ). work_there (job_for n content (OnBlock (Reading part))) (record { location = number_of (place_in word); dirty = dirty_in word }) ≡ wants_of n (job_for n content (OnBlock (Reading part))) (work_of (OnBlock (Reading part)) word)) (sym e)
-      (sym (read_work part (subst (λ v. 0 < v) e some) content (place_in word) (dirty_in word)));
-  breaks = refl;
-  among_others = refl;
-  failed = refl;
-  busy = refl;
-  undone = undone (job_for size content (OnBlock (Reading part)));
-}
-requests_play size content (Writing part) r some e = record {
-  begins = refl;
-  steps = λ step later. refl;
-  ends = refl;
-  works = λ word seal f a. same_work (job_for size content (OnBlock (Writing part))) (place_in word) (dirty_in word) seal (λ d. refl) a.location a.dirty
-      ∙ subst (λ (n : ℕ). work_there (job_for n content (OnBlock (Writing part))) (record { location = number_of (place_in word); dirty = dirty_in word }) ≡ wants_of n (job_for n content (OnBlock (Writing part))) (work_of (OnBlock (Writing part)) word)) (sym e)
-      (sym (write_work part (subst (λ v. 0 < v) e some) content (place_in word) (dirty_in word)));
-  breaks = refl;
-  among_others = refl;
-  failed = refl;
-  busy = refl;
-  undone = undone (job_for size content (OnBlock (Writing part)));
-}
+requests_play size content (Reading part) r some e = request_plays size content (Reading part) e refl refl refl refl (λ d e. refl) (read_work part (subst (λ v. 0 < v) e some) content)
+requests_play size content (Writing part) r some e = request_plays size content (Writing part) e refl refl refl refl (λ d e. refl) (write_work part (subst (λ v. 0 < v) e some) content)
 requests_play size content (Migrating migration part) r some e = absurd r
 
 -- what a migration's work is hangs on no more of the seal than agrees

@@ -16,6 +16,7 @@ use Rattle.wb_tasks.specs.declared.step.DeviceStep.TheVariants.{Sync, WriteNode,
 use Rattle.wb_tasks.specs.declared.step.DeskStep.TheVariants.{BeginCommit, EndCommit}
 use Rattle.wb_tasks.specs.declared.step.Want.{Want}
 use Rattle.wb_tasks.specs.declared.step.Want.TheVariants.{Cell, Device, Desk}
+use Rattle.wb_tasks.specs.declared.step.Got.{Got as GotHere}
 use Rattle.wb_tasks.specs.declared.step.Got.TheVariants.{Done, Word, Fault, Refused, Began}
 use Rattle.wb_types.specs.declared.number.OBlock.{OBlock}
 use Rattle.wb_link.specs.Tables.{Got, Done as DoneThere, Begin, End_running, Flushing as FlushingFor}
@@ -60,6 +61,11 @@ abbrev pub IsWrittenAfter : DeviceStep → (before after : Bool) → Type 0
 IsWrittenAfter WriteRoot before after = after ≡ true
 IsWrittenAfter step before after = before ≡ true → after ≡ true
 
+-- A flush that has these steps to come goes on there by this result, so that this is shared then; it leads a commit or doesn't, before it and after it.
+abbrev pub GoesBy : Bool → List Want → GotHere → (Shared → Shared) → Bool → Type 0
+GoesBy leads steps got then_shared then_leads = (size : ℕ) (serves : List OBlock) (most : ℕ) (content : Content) (actors : List Actor) (a : ℕ) (s : Shared) (y : Actor) (answer : Answer) → IsFlushing size content (flushing serves most steps answer) leads y →
+    Leads size content actors a s y (then_shared s) (after (flushing serves most steps answer) got) then_leads
+
 -- Each step of a flush, with each result that it may have.
 pub record FlushStepsFollowed : Type 0 where
   pub looks : (size : ℕ) (serves : List OBlock) (most word : ℕ) (content : Content) (actors : List Actor) (a : ℕ) (s : Shared) (y : Actor) (answer : Answer) → s.fail ≡ flag word → IsFlushing size content (flushing serves most (Cell (Look Fail) ∷ Desk (BeginCommit false most) ∷ []) answer) false y →
@@ -68,27 +74,18 @@ pub record FlushStepsFollowed : Type 0 where
       Leads size content actors a s y (effect s (FlushingFor None) (λ o. []) (Begin None) DoneThere) (after (flushing serves most (Desk (BeginCommit false most) ∷ later) answer) (Began nodes)) true
   pub is_refused : (size : ℕ) (serves : List OBlock) (most : ℕ) (refusal : Refusal) (content : Content) (actors : List Actor) (a : ℕ) (s : Shared) (y : Actor) (later : List Want) (answer : Answer) → IsNoBegin refusal → IsFlushing size content (flushing serves most (Desk (BeginCommit false most) ∷ later) answer) false y →
       Leads size content actors a s y s (after (flushing serves most (Desk (BeginCommit false most) ∷ later) answer) (Refused refusal)) false
-  pub syncs_cache : (size : ℕ) (serves : List OBlock) (most : ℕ) (content : Content) (actors : List Actor) (a : ℕ) (s : Shared) (y : Actor) (later : List Want) (answer : Answer) → IsFlushing size content (flushing serves most (Device (Sync Cache) ∷ later) answer) true y →
-      Leads size content actors a s y (record s { cache = all_synced s.cache }) (after (flushing serves most (Device (Sync Cache) ∷ later) answer) Done) true
-  pub syncs_origin : (size : ℕ) (serves : List OBlock) (most : ℕ) (content : Content) (actors : List Actor) (a : ℕ) (s : Shared) (y : Actor) (later : List Want) (answer : Answer) → IsFlushing size content (flushing serves most (Device (Sync Origin) ∷ later) answer) true y →
-      Leads size content actors a s y (record s { origin = all_synced s.origin }) (after (flushing serves most (Device (Sync Origin) ∷ later) answer) Done) true
+  pub syncs_cache : (later : List Want) → GoesBy true (Device (Sync Cache) ∷ later) Done (λ s. record s { cache = all_synced s.cache }) true
+  pub syncs_origin : (later : List Want) → GoesBy true (Device (Sync Origin) ∷ later) Done (λ s. record s { origin = all_synced s.origin }) true
   -- nodes and syncs of the metadata are nothing there
-  pub nodes : (size : ℕ) (serves : List OBlock) (most number : ℕ) (content : Content) (actors : List Actor) (a : ℕ) (s : Shared) (y : Actor) (later : List Want) (answer : Answer) → IsFlushing size content (flushing serves most (Device (WriteNode number) ∷ later) answer) true y →
-      Leads size content actors a s y s (after (flushing serves most (Device (WriteNode number) ∷ later) answer) Done) true
-  pub syncs_metadata : (size : ℕ) (serves : List OBlock) (most : ℕ) (content : Content) (actors : List Actor) (a : ℕ) (s : Shared) (y : Actor) (later : List Want) (answer : Answer) → IsFlushing size content (flushing serves most (Device (Sync Metadata) ∷ later) answer) true y →
-      Leads size content actors a s y s (after (flushing serves most (Device (Sync Metadata) ∷ later) answer) Done) true
-  pub writes_root : (size : ℕ) (serves : List OBlock) (most : ℕ) (content : Content) (actors : List Actor) (a : ℕ) (s : Shared) (y : Actor) (later : List Want) (answer : Answer) → IsFlushing size content (flushing serves most (Device WriteRoot ∷ later) answer) true y →
-      Leads size content actors a s y (record s { root_written = true }) (after (flushing serves most (Device WriteRoot ∷ later) answer) Done) true
-  pub ends : (size : ℕ) (serves : List OBlock) (most : ℕ) (content : Content) (actors : List Actor) (a : ℕ) (s : Shared) (y : Actor) (answer : Answer) → IsFlushing size content (flushing serves most (Desk EndCommit ∷ []) answer) true y →
-      Leads size content actors a s y (effect s (FlushingFor None) (λ o. []) End_running DoneThere) (after (flushing serves most (Desk EndCommit ∷ []) answer) Done) false
+  pub nodes : (number : ℕ) (later : List Want) → GoesBy true (Device (WriteNode number) ∷ later) Done (λ s. s) true
+  pub syncs_metadata : (later : List Want) → GoesBy true (Device (Sync Metadata) ∷ later) Done (λ s. s) true
+  pub writes_root : (later : List Want) → GoesBy true (Device WriteRoot ∷ later) Done (λ s. record s { root_written = true }) true
+  pub ends : GoesBy true (Desk EndCommit ∷ []) Done (λ s. effect s (FlushingFor None) (λ o. []) End_running DoneThere) false
   -- a sync that fails settles these sectors
-  pub fails_cache : (size : ℕ) (serves : List OBlock) (most : ℕ) (content : Content) (actors : List Actor) (a : ℕ) (s : Shared) (y : Actor) (later : List Want) (answer : Answer) (settled : ℕ → ℕ → Bool) → IsFlushing size content (flushing serves most (Device (Sync Cache) ∷ later) answer) true y →
-      Leads size content actors a s y (record s { cache = partly_synced settled s.cache }) (after (flushing serves most (Device (Sync Cache) ∷ later) answer) Fault) true
-  pub fails_origin : (size : ℕ) (serves : List OBlock) (most : ℕ) (content : Content) (actors : List Actor) (a : ℕ) (s : Shared) (y : Actor) (later : List Want) (answer : Answer) (settled : ℕ → ℕ → Bool) → IsFlushing size content (flushing serves most (Device (Sync Origin) ∷ later) answer) true y →
-      Leads size content actors a s y (record s { origin = partly_synced settled s.origin }) (after (flushing serves most (Device (Sync Origin) ∷ later) answer) Fault) true
+  pub fails_cache : (settled : ℕ → ℕ → Bool) (later : List Want) → GoesBy true (Device (Sync Cache) ∷ later) Fault (λ s. record s { cache = partly_synced settled s.cache }) true
+  pub fails_origin : (settled : ℕ → ℕ → Bool) (later : List Want) → GoesBy true (Device (Sync Origin) ∷ later) Fault (λ s. record s { origin = partly_synced settled s.origin }) true
   -- a step on the metadata that fails may be the root's there
   pub fails_metadata : (size : ℕ) (serves : List OBlock) (most : ℕ) (step : DeviceStep) (content : Content) (actors : List Actor) (a : ℕ) (s : Shared) (y : Actor) (later : List Want) (answer : Answer) → IsOnMetadata (Device step ∷ later) → IsFlushing size content (flushing serves most (Device step ∷ later) answer) true y →
       (written : Bool) × IsWrittenAfter step s.root_written written × Leads size content actors a s y (record s { root_written = written }) (after (flushing serves most (Device step ∷ later) answer) Fault) true
   -- the failed bit breaks the commit for those who wait for it
-  pub fails : (size : ℕ) (serves : List OBlock) (most : ℕ) (content : Content) (actors : List Actor) (a : ℕ) (s : Shared) (y : Actor) (answer : Answer) → IsFlushing size content (flushing serves most (Cell SetFailed ∷ []) answer) true y →
-      Leads size content actors a s y (record s { fail = true; broken = true }) (after (flushing serves most (Cell SetFailed ∷ []) answer) Done) true
+  pub fails : GoesBy true (Cell SetFailed ∷ []) Done (λ s. record s { fail = true; broken = true }) true

@@ -66,8 +66,8 @@ card_there (z ∷ xs) (suc a) x e = card_there xs a x e
 
 module _ (size most : ℕ) (words : Words) (committing : Bool) (orders : List (Option Order)) (devices : Devices (List History)) (actors : List Actor) (s : World) (g : Agrees size most words committing orders devices actors s) where
   -- each of the run's actors is there, and nobody else
-  pub own_there : (a : ℕ) (x : Actor) → slice_get actors a ≡ Some x → (y : AbstractActor) × (slice_get s.actors a ≡ Some y)
-  own_there a x e = there_is s.actors a (let l = slice_get_within actors a x e in let many = g.many in omega (arith, l, many))
+  pub own_there : (a : ℕ) (x : Actor) → slice_get actors a ≡ Some x → (y : AbstractActor) × (slice_get s.actors a ≡ Some y) × StandsFor size most words x y
+  own_there a x e = let y = there_is s.actors a (let l = slice_get_within actors a x e in let many = g.many in omega (arith, l, many)) in (y.0, y.1, g.each a x y.0 e y.1)
 
   pub whose : (b : ℕ) (y : AbstractActor) → slice_get s.actors b ≡ Some y → (x : Actor) × (slice_get actors b ≡ Some x)
   whose b y e = there_is actors b (let l = slice_get_within s.actors b y e in let many = g.many in omega (arith, l, many))

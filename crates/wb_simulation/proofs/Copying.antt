@@ -42,7 +42,7 @@ use Rattle.wb_promise.specs.declared.job.Job.TheVariants.{Migrate}
 use Rattle.wb_promise.specs.Effects.{contents_at}
 use Rattle.wb_promise.specs.States.{Actor, with_device}
 use Rattle.wb_simulation.specs.Steps.{IsNoWrite, IsTail, IsWrittenNext}
-use Rattle.wb_simulation.specs.Carried.{HasRead, IsCarried}
+use Rattle.wb_simulation.specs.Carried.{order_there, HasRead, IsCarried}
 use Rattle.wb_simulation.proofs.Orders.{GoesOn, carried_again, CarriesOthers, carries_on}
 use Rattle.wb_simulation.proofs.Carrying.{IsOn, carry_on, carried_job, carried_order}
 use Rattle.wb_simulation.specs.Worlds.{zeros, Agrees, Stays}
@@ -105,6 +105,10 @@ module _ (size most blocks : ℕ) (words : Words) (committing : Bool) (orders : 
 
     pub its_own : Contains x.orders f.order
     its_own = its_order.2
+
+    -- and is what lives there
+    pub order_is : order_there s.shared.mapping f.c.0 f.order ≡ own
+    order_is = let there = (g.orders_agree.live f.c.0 (Some f.order) lives own refl).1 (inr (a, y, ey, carried_order size orders devices migration block part (next ∷ ws) answer x y f ∙ live_is)) in cc
 
     -- its abstract actor, that has this
     pub y_has : (held : Having) → held_for (next ∷ ws) x.card ≡ held → y ≡ record (migrating size own os migration (next ∷ ws) f.at.answer f.at.buffer) { held = held }

@@ -42,14 +42,14 @@ use Rattle.wb_desk.specs.Entries.{is_replacement}
 use Rattle.wb_contents.specs.Volume.{Locations, changed}
 use Rattle.wb_contents.proofs.Positions.{changed_same, changed_other}
 use Rattle.wb_policy.specs.declared.order.Order.TheVariants.{Replace, Demote as DemoteOrder}
-use Rattle.wb_simulation.specs.Carried.{held, is_at, replacement_there, order_there, live_there, IsOrderFor, IsCarried}
+use Rattle.wb_simulation.specs.Carried.{held, is_at, replacement_there, live_there, IsOrderFor, IsCarried}
 use Rattle.wb_simulation.specs.Migrating.{LeavesFrom, TurnsOrder, Carried, EndsOrder}
 use Rattle.wb_simulation.proofs.Carrying.{stands_there, IsOn, is_done, carry_over, carried_job, carried_order}
 use Rattle.wb_tasks.specs.declared.step.Answer.{Answer}
 use Rattle.wb_refines.specs.Going.{gone}
 use Rattle.wb_simulation.specs.Steps.{IsTail}
 use Rattle.wb_simulation.proofs.Orders.{GoesOn, carried_again, CarriesOthers, carried_beside, carries_same, goes_so, turns_so}
-use Rattle.wb_simulation.proofs.Copying.{carry_so, at_again, y_is, y_has, its_own, lives, live_is, no_write_read}
+use Rattle.wb_simulation.proofs.Copying.{carry_so, at_again, y_is, y_has, its_own, lives, live_is, no_write_read, order_is}
 
 -- ---- what lives on other cache blocks
 
@@ -93,9 +93,8 @@ module _ (size most blocks : ℕ) (words : Words) (committing : Bool) (orders : 
   abbrev left_over : Actor
   left_over = record x { task = Some (Migrate migration block, left); orders = dropped part.block x.orders }
 
-  -- It has asked something of the desk that ends its order.
-  module _ (next : Want) (f : IsCarried size orders devices migration block part (next ∷ ws) answer x y) (no_tail : ¬ IsTail (next ∷ ws)) (turn : Turn) (results : List Got) (t : Shared) (z : AbstractActor) (goes : GoesTo s.actors a s.shared y results t z)
-      (words_agree : WordsAgree words t) (origin : t.origin ≡ s.shared.origin) (cache : t.cache ≡ s.shared.cache) (mode : t.mode ≡ s.shared.mode) (commits : t.committing ≡ s.shared.committing) (broken : t.broken ≡ s.shared.broken) (turned : TurnedTo turn s.shared t) (desk : DeskTurnedTo turn s.shared t) where
+  -- It asks something of the desk under its order, which lives.
+  module _ (next : Want) (f : IsCarried size orders devices migration block part (next ∷ ws) answer x y) (no_tail : ¬ IsTail (next ∷ ws)) where
     abbrev own : AbstractOrder
     own = order_on part f.c f.next
 
@@ -131,23 +130,26 @@ module _ (size most blocks : ℕ) (words : Words) (committing : Bool) (orders : 
     over_here : slice_get (slice_set orders f.c.0 None) f.c.0 ≡ Some None
     over_here = get_set_same orders f.c.0 (Some f.order) None its
 
-    pub ends_order : ((d : ℕ) (o : Option Order) → d ≢ f.c.0 → slice_get orders d ≡ Some o → live_there t.mapping d o ≡ live_there s.shared.mapping d o) → IsMigrationAt part f.c f.next migration None left x.card z → IsTail ws → GoesOn size part ws x.buffer z.buffer →
-        EndsOrder turn f.c.0 size most a s words committing orders devices actors x left_over f.order
-    ends_order turns at tail on =
-        let none : z.order ≡ None = ap (λ (v : AbstractActor). v.order) at.is in
-        let is : IsOn size words over devices migration block part left left_over z = inl (carried_again size orders over devices devices migration block part (next ∷ ws) ws answer answer x left_over y z f None (inr tail) at on) in
-        let gone_on : IsOn size words over devices migration block part left left_over (gone y y.task results) = subst (λ (v : AbstractActor). IsOn size words over devices migration block part left left_over v) (sym goes.is) is in
-        let gone_none : (gone y y.task results).order ≡ None = ap (λ (v : AbstractActor). v.order) goes.is ∙ none in
-        record {
-          live = its;
-          mine = mine;
-          follows = carry_over size most words words (λ e. e) committing orders devices devices actors a x left_over s y g ex ey migration block part left refl refl (carried_job size orders devices migration block part (next ∷ ws) answer x y f) results t goes.may goes.shared words_agree (origin ∙ g.origin) (cache ∙ g.cache)
-              turn over gone_on mode commits broken turned desk
-              (goes_so size words words (λ e. e) orders over devices devices actors a x left_over s y (gone y y.task results) ex ey g.orders_agree carries (is_done size words over devices migration block part left left_over (gone y y.task results) refl gone_on refl)
-              (λ d. d ≡ f.c.0) (λ d. elim (cases_eq d f.c.0) [ inl e ↦ inl e | inr n ↦ inr n ]) (λ p e. let bad : None ≡ Some p = sym gone_none ∙ e in absurd (cc))
-              (λ p e away. absurd (let both : Some own ≡ Some p = sym y_under ∙ e in let same : own ≡ p = cc in away (ap (λ (q : AbstractOrder). q.cache) (sym same)))) (λ d n. get_set_other orders f.c.0 d None n)
-              (λ d o e eo. let both : Some None ≡ Some o = sym over_here ∙ ap (slice_get over) (sym e) ∙ eo in let same : None ≡ o = cc in sym same) waits_not alone (λ o h p e. let bad : None ≡ Some p = sym gone_none ∙ e in absurd (cc)) t turns);
-        }
+    -- it ends it
+    module _ (turn : Turn) (results : List Got) (t : Shared) (z : AbstractActor) (goes : GoesTo s.actors a s.shared y results t z)
+        (words_agree : WordsAgree words t) (origin : t.origin ≡ s.shared.origin) (cache : t.cache ≡ s.shared.cache) (mode : t.mode ≡ s.shared.mode) (commits : t.committing ≡ s.shared.committing) (broken : t.broken ≡ s.shared.broken) (turned : TurnedTo turn s.shared t) (desk : DeskTurnedTo turn s.shared t) where
+      pub ends_order : ((d : ℕ) (o : Option Order) → d ≢ f.c.0 → slice_get orders d ≡ Some o → live_there t.mapping d o ≡ live_there s.shared.mapping d o) → IsMigrationAt part f.c f.next migration None left x.card z → IsTail ws → GoesOn size part ws x.buffer z.buffer →
+          EndsOrder turn f.c.0 size most a s words committing orders devices actors x left_over f.order
+      ends_order turns at tail on =
+          let none : z.order ≡ None = ap (λ (v : AbstractActor). v.order) at.is in
+          let is : IsOn size words over devices migration block part left left_over z = inl (carried_again size orders over devices devices migration block part (next ∷ ws) ws answer answer x left_over y z f None (inr tail) at on) in
+          let gone_on : IsOn size words over devices migration block part left left_over (gone y y.task results) = subst (λ (v : AbstractActor). IsOn size words over devices migration block part left left_over v) (sym goes.is) is in
+          let gone_none : (gone y y.task results).order ≡ None = ap (λ (v : AbstractActor). v.order) goes.is ∙ none in
+          record {
+            live = its;
+            mine = mine;
+            follows = carry_over size most words words (λ e. e) committing orders devices devices actors a x left_over s y g ex ey migration block part left refl refl (carried_job size orders devices migration block part (next ∷ ws) answer x y f) results t goes.may goes.shared words_agree (origin ∙ g.origin) (cache ∙ g.cache)
+                turn over gone_on mode commits broken turned desk
+                (goes_so size words words (λ e. e) orders over devices devices actors a x left_over s y (gone y y.task results) ex ey g.orders_agree carries (is_done size words over devices migration block part left left_over (gone y y.task results) refl gone_on refl)
+                (λ d. d ≡ f.c.0) (λ d. elim (cases_eq d f.c.0) [ inl e ↦ inl e | inr n ↦ inr n ]) (λ p e. let bad : None ≡ Some p = sym gone_none ∙ e in absurd (cc))
+                (λ p e away. absurd (let both : Some own ≡ Some p = sym y_under ∙ e in let same : own ≡ p = cc in away (ap (λ (q : AbstractOrder). q.cache) (sym same)))) (λ d n. get_set_other orders f.c.0 d None n)
+                (λ d o e eo. let both : Some None ≡ Some o = sym over_here ∙ ap (slice_get over) (sym e) ∙ eo in let same : None ≡ o = cc in sym same) waits_not alone (λ o h p e. let bad : None ≡ Some p = sym gone_none ∙ e in absurd (cc)) t turns);
+          }
 
   module _ (c : CBlock) (f : IsCarried size orders devices migration block part (Desk (Map part.block c) ∷ ws) answer x y) (suits : Suits blocks (plan_of (Migrating migration part) (Desk (Map part.block c) ∷ ws) answer) x.card) where
     suits_now : Has (Migrating migration part) x.card (Desk (Map part.block c) ∷ ws)
@@ -232,18 +234,11 @@ module _ (size most blocks : ℕ) (words : Words) (committing : Bool) (orders : 
     on_away : GoesOn size part ws x.buffer z_away.buffer
     on_away = record { of_block = f.of_block; paired = f.paired.2; read = no_write_read size ws x.buffer _ f.paired.1 }
 
-    its_away : slice_get orders f.c.0 ≡ Some (Some f.order)
-    its_away = lives size most blocks words committing orders devices actors a x s y g ex ey migration block part (Desk (Unmap part.block)) ws answer f (λ n. n)
-
-    under_away : y.order ≡ Some own_away
-    under_away = carried_order size orders devices migration block part (Desk (Unmap part.block) ∷ ws) answer x y f ∙ live_is size most blocks words committing orders devices actors a x s y g ex ey migration block part (Desk (Unmap part.block)) ws answer f (λ n. n)
-
     -- it stands there
     stood_away : LeavesFrom orders s.shared.mapping block → s.shared.mapping part.block.0 ≡ Some f.c.0
     stood_away leaving =
-        let there = (g.orders_agree.live f.c.0 (Some f.order) its_away own_away refl).1 (inr (a, y, ey, under_away)) in
-        let same : order_there s.shared.mapping f.c.0 f.order ≡ own_away = cc in
-        ap (λ (v : OBlock). s.shared.mapping v.0) f.block_is ∙ leaving f.c.0 f.next f.order its_away (subst (λ (m : Migration). IsOrderFor m block f.next f.order) demotes f.of) (λ n. stands_there s.shared.mapping f.c.0 f.order migration block f.next own_away f.of same refl n)
+        let same = order_is size most blocks words committing orders devices actors a x s y g ex ey migration block part (Desk (Unmap part.block)) ws answer f (λ n. n) in
+        ap (λ (v : OBlock). s.shared.mapping v.0) f.block_is ∙ leaving f.c.0 f.next f.order (its (Desk (Unmap part.block)) f (λ n. n)) (subst (λ (m : Migration). IsOrderFor m block f.next f.order) demotes f.of) (λ n. stands_there s.shared.mapping f.c.0 f.order migration block f.next own_away f.of same refl n)
 
     -- the block is nowhere, its cache block quarantined, and the order is over
     pub unmapped : f.next ≡ None → LeavesFrom orders s.shared.mapping block → EndsOrder (Unmaps part.block.0 f.c.0 None) f.c.0 size most a s words committing orders devices actors x left_over f.order
@@ -262,8 +257,8 @@ module _ (size most blocks : ℕ) (words : Words) (committing : Bool) (orders : 
         let follows_is : following f.c.0 f.next ≡ Some own' = ap (following f.c.0) some in
         let carried = carried_again size orders orders devices devices migration block part (Desk (Unmap part.block) ∷ ws) ws answer answer x left_waiting y z_away f (Some own') (inr f.paired.0) (at_away (Some own') follows_is) on_away in
         let on_it : IsOn size words orders devices migration block part left left_waiting (gone y y.task (DoneThere ∷ [])) = subst (λ (v : AbstractActor). IsOn size words orders devices migration block part left left_waiting v) (sym goes_away.is) (inl carried) in
-        let slot = its_away in
-        let had = mine (Desk (Unmap part.block)) f (λ n. n) (Unmaps part.block.0 f.c.0 f.next) (DoneThere ∷ []) t_away z_away goes_away (record { fail = g.words_agree.fail; seals = g.words_agree.seals }) refl refl refl refl refl (refl, refl, refl) (refl, refl) in
+        let slot = its (Desk (Unmap part.block)) f (λ n. n) in
+        let had = mine (Desk (Unmap part.block)) f (λ n. n) in
         let lives_now : live_there t_away.mapping f.c.0 (Some f.order) ≡ Some own' = ap (λ (o : Order). live_there t_away.mapping f.c.0 (Some o)) is ∙ ap (λ (l : Option ℕ). Some (replacement_there (is_at l f.c.0) block.0 new.0 f.c.0)) (ap (λ (v : OBlock). t_away.mapping v.0) (sym f.block_is) ∙ changed_same s.shared.mapping part.block.0 None) in
         record {
           new = new;
@@ -275,7 +270,7 @@ module _ (size most blocks : ℕ) (words : Words) (committing : Bool) (orders : 
               (carry_over size most words words (λ e. e) committing orders devices devices actors a x left_waiting s y g ex ey migration block part left refl refl (carried_job size orders devices migration block part (Desk (Unmap part.block) ∷ ws) answer x y f) (DoneThere ∷ []) t_away goes_away.may goes_away.shared
               (record { fail = g.words_agree.fail; seals = g.words_agree.seals }) g.origin g.cache (Unmaps part.block.0 f.c.0 f.next) orders on_it refl refl refl (refl, refl, refl) (refl, refl)
               (turns_so size words orders devices actors a x left_waiting s y (gone y y.task (DoneThere ∷ [])) ex ey g.orders_agree (is_done size words orders devices migration block part left left_waiting (gone y y.task (DoneThere ∷ [])) refl on_it refl)
-              own_away own' under_away (ap (λ (v : AbstractActor). v.order) goes_away.is ∙ follows_is) refl t_away f.order slot lives_now (subst (λ (o : Order). Contains (held left_waiting) o) (sym is) (still_held part.block x.orders x.awaiting (Replace block new k) (ap (λ (v : OBlock). is_of v (Replace block new k)) f.block_is ∙ ap (λ (v : Bool). v || is_of block (DemoteOrder new)) (eq-eqb block.0 block.0 refl)) refl (Contains-append_left x.orders x.awaiting (Replace block new k) (subst (λ (o : Order). Contains x.orders o) is had))))
+              own_away own' (y_under (Desk (Unmap part.block)) f (λ n. n)) (ap (λ (v : AbstractActor). v.order) goes_away.is ∙ follows_is) refl t_away f.order slot lives_now (subst (λ (o : Order). Contains (held left_waiting) o) (sym is) (still_held part.block x.orders x.awaiting (Replace block new k) (ap (λ (v : OBlock). is_of v (Replace block new k)) f.block_is ∙ ap (λ (v : Bool). v || is_of block (DemoteOrder new)) (eq-eqb block.0 block.0 refl)) refl (Contains-append_left x.orders x.awaiting (Replace block new k) (subst (λ (o : Order). Contains x.orders o) is had))))
               (λ d o n e. unmap_elsewhere s.shared.mapping part.block.0 f.c.0 d o n (stood_away leaving)))));
         }
 

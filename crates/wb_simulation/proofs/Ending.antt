@@ -97,5 +97,4 @@ module _ (size most : ℕ) (words : Words) (committing : Bool) (orders : List (O
 pub answers_followed : AnswersFollowed
 answers_followed size most blocks words committing orders devices actors a x job plan answer s q ex task suits next g =
     let y = own_there size most words committing orders devices actors s g a x ex in
-    let st = g.each a x y.0 ex y.1 in
-    followed size most words committing orders devices actors a x s y.0 ex y.1 g st blocks job plan answer q next suits (doing_of size most words x y.0 job plan st task)
+    followed size most words committing orders devices actors a x s y.0 ex y.1 g y.2 blocks job plan answer q next suits (doing_of size most words x y.0 job plan y.2 task)

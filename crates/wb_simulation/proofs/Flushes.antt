@@ -37,17 +37,14 @@ use Rattle.wb_simulation.proofs.Leading.{by_flush}
 use Rattle.wb_simulation.proofs.Flushing.{leading, syncs, sync_falls, metadata_done, metadata_failed, is_on_metadata, is_refused, begins, ends, releases, gives_up, fails, looks, late_looks}
 
 module _ (size most : ℕ) (words : Words) (committing : Bool) (orders : List (Option Order)) (devices : Devices (List History)) (actors : List Actor) (a : ℕ) (x : Actor) (plan : Plan) (s : World) (ex : slice_get actors a ≡ Some x) (task : x.task ≡ Some (Flush, plan)) (g : Agrees size most words committing orders devices actors s) where
+  its : (y : AbstractActor) × (slice_get s.actors a ≡ Some y) × StandsFor size most words x y
+  its = own_there size most words committing orders devices actors s g a x ex
+
   abbrev y : AbstractActor
-  y = (own_there size most words committing orders devices actors s g a x ex).0
+  y = its.0
 
-  ey : slice_get s.actors a ≡ Some y
-  ey = (own_there size most words committing orders devices actors s g a x ex).1
-
-  st : StandsFor size most words x y
-  st = g.each a x y ex ey
-
-  f : IsFlushAt size most words plan y
-  f = doing_of size most words x y Flush plan st task
+  f : IsFlushAt size most words plan its.0
+  f = doing_of size most words x its.0 Flush plan its.2 task
 
   abbrev serves : List OBlock
   serves = f.serves
@@ -73,8 +70,8 @@ module _ (size most : ℕ) (words : Words) (committing : Bool) (orders : List (O
       At p = IsLeading size words p y ⊎ IsLate words p y
 
       by : (later : List Want) → later ≡ Desk (BeginCommit false most) ∷ [] → At (flushing serves most (Cell (Look Fail) ∷ later) plan.answer) → Follows Quietly size most a s words committing orders devices (slice_set actors a (went words Flush (flushing serves most (Cell (Look Fail) ∷ later) plan.answer) (Look Fail) x))
-      by later o (inl l) = looks size most serves words committing orders devices actors a x s y ex ey g later plan.answer o (not_leading (Cell (Look Fail)) later l.leads l.at l.is)
-      by later o (inr l) = late_looks size most serves words committing orders devices actors a x s y ex ey g later plan.answer l st
+      by later o (inl l) = looks size most serves words committing orders devices actors a x s y ex its.1 g later plan.answer o (not_leading (Cell (Look Fail)) later l.leads l.at l.is)
+      by later o (inr l) = late_looks size most serves words committing orders devices actors a x s y ex its.1 g later plan.answer l its.2
 
   -- it answers; one that leads a commit still has failed
   answered : (orders' awaiting' : List Order) → ((o : Order) → Contains (held x) o → Contains (orders' ++ awaiting') o) → (answer : Answer) → want plan ≡ End answer → Follows (Answers (FlushingFor None) answer) size most a s words committing orders devices (slice_set actors a (record x { task = None; orders = orders'; awaiting = awaiting' }))
@@ -87,56 +84,56 @@ module _ (size most : ℕ) (words : Words) (committing : Bool) (orders : List (O
       Goal = Follows (Answers (FlushingFor None) answer) size most a s words committing orders devices (slice_set actors a (record x { task = None; orders = orders'; awaiting = awaiting' }))
 
       by : IsLeading size words p y ⊎ IsLate words p y → Goal
-      by (inl l) = answers size most words committing orders devices actors a x s y ex ey g st orders' awaiting' keeps (Answers (FlushingFor None) answer) (answers_at size [] (Flushing serves most) answer y (ap (λ (v : AbstractActor). v.task) l.is.is), refl)
+      by (inl l) = answers size most words committing orders devices actors a x s y ex its.1 g its.2 orders' awaiting' keeps (Answers (FlushingFor None) answer) (answers_at size [] (Flushing serves most) answer y (ap (λ (v : AbstractActor). v.task) l.is.is), refl)
           (record { steps = subst (λ (v : AbstractActor). IsNothingLeft v.task) (sym l.is.is) refl; free = by_lead l.leads refl })
         where
           by_lead : (b : Bool) → l.leads ≡ b → ((y.held ≡ Nothing) × (y.leads ≡ false)) ⊎ (flag words.fail ≡ true)
           by_lead false k = inl (ap (λ (v : AbstractActor). v.held) l.is.is, ap (λ (v : AbstractActor). v.leads) l.is.is ∙ k)
           by_lead true k = inr (l.failed k refl)
-      by (inr l) = answers size most words committing orders devices actors a x s y ex ey g st orders' awaiting' keeps (Answers (FlushingFor None) answer) (late_answers_so (FlushingFor None) words p answer y refl (λ t. let bad = ap (λ (q : Plan). q.steps) t in absurd (cc)) l, refl) (late_over words p y l)
+      by (inr l) = answers size most words committing orders devices actors a x s y ex its.1 g its.2 orders' awaiting' keeps (Answers (FlushingFor None) answer) (late_answers_so (FlushingFor None) words p answer y refl (λ t. let bad = ap (λ (q : Plan). q.steps) t in absurd (cc)) l, refl) (late_over words p y l)
 
 pub flush_steps_followed : FlushStepsFollowed
 flush_steps_followed = record {
   looks = λ size most words committing orders devices actors a x plan s ex t e g. look size most words committing orders devices actors a x plan s ex t g e;
   begins = λ size most nodes allowed clean words orders devices actors a x plan s ex t e g.
-      let u = y size most words false orders devices actors a x plan s ex t g in let v = ey size most words false orders devices actors a x plan s ex t g in let n = serves size most words false orders devices actors a x plan s ex t g in
-      at_begin size most words false orders devices actors a x plan s ex t g allowed clean e (λ p. FollowsBy Begins Quietly size most a s words true orders devices (slice_set actors a (after_step Flush p (Began nodes) x))) (λ is. begins size most n words false orders devices actors a x s u ex v g nodes plan.answer refl is);
+      let u = its size most words false orders devices actors a x plan s ex t g in let n = serves size most words false orders devices actors a x plan s ex t g in
+      at_begin size most words false orders devices actors a x plan s ex t g allowed clean e (λ p. FollowsBy Begins Quietly size most a s words true orders devices (slice_set actors a (after_step Flush p (Began nodes) x))) (λ is. begins size most n words false orders devices actors a x s u.0 ex u.1 g nodes plan.answer refl is);
   is_refused = λ size most allowed clean refusal words committing orders devices actors a x plan s no ex t e g.
-      let u = y size most words committing orders devices actors a x plan s ex t g in let v = ey size most words committing orders devices actors a x plan s ex t g in let n = serves size most words committing orders devices actors a x plan s ex t g in
-      at_begin size most words committing orders devices actors a x plan s ex t g allowed clean e (λ p. Follows Quietly size most a s words committing orders devices (slice_set actors a (after_step Flush p (Refused refusal) x))) (λ is. is_refused size most n words committing orders devices actors a x s u ex v g refusal plan.answer no is);
+      let u = its size most words committing orders devices actors a x plan s ex t g in let n = serves size most words committing orders devices actors a x plan s ex t g in
+      at_begin size most words committing orders devices actors a x plan s ex t g allowed clean e (λ p. Follows Quietly size most a s words committing orders devices (slice_set actors a (after_step Flush p (Refused refusal) x))) (λ is. is_refused size most n words committing orders devices actors a x s u.0 ex u.1 g refusal plan.answer no is);
   syncs = λ size most device words committing orders devices actors a x plan s h ex t e g.
-      let u = y size most words committing orders devices actors a x plan s ex t g in let v = ey size most words committing orders devices actors a x plan s ex t g in let n = serves size most words committing orders devices actors a x plan s ex t g in
+      let u = its size most words committing orders devices actors a x plan s ex t g in let n = serves size most words committing orders devices actors a x plan s ex t g in
       at_flush size most words committing orders devices actors a x plan s ex t g (Device (Sync device)) e tt (λ p. Follows Quietly size most a s words committing orders (with_device device devices (synced (device_in device devices))) (slice_set actors a (after_step Flush p Done x)))
-      (λ later leads l o is. syncs size most n words committing orders devices actors a x s u ex v g device h later plan.answer o (leading size most n words committing orders devices actors a x s u ex v g (Device (Sync device)) later plan.answer leads l is));
+      (λ later leads l o is. syncs size most n words committing orders devices actors a x s u.0 ex u.1 g device h later plan.answer o (leading size most n words committing orders devices actors a x s u.0 ex u.1 g (Device (Sync device)) later plan.answer leads l is));
   sync_fails = λ size most device lands words committing orders devices actors a x plan s h ex t e g.
-      let u = y size most words committing orders devices actors a x plan s ex t g in let v = ey size most words committing orders devices actors a x plan s ex t g in let n = serves size most words committing orders devices actors a x plan s ex t g in
+      let u = its size most words committing orders devices actors a x plan s ex t g in let n = serves size most words committing orders devices actors a x plan s ex t g in
       at_flush size most words committing orders devices actors a x plan s ex t g (Device (Sync device)) e tt (λ p. Follows Quietly size most a s words committing orders (with_device device devices (synced_where lands (device_in device devices))) (slice_set actors a (after_step Flush p Fault x)))
-      (λ later leads l o is. sync_falls size most n words committing orders devices actors a x s u ex v g lands device h later plan.answer (leading size most n words committing orders devices actors a x s u ex v g (Device (Sync device)) later plan.answer leads l is));
+      (λ later leads l o is. sync_falls size most n words committing orders devices actors a x s u.0 ex u.1 g lands device h later plan.answer (leading size most n words committing orders devices actors a x s u.0 ex u.1 g (Device (Sync device)) later plan.answer leads l is));
   on_metadata = λ size most step metadata words committing orders devices actors a x plan s d ex t e g.
-      let u = y size most words committing orders devices actors a x plan s ex t g in let v = ey size most words committing orders devices actors a x plan s ex t g in let n = serves size most words committing orders devices actors a x plan s ex t g in
+      let u = its size most words committing orders devices actors a x plan s ex t g in let n = serves size most words committing orders devices actors a x plan s ex t g in
       at_flush size most words committing orders devices actors a x plan s ex t g (Device step) e tt (λ p. FollowsBy (turn_of step) Quietly size most a s words committing orders (with_device Metadata devices metadata) (slice_set actors a (after_step Flush p Done x)))
-      (λ later leads l o is. metadata_done size most n words committing orders devices actors a x s u ex v g metadata step later plan.answer d o (leading size most n words committing orders devices actors a x s u ex v g (Device step) later plan.answer leads l is));
+      (λ later leads l o is. metadata_done size most n words committing orders devices actors a x s u.0 ex u.1 g metadata step later plan.answer d o (leading size most n words committing orders devices actors a x s u.0 ex u.1 g (Device step) later plan.answer leads l is));
   metadata_fails = λ size most step metadata words committing orders devices actors a x plan s d ex t e g.
-      let u = y size most words committing orders devices actors a x plan s ex t g in let v = ey size most words committing orders devices actors a x plan s ex t g in let n = serves size most words committing orders devices actors a x plan s ex t g in
+      let u = its size most words committing orders devices actors a x plan s ex t g in let n = serves size most words committing orders devices actors a x plan s ex t g in
       at_flush size most words committing orders devices actors a x plan s ex t g (Device step) e tt (λ p. (written : Bool) × IsWrittenAfter step s.shared.root_written written × FollowsBy (Puts written) Quietly size most a s words committing orders (with_device Metadata devices metadata) (slice_set actors a (after_step Flush p Fault x)))
-      (λ later leads l o is. metadata_failed size most n words committing orders devices actors a x s u ex v g metadata step later plan.answer (is_on_metadata size most n words committing orders devices actors a x s u ex v g step later d o) (leading size most n words committing orders devices actors a x s u ex v g (Device step) later plan.answer leads l is));
+      (λ later leads l o is. metadata_failed size most n words committing orders devices actors a x s u.0 ex u.1 g metadata step later plan.answer (is_on_metadata size most n words committing orders devices actors a x s u.0 ex u.1 g step later d o) (leading size most n words committing orders devices actors a x s u.0 ex u.1 g (Device step) later plan.answer leads l is));
   ends = λ size most words committing orders devices actors a x plan s ex t e g.
-      let u = y size most words committing orders devices actors a x plan s ex t g in let v = ey size most words committing orders devices actors a x plan s ex t g in let n = serves size most words committing orders devices actors a x plan s ex t g in
+      let u = its size most words committing orders devices actors a x plan s ex t g in let n = serves size most words committing orders devices actors a x plan s ex t g in
       at_flush size most words committing orders devices actors a x plan s ex t g (Desk EndCommit) e tt (λ p. FollowsBy Ends Quietly size most a s words false orders devices (slice_set actors a (after_step Flush p Done x)))
-      (λ later leads l o is. last size most n words committing orders devices actors a x s u ex v g later plan.answer o (leading size most n words committing orders devices actors a x s u ex v g (Desk EndCommit) later plan.answer leads l is));
+      (λ later leads l o is. last size most n words committing orders devices actors a x s u.0 ex u.1 g later plan.answer o (leading size most n words committing orders devices actors a x s u.0 ex u.1 g (Desk EndCommit) later plan.answer leads l is));
   releases = λ size most block words committing orders devices actors a x plan s ex t e g.
-      let u = y size most words committing orders devices actors a x plan s ex t g in let v = ey size most words committing orders devices actors a x plan s ex t g in let n = serves size most words committing orders devices actors a x plan s ex t g in
+      let u = its size most words committing orders devices actors a x plan s ex t g in let n = serves size most words committing orders devices actors a x plan s ex t g in
       at_flush size most words committing orders devices actors a x plan s ex t g (Desk (ReleaseOrder block)) e tt (λ p. Follows Quietly size most a s words committing orders devices (slice_set actors a (after_step Flush p Done x)))
-      (λ later leads l o is. releases size most n words committing orders devices actors a x s u ex v g block later plan.answer o (not_leading size most words committing orders devices actors a x plan s ex t g (Desk (ReleaseOrder block)) later leads l is));
+      (λ later leads l o is. releases size most n words committing orders devices actors a x s u.0 ex u.1 g block later plan.answer o (not_leading size most words committing orders devices actors a x plan s ex t g (Desk (ReleaseOrder block)) later leads l is));
   gives_up = λ size most block words committing orders devices actors a x plan c order awaiting' s ex t e slot only g.
-      let u = y size most words committing orders devices actors a x plan s ex t g in let v = ey size most words committing orders devices actors a x plan s ex t g in let n = serves size most words committing orders devices actors a x plan s ex t g in
+      let u = its size most words committing orders devices actors a x plan s ex t g in let n = serves size most words committing orders devices actors a x plan s ex t g in
       at_flush size most words committing orders devices actors a x plan s ex t g (Desk (ReleaseOrder block)) e tt (λ p. FollowsBy (GivesUp c) Releases size most a s words committing (slice_set orders c None) devices (slice_set actors a (record (after_step Flush p Done x) { awaiting = awaiting' })))
-      (λ later leads l o is. gives_up size most n words committing orders devices actors a x s u ex v g block later plan.answer o (not_leading size most words committing orders devices actors a x plan s ex t g (Desk (ReleaseOrder block)) later leads l is) c order awaiting' slot only);
+      (λ later leads l o is. gives_up size most n words committing orders devices actors a x s u.0 ex u.1 g block later plan.answer o (not_leading size most words committing orders devices actors a x plan s ex t g (Desk (ReleaseOrder block)) later leads l is) c order awaiting' slot only);
   fails = λ size most failures suspensions words committing orders devices actors a x plan s w ex t e g.
-      let u = y size most words committing orders devices actors a x plan s ex t g in let v = ey size most words committing orders devices actors a x plan s ex t g in let n = serves size most words committing orders devices actors a x plan s ex t g in
+      let u = its size most words committing orders devices actors a x plan s ex t g in let n = serves size most words committing orders devices actors a x plan s ex t g in
       at_flush size most words committing orders devices actors a x plan s ex t g (Cell SetFailed) e tt (λ p. Follows Quietly size most a s (words_after words SetFailed) committing orders devices (slice_set actors a (went words Flush p SetFailed x)))
       (λ later leads l o is. let same : [] ≡ later = sym o in subst (λ (ws : List Want). Follows Quietly size most a s (words_after words SetFailed) committing orders devices (slice_set actors a (went words Flush (flushing n most (Cell SetFailed ∷ ws) plan.answer) SetFailed x))) same
-      (fails size most n words committing orders devices actors a x s u ex v g failures suspensions plan.answer w (subst (λ (ws : List Want). IsFlushing size [] (flushing n most (Cell SetFailed ∷ ws) plan.answer) true u) o (leading size most n words committing orders devices actors a x s u ex v g (Cell SetFailed) later plan.answer leads l is))));
+      (fails size most n words committing orders devices actors a x s u.0 ex u.1 g failures suspensions plan.answer w (subst (λ (ws : List Want). IsFlushing size [] (flushing n most (Cell SetFailed ∷ ws) plan.answer) true u.0) o (leading size most n words committing orders devices actors a x s u.0 ex u.1 g (Cell SetFailed) later plan.answer leads l is))));
   answers = λ size most answer words committing orders devices actors a x plan orders' awaiting' s ex t e keeps g. answered size most words committing orders devices actors a x plan s ex t g orders' awaiting' keeps answer e;
 }
   where

@@ -70,11 +70,11 @@ module _ (size most : ℕ) (serves : List OBlock) (words : Words) (committing : 
   pub syncs : (device : Dev) → HoldsBlocks device → (later : List Want) (answer : Answer) → IsOfFlush most (Device (Sync device) ∷ later) → IsFlushing size [] (flushing serves most (Device (Sync device) ∷ later) answer) true y →
       On (with_device device devices (synced (device_in device devices))) (after (flushing serves most (Device (Sync device) ∷ later) answer) Done)
   syncs Cache h (Device (Sync Origin) ∷ ws) answer o is =
-      goes size most serves words committing orders devices actors a x s y ex ey g Stays (with_device Cache devices (synced devices.cache)) (Device (Sync Cache)) (Device (Sync Origin) ∷ ws) answer _ _ is (λ e. absurd (cc)) (followed_alone.syncs_cache size serves most [] s.actors a s.shared y (Device (Sync Origin) ∷ ws) answer is) refl o refl (λ n. absurd (cc))
+      goes size most serves words committing orders devices actors a x s y ex ey g Stays (with_device Cache devices (synced devices.cache)) (Device (Sync Cache)) (Device (Sync Origin) ∷ ws) answer _ _ is (λ e. absurd (cc)) (followed_alone.syncs_cache (Device (Sync Origin) ∷ ws) size serves most [] s.actors a s.shared y answer is) refl o refl (λ n. absurd (cc))
       (record { fail = g.words_agree.fail; seals = g.words_agree.seals }) g.origin (ap all_synced g.cache ∙ sym (sync_is_act size zeros devices.cache)) refl refl refl (refl, refl, refl) (refl, refl) refl
   syncs Cache h later answer o is = absurd o
   syncs Origin h later answer o is =
-      goes size most serves words committing orders devices actors a x s y ex ey g Stays (with_device Origin devices (synced devices.origin)) (Device (Sync Origin)) later answer (flushing serves most later answer) (record s.shared { origin = all_synced s.shared.origin }) is (λ e. absurd (cc)) (followed_alone.syncs_origin size serves most [] s.actors a s.shared y later answer is) refl (commits_on most later o).0 (commits_on most later o).1 (some_on later o)
+      goes size most serves words committing orders devices actors a x s y ex ey g Stays (with_device Origin devices (synced devices.origin)) (Device (Sync Origin)) later answer (flushing serves most later answer) (record s.shared { origin = all_synced s.shared.origin }) is (λ e. absurd (cc)) (followed_alone.syncs_origin later size serves most [] s.actors a s.shared y answer is) refl (commits_on most later o).0 (commits_on most later o).1 (some_on later o)
       (record { fail = g.words_agree.fail; seals = g.words_agree.seals }) (ap all_synced g.origin ∙ sym (sync_is_act size zeros devices.origin)) g.cache refl refl refl (refl, refl, refl) (refl, refl) refl
   syncs Metadata h later answer o is = absurd h
 
@@ -82,11 +82,11 @@ module _ (size most : ℕ) (serves : List OBlock) (words : Words) (committing : 
       On (with_device device devices (synced_where lands (device_in device devices))) (after (flushing serves most (Device (Sync device) ∷ later) answer) Fault)
   sync_falls lands Cache h later answer is =
       goes size most serves words committing orders devices actors a x s y ex ey g Stays (with_device Cache devices (synced_where lands devices.cache)) (Device (Sync Cache)) later answer (after (flushing serves most (Device (Sync Cache) ∷ later) answer) Fault) (record s.shared { cache = partly_synced (λ b o. lands (b * size + o)) s.shared.cache }) is (λ e. absurd (cc))
-      (followed_alone.fails_cache size serves most [] s.actors a s.shared y later answer (λ b o. lands (b * size + o)) is) refl refl refl (λ n. absurd (cc))
+      (followed_alone.fails_cache (λ b o. lands (b * size + o)) later size serves most [] s.actors a s.shared y answer is) refl refl refl (λ n. absurd (cc))
       (record { fail = g.words_agree.fail; seals = g.words_agree.seals }) g.origin (ap (partly_synced (λ b o. lands (b * size + o))) g.cache ∙ sym (failed_sync_is_act size zeros lands devices.cache)) refl refl refl (refl, refl, refl) (refl, refl) refl
   sync_falls lands Origin h later answer is =
       goes size most serves words committing orders devices actors a x s y ex ey g Stays (with_device Origin devices (synced_where lands devices.origin)) (Device (Sync Origin)) later answer (after (flushing serves most (Device (Sync Origin) ∷ later) answer) Fault) (record s.shared { origin = partly_synced (λ b o. lands (b * size + o)) s.shared.origin }) is (λ e. absurd (cc))
-      (followed_alone.fails_origin size serves most [] s.actors a s.shared y later answer (λ b o. lands (b * size + o)) is) refl refl refl (λ n. absurd (cc))
+      (followed_alone.fails_origin (λ b o. lands (b * size + o)) later size serves most [] s.actors a s.shared y answer is) refl refl refl (λ n. absurd (cc))
       (record { fail = g.words_agree.fail; seals = g.words_agree.seals }) (ap (partly_synced (λ b o. lands (b * size + o))) g.origin ∙ sym (failed_sync_is_act size zeros lands devices.origin)) g.cache refl refl refl (refl, refl, refl) (refl, refl) refl
   sync_falls lands Metadata h later answer is = absurd h
 
@@ -97,11 +97,11 @@ module _ (size most : ℕ) (serves : List OBlock) (words : Words) (committing : 
       goes size most serves words committing orders devices actors a x s y ex ey g turn (with_device Metadata devices metadata) (Device step) later answer (flushing serves most later answer) t is (has_wants size (Device step ∷ later) on) l refl (commits_on most later m).0 (commits_on most later m).1 (some_on later m) w (og ∙ g.origin) (ca ∙ g.cache) mo co br turned desk same_map
 
   pub metadata_done : (metadata : List History) (step : DeviceStep) (later : List Want) (answer : Answer) → device_of step ≡ Metadata → IsOfFlush most (Device step ∷ later) → IsFlushing size [] (flushing serves most (Device step ∷ later) answer) true y → OnBy (turn_of step) (with_device Metadata devices metadata) (after (flushing serves most (Device step ∷ later) answer) Done)
-  metadata_done metadata (WriteNode number) later answer d o is = metadata_goes Stays metadata (WriteNode number) later answer s.shared o o is (followed_alone.nodes size serves most number [] s.actors a s.shared y later answer is) g.words_agree refl refl refl refl refl (refl, refl, refl) (refl, refl) refl
-  metadata_done metadata (Sync Metadata) later answer d o is = metadata_goes Stays metadata (Sync Metadata) later answer s.shared o o is (followed_alone.syncs_metadata size serves most [] s.actors a s.shared y later answer is) g.words_agree refl refl refl refl refl (refl, refl, refl) (refl, refl) refl
+  metadata_done metadata (WriteNode number) later answer d o is = metadata_goes Stays metadata (WriteNode number) later answer s.shared o o is (followed_alone.nodes number later size serves most [] s.actors a s.shared y answer is) g.words_agree refl refl refl refl refl (refl, refl, refl) (refl, refl) refl
+  metadata_done metadata (Sync Metadata) later answer d o is = metadata_goes Stays metadata (Sync Metadata) later answer s.shared o o is (followed_alone.syncs_metadata later size serves most [] s.actors a s.shared y answer is) g.words_agree refl refl refl refl refl (refl, refl, refl) (refl, refl) refl
   metadata_done metadata (Sync Cache) later answer d o is = absurd (cc)
   metadata_done metadata (Sync Origin) later answer d o is = absurd (cc)
-  metadata_done metadata WriteRoot later answer d o is = metadata_goes (Puts true) metadata WriteRoot later answer (record s.shared { root_written = true }) o o is (followed_alone.writes_root size serves most [] s.actors a s.shared y later answer is) (record { fail = g.words_agree.fail; seals = g.words_agree.seals }) refl refl refl refl refl (refl, refl, refl) (refl, refl) refl
+  metadata_done metadata WriteRoot later answer d o is = metadata_goes (Puts true) metadata WriteRoot later answer (record s.shared { root_written = true }) o o is (followed_alone.writes_root later size serves most [] s.actors a s.shared y answer is) (record { fail = g.words_agree.fail; seals = g.words_agree.seals }) refl refl refl refl refl (refl, refl, refl) (refl, refl) refl
   metadata_done metadata step later answer d o is = absurd o
 
   pub metadata_failed : (metadata : List History) (step : DeviceStep) (later : List Want) (answer : Answer) → IsOnMetadata (Device step ∷ later) → IsFlushing size [] (flushing serves most (Device step ∷ later) answer) true y → (written : Bool) × IsWrittenAfter step s.shared.root_written written × OnBy (Puts written) (with_device Metadata devices metadata) (after (flushing serves most (Device step ∷ later) answer) Fault)

@@ -151,5 +151,4 @@ followed size most blocks words committing orders devices actors a x job plan st
 pub cell_steps_followed : CellStepsFollowed
 cell_steps_followed size most blocks words committing orders devices actors a x job plan step s q rule ex task suits next g =
     let y = own_there size most words committing orders devices actors s g a x ex in
-    let st = g.each a x y.0 ex y.1 in
-    followed size most blocks words committing orders devices actors a x job plan step s y.0 rule ex y.1 q suits next g st (doing_of size most words x y.0 job plan st task)
+    followed size most blocks words committing orders devices actors a x job plan step s y.0 rule ex y.1 q suits next g y.2 (doing_of size most words x y.0 job plan y.2 task)

@@ -1,5 +1,5 @@
 -- A migration's steps on the shared words are followed.
-use Rattle.std.proofs.Common.{◌≡◌, ◌∙◌, ◌⊎◌, inl, inr, ℕ, Bool, List, ◌∷◌, Option, Some, refl, sym, subst, arith, slice_get, Contains}
+use Rattle.std.proofs.Common.{◌≡◌, ◌∙◌, ◌⊎◌, inl, inr, ℕ, Bool, List, ◌∷◌, Option, Some, refl, sym, subst, arith, slice_get}
 use Rattle.wb_types.specs.declared.number.OBlock.{OBlock}
 use Rattle.wb_types.specs.declared.number.CBlock.{CBlock}
 use Rattle.wb_disk.specs.Device.{History}
@@ -33,7 +33,7 @@ use Rattle.wb_promise.specs.declared.job.Job.TheVariants.{Migrate}
 use Rattle.wb_promise.specs.States.{Actor}
 use Rattle.wb_runs.specs.Holding.{cards_of}
 use Rattle.wb_simulation.specs.Steps.{IsTail}
-use Rattle.wb_simulation.specs.Carried.{order_there, IsCarried, HasEnded}
+use Rattle.wb_simulation.specs.Carried.{IsCarried, HasEnded}
 use Rattle.wb_simulation.specs.Worlds.{Agrees, Stays}
 use Rattle.wb_simulation.specs.Laws.{went}
 use Rattle.wb_simulation.specs.Migrating.{SealTells, SeesWhere, Carried}
@@ -41,8 +41,8 @@ use Rattle.wb_simulation.proofs.Steps.{AreCopies, after_cell, migration_works}
 use Rattle.wb_simulation.proofs.Cells.{Acted, acts_in_role, acts_over, tells}
 use Rattle.wb_simulation.proofs.Followed.{first, among_all}
 use Rattle.wb_simulation.proofs.Orders.{carried_again}
-use Rattle.wb_simulation.proofs.Carrying.{IsMigratingOf, at_it, under_migrates, quiet_are_carried, stands_there, carried_job, carried_order}
-use Rattle.wb_simulation.proofs.Copying.{no_write_read}
+use Rattle.wb_simulation.proofs.Carrying.{IsMigratingOf, at_it, under_migrates, quiet_are_carried, stands_there, carried_job}
+use Rattle.wb_simulation.proofs.Copying.{no_write_read, lives, order_is}
 use Rattle.wb_simulation.specs.Telling.{Carries, IsMigrating}
 use Rattle.wb_simulation.specs.Actors.{IsLate}
 
@@ -74,17 +74,11 @@ module _ (size most blocks : ℕ) (words : Words) (committing : Bool) (orders : 
   abbrev x' : Actor
   x' = record x { task = Some (Migrate m block, plan'); card = card' }
 
-  -- its order is live, where it does not only seal its block and give it back
-  lives : ¬ IsTail (Cell step ∷ ws) → (slice_get orders f.c.0 ≡ Some (Some f.order)) × (f.kept ≡ Some (order_on part cache f.next)) × Contains x.orders f.order
-  lives no_tail = elim f.has [ inl l ↦ l | inr t ↦ absurd (no_tail t) ]
-
-  -- and its seal tells where it has the block
+  -- its seal tells where its order, which is live unless it only seals its block and gives it back, has the block
   tells_where : ¬ IsTail (Cell step ∷ ws) → SealTells words orders s.shared.mapping m block → (b : OBlock) → b ≡ block → IsWhere m cache (place_in (word_at words.seals b))
   tells_where no_tail seen b e =
-      let l = lives no_tail in
-      let there = (g.orders_agree.live f.c.0 (Some f.order) l.0 (order_on part cache f.next) refl).1 (inr (a, y, ey, carried_order size orders devices m block part (Cell step ∷ ws) answer x y f ∙ l.1)) in
-      let same : order_there s.shared.mapping f.c.0 f.order ≡ order_on part cache f.next = cc in
-      subst (λ (v : OBlock). IsWhere m cache (place_in (word_at words.seals v))) (sym e) (seen f.c f.next f.order l.0 f.of (λ n. stands_there s.shared.mapping f.c.0 f.order m block f.next (order_on part cache f.next) f.of same refl n))
+      let same = order_is size most blocks words committing orders devices actors a x s y g ex ey m block part (Cell step) ws answer f no_tail in
+      subst (λ (v : OBlock). IsWhere m cache (place_in (word_at words.seals v))) (sym e) (seen f.c f.next f.order (lives size most blocks words committing orders devices actors a x s y g ex ey m block part (Cell step) ws answer f no_tail) f.of (λ n. stands_there s.shared.mapping f.c.0 f.order m block f.next (order_on part cache f.next) f.of same refl n))
 
   -- a seal that is looked at tells where its order says
   seen_where : (b : OBlock) → step ≡ Look (SealWord b) → IsWhere m cache (place_in (word_at words.seals b))
@@ -124,11 +118,10 @@ pub cells : (size most blocks : ℕ) (words : Words) (committing : Bool) (orders
 cells size most blocks words committing orders devices actors a x migration block plan step s rule ex task suits next sees g =
     let y = own_there size most words committing orders devices actors s g a x ex in
     let d = g.orders_agree.carried a x y.0 migration block plan ex y.1 task in
-    let st = g.each a x y.0 ex y.1 in
     first plan (OnBlock (Migrating migration d.part)) (Cell step) d.job next (λ p. Suits blocks p x.card → At d.part y.0 p → Goal p) (λ rest k suits at. elim at [
       | inl f ↦ goes d.part y.0 y.1 rest (acts size most blocks words committing orders devices actors a x step s y.0 g rule ex y.1 migration block d.part rest plan.answer f suits sees) (is_carried size most blocks words committing orders devices actors a x step s y.0 g rule ex y.1 migration block d.part rest plan.answer f suits sees)
           (carried_job size orders devices migration block d.part (Cell step ∷ rest) plan.answer x y.0 f)
-      | inr o ↦ goes d.part y.0 y.1 rest (acts_over (Migrating migration d.part) IsMigrating words s.actors a x.card s.shared y.0 plan.answer g.words_agree step rest st.below st.among_others o) (λ z (n : ⊥). absurd n)
+      | inr o ↦ goes d.part y.0 y.1 rest (acts_over (Migrating migration d.part) IsMigrating words s.actors a x.card s.shared y.0 plan.answer g.words_agree step rest y.2.below y.2.among_others o) (λ z (n : ⊥). absurd n)
           (elim o [ inl e ↦ subst IsMigratingOf (sym e.0.task) e.1 | inr l ↦ subst IsMigratingOf (sym l.nothing) tt ])
     ]) (λ k q. absurd (cc)) suits d.at
   where

@@ -40,7 +40,7 @@ use Rattle.wb_simulation.proofs.Ending.{IsOver, IsNothingLeft, stopped_over, lat
 use Rattle.wb_simulation.proofs.Migrating.{cells}
 use Rattle.wb_simulation.proofs.Copying.{reads, writes, write_falls, read_falls}
 use Rattle.wb_simulation.proofs.Ordering.{starts, again}
-use Rattle.wb_simulation.specs.Actors.{IsLate}
+use Rattle.wb_simulation.specs.Actors.{IsLate, StandsFor}
 use Rattle.wb_simulation.specs.Carried.{IsOrderFor, IsCarried, HasEnded, IsAtMigration}
 use Rattle.wb_simulation.specs.Telling.{Rests, Rested}
 use Rattle.wb_simulation.proofs.Among.{own_there}
@@ -49,7 +49,7 @@ use Rattle.wb_simulation.proofs.Deciding.{map_refused, mapped, unmapped, turned_
 
 module _ (size most blocks : ℕ) (words : Words) (committing : Bool) (orders : List (Option Order)) (devices : Devices (List History)) (actors : List Actor) (a : ℕ) (x : Actor) (migration : Migration) (block : OBlock) (plan : Plan) (s : World) (ex : slice_get actors a ≡ Some x) (task : x.task ≡ Some (Migrate migration block, plan))
     (suits : Suits blocks plan x.card) (g : Agrees size most words committing orders devices actors s) where
-  its : (y : AbstractActor) × (slice_get s.actors a ≡ Some y)
+  its : (y : AbstractActor) × (slice_get s.actors a ≡ Some y) × StandsFor size most words x y
   its = own_there size most words committing orders devices actors s g a x ex
 
   abbrev y : AbstractActor
@@ -179,7 +179,7 @@ module _ (size most blocks : ℕ) (words : Words) (committing : Bool) (orders : 
       (λ p. Suits blocks p x.card → IsCarried size orders devices migration block at.part p.steps p.answer x its.0 ⊎ HasEnded words p x its.0 ⊎ IsLate words p its.0 → Goes Rests Stays size most a s words committing orders devices actors (record x { task = None })) (λ has on. by has.1 on) suits at.at
     where
       rests : Rested its.0.task → IsOver words its.0 → Goes Rests Stays size most a s words committing orders devices actors (record x { task = None })
-      rests rested over = answers size most words committing orders devices actors a x s its.0 ex its.1 g (g.each a x its.0 ex its.1) x.orders x.awaiting (λ o h. h) Rests (rested, refl) over
+      rests rested over = answers size most words committing orders devices actors a x s its.0 ex its.1 g its.2 x.orders x.awaiting (λ o h. h) Rests (rested, refl) over
 
       by : x.card.hold ≡ HoldsNothing → IsCarried size orders devices migration block at.part [] answer x its.0 ⊎ HasEnded words (plan_of (Migrating migration at.part) [] answer) x its.0 ⊎ IsLate words (plan_of (Migrating migration at.part) [] answer) its.0 → Goes Rests Stays size most a s words committing orders devices actors (record x { task = None })
       by h (inl k) =

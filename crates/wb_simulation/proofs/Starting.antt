@@ -52,26 +52,23 @@ pub rests : (size most : ℕ) (words : Words) (x : Actor) (y : AbstractActor) �
 rests size most words x y st e = subst (λ t. IsBusyAt size most words t x.card y) e st.at
 
 module _ (size most : ℕ) (words : Words) (committing : Bool) (orders : List (Option Order)) (devices : Devices (List History)) (actors : List Actor) (a : ℕ) (x : Actor) (s : World) (ex : slice_get actors a ≡ Some x) (none : x.task ≡ None) (g : Agrees size most words committing orders devices actors s) where
+  its : (y : AbstractActor) × (slice_get s.actors a ≡ Some y) × StandsFor size most words x y
+  its = own_there size most words committing orders devices actors s g a x ex
+
   abbrev y : AbstractActor
-  y = (own_there size most words committing orders devices actors s g a x ex).0
-
-  ey : slice_get s.actors a ≡ Some y
-  ey = (own_there size most words committing orders devices actors s g a x ex).1
-
-  st : StandsFor size most words x y
-  st = g.each a x y ex ey
+  y = its.0
 
   -- The same job is started there, or nothing is, since the actor has kept something.
   starts : (job : Job) (plan : Plan) (there : AbstractJob) → MigratesNot job → MayStart size s there → reserved s.shared there ≡ s.shared → order_of there ≡ None → job_alone there ≡ false → plan ≡ table plan.job → (IsResting y → IsDoing size most words job plan x.card (given y there)) → (IsLate words plan y → IsDoing size most words job plan x.card y) →
       Begun there size most a s words committing orders devices (slice_set actors a (record x { task = Some (job, plan) }))
-  starts job plan there other may same no_order among begun doing late = elim (rests size most words x y st none).1 [
-    | inl idle ↦ inl (begins size most words committing orders devices actors a x x' s y g ex ey Stays (Starts there) orders (Start a there ∷ []) (aside s.waiting y.order) s.shared (given y there)
-        ((y, record { actor = ey; task = idle.task; free = inl (idle.held, idle.leads); nobody_alone = nobody_alone size most words committing orders devices actors s g; may = may }), tt)
-        (ap (λ (o : Option AbstractActor). start_actor s a o there) ey ∙ ap (λ (u : Shared). record { shared = u; actors = slice_set s.actors a (given y there); waiting = aside s.waiting y.order }) same) refl (given_nothing words s.shared g.words_agree)
+  starts job plan there other may same no_order among begun doing late = elim (rests size most words x y its.2 none).1 [
+    | inl idle ↦ inl (begins size most words committing orders devices actors a x x' s y g ex its.1 Stays (Starts there) orders (Start a there ∷ []) (aside s.waiting y.order) s.shared (given y there)
+        ((y, record { actor = its.1; task = idle.task; free = inl (idle.held, idle.leads); nobody_alone = nobody_alone size most words committing orders devices actors s g; may = may }), tt)
+        (ap (λ (o : Option AbstractActor). start_actor s a o there) its.1 ∙ ap (λ (u : Shared). record { shared = u; actors = slice_set s.actors a (given y there); waiting = aside s.waiting y.order }) same) refl (given_nothing words s.shared g.words_agree)
         (λ l. let bad : true ≡ false = sym l ∙ idle.leads in absurd (cc)) (record { at = doing idle; below = holds_nothing (given y there) x.card idle.held; among_others = among })
-        (orders_begun size words orders devices actors a x x' s y (given y there) s.shared ex ey g.orders_agree no_order refl (does_none _ _ _ _ _ _ other)))
-    | inr f ↦ inr (stays_there size most words committing orders devices actors a x x' s y g ex ey Quietly ([], unnoted_none y.task, refl)
-        (record { at = late (record { failed = f; nothing = (rests size most words x y st none).0; at = inl begun }); below = st.below; among_others = st.among_others }) (λ o h. h) (does_none _ _ _ _ _ _ other))
+        (orders_begun size words orders devices actors a x x' s y (given y there) s.shared ex its.1 g.orders_agree no_order refl (does_none _ _ _ _ _ _ other)))
+    | inr f ↦ inr (stays_there size most words committing orders devices actors a x x' s y g ex its.1 Quietly ([], unnoted_none y.task, refl)
+        (record { at = late (record { failed = f; nothing = (rests size most words x y its.2 none).0; at = inl begun }); below = its.2.below; among_others = its.2.among_others }) (λ o h. h) (does_none _ _ _ _ _ _ other))
   ]
     where
       x' : Actor
