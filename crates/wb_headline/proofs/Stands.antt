@@ -1,5 +1,5 @@
 -- Whatever step is taken where a target stands, done or failing, it is followed.
-use Rattle.std.proofs.Common.{◌≡◌, ◌≤◌, ◌+◌, ◌/◌, ◌⊎◌, inl, inr, ℕ, Bool, true, false, List, [], Option, Some, None, refl, sym, ap, subst, length, slice_get, slice_set}
+use Rattle.std.proofs.Common.{◌≡◌, ◌≤◌, ◌+◌, ◌⊎◌, inl, inr, ℕ, Bool, true, false, List, [], Option, Some, None, refl, sym, ap, subst, length, slice_get, slice_set}
 use Rattle.wb_types.specs.declared.extent.Extent.{Extent}
 use Rattle.wb_types.specs.declared.mode.Dev.{Dev}
 use Rattle.wb_types.specs.declared.mode.Dev.TheVariants.{Metadata, Cache, Origin}
@@ -42,10 +42,9 @@ use Rattle.wb_runs.proofs.Metadata.{MetadataKept}
 use Rattle.wb_runs.proofs.Claims.{JobClaim}
 use Rattle.wb_simulation.proofs.Moving.{same_device}
 use Rattle.wb_types.proofs.Truth.{and_true}
-use Rattle.wb_headline.specs.Desks.{live_orders}
 use Rattle.wb_runs.proofs.Owning.{Owned}
 use Rattle.wb_types.specs.declared.number.OBlock.{OBlock}
-use Rattle.wb_headline.proofs.Following.{size, most, Followed, Goes}
+use Rattle.wb_headline.proofs.Following.{most, Followed, Goes}
 use Rattle.wb_headline.proofs.Targets.{standing}
 use Rattle.wb_headline.proofs.Requests.{on_words as request_words, reads, read_fails, writes, write_fails, answers as request_answers}
 use Rattle.wb_headline.proofs.Flushes.{syncs, sync_fails as data_sync_fails, node_done, sync_done, root_done, node_fails, metadata_sync_fails, root_fails, begins, begin_refused, ends, on_words as flush_words, answers as flush_answers, gives_up, serving}

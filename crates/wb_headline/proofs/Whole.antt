@@ -1,10 +1,8 @@
 -- Every run is followed.
-use Rattle.std.proofs.Common.{◌≡◌, ◌≢◌, ◌∙◌, ◌<◌, ◌/◌, arith, inl, inr, ℕ, Bool, List, [], ◌∷◌, Option, Some, None, refl, sym, ap, subst, length, slice_get, slice_set}
+use Rattle.std.proofs.Common.{◌≡◌, ◌≢◌, ◌∙◌, inl, inr, ℕ, Bool, List, [], ◌∷◌, Option, Some, None, refl, sym, ap, subst, length, slice_get, slice_set}
 use Rattle.std.proofs.lemmas.Bool.{cases_eq}
 use Rattle.std.proofs.lemmas.Option.{some_pair_parts}
-use Rattle.wb_types.specs.declared.extent.Extent.{Extent}
 use Rattle.wb_types.specs.declared.mode.Mode.{Mode}
-use Rattle.wb_types.specs.declared.mode.Dev.{Dev}
 use Rattle.wb_types.specs.declared.number.CBlock.{CBlock}
 use Rattle.wb_disk.specs.Device.{Content as Bytes, History}
 use Rattle.wb_disk.specs.Crash.{Choice}
@@ -13,13 +11,11 @@ use Rattle.wb_words.specs.SharedWords.{word_at, place_in}
 use Rattle.wb_words.specs.declared.word.Access.TheVariants.{Owned}
 use Rattle.wb_words.specs.declared.card.Hold.TheVariants.{Held}
 use Rattle.wb_words.specs.declared.step.CellStep.TheVariants.{Seal}
-use Rattle.wb_tasks.specs.Tables.{BlockRange, Writing, OnBlock}
 use Rattle.wb_tasks.specs.Plan.{Plan, want, device_of}
 use Rattle.wb_tasks.specs.Ready.{Suits}
 use Rattle.wb_tasks.specs.declared.step.Migration.{Migration}
 use Rattle.wb_types.specs.declared.number.OBlock.{OBlock}
 use Rattle.wb_tasks.specs.declared.step.Want.{Want}
-use Rattle.wb_tasks.specs.declared.step.DeviceStep.TheVariants.{Write as WriteExtent}
 use Rattle.wb_tasks.specs.declared.step.Want.TheVariants.{Cell, Device, End}
 use Rattle.wb_refines.specs.Translation.{number_of}
 use Rattle.wb_tasks.specs.declared.step.Got.{Got}
@@ -42,14 +38,12 @@ use Rattle.wb_runs.specs.Sealed.{SealsNext, Tells, number_of as number_here}
 use Rattle.wb_runs.proofs.Lists.{free, there_rests}
 use Rattle.wb_runs.proofs.MetadataRuns.{IsKnown}
 use Rattle.wb_runs.proofs.Using.{UsedRightly, used_what}
-use Rattle.wb_runs.proofs.Claims.{JobClaim, Noted, TaskClaim, noted_of}
+use Rattle.wb_runs.proofs.Claims.{Noted, TaskClaim, noted_of}
 use Rattle.wb_runs.proofs.Linking.{Linked, TaskHere, InPhase}
 use Rattle.wb_runs.proofs.LinkedRuns.{Base, links_what}
 use Rattle.wb_runs.proofs.InsideRuns.{Inside, inside_what, want_inside}
 use Rattle.wb_headline.proofs.Doings.{AllAsked, what_asked}
 use Rattle.wb_headline.proofs.Following.{Goes}
-use Rattle.wb_headline.specs.Desks.{live_orders}
-use Rattle.wb_runs.proofs.Ruling.{card_at}
 use Rattle.wb_headline.proofs.Keeping.{Keeping, sealing_owns}
 use Rattle.wb_headline.proofs.Kept.{fault_keeps, none_goes, none_rest, none_set, start_keeps, step_keeps}
 use Rattle.wb_headline.proofs.Opened.{opening_keeps, opening_steps, opening_faults}
