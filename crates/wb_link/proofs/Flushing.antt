@@ -2,13 +2,13 @@
 use Rattle.std.proofs.Common.{◌≡◌, ◌≢◌, ◌≤◌, ◌+◌, ℕ, zero, suc, Bool, true, false, List, [], ◌∷◌, Option, Some, None, refl, sym, ◌∙◌, arith}
 use Rattle.wb_disk.specs.Device.{Content}
 use Rattle.wb_contents.specs.Volume.{Volume}
-use Rattle.wb_contents.specs.Acts.{after as after_act, Begin_commit, End_flush}
-use Rattle.wb_link.specs.Tables.{Order, Flushing, let_go, Answer, Finished, Busy, Failed, Io, Want, Look_fail, Begin, Sync_cache_device, Sync_origin_device, Put_root, Sync_metadata, End_running, Give_up, End, Got, Done, Lost, Flag, Ticket, Served, Broken, Short}
+use Rattle.wb_contents.specs.Acts.{after as after_act, Begin_commit}
+use Rattle.wb_link.specs.Tables.{Order, Flushing, let_go, Answer, Finished, Busy, Failed, Io, Want, Look_fail, Begin, Sync_cache_device, Sync_origin_device, Put_root, Sync_metadata, End_running, Give_up, Got, Done, Lost, Flag, Ticket, Served, Broken, Short}
 use Rattle.wb_link.specs.World.{Shared, Nothing, Actor, actor_after}
-use Rattle.wb_link.proofs.Link.{Good, Receives, Right, FlushesRight, Safe}
-use Rattle.wb_link.proofs.Agreeing.{begin_agrees, flush_agrees, blocks_agrees}
+use Rattle.wb_link.proofs.Link.{Good, Receives, Safe}
+use Rattle.wb_link.proofs.Agreeing.{begin_agrees, blocks_agrees}
 use Rattle.wb_link.proofs.Committing.{refused_safe, finishing, caching}
-use Rattle.wb_link.proofs.Givings.{at_work, script_of, Comes, resting_safe, quietly, gives_done, gives_flag, gives_begin}
+use Rattle.wb_link.proofs.Givings.{at_work, script_of, Comes, quietly, gives_done, gives_flag, gives_begin}
 
 abbrev flushing : Option Order → List Want → Answer → Bool → (ℕ → Content) → Actor
 flushing q steps answer leads c = at_work (Flushing q) steps answer Nothing q leads c

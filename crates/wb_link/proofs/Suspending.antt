@@ -2,13 +2,13 @@
 use Rattle.std.proofs.Common.{◌≡◌, ◌≢◌, ◌≤◌, ◌+◌, ◌⊎◌, inl, inr, ℕ, zero, suc, Bool, true, false, List, [], ◌∷◌, None, refl, sym, ap, ◌∙◌, arith}
 use Rattle.wb_disk.specs.Device.{Content}
 use Rattle.wb_contents.specs.Volume.{Volume}
-use Rattle.wb_contents.specs.Acts.{after as after_act, Begin_suspend, End_flush}
-use Rattle.wb_link.specs.Tables.{Suspending, Answer, Finished, Busy, Failed, Io, Want, Look_fail, Set_suspended, Begin_clean, Sync_cache_device, Sync_origin_device, Put_root, Sync_metadata, End_running, End, Got, Done, Lost, Flag, Short}
+use Rattle.wb_contents.specs.Acts.{after as after_act, Begin_suspend}
+use Rattle.wb_link.specs.Tables.{Suspending, Answer, Finished, Busy, Failed, Io, Want, Look_fail, Set_suspended, Begin_clean, Sync_cache_device, Sync_origin_device, Put_root, Sync_metadata, End_running, Got, Lost, Flag, Short}
 use Rattle.wb_link.specs.World.{Shared, Nothing, Actor, actor_after}
-use Rattle.wb_link.proofs.Link.{Others, Receives, Right, FlushesRight, Safe}
-use Rattle.wb_link.proofs.Agreeing.{suspend_agrees, flush_agrees, failed_agrees}
+use Rattle.wb_link.proofs.Link.{Others, Receives, Safe}
+use Rattle.wb_link.proofs.Agreeing.{suspend_agrees, failed_agrees}
 use Rattle.wb_link.proofs.Committing.{refused_safe, finishing, caching}
-use Rattle.wb_link.proofs.Givings.{at_work, script_of, Comes, resting_safe, quietly, gives_done, gives_flag, gives_suspend}
+use Rattle.wb_link.proofs.Givings.{at_work, script_of, Comes, quietly, gives_done, gives_flag, gives_suspend}
 
 abbrev suspending : List Want → Answer → Bool → (ℕ → Content) → Actor
 suspending steps answer leads c = at_work Suspending steps answer Nothing None leads c

@@ -6,8 +6,8 @@ use Rattle.wb_contents.specs.Volume.{changed, changed_at, at_location}
 use Rattle.wb_contents.specs.Acts.{all_synced}
 use Rattle.wb_disk.proofs.Leaving.{newest_there}
 use Rattle.wb_link.specs.Openings.{Site, site, MayStop, Happens}
-use Rattle.wb_link.specs.Tables.{Order, Seal, Job, Want, Script, Answer, Done, Set_seal, Disown, Write_all, Sync_cache_device, Sync_origin_device, Put_root, Sync_metadata, End_running, Make_room, Map_to, Unmap_from, after, Finished}
-use Rattle.wb_link.specs.World.{World, Record, Step, Shared, Actor, Nothing, Owns, Shares, Apart, AreIn, Gives, Wins, May, MayStep, IsRun, begins, is_alone, task_after, actor_after, after_record, after_all}
+use Rattle.wb_link.specs.Tables.{Order, Seal, Job, Want, Script, Answer, Done, Set_seal, Disown, Write_all, Sync_cache_device, Sync_origin_device, Put_root, Sync_metadata, End_running, Make_room, Map_to, Unmap_from, after}
+use Rattle.wb_link.specs.World.{World, Record, Shared, Actor, Nothing, Owns, Shares, Apart, AreIn, Gives, Wins, May, MayStep, IsRun, begins, is_alone, task_after, actor_after, after_record, after_all}
 use Rattle.wb_link.proofs.Lists.{get_set_same}
 use Rattle.wb_link.proofs.Steps.{step_is}
 
