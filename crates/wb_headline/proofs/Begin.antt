@@ -4,7 +4,7 @@ use Rattle.std.proofs.lemmas.List.{length-replicate}
 use Rattle.wb_types.proofs.Lists.{Contains-first}
 use Rattle.wb_disk.specs.Device.{History, only}
 use Rattle.wb_meta.specs.Formats.{IsFormatted}
-use Rattle.wb_runs.specs.States.{Shape, Actor, start, resting, block_size, sector_count, cache_sector_count}
+use Rattle.wb_runs.specs.States.{Shape, Actor, start, resting, sector_count, cache_sector_count}
 use Rattle.wb_runs.specs.Clerk.{Doing, formatted}
 use Rattle.wb_runs.specs.Headline.{cached_from}
 use Rattle.wb_runs.proofs.Lists.{replicated}
@@ -25,7 +25,6 @@ use Rattle.wb_headline.proofs.Events.{start_reached, event_reaches}
 use Rattle.wb_headline.proofs.Unclean.{IsPlainTask}
 use Rattle.wb_headline.proofs.Following.{many, size}
 use Rattle.wb_headline.proofs.Keeping.{HasNone}
-use Rattle.wb_headline.proofs.Placed.{TaskPlaced}
 use Rattle.wb_headline.proofs.Whole.{Whole}
 
 -- a tree without entries has no block
@@ -119,5 +118,4 @@ module _ (P A : Type 0) (shape : Shape) (metadata : List History) (f : IsFormatt
     };
     asked = nobody;
     keeping = λ a x e. subst (λ (v : Actor). HasNone v) (sym (replicated shape.actors a resting x e)) (refl, refl);
-    placed = λ a x e. subst (λ (v : Actor). TaskPlaced (block_size shape) v.card v.task) (sym (replicated shape.actors a resting x e)) tt;
   }

@@ -21,7 +21,6 @@ mod Migrations
 mod Migrating
 mod Seeing
 mod Carried
-mod Placed
 mod Telling
 mod Keeping
 mod Kept

@@ -31,7 +31,7 @@ use Rattle.wb_runs.specs.declared.job.Job.{Job}
 use Rattle.wb_runs.specs.declared.job.Job.TheVariants.{Migrate}
 use Rattle.wb_runs.specs.States.{Shape, Actor, Target, Stands, with_device, State}
 use Rattle.wb_runs.specs.Effects.{actor_then, awaiting_then, contents_at, orders_then, dropped, replacing}
-use Rattle.wb_runs.specs.Holding.{cards_of, AllSuited, TaskSuits}
+use Rattle.wb_runs.specs.Holding.{cards_of, TaskSuits}
 use Rattle.wb_runs.specs.Clerk.{Notes, Doing, noted_step, device_note, finished_note, failing, put}
 use Rattle.wb_runs.proofs.Images.{Images, later_of}
 use Rattle.wb_runs.proofs.Metadata.{MetadataKept, AtDesk, unknowing, kept_readable}
@@ -149,18 +149,18 @@ module _ (P A : Type 0) (shape : Shape) (images : Images) (t : Target P) (commit
         on_device (ReadExtent device e) Fault contents devices (after_step migrating_job plan Fault x) (actor_is P A shape (Stands t) devices x migrating_job plan (Device (ReadExtent device e)) Fault xt)
         (migrations_followed.read_fails (size P A shape) (most P A shape) shape.geometry.origin_blocks t.words t.desk.space.committing live_now devices actors a x migration block plan device e f.site.world ex xt suits (sym next) f.phase.agrees) refl
 
-    pub write_done : LockRule shape.geometry.origin_blocks t.words (cards_of actors) → AllSuited shape.geometry.origin_blocks actors → (device : Dev) (e : Extent) (contents : List Bytes) → HoldsBlocks device → Device (WriteExtent device e) ≡ want plan → e.first + e.count ≤ length (device_in device devices) →
+    pub write_done : (device : Dev) (e : Extent) (contents : List Bytes) → HoldsBlocks device → Device (WriteExtent device e) ≡ want plan → e.first + e.count ≤ length (device_in device devices) →
         Goes P A shape (record { devices = with_device device devices (written_each (device_in device devices) e.first x.buffer); commit = commit; phase = Stands t; actors = slice_set actors a (actor_then {P = P} {A = A} shape (Stands t) devices x (Device (WriteExtent device e)) Done) }) (noted_step shape [] n a (Some (Some doing)) (Device (WriteExtent device e)) Done contents)
-    write_done rule all_suited device e contents holds next inside =
+    write_done device e contents holds next inside =
         on_device (WriteExtent device e) Done contents (with_device device devices (written_each (device_in device devices) e.first x.buffer)) (after_step migrating_job plan Done x) (actor_is P A shape (Stands t) devices x migrating_job plan (Device (WriteExtent device e)) Done xt)
-        (migrations_followed.write_done (size P A shape) (most P A shape) shape.geometry.origin_blocks t.words t.desk.space.committing live_now devices actors a x migration block plan device e f.site.world rule all_suited ex xt suits (sym next) inside f.phase.agrees)
+        (migrations_followed.write_done (size P A shape) (most P A shape) shape.geometry.origin_blocks t.words t.desk.space.committing live_now devices actors a x migration block plan device e f.site.world ex xt suits (sym next) inside f.phase.agrees)
         (metadata_same device devices (written_each (device_in device devices) e.first x.buffer) holds)
 
-    pub write_fails : LockRule shape.geometry.origin_blocks t.words (cards_of actors) → AllSuited shape.geometry.origin_blocks actors → (device : Dev) (e : Extent) (contents : List Bytes) (lands : ℕ → Bool) → HoldsBlocks device → Device (WriteExtent device e) ≡ want plan → e.first + e.count ≤ length (device_in device devices) →
+    pub write_fails : (device : Dev) (e : Extent) (contents : List Bytes) (lands : ℕ → Bool) → HoldsBlocks device → Device (WriteExtent device e) ≡ want plan → e.first + e.count ≤ length (device_in device devices) →
         Goes P A shape (record { devices = with_device device devices (written_where lands (device_in device devices) e.first x.buffer); commit = commit; phase = Stands t; actors = slice_set actors a (actor_then {P = P} {A = A} shape (Stands t) devices x (Device (WriteExtent device e)) Fault) }) (noted_step shape [] n a (Some (Some doing)) (Device (WriteExtent device e)) Fault contents)
-    write_fails rule all_suited device e contents lands holds next inside =
+    write_fails device e contents lands holds next inside =
         on_device (WriteExtent device e) Fault contents (with_device device devices (written_where lands (device_in device devices) e.first x.buffer)) (after_step migrating_job plan Fault x) (actor_is P A shape (Stands t) devices x migrating_job plan (Device (WriteExtent device e)) Fault xt)
-        (migrations_followed.write_fails (size P A shape) (most P A shape) shape.geometry.origin_blocks t.words t.desk.space.committing live_now devices actors a x migration block plan device e lands f.site.world rule all_suited ex xt suits (sym next) inside f.phase.agrees)
+        (migrations_followed.write_fails (size P A shape) (most P A shape) shape.geometry.origin_blocks t.words t.desk.space.committing live_now devices actors a x migration block plan device e lands f.site.world ex xt suits (sym next) inside f.phase.agrees)
         (metadata_same device devices (written_where lands (device_in device devices) e.first x.buffer) holds)
 
     -- the desk has no memory for its entry
@@ -364,7 +364,7 @@ module _ (P A : Type 0) (shape : Shape) (t : Target P) (commit : Option RunningC
       (read_done P A shape b.goes.images t commit devices actors n b.goes.known f a x ex migration block plan xt suits doing noted job_is d ext read e g.3)))
   any_step (Device (WriteExtent d ext)) got read chosen e g = subst (λ (v : Got). To (Device (WriteExtent d ext)) v read chosen) (sym g.2)
       (subst (λ (c : Chosen P A). To (Device (WriteExtent d ext)) Done read c) (sym g.1.1)
-      (write_done P A shape b.goes.images t commit devices actors n b.goes.known f a x ex migration block plan xt suits doing noted job_is b.used.here b.used.suited d ext read g.0 e g.3))
+      (write_done P A shape b.goes.images t commit devices actors n b.goes.known f a x ex migration block plan xt suits doing noted job_is d ext read g.0 e g.3))
   any_step (Desk (Map bl c)) got read chosen e g = by_map bl c got read chosen e g.1
   any_step (Desk (ReleaseOrder bl)) got read chosen e g = subst (λ (v : Got). To (Desk (ReleaseOrder bl)) v read chosen) (sym g.1) (by_release bl read chosen e g.2)
   any_step (End answer) got read chosen e g = subst (λ (v : Got). To (End answer) v read chosen) (sym g.1) (subst (λ (c : Chosen P A). To (End answer) Done read c) (sym g.0.1)
@@ -386,6 +386,6 @@ module _ (P A : Type 0) (shape : Shape) (t : Target P) (commit : Option RunningC
       (subst (λ (ds : Devices (List History)). Goes P A shape (record { devices = ds; commit = commit; phase = Stands t; actors = slice_set actors a (actor_then {P = P} {A = A} shape (Stands t) devices x (Device (ReadExtent d ext)) Fault) }) (noted_step shape [] n a (Some (Some doing)) (Device (ReadExtent d ext)) Fault read)) (sym (same_device d devices g.1))
       (read_fails P A shape b.goes.images t commit devices actors n b.goes.known f a x ex migration block plan xt suits doing noted job_is d ext read e))
   any_fault choice (Device (WriteExtent d ext)) read chosen e m g = subst (λ (c : Chosen P A). Fails choice (Device (WriteExtent d ext)) read c) (sym g.0)
-      (write_fails P A shape b.goes.images t commit devices actors n b.goes.known f a x ex migration block plan xt suits doing noted job_is b.used.here b.used.suited d ext read (lands d choice) g.1 e (room d ext g.1 (inside (Device (WriteExtent d ext)) e)))
+      (write_fails P A shape b.goes.images t commit devices actors n b.goes.known f a x ex migration block plan xt suits doing noted job_is d ext read (lands d choice) g.1 e (room d ext g.1 (inside (Device (WriteExtent d ext)) e)))
   any_fault choice (Device step) read chosen e m g = absurd ((own_step (Device step) e tt).2)
   any_fault choice next read chosen e m g = absurd m

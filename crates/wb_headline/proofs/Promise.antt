@@ -42,7 +42,7 @@ use Rattle.wb_headline.proofs.Requests.{given_latest}
 use Rattle.wb_headline.proofs.Showing.{crash_consistent}
 use Rattle.wb_headline.proofs.Doings.{AllLatest, IsFault, what_latest}
 use Rattle.wb_headline.proofs.Keeping.{Keeping}
-use Rattle.wb_headline.proofs.Placed.{with_task}
+use Rattle.wb_headline.proofs.Whole.{with_task}
 use Rattle.wb_headline.proofs.Whole.{Whole, MigrationsGo, whole_after, whole_always, noted_for}
 use Rattle.wb_headline.proofs.Begin.{whole_start}
 

@@ -47,7 +47,7 @@ use Rattle.wb_simulation.specs.Actors.{IsRequestAt}
 use Rattle.wb_simulation.specs.Steps.{AreOfBlock}
 use Rattle.wb_simulation.specs.Telling.{Quietly, Reads, Writes, Answers}
 use Rattle.wb_simulation.specs.Worlds.{Stays, Follows, zeros}
-use Rattle.wb_simulation.specs.Laws.{IsRequestJob, went, after_step, content_of, IsBesideOrders}
+use Rattle.wb_simulation.specs.Laws.{IsRequestJob, went, after_step, content_of}
 use Rattle.wb_simulation.proofs.Followed.{begins_by, cell_steps_followed, doing_of}
 use Rattle.wb_simulation.proofs.Moving.{extent_steps_followed}
 use Rattle.wb_simulation.proofs.Ending.{answers_followed}
@@ -203,23 +203,23 @@ module _ (P A : Type 0) (shape : Shape) (images : Images) (t : Target P) (commit
           (set_there n.doings a (Some doing) (Some mid) noted) in_block in_range in
           stays_on P A shape images t commit devices actors n known f a x ex (Writes written_part.block.0 (e.first % size P A shape) e.count content) t.words (with_device device devices list) (after_step (Write extent content) plan got x) n2 g tt second (length-set n1.doings a _ ∙ length-set n.doings a (Some mid)) (entered_many (rising (sector_for shape extent e) e.count) (entering n1 mid)) (metadata_same device devices list holds)
 
-    pub writes : (contents : List Bytes) → e.first + e.count ≤ length (device_in device devices) → IsBesideOrders (size P A shape) slots_now written_part.block device e →
+    pub writes : (contents : List Bytes) → e.first + e.count ≤ length (device_in device devices) →
         Goes P A shape (record { devices = with_device device devices (written_each (device_in device devices) e.first (replicate e.count content)); commit = commit; phase = Stands (record { words = t.words; desk = t.desk }); actors = slice_set actors a (actor_then {P = P} {A = A} shape (Stands t) devices x (Device (WriteExtent device e)) Done) })
         (noted_step shape shown n a (Some (Some doing)) (Device (WriteExtent device e)) Done contents)
-    writes contents inside beside_them =
+    writes contents inside =
         let list = written_each (device_in device devices) e.first (replicate e.count content) in
-        let g = extent_steps_followed.write_done (size P A shape) (most P A shape) shape.geometry.origin_blocks t.words t.desk.space.committing slots_now devices actors a x extent content written_part plan device e f.site.world rule all_suited ex xt claim.is_job suits (sym next) holds inside beside_them f.phase.agrees in
+        let g = extent_steps_followed.write_done (size P A shape) (most P A shape) shape.geometry.origin_blocks t.words t.desk.space.committing slots_now devices actors a x extent content written_part plan device e f.site.world ex xt claim.is_job suits (sym next) holds inside f.phase.agrees in
         subst (λ (q : Job). Goes P A shape (record { devices = with_device device devices list; commit = commit; phase = Stands (record { words = t.words; desk = t.desk }); actors = slice_set actors a (actor_then {P = P} {A = A} shape (Stands t) devices x (Device (WriteExtent device e)) Done) }) (device_note shape (put n a (Some doing)) a doing q (WriteExtent device e) Done contents)) (sym job_is)
         (subst (λ (y : Actor). Goes P A shape (record { devices = with_device device devices list; commit = commit; phase = Stands (record { words = t.words; desk = t.desk }); actors = slice_set actors a y }) (write_note (put n a (Some doing)) a doing (enter_each content (rising (sector_for shape extent e) e.count) (entering (put n a (Some doing)) doing))))
         (sym (actor_is P A shape (Stands t) devices x (Write extent content) plan (Device (WriteExtent device e)) Done xt)) (writes_on Done doing refl refl list g))
 
-    pub write_fails : (contents : List Bytes) (lands : ℕ → Bool) → e.first + e.count ≤ length (device_in device devices) → IsBesideOrders (size P A shape) slots_now written_part.block device e →
+    pub write_fails : (contents : List Bytes) (lands : ℕ → Bool) → e.first + e.count ≤ length (device_in device devices) →
         Goes P A shape (record { devices = with_device device devices (written_where lands (device_in device devices) e.first (replicate e.count content)); commit = commit; phase = Stands (record { words = t.words; desk = t.desk }); actors = slice_set actors a (actor_then {P = P} {A = A} shape (Stands t) devices x (Device (WriteExtent device e)) Fault) })
         (noted_step shape shown n a (Some (Some doing)) (Device (WriteExtent device e)) Fault contents)
-    write_fails contents lands inside beside_them =
+    write_fails contents lands inside =
         let list = written_where lands (device_in device devices) e.first (replicate e.count content) in
         let mid = failing doing (WriteExtent device e) Fault in
-        let g = extent_steps_followed.write_fails (size P A shape) (most P A shape) shape.geometry.origin_blocks t.words t.desk.space.committing slots_now devices actors a x extent content written_part plan device e lands f.site.world rule all_suited ex xt claim.is_job suits (sym next) holds inside beside_them f.phase.agrees in
+        let g = extent_steps_followed.write_fails (size P A shape) (most P A shape) shape.geometry.origin_blocks t.words t.desk.space.committing slots_now devices actors a x extent content written_part plan device e lands f.site.world ex xt claim.is_job suits (sym next) holds inside f.phase.agrees in
         subst (λ (q : Job). Goes P A shape (record { devices = with_device device devices list; commit = commit; phase = Stands (record { words = t.words; desk = t.desk }); actors = slice_set actors a (actor_then {P = P} {A = A} shape (Stands t) devices x (Device (WriteExtent device e)) Fault) }) (device_note shape (put n a (Some mid)) a mid q (WriteExtent device e) Fault contents)) (sym job_is)
         (subst (λ (y : Actor). Goes P A shape (record { devices = with_device device devices list; commit = commit; phase = Stands (record { words = t.words; desk = t.desk }); actors = slice_set actors a y }) (write_note (put n a (Some mid)) a mid (enter_each content (rising (sector_for shape extent e) e.count) (entering (put n a (Some mid)) mid))))
         (sym (actor_is P A shape (Stands t) devices x (Write extent content) plan (Device (WriteExtent device e)) Fault xt)) (writes_on Fault mid refl refl list g))

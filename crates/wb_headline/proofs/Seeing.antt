@@ -1,32 +1,24 @@
 -- Where a desk has a block, and what its live orders say of that: a seal that tells it tells where an order has the block, and what is
 -- written there is beside other orders.
-use Rattle.std.proofs.Common.{◌≢◌, ◌≡◌, ◌∙◌, ◌<◌, ◌/◌, inl, inr, ℕ, zero, suc, List, [], ◌∷◌, Option, Some, None, refl, sym, ap, subst, arith, length, slice_get, slice_set}
-use Rattle.std.proofs.lemmas.Option.{get_or_from_slice_get}
-use Rattle.wb_types.specs.declared.extent.Extent.{Extent}
-use Rattle.wb_types.specs.declared.mode.Dev.{Dev}
-use Rattle.wb_types.specs.declared.mode.Dev.TheVariants.{Metadata, Cache, Origin}
+use Rattle.std.proofs.Common.{◌≢◌, ◌≡◌, ◌∙◌, ◌<◌, inl, inr, ℕ, zero, suc, List, [], ◌∷◌, Option, Some, None, refl, sym, ap, subst, arith, length, slice_get, slice_set}
 use Rattle.wb_types.specs.declared.number.OBlock.{OBlock}
 use Rattle.wb_types.specs.declared.number.CBlock.{CBlock}
 use Rattle.wb_words.specs.SharedWords.{Words, word_at, place_in}
 use Rattle.wb_policy.specs.Law.{IsMappedAt}
 use Rattle.wb_policy.specs.declared.order.Order.{Order}
 use Rattle.wb_policy.specs.declared.order.Order.TheVariants.{Promote as PromoteOrder, Replace, Demote as DemoteOrder, Clean as CleanOrder}
-use Rattle.wb_space.specs.declared.block.Block.{Block}
-use Rattle.wb_space.specs.declared.block.Block.TheVariants.{Free, Mapped}
-use Rattle.wb_space.specs.Blocks.{state, IsClaimed}
+use Rattle.wb_space.specs.Blocks.{state}
 use Rattle.wb_orders.specs.declared.live_order.LiveOrder.{LiveOrder}
 use Rattle.wb_orders.specs.Orders.{order_at}
 use Rattle.wb_desk.specs.Desks.{DeskState, DeskInvariant, Names, NamesWhatIs, holdings}
-use Rattle.wb_desk.proofs.Leaving.{mapped_state}
 use Rattle.wb_desk.proofs.Seen.{there}
 use Rattle.wb_tasks.specs.declared.step.Migration.{Migration}
 use Rattle.wb_tasks.specs.declared.step.Migration.TheVariants.{Promote, Demote, Clean}
-use Rattle.wb_refines.specs.Translation.{location_at, number_of}
+use Rattle.wb_refines.specs.Translation.{number_of}
 use Rattle.wb_refines.specs.Migrations.{IsWhere}
 use Rattle.wb_runs.specs.Headline.{place_of}
-use Rattle.wb_runs.proofs.Located.{same_block, one_there, stands_there}
+use Rattle.wb_runs.proofs.Located.{stands_there}
 use Rattle.wb_runs.proofs.Metadata.{unknowing}
-use Rattle.wb_simulation.specs.Laws.{IsFrom, IsBesideOrders}
 use Rattle.wb_contents.specs.Volume.{Locations}
 use Rattle.wb_simulation.specs.Carried.{IsOrderFor, IsReplacing}
 use Rattle.wb_simulation.specs.Migrating.{SealTells}
@@ -113,18 +105,3 @@ module _ (P : Type 0) (desk : DeskState P) (kept : DeskInvariant unknowing desk)
             follows : (o : Order) → IsReplacing Demote block next o → next ≢ None
             follows (Replace old new k) r q = (let bad : None ≡ Some new.0 = sym q ∙ r.1 in cc)
             follows o r q = r
-
-    -- What is written where the desk has a block is in no cache block out of which another one is copied.
-    pub beside_orders : (size : ℕ) (block : OBlock) (device : Dev) (e : Extent) → ((k : ℕ) → location_at size device e ≡ Some k → place_of desk.tree.entries block.0 ≡ Some k) → IsBesideOrders size slots block device e
-    beside_orders size block Origin e where_is = tt
-    beside_orders size block Metadata e where_is = tt
-    beside_orders size block Cache e where_is = λ c order live at. by c order (mapped_there block.0 c (where_is (e.first / size) refl ∙ ap (λ (k : ℕ). Some k) at)) (names c order live)
-      where
-        by : (c : ℕ) (order : Order) → IsMappedAt (holdings desk) block.0 c → Names (holdings desk) (state desk.space.blocks c) c order → IsFrom block order
-        by c (PromoteOrder b k) at n = tt
-        by c (Replace old x k) at n = elim n.2 [
-          | inl there ↦ same_block old block (one_there (holdings desk) old.0 block.0 c there at)
-          | inr gone ↦ absurd (subst (λ (v : Block). IsClaimed v) (get_or_from_slice_get desk.space.blocks c Mapped Free (mapped_state unknowing desk block.0 c kept at)) gone.1)
-        ]
-        by c (DemoteOrder b) at n = same_block b block (one_there (holdings desk) b.0 block.0 c n at)
-        by c (CleanOrder b) at n = same_block b block (one_there (holdings desk) b.0 block.0 c n at)

@@ -1,5 +1,5 @@
 -- Whatever step is taken where a target stands, done or failing, it is followed.
-use Rattle.std.proofs.Common.{◌≡◌, ◌≤◌, ◌+◌, ◌/◌, ◌⊎◌, inl, inr, ℕ, Bool, true, false, List, [], Option, Some, None, refl, sym, ap, subst, length, slice_get, slice_set}
+use Rattle.std.proofs.Common.{◌≡◌, ◌≤◌, ◌+◌, ◌⊎◌, inl, inr, ℕ, Bool, true, false, List, [], Option, Some, None, refl, sym, ap, subst, length, slice_get, slice_set}
 use Rattle.wb_types.specs.declared.extent.Extent.{Extent}
 use Rattle.wb_types.specs.declared.mode.Dev.{Dev}
 use Rattle.wb_types.specs.declared.mode.Dev.TheVariants.{Metadata, Cache, Origin}
@@ -40,13 +40,11 @@ use Rattle.wb_runs.proofs.Images.{Images}
 use Rattle.wb_runs.proofs.Underway.{sync_does, sync_fails, put_fails}
 use Rattle.wb_runs.proofs.Metadata.{MetadataKept}
 use Rattle.wb_runs.proofs.Claims.{JobClaim}
-use Rattle.wb_simulation.specs.Laws.{IsBesideOrders}
 use Rattle.wb_simulation.proofs.Moving.{same_device}
 use Rattle.wb_types.proofs.Truth.{and_true}
-use Rattle.wb_headline.specs.Desks.{live_orders}
 use Rattle.wb_runs.proofs.Owning.{Owned}
 use Rattle.wb_types.specs.declared.number.OBlock.{OBlock}
-use Rattle.wb_headline.proofs.Following.{size, most, Followed, Goes}
+use Rattle.wb_headline.proofs.Following.{most, Followed, Goes}
 use Rattle.wb_headline.proofs.Targets.{standing}
 use Rattle.wb_headline.proofs.Requests.{on_words as request_words, reads, read_fails, writes, write_fails, answers as request_answers}
 use Rattle.wb_headline.proofs.Flushes.{syncs, sync_fails as data_sync_fails, node_done, sync_done, root_done, node_fails, metadata_sync_fails, root_fails, begins, begin_refused, ends, on_words as flush_words, answers as flush_answers, gives_up, serving}
@@ -95,8 +93,7 @@ module _ (P A : Type 0) (shape : Shape) (images : Images) (t : Target P) (commit
 
   -- ---- writes
 
-  module _ (extent : Extent) (content : Bytes) (xt : x.task ≡ Some (Write extent content, plan)) (job_is : doing.job ≡ Write extent content) (claim : JobClaim shape (Write extent content) plan doing)
-      (beside_orders : (device : Dev) (e : Extent) → Device (WriteExtent device e) ≡ want plan → IsBesideOrders (size P A shape) (live_orders t.desk) (record { 0 = extent.first / block_size shape }) device e) where
+  module _ (extent : Extent) (content : Bytes) (xt : x.task ≡ Some (Write extent content, plan)) (job_is : doing.job ≡ Write extent content) (claim : JobClaim shape (Write extent content) plan doing) where
     abbrev of_write : TaskJob
     of_write = OnBlock (WritingPart (block_range shape extent claim.cut))
 
@@ -104,7 +101,7 @@ module _ (P A : Type 0) (shape : Shape) (images : Images) (t : Target P) (commit
     write_steps (Cell step) got read chosen e g = subst (λ (v : Got). Done_by (Write extent content) (Cell step) v read chosen) (sym g.1)
         (request_words P A shape images t commit devices actors n known f rule all_suited a x ex (Write extent content) plan xt suits [] doing noted job_is step tt e)
     write_steps (Device (WriteExtent d ex')) got read chosen e g = subst (λ (v : Got). Done_by (Write extent content) (Device (WriteExtent d ex')) v read chosen) (sym g.2)
-        (writes P A shape images t commit devices actors n known f rule all_suited a x ex [] doing noted extent content plan xt suits job_is claim d ex' e g.0 read g.3 (beside_orders d ex' e))
+        (writes P A shape images t commit devices actors n known f rule all_suited a x ex [] doing noted extent content plan xt suits job_is claim d ex' e g.0 read g.3)
     write_steps (End answer) got read chosen e g = subst (λ (v : Got). Done_by (Write extent content) (End answer) v read chosen) (sym g.1) (subst (λ (c : Chosen P A). Done_by (Write extent content) (End answer) Done read c) (sym g.0.1)
         (request_answers P A shape images t commit devices actors n known f rule all_suited a x ex _ doing noted (Write extent content) tt plan xt suits job_is claim answer e read))
     write_steps (Device (ReadExtent d ex')) got read chosen e g = absurd g
@@ -112,7 +109,7 @@ module _ (P A : Type 0) (shape : Shape) (images : Images) (t : Target P) (commit
 
     pub write_faults : (choice : Choice) (next : Want) (read : List Bytes) (chosen : Chosen P A) → StepInside shape next → (length devices.cache ≡ Rattle.wb_runs.specs.States.cache_sector_count shape) → (length devices.origin ≡ sector_count shape) → next ≡ want plan → MayFailAt devices choice next → Falters w choice next chosen → Failed_by choice (Write extent content) next read chosen
     write_faults choice (Device (WriteExtent d ex')) read chosen inside cs os e m g = subst (λ (c : Chosen P A). Failed_by choice (Write extent content) (Device (WriteExtent d ex')) read c) (sym g.0)
-        (write_fails P A shape images t commit devices actors n known f rule all_suited a x ex [] doing noted extent content plan xt suits job_is claim d ex' e g.1 read (lands d choice) (by d g.1 inside) (beside_orders d ex' e))
+        (write_fails P A shape images t commit devices actors n known f rule all_suited a x ex [] doing noted extent content plan xt suits job_is claim d ex' e g.1 read (lands d choice) (by d g.1 inside))
       where
         by : (d : Dev) → HoldsBlocks d → StepInside shape (Device (WriteExtent d ex')) → ex'.first + ex'.count ≤ length (device_in d devices)
         by Cache h i = subst (λ (k : ℕ). ex'.first + ex'.count ≤ k) (sym cs) i

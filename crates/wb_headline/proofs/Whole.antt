@@ -1,10 +1,8 @@
 -- Every run is followed.
-use Rattle.std.proofs.Common.{◌≡◌, ◌≢◌, ◌∙◌, ◌<◌, ◌/◌, arith, inl, inr, ℕ, Bool, List, [], ◌∷◌, Option, Some, None, refl, sym, ap, subst, length, slice_get, slice_set}
+use Rattle.std.proofs.Common.{◌≡◌, ◌≢◌, ◌∙◌, inl, inr, ℕ, Bool, List, [], ◌∷◌, Option, Some, None, refl, sym, ap, subst, length, slice_get, slice_set}
 use Rattle.std.proofs.lemmas.Bool.{cases_eq}
 use Rattle.std.proofs.lemmas.Option.{some_pair_parts}
-use Rattle.wb_types.specs.declared.extent.Extent.{Extent}
 use Rattle.wb_types.specs.declared.mode.Mode.{Mode}
-use Rattle.wb_types.specs.declared.mode.Dev.{Dev}
 use Rattle.wb_types.specs.declared.number.CBlock.{CBlock}
 use Rattle.wb_disk.specs.Device.{Content as Bytes, History}
 use Rattle.wb_disk.specs.Crash.{Choice}
@@ -13,13 +11,11 @@ use Rattle.wb_words.specs.SharedWords.{word_at, place_in}
 use Rattle.wb_words.specs.declared.word.Access.TheVariants.{Owned}
 use Rattle.wb_words.specs.declared.card.Hold.TheVariants.{Held}
 use Rattle.wb_words.specs.declared.step.CellStep.TheVariants.{Seal}
-use Rattle.wb_tasks.specs.Tables.{BlockRange, Writing, OnBlock}
 use Rattle.wb_tasks.specs.Plan.{Plan, want, device_of}
 use Rattle.wb_tasks.specs.Ready.{Suits}
 use Rattle.wb_tasks.specs.declared.step.Migration.{Migration}
 use Rattle.wb_types.specs.declared.number.OBlock.{OBlock}
 use Rattle.wb_tasks.specs.declared.step.Want.{Want}
-use Rattle.wb_tasks.specs.declared.step.DeviceStep.TheVariants.{Write as WriteExtent}
 use Rattle.wb_tasks.specs.declared.step.Want.TheVariants.{Cell, Device, End}
 use Rattle.wb_refines.specs.Translation.{number_of}
 use Rattle.wb_tasks.specs.declared.step.Got.{Got}
@@ -42,17 +38,12 @@ use Rattle.wb_runs.specs.Sealed.{SealsNext, Tells, number_of as number_here}
 use Rattle.wb_runs.proofs.Lists.{free, there_rests}
 use Rattle.wb_runs.proofs.MetadataRuns.{IsKnown}
 use Rattle.wb_runs.proofs.Using.{UsedRightly, used_what}
-use Rattle.wb_runs.proofs.Claims.{JobClaim, Noted, TaskClaim, noted_of}
+use Rattle.wb_runs.proofs.Claims.{Noted, TaskClaim, noted_of}
 use Rattle.wb_runs.proofs.Linking.{Linked, TaskHere, InPhase}
 use Rattle.wb_runs.proofs.LinkedRuns.{Base, links_what}
 use Rattle.wb_runs.proofs.InsideRuns.{Inside, inside_what, want_inside}
-use Rattle.wb_simulation.specs.Laws.{IsBesideOrders}
 use Rattle.wb_headline.proofs.Doings.{AllAsked, what_asked}
 use Rattle.wb_headline.proofs.Following.{Goes}
-use Rattle.wb_headline.specs.Desks.{live_orders}
-use Rattle.wb_headline.proofs.Placed.{with_task, AllPlaced, TaskPlaced, WritePlaced, holds_it, placed_what, written_there}
-use Rattle.wb_headline.proofs.Seeing.{beside_orders, named}
-use Rattle.wb_runs.proofs.Ruling.{card_at}
 use Rattle.wb_headline.proofs.Keeping.{Keeping, sealing_owns}
 use Rattle.wb_headline.proofs.Kept.{fault_keeps, none_goes, none_rest, none_set, start_keeps, step_keeps}
 use Rattle.wb_headline.proofs.Opened.{opening_keeps, opening_steps, opening_faults}
@@ -61,6 +52,15 @@ use Rattle.wb_headline.proofs.Telling.{owned_alone}
 use Rattle.wb_headline.proofs.Arriving.{crash_goes}
 use Rattle.wb_headline.proofs.Starts.{read_starts, write_starts, flush_starts, opening_starts}
 use Rattle.wb_headline.proofs.Stands.{read_steps, read_faults, write_steps, write_faults, flush_steps, flush_faults}
+
+-- whoever takes a step is there, and at something
+pub with_task : (o : Option Actor) (Has : Actor → Job × Plan → Type 0) (Then : Option Actor → Type 0) → OfSome o (λ x. OfSome x.task (λ task. Has x task)) → ((x : Actor) (task : Job × Plan) → o ≡ Some x → x.task ≡ Some task → Has x task → Then (Some x)) → Then o
+with_task None Has Then h on = absurd h
+with_task (Some x) Has Then h on = by x.task refl h
+  where
+    by : (t : Option (Job × Plan)) → x.task ≡ t → OfSome t (λ task. Has x task) → Then (Some x)
+    by None xt h = absurd h
+    by (Some task) xt h = on x task refl xt h
 
 module _ (P A : Type 0) (shape : Shape) where
   -- what is kept of a state and its notes
@@ -71,7 +71,6 @@ module _ (P A : Type 0) (shape : Shape) where
     pub inside : Inside shape w
     pub asked : AllAsked (sector_count shape) n.doings
     pub keeping : Keeping w.phase w.actors
-    pub placed : AllPlaced (block_size shape) w.actors
 
   known_of : (w : State P A) (n : Notes) → Whole w n → IsKnown P A shape w
   known_of w n b = record { images = b.goes.images; known = b.goes.known }
@@ -122,31 +121,6 @@ module _ (P A : Type 0) (shape : Shape) where
               owned_alone shape.geometry.origin_blocks t.words actors b.used.here c a z x ez ex (λ q. away (sym q)) block z_owns.0 z_owns.1 Owned holds)
         ])
 
-  -- what a write writes is beside the orders that live
-  module _ (t : Target P) (commit : Option RunningCommit) (devices : Devices (List History)) (actors : List Actor) (n : Notes) (b : Whole (at_target t commit devices actors) n) (a : ℕ) (x : Actor) (extent : Extent) (content : Bytes) (plan : Plan) (ex : slice_get actors a ≡ Some x) (xt : x.task ≡ Some (Write extent content, plan))
-      (doing : Doing) (claim : JobClaim shape (Write extent content) plan doing) (device : Dev) (e : Extent) (next : Device (WriteExtent device e) ≡ want plan) where
-    abbrev own_block : OBlock
-    own_block = record { 0 = extent.first / block_size shape }
-
-    placed : WritePlaced (block_size shape) plan x.card
-    placed = subst (λ (o : Option (Job × Plan)). TaskPlaced (block_size shape) x.card o) xt (b.placed a x ex)
-
-    some : 0 < block_size shape
-    some = omega (arith, shape.geometry.within.block_from)
-
-    holds : x.card.hold ≡ Held Owned own_block
-    holds =
-        let same : OnBlock (Writing placed.part) ≡ OnBlock (Writing (block_range shape extent claim.cut)) = sym placed.job ∙ claim.is_job in
-        let part_is : placed.part ≡ block_range shape extent claim.cut = cc in
-        holds_it (block_size shape) some plan x.card placed device e next shape.geometry.origin_blocks (subst (λ (o : Option (Job × Plan)). TaskSuits shape.geometry.origin_blocks x.card o) xt (b.used.suited a x ex)) ∙ ap (λ (r : BlockRange). Held Owned r.block) part_is
-
-    pub written_beside : IsBesideOrders (block_size shape) (live_orders t.desk) (record { 0 = extent.first / block_size shape }) device e
-    written_beside =
-        let there = written_there (block_size shape) some plan x.card placed device e next in
-        let word : word_at t.words.seals own_block ≡ there.0 = (b.used.here.knows a x.card (card_at actors a x ex)).seal Owned own_block there.0 holds there.1 in
-        let told = held_tells t commit devices actors n b a x (Write extent content) plan ex xt own_block holds (λ place dirty q. absurd (let bad : Device (WriteExtent device e) ≡ Cell (Seal own_block place dirty) = next ∙ q in cc)) in
-        beside_orders P t.desk b.goes.known.is.kept (live_orders t.desk) (named P t.desk b.goes.known.is.kept) (block_size shape) own_block device e (λ k at. sym told ∙ ap (λ (v : ℕ). number_of (place_in v)) word ∙ sym there.2 ∙ at)
-
   -- What is followed of migrations: each step, done and failing, and each start, of a replacement too.
   pub record MigrationsGo : Type 0 where
     pub steps : (t : Target P) (commit : Option RunningCommit) (devices : Devices (List History)) (actors : List Actor) (n : Notes) → Whole (at_target t commit devices actors) n → (a : ℕ) (x : Actor) (migration : Migration) (block : OBlock) (plan : Plan) (doing : Doing) → slice_get actors a ≡ Some x → x.task ≡ Some (Migrate migration block, plan) →
@@ -176,7 +150,7 @@ module _ (P A : Type 0) (shape : Shape) where
 
         by_job : (job : Job) → x.task ≡ Some (job, plan) → (d : Noted shape job plan (slice_get n.doings a)) → Gives shape (at_target t commit devices actors) x job next got read chosen → Stepped_to (at_target t commit devices actors) n a x job next got read chosen d.doing
         by_job (Read extent) xt d g = read_steps P A shape b.goes.images t commit devices actors n b.goes.known b.goes.followed b.used.here b.used.suited a x ex plan suits d.doing d.is extent xt d.job_is d.claim next got read chosen e g
-        by_job (Write extent content) xt d g = write_steps P A shape b.goes.images t commit devices actors n b.goes.known b.goes.followed b.used.here b.used.suited a x ex plan suits d.doing d.is extent content xt d.job_is d.claim (λ device ext f. written_beside t commit devices actors n b a x extent content plan ex xt d.doing d.claim device ext f) next got read chosen e g
+        by_job (Write extent content) xt d g = write_steps P A shape b.goes.images t commit devices actors n b.goes.known b.goes.followed b.used.here b.used.suited a x ex plan suits d.doing d.is extent content xt d.job_is d.claim next got read chosen e g
         by_job Flush xt d g = flush_steps P A shape b.goes.images t commit devices actors n b.goes.known b.goes.followed b.used.here b.used.suited a x ex plan suits d.doing d.is xt d.job_is b.keeping.owned next got read chosen (asked d.doing d.is) e g
         by_job (Open mode) xt d g = absurd (subst (λ (o : Option (Job × Plan)). TaskHere {P = P} {A = A} (Stands t) o) xt (b.linked.here a x ex))
         by_job (Migrate migration block) xt d g = migrations.steps t commit devices actors n b a x migration block plan d.doing ex xt d.is d.job_is next got read chosen e g
@@ -202,7 +176,7 @@ module _ (P A : Type 0) (shape : Shape) where
 
         by_job : (job : Job) → x.task ≡ Some (job, plan) → (d : Noted shape job plan (slice_get n.doings a)) → Faulted_to (at_target t commit devices actors) n a x choice job next read chosen d.doing
         by_job (Read extent) xt d = read_faults P A shape b.goes.images t commit devices actors n b.goes.known b.goes.followed b.used.here b.used.suited a x ex plan suits d.doing d.is extent xt d.job_is d.claim choice next read chosen e m g
-        by_job (Write extent content) xt d = write_faults P A shape b.goes.images t commit devices actors n b.goes.known b.goes.followed b.used.here b.used.suited a x ex plan suits d.doing d.is extent content xt d.job_is d.claim (λ device ext f. written_beside t commit devices actors n b a x extent content plan ex xt d.doing d.claim device ext f) choice next read chosen inside b.inside.cache b.inside.origin e m g
+        by_job (Write extent content) xt d = write_faults P A shape b.goes.images t commit devices actors n b.goes.known b.goes.followed b.used.here b.used.suited a x ex plan suits d.doing d.is extent content xt d.job_is d.claim choice next read chosen inside b.inside.cache b.inside.origin e m g
         by_job Flush xt d = flush_faults P A shape b.goes.images t commit devices actors n b.goes.known b.goes.followed b.used.here b.used.suited a x ex plan suits d.doing d.is xt d.job_is b.keeping.owned choice next read chosen e m g
         by_job (Open mode) xt d = absurd (subst (λ (o : Option (Job × Plan)). TaskHere {P = P} {A = A} (Stands t) o) xt (b.linked.here a x ex))
         by_job (Migrate migration block) xt d = migrations.faults t commit devices actors n b a x migration block plan d.doing ex xt d.is d.job_is choice next read chosen e m g
@@ -366,7 +340,6 @@ module _ (P A : Type 0) (shape : Shape) where
           inside = inside_what P A shape w n event what read h.chosen (base_of w n b) b.inside m;
           asked = what_asked (sector_count shape) shape (shown shape (after_happening shape w h)) n event what read (b.goes.followed.notes_agree.as_many ∙ b.goes.followed.sized.sectors) b.asked;
           keeping = keep_what w n b event what read h.chosen m;
-          placed = placed_what P A shape w b.used b.placed event what read h.chosen m;
         }
 
     pub whole_always : (w : State P A) (n : Notes) (hs : List (Happening P A)) → Whole w n → IsRun shape w hs → Whole (after_all shape w hs) (noted shape w n hs)

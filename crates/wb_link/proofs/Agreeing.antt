@@ -13,85 +13,79 @@ use Rattle.wb_link.proofs.Views.{block_view}
 pub write_agrees : (t : Shared) (e : Volume) (to : Option ℕ) (b o : ℕ) (c : Content) → to ≡ e.mapping b → Agrees t e → Agrees (put_sector t to b o c) (sector_written e (e.mapping b) b o c)
 write_agrees t e to b o c k g = subst (λ (q : Option ℕ). Agrees (put_sector t q b o c) (sector_written e (e.mapping b) b o c)) (sym k) (go (e.mapping b)) where
   go : (p : Option ℕ) → Agrees (put_sector t p b o c) (sector_written e p b o c)
-  go None = record { origin = ap (λ f. changed_at f b o (added (f b o) c)) g.origin; cache = g.cache; mapping = g.mapping; committed = g.committed; running = g.running; root_written = g.root_written; live = g.live; mode = g.mode; began = g.began; ended = g.ended; committed_clean = g.committed_clean; running_clean = g.running_clean }
-  go (Some j) = record { origin = g.origin; cache = ap (λ f. changed_at f j o (added (f j o) c)) g.cache; mapping = g.mapping; committed = g.committed; running = g.running; root_written = g.root_written; live = g.live; mode = g.mode; began = g.began; ended = g.ended; committed_clean = g.committed_clean; running_clean = g.running_clean }
+  go None = record { told = record { origin = ap (λ f. changed_at f b o (added (f b o) c)) g.told.origin; cache = g.told.cache; committed = g.told.committed; running = g.told.running; root_written = g.told.root_written; committed_clean = g.told.committed_clean; running_clean = g.told.running_clean }; mapping = g.mapping; live = g.live; mode = g.mode; began = g.began; ended = g.ended }
+  go (Some j) = record { told = record { origin = g.told.origin; cache = ap (λ f. changed_at f j o (added (f j o) c)) g.told.cache; committed = g.told.committed; running = g.told.running; root_written = g.told.root_written; committed_clean = g.told.committed_clean; running_clean = g.told.running_clean }; mapping = g.mapping; live = g.live; mode = g.mode; began = g.began; ended = g.ended }
 
 -- what of the machine is the world's stays as it is
 pub finish_agrees : (t : Shared) (e : Volume) (b o : ℕ) → Agrees t e → Agrees t (after_act e (Finish b o))
-finish_agrees t e b o g = record { origin = g.origin; cache = g.cache; mapping = g.mapping; committed = g.committed; running = g.running; root_written = g.root_written; live = g.live; mode = g.mode; began = g.began; ended = g.ended; committed_clean = g.committed_clean; running_clean = g.running_clean }
+finish_agrees t e b o g = record { told = record { origin = g.told.origin; cache = g.told.cache; committed = g.told.committed; running = g.told.running; root_written = g.told.root_written; committed_clean = g.told.committed_clean; running_clean = g.told.running_clean }; mapping = g.mapping; live = g.live; mode = g.mode; began = g.began; ended = g.ended }
 
 pub lose_agrees : (t : Shared) (e : Volume) (b o : ℕ) (c : Content) → Agrees t e → Agrees t (after_act e (Fail_write b o c))
-lose_agrees t e b o c g = record { origin = g.origin; cache = g.cache; mapping = g.mapping; committed = g.committed; running = g.running; root_written = g.root_written; live = g.live; mode = g.mode; began = g.began; ended = g.ended; committed_clean = g.committed_clean; running_clean = g.running_clean }
+lose_agrees t e b o c g = record { told = record { origin = g.told.origin; cache = g.told.cache; committed = g.told.committed; running = g.told.running; root_written = g.told.root_written; committed_clean = g.told.committed_clean; running_clean = g.told.running_clean }; mapping = g.mapping; live = g.live; mode = g.mode; began = g.began; ended = g.ended }
 
 pub failed_agrees : (t : Shared) (e : Volume) → Agrees t e → Agrees (record t { fail = true }) e
-failed_agrees t e g = record { origin = g.origin; cache = g.cache; mapping = g.mapping; committed = g.committed; running = g.running; root_written = g.root_written; live = g.live; mode = g.mode; began = g.began; ended = g.ended; committed_clean = g.committed_clean; running_clean = g.running_clean }
+failed_agrees t e g = record { told = record { origin = g.told.origin; cache = g.told.cache; committed = g.told.committed; running = g.told.running; root_written = g.told.root_written; committed_clean = g.told.committed_clean; running_clean = g.told.running_clean }; mapping = g.mapping; live = g.live; mode = g.mode; began = g.began; ended = g.ended }
 
 pub broken_agrees : (t : Shared) (e : Volume) → Agrees t e → Agrees (record t { broken = true }) e
-broken_agrees t e g = record { origin = g.origin; cache = g.cache; mapping = g.mapping; committed = g.committed; running = g.running; root_written = g.root_written; live = g.live; mode = g.mode; began = g.began; ended = g.ended; committed_clean = g.committed_clean; running_clean = g.running_clean }
+broken_agrees t e g = record { told = record { origin = g.told.origin; cache = g.told.cache; committed = g.told.committed; running = g.told.running; root_written = g.told.root_written; committed_clean = g.told.committed_clean; running_clean = g.told.running_clean }; mapping = g.mapping; live = g.live; mode = g.mode; began = g.began; ended = g.ended }
 
 pub seal_agrees : (t : Shared) (e : Volume) (seals : ℕ → Seal) (dirty : ℕ → Bool) → Agrees t e → Agrees (record t { seals = seals }) (record e { dirty = dirty })
-seal_agrees t e seals dirty g = record { origin = g.origin; cache = g.cache; mapping = g.mapping; committed = g.committed; running = g.running; root_written = g.root_written; live = g.live; mode = g.mode; began = g.began; ended = g.ended; committed_clean = g.committed_clean; running_clean = g.running_clean }
+seal_agrees t e seals dirty g = record { told = record { origin = g.told.origin; cache = g.told.cache; committed = g.told.committed; running = g.told.running; root_written = g.told.root_written; committed_clean = g.told.committed_clean; running_clean = g.told.running_clean }; mapping = g.mapping; live = g.live; mode = g.mode; began = g.began; ended = g.ended }
 
 pub begin_agrees : (t : Shared) (e : Volume) (blocks : ℕ → Block) → Agrees t e → Agrees (record t { began = t.began + 1; committing = true; running_clean = λ b. false; running = t.mapping; blocks = blocks }) (after_act e Begin_commit)
-begin_agrees t e blocks g = record { origin = g.origin; cache = g.cache; mapping = g.mapping; committed = g.committed; running = g.mapping; root_written = g.root_written; live = g.live; mode = g.mode; began = ap (λ n. n + 1) g.began; ended = g.ended; committed_clean = g.committed_clean; running_clean = λ b k e. refl }
+begin_agrees t e blocks g = record { told = record { origin = g.told.origin; cache = g.told.cache; committed = g.told.committed; running = g.mapping; root_written = g.told.root_written; committed_clean = g.told.committed_clean; running_clean = λ b k e. refl }; mapping = g.mapping; live = g.live; mode = g.mode; began = ap (λ n. n + 1) g.began; ended = g.ended }
 
 pub cached_agrees : (t : Shared) (e : Volume) → Agrees t e → Agrees (record t { cache = all_synced t.cache }) (after_act e Sync_cache)
-cached_agrees t e g = record { origin = g.origin; cache = ap (λ f. all_synced f) g.cache; mapping = g.mapping; committed = g.committed; running = g.running; root_written = g.root_written; live = g.live; mode = g.mode; began = g.began; ended = g.ended; committed_clean = g.committed_clean; running_clean = g.running_clean }
+cached_agrees t e g = record { told = record { origin = g.told.origin; cache = ap (λ f. all_synced f) g.told.cache; committed = g.told.committed; running = g.told.running; root_written = g.told.root_written; committed_clean = g.told.committed_clean; running_clean = g.told.running_clean }; mapping = g.mapping; live = g.live; mode = g.mode; began = g.began; ended = g.ended }
 
 pub based_agrees : (t : Shared) (e : Volume) → Agrees t e → Agrees (record t { origin = all_synced t.origin }) (after_act e Sync_origin)
-based_agrees t e g = record { origin = ap (λ f. all_synced f) g.origin; cache = g.cache; mapping = g.mapping; committed = g.committed; running = g.running; root_written = g.root_written; live = g.live; mode = g.mode; began = g.began; ended = g.ended; committed_clean = g.committed_clean; running_clean = g.running_clean }
+based_agrees t e g = record { told = record { origin = ap (λ f. all_synced f) g.told.origin; cache = g.told.cache; committed = g.told.committed; running = g.told.running; root_written = g.told.root_written; committed_clean = g.told.committed_clean; running_clean = g.told.running_clean }; mapping = g.mapping; live = g.live; mode = g.mode; began = g.began; ended = g.ended }
 
 pub cached_partly_agrees : (t : Shared) (e : Volume) (choice : ℕ → ℕ → Bool) → Agrees t e → Agrees (record t { cache = partly_synced choice t.cache }) (after_act e (Fail_cache_sync choice))
-cached_partly_agrees t e choice g = record { origin = g.origin; cache = ap (λ f. partly_synced choice f) g.cache; mapping = g.mapping; committed = g.committed; running = g.running; root_written = g.root_written; live = g.live; mode = g.mode; began = g.began; ended = g.ended; committed_clean = g.committed_clean; running_clean = g.running_clean }
+cached_partly_agrees t e choice g = record { told = record { origin = g.told.origin; cache = ap (λ f. partly_synced choice f) g.told.cache; committed = g.told.committed; running = g.told.running; root_written = g.told.root_written; committed_clean = g.told.committed_clean; running_clean = g.told.running_clean }; mapping = g.mapping; live = g.live; mode = g.mode; began = g.began; ended = g.ended }
 
 pub based_partly_agrees : (t : Shared) (e : Volume) (choice : ℕ → ℕ → Bool) → Agrees t e → Agrees (record t { origin = partly_synced choice t.origin }) (after_act e (Fail_origin_sync choice))
-based_partly_agrees t e choice g = record { origin = ap (λ f. partly_synced choice f) g.origin; cache = g.cache; mapping = g.mapping; committed = g.committed; running = g.running; root_written = g.root_written; live = g.live; mode = g.mode; began = g.began; ended = g.ended; committed_clean = g.committed_clean; running_clean = g.running_clean }
+based_partly_agrees t e choice g = record { told = record { origin = ap (λ f. partly_synced choice f) g.told.origin; cache = g.told.cache; committed = g.told.committed; running = g.told.running; root_written = g.told.root_written; committed_clean = g.told.committed_clean; running_clean = g.told.running_clean }; mapping = g.mapping; live = g.live; mode = g.mode; began = g.began; ended = g.ended }
 
 pub root_agrees : (t : Shared) (e : Volume) → Agrees t e → Agrees (record t { root_written = true }) (after_act e Write_root)
-root_agrees t e g = record { origin = g.origin; cache = g.cache; mapping = g.mapping; committed = g.committed; running = g.running; root_written = refl; live = g.live; mode = g.mode; began = g.began; ended = g.ended; committed_clean = g.committed_clean; running_clean = g.running_clean }
+root_agrees t e g = record { told = record { origin = g.told.origin; cache = g.told.cache; committed = g.told.committed; running = g.told.running; root_written = refl; committed_clean = g.told.committed_clean; running_clean = g.told.running_clean }; mapping = g.mapping; live = g.live; mode = g.mode; began = g.began; ended = g.ended }
 
 pub end_agrees : (t : Shared) (e : Volume) (blocks : ℕ → Block) → Agrees t e → Agrees (record t { ended = t.began; committing = false; committed_clean = t.running_clean; committed = t.running; root_written = false; blocks = blocks }) (after_act e End_commit)
-end_agrees t e blocks g = record { origin = g.origin; cache = g.cache; mapping = g.mapping; committed = g.running; running = g.running; root_written = refl; live = g.live; mode = g.mode; began = g.began; ended = g.began; committed_clean = g.running_clean; running_clean = g.running_clean }
+end_agrees t e blocks g = record { told = record { origin = g.told.origin; cache = g.told.cache; committed = g.told.running; running = g.told.running; root_written = refl; committed_clean = g.told.running_clean; running_clean = g.told.running_clean }; mapping = g.mapping; live = g.live; mode = g.mode; began = g.began; ended = g.began }
 
 pub flush_agrees : (t : Shared) (e : Volume) (a : ℕ) → Agrees t e → Agrees t (after_act e (End_flush a))
-flush_agrees t e a g = record { origin = g.origin; cache = g.cache; mapping = g.mapping; committed = g.committed; running = g.running; root_written = g.root_written; live = g.live; mode = g.mode; began = g.began; ended = g.ended; committed_clean = g.committed_clean; running_clean = g.running_clean }
+flush_agrees t e a g = record { told = record { origin = g.told.origin; cache = g.told.cache; committed = g.told.committed; running = g.told.running; root_written = g.told.root_written; committed_clean = g.told.committed_clean; running_clean = g.told.running_clean }; mapping = g.mapping; live = g.live; mode = g.mode; began = g.began; ended = g.ended }
 
 pub asked_agrees : (t : Shared) (e : Volume) (a : ℕ) → Agrees t e → Agrees t (after_act e (Begin_flush a))
-asked_agrees t e a g = record { origin = g.origin; cache = g.cache; mapping = g.mapping; committed = g.committed; running = g.running; root_written = g.root_written; live = g.live; mode = g.mode; began = g.began; ended = g.ended; committed_clean = g.committed_clean; running_clean = g.running_clean }
+asked_agrees t e a g = record { told = record { origin = g.told.origin; cache = g.told.cache; committed = g.told.committed; running = g.told.running; root_written = g.told.root_written; committed_clean = g.told.committed_clean; running_clean = g.told.running_clean }; mapping = g.mapping; live = g.live; mode = g.mode; began = g.began; ended = g.ended }
 
 pub fill_agrees : (t : Shared) (e : Volume) (k b o : ℕ) (c : Content) → Agrees t e → Agrees (put_sector t (Some k) b o c) (after_act e (Fill_cache k o c))
-fill_agrees t e k b o c g = record { origin = g.origin; cache = ap (λ f. changed_at f k o (added (f k o) c)) g.cache; mapping = g.mapping; committed = g.committed; running = g.running; root_written = g.root_written; live = g.live; mode = g.mode; began = g.began; ended = g.ended; committed_clean = g.committed_clean; running_clean = g.running_clean }
+fill_agrees t e k b o c g = record { told = record { origin = g.told.origin; cache = ap (λ f. changed_at f k o (added (f k o) c)) g.told.cache; committed = g.told.committed; running = g.told.running; root_written = g.told.root_written; committed_clean = g.told.committed_clean; running_clean = g.told.running_clean }; mapping = g.mapping; live = g.live; mode = g.mode; began = g.began; ended = g.ended }
 
 pub empty_agrees : (t : Shared) (e : Volume) (b o : ℕ) (c : Content) → c ≡ newest (location e e.mapping b o) → Agrees t e → Agrees (put_sector t None b o c) (after_act e (Copy_back b o))
-empty_agrees t e b o c is g = record { origin = ap (λ x. changed_at t.origin b o (added (t.origin b o) x)) is ∙ ap (λ f. changed_at f b o (added (f b o) (newest (location e e.mapping b o)))) g.origin; cache = g.cache; mapping = g.mapping; committed = g.committed; running = g.running; root_written = g.root_written; live = g.live; mode = g.mode; began = g.began; ended = g.ended; committed_clean = g.committed_clean; running_clean = g.running_clean }
+empty_agrees t e b o c is g = record { told = record { origin = ap (λ x. changed_at t.origin b o (added (t.origin b o) x)) is ∙ ap (λ f. changed_at f b o (added (f b o) (newest (location e e.mapping b o)))) g.told.origin; cache = g.told.cache; committed = g.told.committed; running = g.told.running; root_written = g.told.root_written; committed_clean = g.told.committed_clean; running_clean = g.told.running_clean }; mapping = g.mapping; live = g.live; mode = g.mode; began = g.began; ended = g.ended }
 
 pub map_agrees : (t : Shared) (e : Volume) (b k : ℕ) (blocks : ℕ → Block) → Agrees t e → Agrees (record t { mapping = changed t.mapping b (Some k); blocks = blocks }) (after_act e (Map b k))
-map_agrees t e b k blocks g = record { origin = g.origin; cache = g.cache; mapping = ap (λ f. changed f b (Some k)) g.mapping; committed = g.committed; running = g.running; root_written = g.root_written; live = g.live; mode = g.mode; began = g.began; ended = g.ended; committed_clean = g.committed_clean; running_clean = g.running_clean }
+map_agrees t e b k blocks g = record { told = record { origin = g.told.origin; cache = g.told.cache; committed = g.told.committed; running = g.told.running; root_written = g.told.root_written; committed_clean = g.told.committed_clean; running_clean = g.told.running_clean }; mapping = ap (λ f. changed f b (Some k)) g.mapping; live = g.live; mode = g.mode; began = g.began; ended = g.ended }
 
 pub unmap_agrees : (t : Shared) (e : Volume) (b : ℕ) (blocks : ℕ → Block) → Agrees t e → Agrees (record t { mapping = changed t.mapping b None; blocks = blocks }) (after_act e (Unmap b))
-unmap_agrees t e b blocks g = record { origin = g.origin; cache = g.cache; mapping = ap (λ f. changed f b None) g.mapping; committed = g.committed; running = g.running; root_written = g.root_written; live = g.live; mode = g.mode; began = g.began; ended = g.ended; committed_clean = g.committed_clean; running_clean = g.running_clean }
+unmap_agrees t e b blocks g = record { told = record { origin = g.told.origin; cache = g.told.cache; committed = g.told.committed; running = g.told.running; root_written = g.told.root_written; committed_clean = g.told.committed_clean; running_clean = g.told.running_clean }; mapping = ap (λ f. changed f b None) g.mapping; live = g.live; mode = g.mode; began = g.began; ended = g.ended }
 
 pub blocks_agrees : (t : Shared) (e : Volume) (blocks : ℕ → Block) → Agrees t e → Agrees (record t { blocks = blocks }) e
-blocks_agrees t e blocks g = record { origin = g.origin; cache = g.cache; mapping = g.mapping; committed = g.committed; running = g.running; root_written = g.root_written; live = g.live; mode = g.mode; began = g.began; ended = g.ended; committed_clean = g.committed_clean; running_clean = g.running_clean }
+blocks_agrees t e blocks g = record { told = record { origin = g.told.origin; cache = g.told.cache; committed = g.told.committed; running = g.told.running; root_written = g.told.root_written; committed_clean = g.told.committed_clean; running_clean = g.told.running_clean }; mapping = g.mapping; live = g.live; mode = g.mode; began = g.began; ended = g.ended }
 
 pub suspend_agrees : (t : Shared) (e : Volume) (blocks : ℕ → Block) → ((b : ℕ) → Rests (t.seals b) (block_view e b)) → Agrees t e → Agrees (record t { began = t.began + 1; running_clean = λ b. cond (t.seals b).dirty false true; committing = true; running = t.mapping; blocks = blocks; live = false }) (after_act e Begin_suspend)
 suspend_agrees t e blocks rest g = record {
-  origin = g.origin;
-  cache = g.cache;
+  told = record { origin = g.told.origin; cache = g.told.cache; committed = g.told.committed; running = g.mapping; root_written = g.told.root_written; committed_clean = g.told.committed_clean; running_clean = λ b k m. ap (λ v. cond v false true) ((rest b).dirty k (sym (ap (λ f. f b) g.mapping) ∙ m)) };
   mapping = g.mapping;
-  committed = g.committed;
-  running = g.mapping;
-  root_written = g.root_written;
   live = refl;
   mode = g.mode;
   began = ap (λ n. n + 1) g.began;
   ended = g.ended;
-  committed_clean = g.committed_clean;
-  running_clean = λ b k m. ap (λ v. cond v false true) ((rest b).dirty k (sym (ap (λ f. f b) g.mapping) ∙ m));
 }
 
 pub based_write_agrees : (t : Shared) (e : Volume) (b o : ℕ) (c : Content) → Agrees t e → Agrees (put_sector t None b o c) (after_act e (Write_origin b o c))
-based_write_agrees t e b o c g = record { origin = ap (λ f. changed_at f b o (added (f b o) c)) g.origin; cache = g.cache; mapping = g.mapping; committed = g.committed; running = g.running; root_written = g.root_written; live = g.live; mode = g.mode; began = g.began; ended = g.ended; committed_clean = g.committed_clean; running_clean = g.running_clean }
+based_write_agrees t e b o c g = record { told = record { origin = ap (λ f. changed_at f b o (added (f b o) c)) g.told.origin; cache = g.told.cache; committed = g.told.committed; running = g.told.running; root_written = g.told.root_written; committed_clean = g.told.committed_clean; running_clean = g.told.running_clean }; mapping = g.mapping; live = g.live; mode = g.mode; began = g.began; ended = g.ended }
 
 pub through_agrees : (t : Shared) (e : Volume) (k b o : ℕ) (c : Content) → c ≡ newest (e.histories b o) → Agrees t e → Agrees (put_sector t (Some k) b o c) (written_through e (Some k) b o)
-through_agrees t e k b o c is g = record { origin = g.origin; cache = ap (λ x. changed_at t.cache k o (added (t.cache k o) x)) is ∙ ap (λ f. changed_at f k o (added (f k o) (newest (e.histories b o)))) g.cache; mapping = g.mapping; committed = g.committed; running = g.running; root_written = g.root_written; live = g.live; mode = g.mode; began = g.began; ended = g.ended; committed_clean = g.committed_clean; running_clean = g.running_clean }
+through_agrees t e k b o c is g = record { told = record { origin = g.told.origin; cache = ap (λ x. changed_at t.cache k o (added (t.cache k o) x)) is ∙ ap (λ f. changed_at f k o (added (f k o) (newest (e.histories b o)))) g.told.cache; committed = g.told.committed; running = g.told.running; root_written = g.told.root_written; committed_clean = g.told.committed_clean; running_clean = g.told.running_clean }; mapping = g.mapping; live = g.live; mode = g.mode; began = g.began; ended = g.ended }

@@ -1,5 +1,5 @@
 -- Orders that are put aside, and that are taken up again.
-use Rattle.std.proofs.Common.{◌≡◌, ◌≢◌, ◌⊎◌, arith, inl, inr, ℕ, zero, suc, Bool, true, [], ◌∷◌, Option, Some, None, refl, sym, ap, subst, ◌∙◌, slice_get, slice_set}
+use Rattle.std.proofs.Common.{◌≡◌, ◌≢◌, ◌⊎◌, arith, inl, inr, ℕ, zero, suc, Bool, true, List, [], ◌∷◌, Option, Some, None, refl, sym, ap, subst, ◌∙◌, slice_get, slice_set}
 use Rattle.std.proofs.lemmas.Bool.{cases_eq}
 use Rattle.wb_contents.specs.Volume.{Volume, changed}
 use Rattle.wb_contents.proofs.Positions.{changed_same, changed_other}
@@ -58,6 +58,13 @@ put_aside size w d a x y i here new = record {
   modes = λ k p e. elim (aside_cases w.waiting x.order k p e) [ inl o ↦ i.orders a x p here o.0 | inr o ↦ i.aside.modes k p o.0 ];
 }
 
+-- and without another one
+pub without_order : (size : ℕ) (w : World) (d : Volume) (a : ℕ) (x : Actor) → Linked size w d → slice_get w.actors a ≡ Some x → SetAside w.shared (slice_set w.actors a (record x { order = None })) (aside w.waiting x.order) d.mode
+without_order size w d a x i here = put_aside size w d a x (record x { order = None }) i here (λ k p q e f. absurd (cc))
+
+pub beside_set : (actors : List Actor) (a j : ℕ) (y v : Actor) → j ≢ a → slice_get actors j ≡ Some v → slice_get (slice_set actors a y) j ≡ Some v
+beside_set actors a j y v n h = get_set_other actors a j y n ∙ h
+
 -- And one of those is taken up.
 pub take_up : (size : ℕ) (w : World) (d : Volume) (a : ℕ) (x y : Actor) (p : Order) → Linked size w d → slice_get w.actors a ≡ Some x → y.order ≡ Some p → aside w.waiting x.order p.cache ≡ Some p →
     SetAside w.shared (slice_set w.actors a y) (taken (aside w.waiting x.order) (Some p)) d.mode
@@ -67,20 +74,13 @@ take_up size w d a x y p i here own there = record {
   placed = λ k q e. all.placed k q (taken_was (aside w.waiting x.order) p k q e).1;
   apart = λ k q b z r e g. in_set w.actors a x y here (λ j v. (r : Order) → v.order ≡ Some r → Apart r q)
       (λ r f. let was = taken_was (aside w.waiting x.order) p k q e in let one : Some p ≡ Some r = sym own ∙ f in let same : p ≡ r = cc in subst (λ (v : Order). Apart v q) same (all.each p.cache k p q there was.1 (λ s. was.0 (sym s))))
-      (λ j v n h r f. all.apart k q j v r (taken_was (aside w.waiting x.order) p k q e).1 (other j v n h) f)
+      (λ j v n h r f. all.apart k q j v r (taken_was (aside w.waiting x.order) p k q e).1 (beside_set w.actors a j (record x { order = None }) v n h) f)
       b z g r;
   each = λ j k q r e f n. all.each j k q r (taken_was (aside w.waiting x.order) p j q e).1 (taken_was (aside w.waiting x.order) p k r f).1 n;
   modes = λ k q e. all.modes k q (taken_was (aside w.waiting x.order) p k q e).1;
 } where
-  -- the actor without an order
-  bare : Actor
-  bare = record x { order = None }
-
   all : SetAside w.shared (slice_set w.actors a (record x { order = None })) (aside w.waiting x.order) d.mode
-  all = put_aside size w d a x (record x { order = None }) i here (λ k p q e f. absurd (cc))
-
-  other : (j : ℕ) (v : Actor) → j ≢ a → slice_get w.actors j ≡ Some v → slice_get (slice_set w.actors a (record x { order = None })) j ≡ Some v
-  other j v n h = get_set_other w.actors a j (record x { order = None }) n ∙ h
+  all = without_order size w d a x i here
 
 -- ---- an order that is aside is given up
 

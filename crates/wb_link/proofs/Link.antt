@@ -105,16 +105,20 @@ start_acts a job = []
 
 -- What is known between any two steps.
 
--- the world's devices, mapping and images are the machine's
-pub record Agrees (s : Shared) (d : Volume) : Type 0 where
+-- what of the machine is the world's where no target stands: no mapping, mode, seal or block of the desk
+pub record Told (s : Shared) (d : Volume) : Type 0 where
   pub origin : s.origin ≡ d.origin
   pub cache : s.cache ≡ d.cache
-  pub mapping : s.mapping ≡ d.mapping
   pub committed : s.committed ≡ d.committed.locations
   pub running : s.running ≡ d.running.locations
   pub root_written : s.root_written ≡ d.root_written
   pub committed_clean : (b k : ℕ) → s.committed b ≡ Some k → s.committed_clean b ≡ d.committed.clean b
   pub running_clean : (b k : ℕ) → s.running b ≡ Some k → s.running_clean b ≡ d.running.clean b
+
+-- the world's devices, mapping and images are the machine's
+pub record Agrees (s : Shared) (d : Volume) : Type 0 where
+  pub told : Told s d
+  pub mapping : s.mapping ≡ d.mapping
   pub live : s.live ≡ d.live
   pub mode : s.mode ≡ d.mode
   pub began : s.began ≡ d.began

@@ -14,10 +14,9 @@ use Rattle.wb_link.specs.World.{Shared, Actor, World, resting, begins, after_rec
 use Rattle.wb_link.specs.Clerk.{Notes, note, opened}
 use Rattle.wb_link.specs.Openings.{Stage, Settling, Caching, Basing, Looking, Rooting, Renewing, Answering, Phase, Stands, Gone, Opens, Site, Outcome, Settled, Fine, Learns, Refused, Broke, Shown, Event, On, Stopped, Begins, Advances, advanced, next_phase, advance, Yields, emptied, MayHappen, after_event, after_events, Happens, site, note_outcome, note_event, ShowsRight, EventRight, AllRight, noted}
 use Rattle.wb_link.specs.Headline.{Headline}
-use Rattle.wb_link.proofs.Views.{funext}
-use Rattle.wb_link.proofs.Link.{Linked}
+use Rattle.wb_link.proofs.Link.{Told, Linked}
 use Rattle.wb_link.proofs.Runs.{Noted, fresh_noted, moves}
-use Rattle.wb_link.proofs.Opening.{fresh, Told, Empty, Reached, Lived, lived_empty, opening_acts, opening_goes, stop_run, stop_empty, shown_is, shown_right}
+use Rattle.wb_link.proofs.Opening.{fresh, Empty, Reached, Lived, lived_empty, opening_acts, opening_goes, stop_run, stop_empty, shown_is, shown_right}
 
 -- what of the clerk's outlives a target: the histories and the floors
 pub record Lasting (d : Volume) (n : Notes) : Type 0 where
@@ -63,7 +62,7 @@ opening_noted size many s mode (Rooting i) Refused d n e r y k = record { noted 
 opening_noted size many s mode (Renewing i) Fine d n e r y k = record { noted = k; right = tt }
 opening_noted size many s mode (Renewing i) (Broke choice) d n e r y k = record { noted = k; right = tt }
 opening_noted size many s mode (Answering i) (Shown blocks view) d n e r y k = record {
-  noted = fresh_noted many (after_acts d (opening_acts mode (Answering i) (Shown blocks view))) view (funext _ _ (λ b. funext _ _ (λ o. ap only (shown_is s d mode i view e.told r.1 y.1 b o))));
+  noted = fresh_noted many (after_acts d (opening_acts mode (Answering i) (Shown blocks view))) view (λ j b o. only (shown_is s d mode i view e.told r.1 y.1 b o j));
   right = λ b o. at_lower (n.floors b o) (d.floor b o) (n.histories b o) (view b o) (k.floors b o) (subst (λ (g : ℕ → ℕ → History). IsEntryFrom (d.floor b o) (g b o) (view b o)) (sym k.histories) (shown_right size s d mode i view e r.0 r.1 y.1 b o));
 }
 opening_noted size many s mode stage outcome d n e r y k = absurd y
@@ -130,7 +129,7 @@ none_named k b e = absurd (cc)
 pub start_is_linked : (size many : ℕ) (z : Content) → Linked size (begins many z) (first_volume Writeback (λ b o. z))
 start_is_linked size many z = fresh size many (begins many z).shared (first_volume Writeback (λ b o. z)) (record {
   kept = first_kept Writeback (λ b o. z);
-  agrees = record { began = refl; ended = refl; origin = refl; cache = refl; mapping = refl; committed = refl; running = refl; root_written = refl; live = refl; mode = refl; committed_clean = λ b k e. refl; running_clean = λ b k e. refl };
+  agrees = record { told = record { origin = refl; cache = refl; committed = refl; running = refl; root_written = refl; committed_clean = λ b k e. refl; running_clean = λ b k e. refl }; mapping = refl; live = refl; mode = refl; began = refl; ended = refl };
   bounded = (z, λ b o l. (refl, refl));
   sound = λ k. (none_named k, none_named k, none_named k);
   idle = λ e. refl;

@@ -12,7 +12,7 @@ use Rattle.wb_contents.proofs.Positions.{only_one}
 use Rattle.wb_contents.proofs.Run.{KeepsAll, all_kept, holds}
 use Rattle.wb_link.specs.World.{Block, Free, Mapped, Nothing, Shared, Actor, World, resting, drops}
 use Rattle.wb_link.specs.Openings.{Learnt, Stage, Settling, Caching, Basing, Looking, Rooting, Renewing, Answering, Phase, Stands, Gone, Opens, Stopping, Outcome, Settled, Fine, Learns, Refused, Broke, Shown, found_locations, found_clean, decided, stopped, Admitted, opened_on, Yields, advanced, next_phase, MayStop, emptied}
-use Rattle.wb_link.proofs.Link.{Ordered, Placing, Agrees, Bounded, Good, Sound, RestsAt, Disjoint, Safe, Linked}
+use Rattle.wb_link.proofs.Link.{Ordered, Placing, Told, Bounded, Good, Sound, RestsAt, Disjoint, Safe, Linked}
 use Rattle.wb_link.proofs.Lists.{replicated}
 use Rattle.wb_link.proofs.Steady.{quiet, part}
 use Rattle.wb_link.proofs.Givings.{resting_safe}
@@ -33,16 +33,6 @@ fresh size many s d g rest live = record {
   aside = record { at = λ k p e. absurd (cc); stands = λ k p e. absurd (cc); placed = λ k p e. absurd (cc); apart = λ k p a x q e. absurd (cc); each = λ j k p q e. absurd (cc); modes = λ k p e. absurd (cc) };
   safe = λ a x n e. subst (λ (v : Actor). Safe n size a v s d) (replicated many a resting x e) (resting_safe n size a Nothing None false (λ o. []) s d);
 }
-
--- what of the machine is the world's where no target stands: no mapping, mode, seal or block of the desk
-pub record Told (s : Shared) (d : Volume) : Type 0 where
-  pub origin : s.origin ≡ d.origin
-  pub cache : s.cache ≡ d.cache
-  pub committed : s.committed ≡ d.committed.locations
-  pub running : s.running ≡ d.running.locations
-  pub root_written : s.root_written ≡ d.root_written
-  pub committed_clean : (b k : ℕ) → s.committed b ≡ Some k → s.committed_clean b ≡ d.committed.clean b
-  pub running_clean : (b k : ℕ) → s.running b ≡ Some k → s.running_clean b ≡ d.running.clean b
 
 pub record Empty (size : ℕ) (s : Shared) (d : Volume) : Type 0 where
   pub kept : KeepsAll d
@@ -77,12 +67,9 @@ Lived size w Stands d = Linked size w d
 Lived size w Gone d = Empty size w.shared d
 Lived size w (Opens mode stage) d = Empty size w.shared d × Reached mode stage d
 
-told_of : (s : Shared) (d : Volume) → Agrees s d → Told s d
-told_of s d g = record { origin = g.origin; cache = g.cache; committed = g.committed; running = g.running; root_written = g.root_written; committed_clean = g.committed_clean; running_clean = g.running_clean }
-
 -- whatever its phase, a site has no less than this
 pub lived_empty : (size : ℕ) (w : World) (phase : Phase) (d : Volume) → Lived size w phase d → Empty size w.shared d
-lived_empty size w Stands d i = record { kept = i.good.kept; told = told_of w.shared d i.good.agrees; bounded = i.good.bounded }
+lived_empty size w Stands d i = record { kept = i.good.kept; told = i.good.agrees.told; bounded = i.good.bounded }
 lived_empty size w Gone d i = i
 lived_empty size w (Opens mode stage) d i = i.0
 
@@ -218,7 +205,7 @@ opened_linked : (size : ℕ) (w : World) (d : Volume) (mode : Mode) (i : Learnt)
 opened_linked size w d mode i blocks e r k m =
     fresh size (length w.actors) (opened_on w.shared mode i blocks) (after_act d (Open mode)) (record {
       kept = all_kept d (Open mode ∷ []) (may_open mode i d r k, tt) e.kept;
-      agrees = record { began = refl; ended = refl; origin = e.told.origin; cache = e.told.cache; mapping = k.locations; committed = k.locations; running = k.locations; root_written = refl; live = refl; mode = refl; committed_clean = λ b k e. refl; running_clean = λ b k e. refl };
+      agrees = record { told = record { origin = e.told.origin; cache = e.told.cache; committed = k.locations; running = k.locations; root_written = refl; committed_clean = λ b k e. refl; running_clean = λ b k e. refl }; mapping = k.locations; live = refl; mode = refl; began = refl; ended = refl };
       bounded = (quiet size d (after_act d (Open mode)) refl refl).bounded e.bounded;
       sound = λ c. sound_opened (blocks c) i.locations c (m c);
       idle = λ e. refl;

@@ -30,8 +30,8 @@ unused : (size : ℕ) (p : Order) (t : Shared) (e : Volume) → Good size t e �
 unused size p t e g r =
     let free : Sound Reserved t.mapping t.committed t.running p.cache = subst (λ (v : Block). Sound v t.mapping t.committed t.running p.cache) r (g.sound p.cache) in (
       subst (λ (v : Locations). IsUnnamed v p.cache) g.agrees.mapping free.0,
-      subst (λ (v : Locations). IsUnnamed v p.cache) g.agrees.committed free.1,
-      subst (λ (v : Locations). IsUnnamed v p.cache) g.agrees.running free.2,
+      subst (λ (v : Locations). IsUnnamed v p.cache) g.agrees.told.committed free.1,
+      subst (λ (v : Locations). IsUnnamed v p.cache) g.agrees.told.running free.2,
     )
 
 -- The copy.
@@ -55,7 +55,7 @@ way size a p os = record {
     record { rests = rests_on a p.block x s t d e o held k.rests; granted = now; unused = unused size p t e g now.reserved; live = o.live ∙ k.live },
     λ i. (o.cached p under k.granted.reserved i, ap (λ (w : BlockView). w.base i) (o.block p.block held)),
   );
-  latest = λ t e q g. ap (λ f. newest (f p.block q)) g.origin;
+  latest = λ t e q g. ap (λ f. newest (f p.block q)) g.told.origin;
   wrote = λ t e q c g k m is. record {
     run = (k.live, k.unused);
     mine = λ x busy h o. ((p, o, refl), m);

@@ -25,13 +25,13 @@ leaving (suc n) size a past b os answer c s d = λ t e got o g v r. gives_done (
 latest : (size b o : ℕ) (to : Option ℕ) (t : Shared) (e : Volume) → Good size t e → Sharing to (block_view e b) → newest_at t to b o ≡ newest (e.histories b o)
 latest size b o to t e g k = elim k.0 [ inl m ↦ here to m | inr m ↦ past (e.mapping b) refl m.0 m.1 ] where
   here : (p : Option ℕ) → p ≡ e.mapping b → newest_at t p b o ≡ newest (e.histories b o)
-  here None m = ap (λ f. newest (f b o)) g.agrees.origin ∙ ap (λ q. newest (at_location e.origin e.cache q b o)) m ∙ (g.kept.latest.sectors b o).latest (k.1 o)
-  here (Some j) m = ap (λ f. newest (f j o)) g.agrees.cache ∙ ap (λ q. newest (at_location e.origin e.cache q b o)) m ∙ (g.kept.latest.sectors b o).latest (k.1 o)
+  here None m = ap (λ f. newest (f b o)) g.agrees.told.origin ∙ ap (λ q. newest (at_location e.origin e.cache q b o)) m ∙ (g.kept.latest.sectors b o).latest (k.1 o)
+  here (Some j) m = ap (λ f. newest (f j o)) g.agrees.told.cache ∙ ap (λ q. newest (at_location e.origin e.cache q b o)) m ∙ (g.kept.latest.sectors b o).latest (k.1 o)
 
   past : (p : Option ℕ) → e.mapping b ≡ p → to ≡ None → ((j : ℕ) → e.mapping b ≡ Some j → e.dirty b ≡ false) → newest_at t to b o ≡ newest (e.histories b o)
   past None m is clean = here to (is ∙ sym m)
   past (Some j) m is clean = let sector = g.kept.latest.sectors b o in
-      ap (λ q. newest_at t q b o) is ∙ ap (λ f. newest (f b o)) g.agrees.origin ∙ sym (sector.clean (clean j m) (k.1 o)) ∙ sector.latest (k.1 o)
+      ap (λ q. newest_at t q b o) is ∙ ap (λ f. newest (f b o)) g.agrees.told.origin ∙ sym (sector.clean (clean j m) (k.1 o)) ∙ sector.latest (k.1 o)
 
 -- where it reads, once it has seen the seal: past the cache in passthrough alone, where every mapped block is clean
 shared : (size b : ℕ) (past : Bool) (p : Option ℕ) (t : Shared) (e : Volume) → Good size t e → (past ≡ true → e.mode ≡ Passthrough) → p ≡ e.mapping b → ((o : ℕ) → e.standing b o ≡ Whole) → Sharing (read_from past p) (block_view e b)

@@ -101,7 +101,7 @@ way size a leaves p os = record {
   releases = refl;
   rests = λ s d k. k.rests;
   on = λ x s t d e own under g o k. let now = placed_on a x p s t d e own under o k in let same = o.block p.block (subst (λ (h : Held). Holds h p.block) (sym own) refl) in (now, λ i. (ap (λ (w : BlockView). w.base i) same, cache_on p d e i k.mapped now.mapped same));
-  latest = λ t e q g. ap (λ f. newest (f p.cache q)) g.cache;
+  latest = λ t e q g. ap (λ f. newest (f p.cache q)) g.told.cache;
   wrote = λ t e q c g k m is. let latest = latest_is p e q k.mapped in let new = newest (location e e.mapping p.block q) in record {
     run = (k.live, k.rests.whole q);
     mine = λ x busy h o. (h, m);

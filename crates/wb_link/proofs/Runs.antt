@@ -14,7 +14,7 @@ use Rattle.wb_link.proofs.Lists.{replicated}
 use Rattle.wb_link.proofs.Steps.{in_set, stepped, step_is, step_linked, Facts, step_facts}
 use Rattle.wb_link.proofs.Acts.{Keeps}
 use Rattle.wb_link.proofs.Aside.{release_is, release_linked}
-use Rattle.wb_link.proofs.Starting.{again_is, again_linked, again_acted, start_is, start_linked, start_run, start_keeps}
+use Rattle.wb_link.proofs.Starting.{again_is, again_linked, start_is, start_linked, start_run, start_keeps}
 use Rattle.wb_link.proofs.Noting.{AllEntered, all_below, finished_ok, flushes, floors_ok, entered_on, entered_ok}
 use Rattle.wb_link.proofs.Actors.{job_on, no_task}
 
@@ -82,22 +82,22 @@ step_noted : (size : ℕ) (w : World) (d : Volume) (n : Notes) (a : ℕ) (x : Ac
     Noted (stepped w a x script got).actors (after_acts d (acts_of w.shared.mapping a script.job x.buffer (want script) got)) (noted_step n a (Some script.job) (want script))
 step_noted size w d n a x script next got i k m = record {
   histories = ap (λ f. histories_after f script.job (want script)) k.histories ∙ sym facts.right.histories;
-  finished = finished_ok script.job (want script) (n.entered a) n.finished e.finished (λ b o. let p = k.finished b o in let q = facts.grows.finished b o in omega arith)
-      (λ is. all_below d e (n.entered a) facts.grows (subst (λ (h : Held). AllEntered h d (n.entered a)) (subst (λ (v : Want). Ready v x w.shared) is facts.ready) mine));
-  floors = floors_ok a script.job (want script) (n.asked a) n.floors d e (λ b o. let p = k.floors b o in let q = facts.grows.floor b o in omega arith) (k.asked a x script m.actor m.task) facts.right.flushes;
+  finished = finished_ok script.job (want script) (n.entered a) n.finished e.finished (λ b o. let p = k.finished b o in let q = facts.keeps.grows.finished b o in omega arith)
+      (λ is. all_below d e (n.entered a) facts.keeps.grows (subst (λ (h : Held). AllEntered h d (n.entered a)) (subst (λ (v : Want). Ready v x w.shared) is facts.ready) mine));
+  floors = floors_ok a script.job (want script) (n.asked a) n.floors d e (λ b o. let p = k.floors b o in let q = facts.keeps.grows.floor b o in omega arith) (k.asked a x script m.actor m.task) facts.right.flushes;
   jobs = λ c y later g t. in_set w.actors a x y' m.actor (λ c y. (s : Script) → y.task ≡ Some s → changed n.jobs a (job_noted script.job (want script)) c ≡ Some s.job)
       (λ s f. changed_same n.jobs a (job_noted script.job (want script)) ∙ (same_job script (want script) got s f).0)
       (λ c y o g s f. changed_other n.jobs a c (job_noted script.job (want script)) o ∙ k.jobs c y s g f)
       c y g later t;
   asked = λ c y later g t. in_set w.actors a x y' m.actor (λ c y. (s : Script) → y.task ≡ Some s → flushes s.job ≡ true → (b o : ℕ) → n.asked c b o ≤ e.then_finished c b o)
       (λ s f h b o. let mine : flushes script.job ≡ true = ap flushes (sym (same_job script (want script) got s f).1) ∙ h in let p = k.asked a x script m.actor m.task mine b o in
-      let r : e.then_finished a b o ≡ d.then_finished a b o = ap (λ f. f b o) (facts.then_finished a (inr (no_task x script m.task))) in omega arith)
-      (λ c y o g s f h b q. let p = k.asked c y s g f h b q in let r : e.then_finished c b q ≡ d.then_finished c b q = ap (λ f. f b q) (facts.then_finished c (inl o)) in omega arith)
+      let r : e.then_finished a b o ≡ d.then_finished a b o = ap (λ f. f b o) (facts.keeps.then_finished a (inr (no_task x script m.task))) in omega arith)
+      (λ c y o g s f h b q. let p = k.asked c y s g f h b q in let r : e.then_finished c b q ≡ d.then_finished c b q = ap (λ f. f b q) (facts.keeps.then_finished c (inl o)) in omega arith)
       c y g later t;
   entered = λ c y later g t. in_set w.actors a x y' m.actor (λ c y. (s : Script) → y.task ≡ Some s → AllEntered y.held e (changed n.entered a (entered_after n.histories script.job (want script) (n.entered a)) c))
       (λ s f. subst (λ (v : List Entry). AllEntered y'.held e v) (sym (changed_same n.entered a (entered_after n.histories script.job (want script) (n.entered a))))
-      (entered_ok x w.shared (effect w.shared script.job x.buffer (want script) got) d e script.job (want script) got n.histories (n.entered a) k.histories facts.right.histories facts.grows facts.ready facts.owes mine))
-      (λ c y o g s f. subst (λ (v : List Entry). AllEntered y.held e v) (sym (changed_other n.entered a c (entered_after n.histories script.job (want script) (n.entered a)) o)) (entered_on y.held d e (n.entered c) facts.grows (k.entered c y s g f)))
+      (entered_ok x w.shared (effect w.shared script.job x.buffer (want script) got) d e script.job (want script) got n.histories (n.entered a) k.histories facts.right.histories facts.keeps.grows facts.ready facts.owes mine))
+      (λ c y o g s f. subst (λ (v : List Entry). AllEntered y.held e v) (sym (changed_other n.entered a c (entered_after n.histories script.job (want script) (n.entered a)) o)) (entered_on y.held d e (n.entered c) facts.keeps.grows (k.entered c y s g f)))
       c y g later t;
 } where
   e : Volume
@@ -128,14 +128,14 @@ moves size w d n (Start a job) i k m = record {
   acts = start_acts a job;
   run = start_run a d job;
   linked = subst (λ (v : World). Linked size v (after_acts d (start_acts a job))) (sym (start_is size w a job m.0 m.1)) (start_linked size w d a m.0 job i m.1);
-  noted = subst (λ (v : World). Noted v.actors (after_acts d (start_acts a job)) (note n (Start a job))) (sym (start_is size w a job m.0 m.1)) (started_noted size w d n a m.0 job (start_keeps size w d a m.0 job i m.1) k m.1.actor);
+  noted = subst (λ (v : World). Noted v.actors (after_acts d (start_acts a job)) (note n (Start a job))) (sym (start_is size w a job m.0 m.1)) (started_noted size w d n a m.0 job (start_keeps size w d a m.0 job i m.1.task) k m.1.actor);
   right = tt;
 }
 moves size w d n (Again a job) i k m = record {
   acts = start_acts a job;
   run = start_run a d job;
   linked = subst (λ (v : World). Linked size v (after_acts d (start_acts a job))) (sym (again_is size w a job m.0 m.1)) (again_linked size w d a m.0 job i m.1);
-  noted = subst (λ (v : World). Noted v.actors (after_acts d (start_acts a job)) (note n (Again a job))) (sym (again_is size w a job m.0 m.1)) (started_noted size w d n a m.0 job (again_acted size w d a m.0 job i m.1).keeps k m.1.actor);
+  noted = subst (λ (v : World). Noted v.actors (after_acts d (start_acts a job)) (note n (Again a job))) (sym (again_is size w a job m.0 m.1)) (started_noted size w d n a m.0 job (start_keeps size w d a m.0 job i m.1.task) k m.1.actor);
   right = tt;
 }
 moves size w d n (Step a next got) i k m =

@@ -12,9 +12,9 @@ use Rattle.wb_link.specs.Tables.{Order, Job, Reading, Writing, Writing_through, 
 use Rattle.wb_link.specs.World.{IsFree, job_alone, AllWithin, AllDistinct, Covers, Block, Free, Mapped, Reserved, Retained, Shared, Nothing, Owns, Actor, World, Start, reserved, order_of, given, start_actor, Apart, MayStart, MayBegin, after_record, drops, job_drops, Again, again_actor, aside, taken, MayAgain, MayRepeat}
 use Rattle.wb_link.proofs.Views.{block_view}
 use Rattle.wb_link.proofs.Acts.{Keeps}
-use Rattle.wb_link.proofs.Link.{Ordered, Turns, SetAside, Agrees, Placing, Good, Sound, AllSound, Rests, Safe, Disjoint, Unowned, Linked, AllMine, start_acts}
+use Rattle.wb_link.proofs.Link.{NobodyAlone, Ordered, Turns, SetAside, Agrees, Placing, Good, Sound, AllSound, Rests, Safe, Disjoint, Unowned, Linked, AllMine, start_acts}
 use Rattle.wb_link.proofs.Lists.{get_set_same, get_set_other}
-use Rattle.wb_link.proofs.Aside.{apart_back, aside_cases, put_aside, take_up, kept_safe}
+use Rattle.wb_link.proofs.Aside.{apart_back, aside_cases, put_aside, take_up, without_order, beside_set, kept_safe}
 use Rattle.wb_link.proofs.Steady.{Acted, acted}
 use Rattle.wb_link.proofs.Effects.{KeepsShared, sound_put}
 use Rattle.wb_link.proofs.Actors.{turned, placing_on, others_of, safe_on}
@@ -190,57 +190,70 @@ was_unowned actors a x job b here u c z g = elim (cases_eq c a) [
   | inr o ↦ u c z (get_set_other actors a c _ o ∙ g)
 ]
 
-pub start_linked : (size : ℕ) (w : World) (d : Volume) (a : ℕ) (x : Actor) (job : Job) → Linked size w d → MayBegin size w a job x → Linked size (started w a x job) (after_acts d (start_acts a job))
-start_linked size w d a x job i m = record {
+-- What a job needs that is given to an actor, whose order was put aside: this is shared then, and these orders are aside.
+record Gives_job (size : ℕ) (w : World) (d : Volume) (a : ℕ) (x : Actor) (job : Job) (t : Shared) (waiting : ℕ → Option Order) : Type 0 where
+  res : Reserves size a x job w.shared t d (after_acts d (start_acts a job))
+  apart : (b : ℕ) (y : Actor) (p q : Order) → b ≢ a → slice_get w.actors b ≡ Some y → order_of job ≡ Some p → y.order ≡ Some q → Apart q p
+  alone : job_alone job ≡ true → (b : ℕ) (y : Actor) → slice_get w.actors b ≡ Some y → y.task ≡ None
+  modes : (q : Order) → order_of job ≡ Some q → d.mode ≢ Passthrough
+  drops : job_drops job ≡ true → d.mode ≡ Passthrough
+  set : SetAside w.shared (slice_set w.actors a (given x job)) waiting d.mode
+
+begins_acted : (size : ℕ) (w : World) (d : Volume) (a : ℕ) (x : Actor) (job : Job) → Linked size w d → x.task ≡ None → Acted size a x w.shared.committing d (after_acts d (start_acts a job))
+begins_acted size w d a x job i task = acted size a x w.shared.committing d (start_acts a job) i.good.kept i.good.bounded (start_run a d job) (start_mine size a x w.shared.committing job task)
+
+begun_linked : (size : ℕ) (w : World) (d : Volume) (a : ℕ) (x : Actor) (job : Job) (t : Shared) (waiting : ℕ → Option Order) → Linked size w d → slice_get w.actors a ≡ Some x → x.task ≡ None → IsFree w.shared x → NobodyAlone w.actors → Gives_job size w d a x job t waiting →
+    Linked size (record { shared = t; actors = slice_set w.actors a (given x job); waiting = waiting }) (after_acts d (start_acts a job))
+begun_linked size w d a x job t waiting i here task free nobody m = record {
   good = record {
     kept = done.kept;
-    agrees = res.agrees;
+    agrees = m.res.agrees;
     bounded = done.bounded;
-    sound = res.sound;
-    idle = λ e. res.root_written ∙ i.good.idle (sym res.committing ∙ e);
+    sound = m.res.sound;
+    idle = λ e. m.res.root_written ∙ i.good.idle (sym m.res.committing ∙ e);
   };
-  rests = λ b u. subst (λ (v : _). Rests (t.seals b) v) (sym (done.keeps.block b (u a y (get_set_same w.actors a x y m.actor)))) (subst (λ (f : ℕ → Seal). Rests (f b) (block_view d b)) (sym res.seals) (i.rests b (was_unowned w.actors a x job b m.actor u)));
-  disjoint = λ b c z v g h n. in_set w.actors a x y m.actor (λ k p. (q : Actor) (j : ℕ) → slice_get (slice_set w.actors a y) j ≡ Some q → k ≢ j → Disjoint p q)
-      (λ q j f k. in_set w.actors a x y m.actor (λ l r. a ≢ l → Disjoint y r) (λ bad. absurd (bad refl))
-      (λ l r o f' k'. record { held = (i.disjoint a l x r m.actor f' k').held; order = λ p q e f. apart_back q p (ungiven size w job m.may l r p q f' e f); leads = (i.disjoint a l x r m.actor f' k').leads; alone = λ e. start_alone size w job m.may e l r f' }) j q f k)
-      (λ k p o f q j f2 k2. in_set w.actors a x y m.actor (λ l r. k ≢ l → Disjoint p r)
-      (λ o2. record { held = (i.disjoint k a p x f m.actor o).held; order = λ p' q e f'. ungiven size w job m.may k p q p' f f' e; leads = (i.disjoint k a p x f m.actor o).leads; alone = λ e. let n = m.nobody_alone k p f in absurd (cc) })
+  rests = λ b u. subst (λ (v : _). Rests (t.seals b) v) (sym (done.keeps.block b (u a y (get_set_same w.actors a x y here)))) (subst (λ (f : ℕ → Seal). Rests (f b) (block_view d b)) (sym m.res.seals) (i.rests b (was_unowned w.actors a x job b here u)));
+  disjoint = λ b c z v g h n. in_set w.actors a x y here (λ k p. (q : Actor) (j : ℕ) → slice_get (slice_set w.actors a y) j ≡ Some q → k ≢ j → Disjoint p q)
+      (λ q j f k. in_set w.actors a x y here (λ l r. a ≢ l → Disjoint y r) (λ bad. absurd (bad refl))
+      (λ l r o f' k'. record { held = (i.disjoint a l x r here f' k').held; order = λ p q e f. apart_back q p (m.apart l r p q (λ z. k' (sym z)) f' e f); leads = (i.disjoint a l x r here f' k').leads; alone = λ e. m.alone e l r f' }) j q f k)
+      (λ k p o f q j f2 k2. in_set w.actors a x y here (λ l r. k ≢ l → Disjoint p r)
+      (λ o2. record { held = (i.disjoint k a p x f here o).held; order = λ p' q e f'. m.apart k p q p' o f f' e; leads = (i.disjoint k a p x f here o).leads; alone = λ e. let n = nobody k p f in absurd (cc) })
       (λ l r o3 f3 k3. i.disjoint k l p r f f3 k3) j q f2 k2)
       b z g v c h n;
-  leads = in_set w.actors a x y m.actor (λ k p. p.leads ≡ true → t.committing ≡ true)
-      (λ e. res.committing ∙ i.leads a x m.actor e)
-      (λ k p o f l. res.committing ∙ i.leads k p f l);
-  stands = λ b z p g. in_set w.actors a x y m.actor (λ k v. (q : Order) → v.order ≡ Some q → Ordered (t.blocks q.cache))
-      (λ q f. res.stands q f)
-      (λ k v o f q r. let was = i.stands k v q f r in turned (s.blocks q.cache) (t.blocks q.cache) was (res.turns q.cache was))
+  leads = in_set w.actors a x y here (λ k p. p.leads ≡ true → t.committing ≡ true)
+      (λ e. m.res.committing ∙ i.leads a x here e)
+      (λ k p o f l. m.res.committing ∙ i.leads k p f l);
+  stands = λ b z p g. in_set w.actors a x y here (λ k v. (q : Order) → v.order ≡ Some q → Ordered (t.blocks q.cache))
+      (λ q f. m.res.stands q f)
+      (λ k v o f q r. let was = i.stands k v q f r in turned (s.blocks q.cache) (t.blocks q.cache) was (m.res.turns q.cache was))
       b z g p;
-  safe = λ b z n g. in_set w.actors a x y m.actor (λ k v. Safe n size k v t e)
-      (begins_safe n size a x job t e (elim m.free [ inl f ↦ inl f | inr f ↦ inr (res.fail ∙ f) ]) res.startable)
-      (λ k v o f. safe_on n size k v s t d e (others_of size a k x v s t d e o i.good (i.disjoint a k x v m.actor f (λ z. o (sym z))) (m.nobody_alone a x m.actor) (m.nobody_alone k v f) (λ h. res.fail ∙ h) (λ q r. idle_drops) (i.leads k v f) (λ q r. i.stands k v q f r) res.keeps done.keeps) (i.safe k v n f))
+  safe = λ b z n g. in_set w.actors a x y here (λ k v. Safe n size k v t e)
+      (begins_safe n size a x job t e (elim free [ inl f ↦ inl f | inr f ↦ inr (m.res.fail ∙ f) ]) m.res.startable)
+      (λ k v o f. safe_on n size k v s t d e (others_of size a k x v s t d e o i.good (i.disjoint a k x v here f (λ z. o (sym z))) (nobody a x here) (nobody k v f) (λ h. m.res.fail ∙ h) (λ q r. idle_drops) (i.leads k v f) (λ q r. i.stands k v q f r) m.res.keeps done.keeps) (i.safe k v n f))
       b z g;
-  placed = λ b z p g. in_set w.actors a x y m.actor (λ k v. (q : Order) → v.order ≡ Some q → Placing t q)
-      (λ q f. res.placed q f)
-      (λ k v o f q r. placing_on s t q (res.turns q.cache (i.stands k v q f r)) (ap (λ h. h q.block) res.mapping) (λ b n. ap (λ h. h b) res.mapping) (i.placed k v q f r))
+  placed = λ b z p g. in_set w.actors a x y here (λ k v. (q : Order) → v.order ≡ Some q → Placing t q)
+      (λ q f. m.res.placed q f)
+      (λ k v o f q r. placing_on s t q (m.res.turns q.cache (i.stands k v q f r)) (ap (λ h. h q.block) m.res.mapping) (λ b n. ap (λ h. h b) m.res.mapping) (i.placed k v q f r))
       b z g p;
-  orders = λ b z p g. in_set w.actors a x y m.actor (λ k v. (q : Order) → v.order ≡ Some q → e.mode ≢ Passthrough)
-      (λ q f h. start_order size w job q m.may f (i.good.agrees.mode ∙ sym done.keeps.mode ∙ h))
+  orders = λ b z p g. in_set w.actors a x y here (λ k v. (q : Order) → v.order ≡ Some q → e.mode ≢ Passthrough)
+      (λ q f h. m.modes q f (sym done.keeps.mode ∙ h))
       (λ k v o f q r h. i.orders k v q f r (sym done.keeps.mode ∙ h))
       b z g p;
-  dropping = in_set w.actors a x y m.actor (λ k v. drops v.task ≡ true → e.mode ≡ Passthrough)
-      (λ f. done.keeps.mode ∙ sym i.good.agrees.mode ∙ start_drops size w job m.may f)
+  dropping = in_set w.actors a x y here (λ k v. drops v.task ≡ true → e.mode ≡ Passthrough)
+      (λ f. done.keeps.mode ∙ m.drops f)
       (λ k v o f g. done.keeps.mode ∙ i.dropping k v f g);
-  resting = in_set w.actors a x y m.actor (λ k v. v.task ≡ None → (v.held ≡ Nothing) ⊎ (t.fail ≡ true))
+  resting = in_set w.actors a x y here (λ k v. v.task ≡ None → (v.held ≡ Nothing) ⊎ (t.fail ≡ true))
       (λ f. absurd (cc))
-      (λ k v o f g. elim (i.resting k v f g) [ inl h ↦ inl h | inr h ↦ inr (res.fail ∙ h) ]);
+      (λ k v o f g. elim (i.resting k v f g) [ inl h ↦ inl h | inr h ↦ inr (m.res.fail ∙ h) ]);
   aside = record {
-    at = set.at;
-    stands = λ k p f. turned (s.blocks p.cache) (t.blocks p.cache) (set.stands k p f) (res.turns p.cache (set.stands k p f));
-    placed = λ k p f. placing_on s t p (res.turns p.cache (set.stands k p f)) (ap (λ h. h p.block) res.mapping) (λ b n. ap (λ h. h b) res.mapping) (set.placed k p f);
-    apart = set.apart;
-    each = set.each;
-    modes = λ k p f h. set.modes k p f (sym done.keeps.mode ∙ h);
+    at = m.set.at;
+    stands = λ k p f. turned (s.blocks p.cache) (t.blocks p.cache) (m.set.stands k p f) (m.res.turns p.cache (m.set.stands k p f));
+    placed = λ k p f. placing_on s t p (m.res.turns p.cache (m.set.stands k p f)) (ap (λ h. h p.block) m.res.mapping) (λ b n. ap (λ h. h b) m.res.mapping) (m.set.placed k p f);
+    apart = m.set.apart;
+    each = m.set.each;
+    modes = λ k p f h. m.set.modes k p f (sym done.keeps.mode ∙ h);
   };
-  living = λ nobody f. done.keeps.live (m.nobody_alone a x m.actor) ∙ i.living m.nobody_alone (sym res.fail ∙ f);
+  living = λ still f. done.keeps.live (nobody a x here) ∙ i.living nobody (sym m.res.fail ∙ f);
 } where
   s : Shared
   s = w.shared
@@ -248,26 +261,27 @@ start_linked size w d a x job i m = record {
   y : Actor
   y = given x job
 
-  t : Shared
-  t = reserved w.shared job
-
   e : Volume
   e = after_acts d (start_acts a job)
 
-  res : Reserves size a x job w.shared (reserved w.shared job) d (after_acts d (start_acts a job))
-  res = reserves size w d a x job i.good (i.living m.nobody_alone) m.may
-
   done : Acted size a x w.shared.committing d (after_acts d (start_acts a job))
-  done = acted size a x w.shared.committing d (start_acts a job) i.good.kept i.good.bounded (start_run a d job) (start_mine size a x w.shared.committing job m.task)
-
-  set : SetAside w.shared (slice_set w.actors a (given x job)) (aside w.waiting x.order) d.mode
-  set = put_aside size w d a x (given x job) i m.actor (λ k p q e f. aside_ungiven size w a x job m.may m.actor k p q e f)
+  done = begins_acted size w d a x job i task
 
   idle_drops : drops x.task ≡ false
-  idle_drops = ap (λ (o : Option Script). drops o) m.task
+  idle_drops = ap (λ (o : Option Script). drops o) task
 
-pub start_keeps : (size : ℕ) (w : World) (d : Volume) (a : ℕ) (x : Actor) (job : Job) → Linked size w d → MayBegin size w a job x → Keeps a x w.shared.committing d (after_acts d (start_acts a job))
-start_keeps size w d a x job i m = let done = acted size a x w.shared.committing d (start_acts a job) i.good.kept i.good.bounded (start_run a d job) (start_mine size a x w.shared.committing job m.task) in done.keeps
+pub start_linked : (size : ℕ) (w : World) (d : Volume) (a : ℕ) (x : Actor) (job : Job) → Linked size w d → MayBegin size w a job x → Linked size (started w a x job) (after_acts d (start_acts a job))
+start_linked size w d a x job i m = begun_linked size w d a x job (reserved w.shared job) (aside w.waiting x.order) i m.actor m.task m.free m.nobody_alone (record {
+  res = reserves size w d a x job i.good (i.living m.nobody_alone) m.may;
+  apart = λ b y p q n. ungiven size w job m.may b y p q;
+  alone = start_alone size w job m.may;
+  modes = λ q f h. start_order size w job q m.may f (i.good.agrees.mode ∙ h);
+  drops = λ f. sym i.good.agrees.mode ∙ start_drops size w job m.may f;
+  set = put_aside size w d a x (given x job) i m.actor (λ k p q e f. aside_ungiven size w a x job m.may m.actor k p q e f);
+})
+
+pub start_keeps : (size : ℕ) (w : World) (d : Volume) (a : ℕ) (x : Actor) (job : Job) → Linked size w d → x.task ≡ None → Keeps a x w.shared.committing d (after_acts d (start_acts a job))
+start_keeps size w d a x job i task = let done = begins_acted size w d a x job i task in done.keeps
 
 -- A migration once more: its order stands, and says all that its task has to know.
 
@@ -296,63 +310,22 @@ repeated w a x job = record { shared = w.shared; actors = slice_set w.actors a (
 pub again_is : (size : ℕ) (w : World) (a : ℕ) (job : Job) (x : Actor) → MayRepeat size w a job x → after_record w (Again a job) ≡ repeated w a x job
 again_is size w a job x m = ap (λ o. again_actor w a o job) m.actor
 
-pub again_acted : (size : ℕ) (w : World) (d : Volume) (a : ℕ) (x : Actor) (job : Job) → Linked size w d → MayRepeat size w a job x → Acted size a x w.shared.committing d (after_acts d (start_acts a job))
-again_acted size w d a x job i m = acted size a x w.shared.committing d (start_acts a job) i.good.kept i.good.bounded (start_run a d job) (start_mine size a x w.shared.committing job m.task)
-
 pub again_linked : (size : ℕ) (w : World) (d : Volume) (a : ℕ) (x : Actor) (job : Job) → Linked size w d → MayRepeat size w a job x → Linked size (repeated w a x job) (after_acts d (start_acts a job))
-again_linked size w d a x job i m = record {
-  good = record { kept = done.kept; agrees = again_agrees size a w.shared d job m.may i.good.agrees; bounded = done.bounded; sound = i.good.sound; idle = i.good.idle };
-  rests = λ b u. subst (λ (v : _). Rests (w.shared.seals b) v) (sym (done.keeps.block b (u a y (get_set_same w.actors a x y m.actor)))) (i.rests b (was_unowned w.actors a x job b m.actor u));
-  disjoint = λ b c z v g h n. in_set w.actors a x y m.actor (λ k p. (q : Actor) (j : ℕ) → slice_get (slice_set w.actors a y) j ≡ Some q → k ≢ j → Disjoint p q)
-      (λ q j f k. in_set w.actors a x y m.actor (λ l r. a ≢ l → Disjoint y r) (λ bad. absurd (bad refl))
-      (λ l r o f' k'. let old = i.disjoint a l x r m.actor f' k' in record { held = old.held; order = λ p q e f. apart_back q p (set_out.apart p.cache p l r q (is_out p e) (there l r (λ z. k' (sym z)) f') f); leads = old.leads; alone = λ e. let not = only.0 in absurd (cc) }) j q f k)
-      (λ k p o f q j f2 k2. in_set w.actors a x y m.actor (λ l r. k ≢ l → Disjoint p r)
-      (λ o2. let old = i.disjoint k a p x f m.actor o in record { held = old.held; order = λ p' q e f'. set_out.apart q.cache q k p p' (is_out q f') (there k p o f) e; leads = old.leads; alone = λ e. let n = m.nobody_alone k p f in absurd (cc) })
-      (λ l r o3 f3 k3. i.disjoint k l p r f f3 k3) j q f2 k2)
-      b z g v c h n;
-  leads = in_set w.actors a x y m.actor (λ k p. p.leads ≡ true → w.shared.committing ≡ true) (i.leads a x m.actor) (λ k p o f. i.leads k p f);
-  stands = λ b z p g. in_set w.actors a x y m.actor (λ k v. (q : Order) → v.order ≡ Some q → Ordered (w.shared.blocks q.cache))
-      (λ q f. set_out.stands q.cache q (is_out q f)) (λ k v o f. λ q. i.stands k v q f) b z g p;
-  placed = λ b z p g. in_set w.actors a x y m.actor (λ k v. (q : Order) → v.order ≡ Some q → Placing w.shared q)
-      (λ q f. set_out.placed q.cache q (is_out q f)) (λ k v o f. λ q. i.placed k v q f) b z g p;
-  orders = λ b z p g. in_set w.actors a x y m.actor (λ k v. (q : Order) → v.order ≡ Some q → e.mode ≢ Passthrough)
-      (λ q f h. set_out.modes q.cache q (is_out q f) (sym done.keeps.mode ∙ h)) (λ k v o f q r h. i.orders k v q f r (sym done.keeps.mode ∙ h)) b z g p;
-  dropping = in_set w.actors a x y m.actor (λ k v. drops v.task ≡ true → e.mode ≡ Passthrough) (λ f. let not = only.1 in absurd (cc)) (λ k v o f g. done.keeps.mode ∙ i.dropping k v f g);
-  resting = in_set w.actors a x y m.actor (λ k v. v.task ≡ None → (v.held ≡ Nothing) ⊎ (w.shared.fail ≡ true)) (λ f. absurd (cc)) (λ k v o f. i.resting k v f);
-  aside = record { at = set.at; stands = set.stands; placed = set.placed; apart = set.apart; each = set.each; modes = λ k p f h. set.modes k p f (sym done.keeps.mode ∙ h) };
-  living = λ nobody f. done.keeps.live (m.nobody_alone a x m.actor) ∙ i.living m.nobody_alone f;
-  safe = λ b z n g. in_set w.actors a x y m.actor (λ k v. Safe n size k v w.shared e)
-      (begins_safe n size a x job w.shared e m.free startable)
-      (λ k v o f. safe_on n size k v w.shared w.shared d e (others_of size a k x v w.shared w.shared d e o i.good (i.disjoint a k x v m.actor f (λ z. o (sym z))) (m.nobody_alone a x m.actor) (m.nobody_alone k v f) (λ h. h) (λ q r. idle_drops) (i.leads k v f) (λ q r. i.stands k v q f r) (record { seal = λ b n. refl; state = λ h k n r. inl refl }) done.keeps) (i.safe k v n f))
-      b z g;
-} where
-  y : Actor
-  y = given x job
-
-  e : Volume
-  e = after_acts d (start_acts a job)
-
-  done : Acted size a x w.shared.committing d (after_acts d (start_acts a job))
-  done = again_acted size w d a x job i m
-
-  idle_drops : drops x.task ≡ false
-  idle_drops = ap (λ (o : Option Script). drops o) m.task
-
+again_linked size w d a x job i m = begun_linked size w d a x job w.shared (taken (aside w.waiting x.order) (order_of job)) i m.actor m.task m.free m.nobody_alone (record {
+  res = unmoved size a x job w.shared d _ (again_agrees size a w.shared d job m.may i.good.agrees) i.good.sound
+      (again_startable size a w.shared d job m.order.0 i.good.agrees m.may m.order.1 (set_out.placed m.order.0.cache m.order.0 m.order.2)) (λ p e. set_out.placed p.cache p (is_out p e)) (λ p e. set_out.stands p.cache p (is_out p e));
+  apart = λ b y p q n g e f. set_out.apart p.cache p b y q (is_out p e) (beside_set w.actors a b (record x { order = None }) y n g) f;
+  alone = λ e. let not = only.0 in absurd (cc);
+  modes = λ q f. set_out.modes q.cache q (is_out q f);
+  drops = λ f. let not = only.1 in absurd (cc);
+  set = subst (λ (o : Option Order). SetAside w.shared (slice_set w.actors a (given x job)) (taken (aside w.waiting x.order) o) d.mode) (sym m.order.1) (take_up size w d a x (given x job) m.order.0 i m.actor m.order.1 m.order.2);
+}) where
   -- its order, and those that are aside once its own is
   is_out : (p : Order) → order_of job ≡ Some p → aside w.waiting x.order p.cache ≡ Some p
   is_out p e = let one : Some m.order.0 ≡ Some p = sym m.order.1 ∙ e in let same : m.order.0 ≡ p = cc in subst (λ (v : Order). aside w.waiting x.order v.cache ≡ Some v) same m.order.2
 
   set_out : SetAside w.shared (slice_set w.actors a (record x { order = None })) (aside w.waiting x.order) d.mode
-  set_out = put_aside size w d a x (record x { order = None }) i m.actor (λ k p q e f. absurd (cc))
-
-  there : (j : ℕ) (v : Actor) → j ≢ a → slice_get w.actors j ≡ Some v → slice_get (slice_set w.actors a (record x { order = None })) j ≡ Some v
-  there j v n h = get_set_other w.actors a j (record x { order = None }) n ∙ h
-
-  set : SetAside w.shared (slice_set w.actors a (given x job)) (taken (aside w.waiting x.order) (order_of job)) d.mode
-  set = subst (λ (o : Option Order). SetAside w.shared (slice_set w.actors a (given x job)) (taken (aside w.waiting x.order) o) d.mode) (sym m.order.1) (take_up size w d a x (given x job) m.order.0 i m.actor m.order.1 m.order.2)
+  set_out = without_order size w d a x i m.actor
 
   only : (job_alone job ≡ false) × (job_drops job ≡ false)
   only = again_alone size w.shared job m.may
-
-  startable : Startable size a job w.shared (after_acts d (start_acts a job))
-  startable = again_startable size a w.shared d job m.order.0 i.good.agrees m.may m.order.1 (set_out.placed m.order.0.cache m.order.0 m.order.2)

@@ -8,7 +8,7 @@ use Rattle.wb_contents.specs.Conditions.{IsRun as IsActs}
 use Rattle.wb_link.specs.Tables.{Order, Answer, Want, Look_fail, Share, Own, Begin_clean, End, Got, Done, Flag, Script, want}
 use Rattle.wb_link.specs.World.{Apart, is_alone, job_alone, task_after, Nothing, Shared, Owns, Actor, World, Step, effect, actor_after, held_after, Gives, Wins, MayStep, step_task, step_actor, after_record, drops}
 use Rattle.wb_link.proofs.Views.{block_view}
-use Rattle.wb_link.proofs.Acts.{Grows, NotBlock}
+use Rattle.wb_link.proofs.Acts.{Keeps, NotBlock}
 use Rattle.wb_link.proofs.Link.{Ordered, Turns, Placing, Rests, RestsAt, NobodyAlone, Ready, Owes, Receives, Right, Goes, Next, Safe, Disjoint, Unowned, Linked, acts_of}
 use Rattle.wb_link.proofs.Lists.{get_set_same, get_set_other}
 use Rattle.wb_link.proofs.Steady.{Acted, acted}
@@ -222,12 +222,11 @@ pub record Facts (a : ℕ) (x : Actor) (script : Script) (got : Got) (s t : Shar
   pub right : Right a script.job (want script) got d e
   pub ready : Ready (want script) x s
   pub owes : Owes script.job (want script) t e
-  pub grows : Grows d e
-  pub then_finished : (b : ℕ) → (b ≢ a) ⊎ (x.task ≢ None) → e.then_finished b ≡ d.then_finished b
+  pub keeps : Keeps a x s.committing d e
 
 pub step_facts : (size : ℕ) (w : World) (d : Volume) (a : ℕ) (x : Actor) (script : Script) (asked : Want) (got : Got) → Linked size w d → MayStep w a asked got x script →
     Facts a x script got w.shared (effect w.shared script.job x.buffer (want script) got) d (after_acts d (acts_of w.shared.mapping a script.job x.buffer (want script) got)) (acts_of w.shared.mapping a script.job x.buffer (want script) got)
 step_facts size w d a x script asked got i m =
     let g = going size w d a x script asked got zero i m in
     let done = acted size a x w.shared.committing d (acts_of w.shared.mapping a script.job x.buffer (want script) got) i.good.kept i.good.bounded g.run g.mine in
-    record { run = g.run; right = g.right; ready = g.ready; owes = g.owes; grows = done.keeps.grows; then_finished = done.keeps.then_finished }
+    record { run = g.run; right = g.right; ready = g.ready; owes = g.owes; keeps = done.keeps }

@@ -4,9 +4,6 @@ use Rattle.wb_disk.specs.Device.{Content, History, newest}
 use Rattle.wb_contents.specs.Volume.{Volume, Standing, location}
 use Rattle.wb_link.specs.World.{Held, Nothing, Shares, Owns}
 
-pub funext : {X Y : Type 0} (f g : X → Y) → ((x : X) → f x ≡ g x) → f ≡ g
-funext f g h = λ i x. h x i
-
 -- Of a block: where it stands, whether it is dirty, what its location and its sectors of the origin have last, how each
 -- sector stands, and its histories. Who holds the block knows that nobody else changes this.
 pub record BlockView : Type 0 where

@@ -1,18 +1,45 @@
 -- The world is not empty: a run of one actor that writes, promotes, writes again, flushes and demotes.
-use Rattle.std.proofs.Common.{◌≡◌, ◌≢◌, ◌<◌, inl, inr, ℕ, zero, suc, Bool, true, false, cond, [], ◌∷◌, Option, Some, None, refl, sym, subst, ◌∙◌, arith, slice_get}
-use Rattle.wb_link.specs.Examples.{order, one_actor, replacement, follower, replaced, settles, lives_of, reopening, one_clean, past_the_cache}
+use Rattle.std.proofs.Common.{◌≡◌, ◌≢◌, ◌<◌, inl, inr, ℕ, zero, suc, Bool, true, false, cond, List, [], ◌∷◌, ◌++◌, Option, Some, None, refl, sym, ap, subst, ◌∙◌, arith, slice_get}
+use Rattle.wb_link.specs.Examples.{dones, order, one_actor, replacement, follower, replaced, settles, lives_of, reopening, one_clean, past_the_cache}
 use Rattle.wb_disk.specs.Device.{History, newest, added, only}
 use Rattle.wb_contents.specs.Volume.{changed, changed_at, at_location}
 use Rattle.wb_contents.specs.Acts.{all_synced}
 use Rattle.wb_disk.proofs.Leaving.{newest_there}
 use Rattle.wb_link.specs.Openings.{Site, site, MayStop, Happens}
-use Rattle.wb_link.specs.Tables.{Order, Seal}
-use Rattle.wb_link.specs.World.{Shared, Actor, Nothing, Owns, Shares, Apart, AreIn, IsRun, begins, is_alone}
+use Rattle.wb_link.specs.Tables.{Order, Seal, Job, Want, Script, Answer, Done, Set_seal, Disown, Write_all, Sync_cache_device, Sync_origin_device, Put_root, Sync_metadata, End_running, Make_room, Map_to, Unmap_from, after}
+use Rattle.wb_link.specs.World.{World, Record, Shared, Actor, Nothing, Owns, Shares, Apart, AreIn, Gives, Wins, May, MayStep, IsRun, begins, is_alone, task_after, actor_after, after_record, after_all}
+use Rattle.wb_link.proofs.Lists.{get_set_same}
+use Rattle.wb_link.proofs.Steps.{step_is}
 
 infixr 30 ◌▸◌
 -- one record, and then the rest of the run
 ◌▸◌ : {A B : Type 0} → A → B → A × B
 a ▸ b = (a, b)
+
+-- steps that any world lets an actor take, after each of which its task goes on
+abbrev AllSure : Shared → List Actor → List Want → Type 0
+AllSure s actors [] = Unit {0}
+AllSure s actors (w ∷ ws) = Gives s w Done × Wins actors w Done × ((script : Script) → task_after script w Done ≡ Some (after script Done)) × AllSure s actors ws
+
+-- A run, record by record.
+record Runs (size : ℕ) (w : World) (rs : List Record) : Type 0 where
+  all : IsRun size w rs
+
+infixr 30 ◌▹◌
+◌▹◌ : {size : ℕ} {w : World} {r : Record} {rs : List Record} → May size w r → Runs size (after_record w r) rs → Runs size w (r ∷ rs)
+may ▹ run = record { all = (may, run.all) }
+
+over : {size : ℕ} {w : World} → Runs size w []
+over = record { all = tt }
+
+-- such steps are taken, and the task is answered
+dones_run : (steps : List Want) {size : ℕ} {w : World} {rest : List Record} (a : ℕ) (x : Actor) (job : Job) (answer : Answer) → slice_get w.actors a ≡ Some x → x.task ≡ Some (record { job = job; steps = steps; answer = answer }) → ((s : Shared) (actors : List Actor) → AllSure s actors steps) →
+    Runs size (after_all w (dones a steps answer)) rest → Runs size w (dones a steps answer ++ rest)
+dones_run [] a x job answer here task sure run = (x, record { job = job; steps = []; answer = answer }, record { actor = here; task = task; asked = refl; gives = tt; wins = tt }) ▹ run
+dones_run (v ∷ vs) {size} {w} {rest} a x job answer here task sure run =
+    let script : Script = record { job = job; steps = v ∷ vs; answer = answer } in
+    let may : MayStep w a v Done x script = record { actor = here; task = task; asked = refl; gives = (sure w.shared w.actors).0; wins = (sure w.shared w.actors).1 } in
+    (x, script, may) ▹ dones_run vs a (actor_after x script v Done) job answer (ap (λ (u : World). slice_get u.actors a) (step_is w a v Done x script may) ∙ get_set_same w.actors a x _ here) ((sure w.shared w.actors).2 script) (λ s actors. (sure s actors).3) run
 
 only_one : (x y : Actor) (a : ℕ) → slice_get (x ∷ []) a ≡ Some y → x ≡ y
 only_one x y zero e = cc
@@ -30,54 +57,38 @@ ungiven x n b y o e = subst (λ (v : Actor). v.order ≡ Some o → Apart o orde
 covers : (o : ℕ) → o < 1 → AreIn ((0 ∷ []) ∷ []) o
 covers o l = inl (0, omega arith, omega arith)
 
+one : Runs 1 (begins 1 []) one_actor
+one =
+    (_, record { actor = refl; task = refl; free = inl (refl, refl); nobody_alone = nobody _ refl; may = ((omega arith, tt), refl) }) ▹
+    (_, _, record { actor = refl; task = refl; asked = refl; gives = refl; wins = tt }) ▹
+    (_, _, record { actor = refl; task = refl; asked = refl; gives = tt; wins = free _ refl }) ▹
+    (_, _, record { actor = refl; task = refl; asked = refl; gives = refl; wins = tt }) ▹
+    dones_run (Write_all None 0 (0 ∷ []) ∷ Disown 0 ∷ []) 0 _ _ _ refl refl (λ s xs. (tt, tt, (λ z. refl), (tt, tt, (λ z. refl), tt))) (
+    (_, record { actor = refl; task = refl; free = inl (refl, refl); nobody_alone = nobody _ refl; may = ((omega arith, tt), covers, (ungiven _ refl, (λ k o e. absurd (cc))), (λ e. absurd (cc)), refl, refl, (λ b e. absurd (cc))) }) ▹
+    (_, _, record { actor = refl; task = refl; asked = refl; gives = refl; wins = tt }) ▹
+    (_, _, record { actor = refl; task = refl; asked = refl; gives = tt; wins = free _ refl }) ▹
+    (_, _, record { actor = refl; task = refl; asked = refl; gives = refl; wins = tt }) ▹
+    (_, _, record { actor = refl; task = refl; asked = refl; gives = (refl, tt); wins = tt }) ▹
+    dones_run (Write_all (Some 0) 0 (0 ∷ []) ∷ Make_room ∷ Map_to order ∷ Set_seal 0 (record { location = Some 0; dirty = false }) ∷ Disown 0 ∷ []) 0 _ _ _ refl refl (λ s xs. (tt, tt, (λ z. refl), (tt, tt, (λ z. refl), (tt, tt, (λ z. refl), (tt, tt, (λ z. refl), (tt, tt, (λ z. refl), tt)))))) (
+    (_, record { actor = refl; task = refl; free = inl (refl, refl); nobody_alone = nobody _ refl; may = ((omega arith, tt), refl) }) ▹
+    (_, _, record { actor = refl; task = refl; asked = refl; gives = refl; wins = tt }) ▹
+    (_, _, record { actor = refl; task = refl; asked = refl; gives = tt; wins = free _ refl }) ▹
+    (_, _, record { actor = refl; task = refl; asked = refl; gives = refl; wins = tt }) ▹
+    dones_run (Set_seal 0 (record { location = Some 0; dirty = true }) ∷ Write_all (Some 0) 0 (0 ∷ []) ∷ Disown 0 ∷ []) 0 _ _ _ refl refl (λ s xs. (tt, tt, (λ z. refl), (tt, tt, (λ z. refl), (tt, tt, (λ z. refl), tt)))) (
+    (_, record { actor = refl; task = refl; free = inl (refl, refl); nobody_alone = nobody _ refl; may = refl }) ▹
+    (_, _, record { actor = refl; task = refl; asked = refl; gives = refl; wins = tt }) ▹
+    (_, _, record { actor = refl; task = refl; asked = refl; gives = (refl, refl, tt); wins = tt }) ▹
+    dones_run (Sync_cache_device ∷ Sync_origin_device ∷ Put_root ∷ Sync_metadata ∷ End_running ∷ []) 0 _ _ _ refl refl (λ s xs. (tt, tt, (λ z. refl), (tt, tt, (λ z. refl), (tt, tt, (λ z. refl), (tt, tt, (λ z. refl), (tt, tt, (λ z. refl), tt)))))) (
+    (_, record { actor = refl; task = refl; free = inl (refl, refl); nobody_alone = nobody _ refl; may = ((omega arith, tt), covers, (ungiven _ refl, (λ k o e. absurd (cc))), (λ e. absurd (cc)), refl, refl, (λ b e. absurd (cc))) }) ▹
+    (_, _, record { actor = refl; task = refl; asked = refl; gives = refl; wins = tt }) ▹
+    (_, _, record { actor = refl; task = refl; asked = refl; gives = tt; wins = free _ refl }) ▹
+    (_, _, record { actor = refl; task = refl; asked = refl; gives = refl; wins = tt }) ▹
+    (_, _, record { actor = refl; task = refl; asked = refl; gives = (refl, tt); wins = tt }) ▹
+    dones_run (Write_all None 0 (0 ∷ []) ∷ Unmap_from order ∷ Set_seal 0 (record { location = None; dirty = false }) ∷ Disown 0 ∷ []) 0 _ _ _ refl refl (λ s xs. (tt, tt, (λ z. refl), (tt, tt, (λ z. refl), (tt, tt, (λ z. refl), (tt, tt, (λ z. refl), tt))))) (
+    over)))))
+
 pub one_actor_runs : IsRun 1 (begins 1 []) one_actor
-one_actor_runs =
-    (_, record { actor = refl; task = refl; free = inl (refl, refl); nobody_alone = nobody _ refl; may = ((omega arith, tt), refl) }) ▸
-    (_, _, record { actor = refl; task = refl; asked = refl; gives = refl; wins = tt }) ▸
-    (_, _, record { actor = refl; task = refl; asked = refl; gives = tt; wins = free _ refl }) ▸
-    (_, _, record { actor = refl; task = refl; asked = refl; gives = refl; wins = tt }) ▸
-    (_, _, record { actor = refl; task = refl; asked = refl; gives = tt; wins = tt }) ▸
-    (_, _, record { actor = refl; task = refl; asked = refl; gives = tt; wins = tt }) ▸
-    (_, _, record { actor = refl; task = refl; asked = refl; gives = tt; wins = tt }) ▸
-    (_, record { actor = refl; task = refl; free = inl (refl, refl); nobody_alone = nobody _ refl; may = ((omega arith, tt), covers, (ungiven _ refl, (λ k o e. absurd (cc))), (λ e. absurd (cc)), refl, refl, (λ b e. absurd (cc))) }) ▸
-    (_, _, record { actor = refl; task = refl; asked = refl; gives = refl; wins = tt }) ▸
-    (_, _, record { actor = refl; task = refl; asked = refl; gives = tt; wins = free _ refl }) ▸
-    (_, _, record { actor = refl; task = refl; asked = refl; gives = refl; wins = tt }) ▸
-    (_, _, record { actor = refl; task = refl; asked = refl; gives = (refl, tt); wins = tt }) ▸
-    (_, _, record { actor = refl; task = refl; asked = refl; gives = tt; wins = tt }) ▸
-    (_, _, record { actor = refl; task = refl; asked = refl; gives = tt; wins = tt }) ▸
-    (_, _, record { actor = refl; task = refl; asked = refl; gives = tt; wins = tt }) ▸
-    (_, _, record { actor = refl; task = refl; asked = refl; gives = tt; wins = tt }) ▸
-    (_, _, record { actor = refl; task = refl; asked = refl; gives = tt; wins = tt }) ▸
-    (_, _, record { actor = refl; task = refl; asked = refl; gives = tt; wins = tt }) ▸
-    (_, record { actor = refl; task = refl; free = inl (refl, refl); nobody_alone = nobody _ refl; may = ((omega arith, tt), refl) }) ▸
-    (_, _, record { actor = refl; task = refl; asked = refl; gives = refl; wins = tt }) ▸
-    (_, _, record { actor = refl; task = refl; asked = refl; gives = tt; wins = free _ refl }) ▸
-    (_, _, record { actor = refl; task = refl; asked = refl; gives = refl; wins = tt }) ▸
-    (_, _, record { actor = refl; task = refl; asked = refl; gives = tt; wins = tt }) ▸
-    (_, _, record { actor = refl; task = refl; asked = refl; gives = tt; wins = tt }) ▸
-    (_, _, record { actor = refl; task = refl; asked = refl; gives = tt; wins = tt }) ▸
-    (_, _, record { actor = refl; task = refl; asked = refl; gives = tt; wins = tt }) ▸
-    (_, record { actor = refl; task = refl; free = inl (refl, refl); nobody_alone = nobody _ refl; may = refl }) ▸
-    (_, _, record { actor = refl; task = refl; asked = refl; gives = refl; wins = tt }) ▸
-    (_, _, record { actor = refl; task = refl; asked = refl; gives = (refl, refl, tt); wins = tt }) ▸
-    (_, _, record { actor = refl; task = refl; asked = refl; gives = tt; wins = tt }) ▸
-    (_, _, record { actor = refl; task = refl; asked = refl; gives = tt; wins = tt }) ▸
-    (_, _, record { actor = refl; task = refl; asked = refl; gives = tt; wins = tt }) ▸
-    (_, _, record { actor = refl; task = refl; asked = refl; gives = tt; wins = tt }) ▸
-    (_, _, record { actor = refl; task = refl; asked = refl; gives = tt; wins = tt }) ▸
-    (_, _, record { actor = refl; task = refl; asked = refl; gives = tt; wins = tt }) ▸
-    (_, record { actor = refl; task = refl; free = inl (refl, refl); nobody_alone = nobody _ refl; may = ((omega arith, tt), covers, (ungiven _ refl, (λ k o e. absurd (cc))), (λ e. absurd (cc)), refl, refl, (λ b e. absurd (cc))) }) ▸
-    (_, _, record { actor = refl; task = refl; asked = refl; gives = refl; wins = tt }) ▸
-    (_, _, record { actor = refl; task = refl; asked = refl; gives = tt; wins = free _ refl }) ▸
-    (_, _, record { actor = refl; task = refl; asked = refl; gives = refl; wins = tt }) ▸
-    (_, _, record { actor = refl; task = refl; asked = refl; gives = (refl, tt); wins = tt }) ▸
-    (_, _, record { actor = refl; task = refl; asked = refl; gives = tt; wins = tt }) ▸
-    (_, _, record { actor = refl; task = refl; asked = refl; gives = tt; wins = tt }) ▸
-    (_, _, record { actor = refl; task = refl; asked = refl; gives = tt; wins = tt }) ▸
-    (_, _, record { actor = refl; task = refl; asked = refl; gives = tt; wins = tt }) ▸
-    (_, _, record { actor = refl; task = refl; asked = refl; gives = tt; wins = tt }) ▸
-    tt
+one_actor_runs = one.all
 
 -- Three actors.
 
@@ -108,63 +119,43 @@ ungiven_of p x y z e f g a v o h = each (λ v. v.order ≡ Some o → Apart o p)
 unmapped : (b : ℕ) → Some 1 ≡ Some b → changed {X = Option ℕ} (λ (c : ℕ). None) 0 (Some 0) b ≡ None
 unmapped b e = let is : 1 ≡ b = cc in subst (λ (v : ℕ). changed {X = Option ℕ} (λ (c : ℕ). None) 0 (Some 0) v ≡ None) is refl
 
+three : Runs 1 (begins 3 []) replaced
+three =
+    (_, record { actor = refl; task = refl; free = inl (refl, refl); nobody_alone = alone_of _ _ _ refl refl refl; may = ((omega arith, tt), covers, (ungiven_of order _ _ _ refl refl refl, (λ k o e. absurd (cc))), (λ e. absurd (cc)), refl, refl, (λ b e. absurd (cc))) }) ▹
+    (_, _, record { actor = refl; task = refl; asked = refl; gives = refl; wins = tt }) ▹
+    (_, _, record { actor = refl; task = refl; asked = refl; gives = tt; wins = free_of 0 _ _ _ refl refl refl }) ▹
+    (_, _, record { actor = refl; task = refl; asked = refl; gives = refl; wins = tt }) ▹
+    (_, _, record { actor = refl; task = refl; asked = refl; gives = (refl, tt); wins = tt }) ▹
+    dones_run (Write_all (Some 0) 0 (0 ∷ []) ∷ Make_room ∷ Map_to order ∷ Set_seal 0 (record { location = Some 0; dirty = false }) ∷ Disown 0 ∷ []) 0 _ _ _ refl refl (λ s xs. (tt, tt, (λ z. refl), (tt, tt, (λ z. refl), (tt, tt, (λ z. refl), (tt, tt, (λ z. refl), (tt, tt, (λ z. refl), tt)))))) (
+    (_, record { actor = refl; task = refl; free = inl (refl, refl); nobody_alone = alone_of _ _ _ refl refl refl; may = ((omega arith, tt), covers, (ungiven_of replacement _ _ _ refl refl refl, (λ k o e. absurd (cc))), (λ e. absurd (cc)), refl, refl, unmapped) }) ▹
+    (_, _, record { actor = refl; task = refl; asked = refl; gives = refl; wins = tt }) ▹
+    (_, _, record { actor = refl; task = refl; asked = refl; gives = tt; wins = free_of 0 _ _ _ refl refl refl }) ▹
+    (_, _, record { actor = refl; task = refl; asked = refl; gives = refl; wins = tt }) ▹
+    dones_run (Unmap_from replacement ∷ Set_seal 0 (record { location = None; dirty = false }) ∷ Disown 0 ∷ []) 0 _ _ _ refl refl (λ s xs. (tt, tt, (λ z. refl), (tt, tt, (λ z. refl), (tt, tt, (λ z. refl), tt)))) (
+    (_, record { actor = refl; task = refl; free = inl (refl, refl); nobody_alone = alone_of _ _ _ refl refl refl; may = refl }) ▹
+    (_, _, record { actor = refl; task = refl; asked = refl; gives = refl; wins = tt }) ▹
+    (_, _, record { actor = refl; task = refl; asked = refl; gives = (refl, refl, tt); wins = tt }) ▹
+    (_, record { actor = refl; task = refl; free = inl (refl, refl); order = (follower, refl, refl); nobody_alone = alone_of _ _ _ refl refl refl; may = (_, refl) }) ▹
+    (_, _, record { actor = refl; task = refl; asked = refl; gives = refl; wins = tt }) ▹
+    (_, _, record { actor = refl; task = refl; asked = refl; gives = (refl, refl, refl, refl); wins = tt }) ▹
+    (_, record { actor = refl; task = refl; free = inl (refl, refl); nobody_alone = alone_of _ _ _ refl refl refl; may = refl }) ▹
+    (_, _, record { actor = refl; task = refl; asked = refl; gives = refl; wins = tt }) ▹
+    (_, _, record { actor = refl; task = refl; asked = refl; gives = (refl, refl, refl, refl); wins = tt }) ▹
+    dones_run (Sync_cache_device ∷ Sync_origin_device ∷ Put_root ∷ Sync_metadata ∷ End_running ∷ []) 1 _ _ _ refl refl (λ s xs. (tt, tt, (λ z. refl), (tt, tt, (λ z. refl), (tt, tt, (λ z. refl), (tt, tt, (λ z. refl), (tt, tt, (λ z. refl), tt)))))) (
+    (_, _, record { actor = refl; task = refl; asked = refl; gives = (refl, refl, omega arith); wins = tt }) ▹
+    dones_run (Sync_cache_device ∷ Sync_origin_device ∷ Put_root ∷ Sync_metadata ∷ End_running ∷ []) 0 _ _ _ refl refl (λ s xs. (tt, tt, (λ z. refl), (tt, tt, (λ z. refl), (tt, tt, (λ z. refl), (tt, tt, (λ z. refl), (tt, tt, (λ z. refl), tt)))))) (
+    (_, _, record { actor = refl; task = refl; asked = refl; gives = omega arith; wins = tt }) ▹
+    (_, _, record { actor = refl; task = refl; asked = refl; gives = tt; wins = tt }) ▹
+    (_, record { actor = refl; task = refl; free = inl (refl, refl); order = (follower, refl, refl); nobody_alone = alone_of _ _ _ refl refl refl; may = ((omega arith, tt), covers, refl) }) ▹
+    (_, _, record { actor = refl; task = refl; asked = refl; gives = refl; wins = tt }) ▹
+    (_, _, record { actor = refl; task = refl; asked = refl; gives = tt; wins = free_of 1 _ _ _ refl refl refl }) ▹
+    (_, _, record { actor = refl; task = refl; asked = refl; gives = refl; wins = tt }) ▹
+    (_, _, record { actor = refl; task = refl; asked = refl; gives = (refl, tt); wins = tt }) ▹
+    dones_run (Write_all (Some 0) 1 (0 ∷ []) ∷ Make_room ∷ Map_to follower ∷ Set_seal 1 (record { location = Some 0; dirty = false }) ∷ Disown 1 ∷ []) 0 _ _ _ refl refl (λ s xs. (tt, tt, (λ z. refl), (tt, tt, (λ z. refl), (tt, tt, (λ z. refl), (tt, tt, (λ z. refl), (tt, tt, (λ z. refl), tt)))))) (
+    over)))))
+
 pub three_actors_run : IsRun 1 (begins 3 []) replaced
-three_actors_run =
-    (_, record { actor = refl; task = refl; free = inl (refl, refl); nobody_alone = alone_of _ _ _ refl refl refl; may = ((omega arith, tt), covers, (ungiven_of order _ _ _ refl refl refl, (λ k o e. absurd (cc))), (λ e. absurd (cc)), refl, refl, (λ b e. absurd (cc))) }) ▸
-    (_, _, record { actor = refl; task = refl; asked = refl; gives = refl; wins = tt }) ▸
-    (_, _, record { actor = refl; task = refl; asked = refl; gives = tt; wins = free_of 0 _ _ _ refl refl refl }) ▸
-    (_, _, record { actor = refl; task = refl; asked = refl; gives = refl; wins = tt }) ▸
-    (_, _, record { actor = refl; task = refl; asked = refl; gives = (refl, tt); wins = tt }) ▸
-    (_, _, record { actor = refl; task = refl; asked = refl; gives = tt; wins = tt }) ▸
-    (_, _, record { actor = refl; task = refl; asked = refl; gives = tt; wins = tt }) ▸
-    (_, _, record { actor = refl; task = refl; asked = refl; gives = tt; wins = tt }) ▸
-    (_, _, record { actor = refl; task = refl; asked = refl; gives = tt; wins = tt }) ▸
-    (_, _, record { actor = refl; task = refl; asked = refl; gives = tt; wins = tt }) ▸
-    (_, _, record { actor = refl; task = refl; asked = refl; gives = tt; wins = tt }) ▸
-    (_, record { actor = refl; task = refl; free = inl (refl, refl); nobody_alone = alone_of _ _ _ refl refl refl; may = ((omega arith, tt), covers, (ungiven_of replacement _ _ _ refl refl refl, (λ k o e. absurd (cc))), (λ e. absurd (cc)), refl, refl, unmapped) }) ▸
-    (_, _, record { actor = refl; task = refl; asked = refl; gives = refl; wins = tt }) ▸
-    (_, _, record { actor = refl; task = refl; asked = refl; gives = tt; wins = free_of 0 _ _ _ refl refl refl }) ▸
-    (_, _, record { actor = refl; task = refl; asked = refl; gives = refl; wins = tt }) ▸
-    (_, _, record { actor = refl; task = refl; asked = refl; gives = tt; wins = tt }) ▸
-    (_, _, record { actor = refl; task = refl; asked = refl; gives = tt; wins = tt }) ▸
-    (_, _, record { actor = refl; task = refl; asked = refl; gives = tt; wins = tt }) ▸
-    (_, _, record { actor = refl; task = refl; asked = refl; gives = tt; wins = tt }) ▸
-    (_, record { actor = refl; task = refl; free = inl (refl, refl); nobody_alone = alone_of _ _ _ refl refl refl; may = refl }) ▸
-    (_, _, record { actor = refl; task = refl; asked = refl; gives = refl; wins = tt }) ▸
-    (_, _, record { actor = refl; task = refl; asked = refl; gives = (refl, refl, tt); wins = tt }) ▸
-    (_, record { actor = refl; task = refl; free = inl (refl, refl); order = (follower, refl, refl); nobody_alone = alone_of _ _ _ refl refl refl; may = (_, refl) }) ▸
-    (_, _, record { actor = refl; task = refl; asked = refl; gives = refl; wins = tt }) ▸
-    (_, _, record { actor = refl; task = refl; asked = refl; gives = (refl, refl, refl, refl); wins = tt }) ▸
-    (_, record { actor = refl; task = refl; free = inl (refl, refl); nobody_alone = alone_of _ _ _ refl refl refl; may = refl }) ▸
-    (_, _, record { actor = refl; task = refl; asked = refl; gives = refl; wins = tt }) ▸
-    (_, _, record { actor = refl; task = refl; asked = refl; gives = (refl, refl, refl, refl); wins = tt }) ▸
-    (_, _, record { actor = refl; task = refl; asked = refl; gives = tt; wins = tt }) ▸
-    (_, _, record { actor = refl; task = refl; asked = refl; gives = tt; wins = tt }) ▸
-    (_, _, record { actor = refl; task = refl; asked = refl; gives = tt; wins = tt }) ▸
-    (_, _, record { actor = refl; task = refl; asked = refl; gives = tt; wins = tt }) ▸
-    (_, _, record { actor = refl; task = refl; asked = refl; gives = tt; wins = tt }) ▸
-    (_, _, record { actor = refl; task = refl; asked = refl; gives = tt; wins = tt }) ▸
-    (_, _, record { actor = refl; task = refl; asked = refl; gives = (refl, refl, omega arith); wins = tt }) ▸
-    (_, _, record { actor = refl; task = refl; asked = refl; gives = tt; wins = tt }) ▸
-    (_, _, record { actor = refl; task = refl; asked = refl; gives = tt; wins = tt }) ▸
-    (_, _, record { actor = refl; task = refl; asked = refl; gives = tt; wins = tt }) ▸
-    (_, _, record { actor = refl; task = refl; asked = refl; gives = tt; wins = tt }) ▸
-    (_, _, record { actor = refl; task = refl; asked = refl; gives = tt; wins = tt }) ▸
-    (_, _, record { actor = refl; task = refl; asked = refl; gives = tt; wins = tt }) ▸
-    (_, _, record { actor = refl; task = refl; asked = refl; gives = omega arith; wins = tt }) ▸
-    (_, _, record { actor = refl; task = refl; asked = refl; gives = tt; wins = tt }) ▸
-    (_, record { actor = refl; task = refl; free = inl (refl, refl); order = (follower, refl, refl); nobody_alone = alone_of _ _ _ refl refl refl; may = ((omega arith, tt), covers, refl) }) ▸
-    (_, _, record { actor = refl; task = refl; asked = refl; gives = refl; wins = tt }) ▸
-    (_, _, record { actor = refl; task = refl; asked = refl; gives = tt; wins = free_of 1 _ _ _ refl refl refl }) ▸
-    (_, _, record { actor = refl; task = refl; asked = refl; gives = refl; wins = tt }) ▸
-    (_, _, record { actor = refl; task = refl; asked = refl; gives = (refl, tt); wins = tt }) ▸
-    (_, _, record { actor = refl; task = refl; asked = refl; gives = tt; wins = tt }) ▸
-    (_, _, record { actor = refl; task = refl; asked = refl; gives = tt; wins = tt }) ▸
-    (_, _, record { actor = refl; task = refl; asked = refl; gives = tt; wins = tt }) ▸
-    (_, _, record { actor = refl; task = refl; asked = refl; gives = tt; wins = tt }) ▸
-    (_, _, record { actor = refl; task = refl; asked = refl; gives = tt; wins = tt }) ▸
-    (_, _, record { actor = refl; task = refl; asked = refl; gives = tt; wins = tt }) ▸
-    tt
+three_actors_run = three.all
 
 -- Lives.
 

@@ -1,15 +1,20 @@
 -- A run of one actor that writes, promotes, writes again, flushes and demotes; one of three actors with a replacement,
 -- flushes that share a commit; lives that any site may go on with; and a life past the cache.
-use Rattle.std.specs.Prelude.{◌++◌, Bool, true, false, cond, List, [], ◌∷◌, Some, None}
+use Rattle.std.specs.Prelude.{◌++◌, ℕ, Bool, true, false, cond, List, [], ◌∷◌, Some, None}
 use Rattle.wb_disk.specs.Device.{Content, newest}
 use Rattle.wb_contents.specs.Volume.{at_location, changed}
 use Rattle.wb_types.specs.declared.mode.Mode.TheVariants.{Writeback, Writethrough, Passthrough}
-use Rattle.wb_link.specs.Tables.{Order, Seal, Reading, Writing, Suspending, Promoting, Returning, Flushing, Finished, Look_fail, Share, Leave, Own, Look_seal, Set_seal, Disown, Read_all, Write_all, Begin, Sync_cache_device, Sync_origin_device, Put_root, Sync_metadata, End_running, Make_room, Map_to, Unmap_from, Unmap_plain, Begin_clean, Set_suspended, Failed, Short, End, Done, Flag, Seen, Gave, Ticket, Served}
+use Rattle.wb_link.specs.Tables.{Order, Seal, Answer, Want, Reading, Writing, Suspending, Promoting, Returning, Flushing, Finished, Look_fail, Share, Leave, Own, Look_seal, Set_seal, Disown, Read_all, Write_all, Begin, Sync_cache_device, Sync_origin_device, Put_root, Sync_metadata, End_running, Make_room, Map_to, Unmap_from, Unmap_plain, Begin_clean, Set_suspended, Failed, Short, End, Done, Flag, Seen, Gave, Ticket, Served}
 use Rattle.wb_link.specs.World.{Mapped, Shared, Start, Again, Step, Record}
 use Rattle.wb_link.specs.Openings.{Learnt, Stopping, Settled, Fine, Learns, Refused, Broke, Shown, Event, On, Stopped, Begins, Advances}
 
 abbrev pub order : Order
 order = record { block = 0; cache = 0; next = None }
+
+-- these steps are done one after the other, and the task is answered
+abbrev pub dones : ℕ → List Want → Answer → List Record
+dones a [] answer = Step a (End answer) Done ∷ []
+dones a (w ∷ ws) answer = Step a w Done ∷ dones a ws answer
 
 -- under it block 0 is promoted, by a copy of this
 abbrev pub promoted : Content → List Record
@@ -18,49 +23,30 @@ promoted content = Start 0 (Promoting order ((0 ∷ []) ∷ [])) ∷
     Step 0 (Own 0) Done ∷
     Step 0 (Look_seal 0) (Seen (record { location = None; dirty = false })) ∷
     Step 0 (Read_all None 0 (0 ∷ [])) (Gave (λ o. content)) ∷
-    Step 0 (Write_all (Some 0) 0 (0 ∷ [])) Done ∷
-    Step 0 Make_room Done ∷
-    Step 0 (Map_to order) Done ∷
-    Step 0 (Set_seal 0 (record { location = Some 0; dirty = false })) Done ∷
-    Step 0 (Disown 0) Done ∷
-    Step 0 (End Finished) Done ∷ []
+    dones 0 (Write_all (Some 0) 0 (0 ∷ []) ∷ Make_room ∷ Map_to order ∷ Set_seal 0 (record { location = Some 0; dirty = false }) ∷ Disown 0 ∷ []) Finished
 
 abbrev pub one_actor : List Record
 one_actor = Start 0 (Writing false 0 ((0 ∷ []) ∷ []) (7 ∷ [])) ∷
     Step 0 Look_fail (Flag false) ∷
     Step 0 (Own 0) Done ∷
     Step 0 (Look_seal 0) (Seen (record { location = None; dirty = false })) ∷
-    Step 0 (Write_all None 0 (0 ∷ [])) Done ∷
-    Step 0 (Disown 0) Done ∷
-    Step 0 (End Finished) Done ∷
+    dones 0 (Write_all None 0 (0 ∷ []) ∷ Disown 0 ∷ []) Finished ++
     promoted (7 ∷ []) ++
     Start 0 (Writing false 0 ((0 ∷ []) ∷ []) (8 ∷ [])) ∷
     Step 0 Look_fail (Flag false) ∷
     Step 0 (Own 0) Done ∷
     Step 0 (Look_seal 0) (Seen (record { location = Some 0; dirty = false })) ∷
-    Step 0 (Set_seal 0 (record { location = Some 0; dirty = true })) Done ∷
-    Step 0 (Write_all (Some 0) 0 (0 ∷ [])) Done ∷
-    Step 0 (Disown 0) Done ∷
-    Step 0 (End Finished) Done ∷
+    dones 0 (Set_seal 0 (record { location = Some 0; dirty = true }) ∷ Write_all (Some 0) 0 (0 ∷ []) ∷ Disown 0 ∷ []) Finished ++
     Start 0 (Flushing None) ∷
     Step 0 Look_fail (Flag false) ∷
     Step 0 (Begin None) Done ∷
-    Step 0 Sync_cache_device Done ∷
-    Step 0 Sync_origin_device Done ∷
-    Step 0 Put_root Done ∷
-    Step 0 Sync_metadata Done ∷
-    Step 0 End_running Done ∷
-    Step 0 (End Finished) Done ∷
+    dones 0 (Sync_cache_device ∷ Sync_origin_device ∷ Put_root ∷ Sync_metadata ∷ End_running ∷ []) Finished ++
     Start 0 (Returning true order ((0 ∷ []) ∷ [])) ∷
     Step 0 Look_fail (Flag false) ∷
     Step 0 (Own 0) Done ∷
     Step 0 (Look_seal 0) (Seen (record { location = Some 0; dirty = true })) ∷
     Step 0 (Read_all (Some 0) 0 (0 ∷ [])) (Gave (λ o. (8 ∷ []))) ∷
-    Step 0 (Write_all None 0 (0 ∷ [])) Done ∷
-    Step 0 (Unmap_from order) Done ∷
-    Step 0 (Set_seal 0 (record { location = None; dirty = false })) Done ∷
-    Step 0 (Disown 0) Done ∷
-    Step 0 (End Finished) Done ∷ []
+    dones 0 (Write_all None 0 (0 ∷ []) ∷ Unmap_from order ∷ Set_seal 0 (record { location = None; dirty = false }) ∷ Disown 0 ∷ []) Finished
 
 -- block 0 on cache block 0 is replaced by block 1
 abbrev pub replacement : Order
@@ -76,10 +62,7 @@ replaced = promoted [] ++
     Step 0 Look_fail (Flag false) ∷
     Step 0 (Own 0) Done ∷
     Step 0 (Look_seal 0) (Seen (record { location = Some 0; dirty = false })) ∷
-    Step 0 (Unmap_from replacement) Done ∷
-    Step 0 (Set_seal 0 (record { location = None; dirty = false })) Done ∷
-    Step 0 (Disown 0) Done ∷
-    Step 0 (End Finished) Done ∷
+    dones 0 (Unmap_from replacement ∷ Set_seal 0 (record { location = None; dirty = false }) ∷ Disown 0 ∷ []) Finished ++
     Start 1 (Flushing None) ∷
     Step 1 Look_fail (Flag false) ∷
     Step 1 (Begin None) Done ∷
@@ -89,19 +72,9 @@ replaced = promoted [] ++
     Start 2 (Flushing None) ∷
     Step 2 Look_fail (Flag false) ∷
     Step 2 (Begin None) (Ticket 2) ∷
-    Step 1 Sync_cache_device Done ∷
-    Step 1 Sync_origin_device Done ∷
-    Step 1 Put_root Done ∷
-    Step 1 Sync_metadata Done ∷
-    Step 1 End_running Done ∷
-    Step 1 (End Finished) Done ∷
+    dones 1 (Sync_cache_device ∷ Sync_origin_device ∷ Put_root ∷ Sync_metadata ∷ End_running ∷ []) Finished ++
     Step 0 (Begin (Some 2)) Done ∷
-    Step 0 Sync_cache_device Done ∷
-    Step 0 Sync_origin_device Done ∷
-    Step 0 Put_root Done ∷
-    Step 0 Sync_metadata Done ∷
-    Step 0 End_running Done ∷
-    Step 0 (End Finished) Done ∷
+    dones 0 (Sync_cache_device ∷ Sync_origin_device ∷ Put_root ∷ Sync_metadata ∷ End_running ∷ []) Finished ++
     Step 2 (Begin (Some 2)) Served ∷
     Step 2 (End Finished) Done ∷
     Again 0 (Promoting follower ((0 ∷ []) ∷ [])) ∷
@@ -109,12 +82,7 @@ replaced = promoted [] ++
     Step 0 (Own 1) Done ∷
     Step 0 (Look_seal 1) (Seen (record { location = None; dirty = false })) ∷
     Step 0 (Read_all None 1 (0 ∷ [])) (Gave (λ o. [])) ∷
-    Step 0 (Write_all (Some 0) 1 (0 ∷ [])) Done ∷
-    Step 0 Make_room Done ∷
-    Step 0 (Map_to follower) Done ∷
-    Step 0 (Set_seal 1 (record { location = Some 0; dirty = false })) Done ∷
-    Step 0 (Disown 1) Done ∷
-    Step 0 (End Finished) Done ∷ []
+    dones 0 (Write_all (Some 0) 1 (0 ∷ []) ∷ Make_room ∷ Map_to follower ∷ Set_seal 1 (record { location = Some 0; dirty = false }) ∷ Disown 1 ∷ []) Finished
 
 -- what a crash may leave of any site
 abbrev pub settles : Shared → Bool → Stopping
@@ -171,13 +139,7 @@ promoted_and_suspended = promoted [] ++
     Start 0 Suspending ∷
     Step 0 Look_fail (Flag false) ∷
     Step 0 Begin_clean Done ∷
-    Step 0 Sync_cache_device Done ∷
-    Step 0 Sync_origin_device Done ∷
-    Step 0 Put_root Done ∷
-    Step 0 Sync_metadata Done ∷
-    Step 0 End_running Done ∷
-    Step 0 Set_suspended Done ∷
-    Step 0 (End Finished) Done ∷ []
+    dones 0 (Sync_cache_device ∷ Sync_origin_device ∷ Put_root ∷ Sync_metadata ∷ End_running ∷ Set_suspended ∷ []) Finished
 
 abbrev pub read_and_written : List Record
 read_and_written = Start 0 (Reading true 0 ((0 ∷ []) ∷ [])) ∷
@@ -191,11 +153,7 @@ read_and_written = Start 0 (Reading true 0 ((0 ∷ []) ∷ [])) ∷
     Step 0 Look_fail (Flag false) ∷
     Step 0 (Own 0) Done ∷
     Step 0 (Look_seal 0) (Seen (record { location = Some 0; dirty = false })) ∷
-    Step 0 (Unmap_plain 0 0) Done ∷
-    Step 0 (Set_seal 0 (record { location = None; dirty = false })) Done ∷
-    Step 0 (Write_all None 0 (0 ∷ [])) Done ∷
-    Step 0 (Disown 0) Done ∷
-    Step 0 (End Finished) Done ∷
+    dones 0 (Unmap_plain 0 0 ∷ Set_seal 0 (record { location = None; dirty = false }) ∷ Write_all None 0 (0 ∷ []) ∷ Disown 0 ∷ []) Finished ++
     Start 0 (Reading true 0 ((0 ∷ []) ∷ [])) ∷
     Step 0 Look_fail (Flag false) ∷
     Step 0 (Share 0) Done ∷

@@ -13,8 +13,7 @@ use Rattle.wb_tasks.specs.declared.step.Want.TheVariants.{Cell, Desk}
 use Rattle.wb_link.specs.Tables.{Order, Got, Done, Short, Promoting, Returning, Map_to, Unmap_from, Give_up, Answer as AbstractAnswer, Failed as AnsweredFailed}
 use Rattle.wb_link.specs.World.{Shared, Nothing, Actor, effect, following}
 use Rattle.wb_refines.specs.Going.{shared_after, gone, MayGo}
-use Rattle.wb_refines.specs.Migrations.{job_under}
-use Rattle.wb_refines.specs.Copies.{migrating}
+use Rattle.wb_refines.specs.Migrations.{job_under, migrating}
 
 -- An abstract actor can go on with these results, so that this is shared then, and it is this actor.
 pub record GoesTo (actors : List Actor) (a : ℕ) (s : Shared) (y : Actor) (results : List Got) (t : Shared) (z : Actor) : Type 0 where

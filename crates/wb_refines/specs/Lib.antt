@@ -7,6 +7,5 @@ pub mod Laws
 pub mod Flushes
 pub mod Tasks
 pub mod Migrations
-pub mod Copies
 pub mod Carrying
 pub mod Carried

@@ -32,8 +32,7 @@ use Rattle.wb_contents.specs.Devices.{by_block}
 use Rattle.wb_refines.specs.Translation.{location_at, offsets, offsets_in}
 use Rattle.wb_refines.specs.Data.{IsSide, Moves, left_with as left_there, read_fault, write_fault}
 use Rattle.wb_refines.specs.Models.{SawSeal, SameImages, WordsAgree, plan_of, held_of, held_for}
-use Rattle.wb_refines.specs.Migrations.{order_on, migration_wants, job_under}
-use Rattle.wb_refines.specs.Copies.{migrating}
+use Rattle.wb_refines.specs.Migrations.{order_on, migration_wants, job_under, migrating}
 use Rattle.wb_refines.specs.Carried.{IsMigrationAt, AnswersAlike}
 use Rattle.wb_refines.proofs.Cells.{held_plain, saw_plain}
 use Rattle.wb_refines.proofs.Followed.{rest_plain}

@@ -24,8 +24,7 @@ use Rattle.wb_link.specs.World.{World, Shared, Nothing, effect, Actor as Abstrac
 use Rattle.wb_link.proofs.Lists.{get_set_same, get_set_other}
 use Rattle.wb_refines.specs.Translation.{offsets}
 use Rattle.wb_refines.specs.Models.{WordsAgree, plan_of, held_of, SawSeal, held_for}
-use Rattle.wb_refines.specs.Migrations.{order_on, job_under}
-use Rattle.wb_refines.specs.Copies.{migrating}
+use Rattle.wb_refines.specs.Migrations.{order_on, job_under, migrating}
 use Rattle.wb_refines.specs.Carrying.{GoesTo, without_block, under}
 use Rattle.wb_refines.specs.Carried.{IsMigrationAt}
 use Rattle.wb_refines.proofs.Carrying.{carrying_followed}

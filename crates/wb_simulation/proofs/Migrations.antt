@@ -10,7 +10,6 @@ use Rattle.wb_disk.specs.Extents.{written_each, written_where}
 use Rattle.wb_words.specs.SharedWords.{Words}
 use Rattle.wb_policy.specs.declared.order.Order.{Order}
 use Rattle.wb_policy.specs.declared.order.Order.TheVariants.{Replace, Demote as DemoteOrder}
-use Rattle.wb_words.specs.Rule.{LockRule}
 use Rattle.wb_words.specs.declared.card.Hold.TheVariants.{Nothing as HoldsNothing}
 use Rattle.wb_tasks.specs.Tables.{BlockRange, Migrating, OnBlock}
 use Rattle.wb_tasks.specs.Plan.{Plan, want, after}
@@ -31,7 +30,6 @@ use Rattle.wb_refines.specs.Migrations.{Fills, order_on}
 use Rattle.wb_runs.specs.declared.job.Job.TheVariants.{Migrate}
 use Rattle.wb_runs.specs.Effects.{contents_at, dropped, replacing}
 use Rattle.wb_runs.specs.States.{Actor, with_device}
-use Rattle.wb_runs.specs.Holding.{cards_of, AllSuited}
 use Rattle.wb_simulation.specs.Worlds.{Agrees, Stays, Maps, Unmaps, GivesUp}
 use Rattle.wb_simulation.specs.Laws.{after_step}
 use Rattle.wb_simulation.specs.Migrating.{MigrationsFollowed, Carried, EndsOrder, TurnsOrder, LeavesFrom, Goes}
@@ -73,12 +71,12 @@ module _ (size most blocks : ℕ) (words : Words) (committing : Bool) (orders : 
     read_is_done asked room = found (Device (Read device e)) asked tt (λ p. Carried Stays size most a s words committing orders devices actors (record x { task = Some (Migrate migration block, after p Done); buffer = contents_at (device_in device devices) e }))
         (λ part later f has. reads size most blocks words committing orders devices actors a x s its.0 g ex its.1 migration block part device e plan.answer later f has room)
 
-    write_is_done : LockRule blocks words (cards_of actors) → AllSuited blocks actors → want plan ≡ Device (Write device e) → e.first + e.count ≤ length (device_in device devices) → Carried Stays size most a s words committing orders (with_device device devices (written_each (device_in device devices) e.first x.buffer)) actors (after_step (Migrate migration block) plan Done x)
-    write_is_done rule suited asked room = found (Device (Write device e)) asked tt (λ p. Carried Stays size most a s words committing orders (with_device device devices (written_each (device_in device devices) e.first x.buffer)) actors (after_step (Migrate migration block) p Done x))
+    write_is_done : want plan ≡ Device (Write device e) → e.first + e.count ≤ length (device_in device devices) → Carried Stays size most a s words committing orders (with_device device devices (written_each (device_in device devices) e.first x.buffer)) actors (after_step (Migrate migration block) plan Done x)
+    write_is_done asked room = found (Device (Write device e)) asked tt (λ p. Carried Stays size most a s words committing orders (with_device device devices (written_each (device_in device devices) e.first x.buffer)) actors (after_step (Migrate migration block) p Done x))
         (λ part later f has. writes size most blocks words committing orders devices actors a x s its.0 g ex its.1 migration block part device e plan.answer later f has room)
 
-    write_has_failed : LockRule blocks words (cards_of actors) → AllSuited blocks actors → (lands : ℕ → Bool) → want plan ≡ Device (Write device e) → e.first + e.count ≤ length (device_in device devices) → Carried Stays size most a s words committing orders (with_device device devices (written_where lands (device_in device devices) e.first x.buffer)) actors (after_step (Migrate migration block) plan Fault x)
-    write_has_failed rule suited lands asked room = found (Device (Write device e)) asked tt (λ p. Carried Stays size most a s words committing orders (with_device device devices (written_where lands (device_in device devices) e.first x.buffer)) actors (after_step (Migrate migration block) p Fault x))
+    write_has_failed : (lands : ℕ → Bool) → want plan ≡ Device (Write device e) → e.first + e.count ≤ length (device_in device devices) → Carried Stays size most a s words committing orders (with_device device devices (written_where lands (device_in device devices) e.first x.buffer)) actors (after_step (Migrate migration block) plan Fault x)
+    write_has_failed lands asked room = found (Device (Write device e)) asked tt (λ p. Carried Stays size most a s words committing orders (with_device device devices (written_where lands (device_in device devices) e.first x.buffer)) actors (after_step (Migrate migration block) p Fault x))
         (λ part later f has. write_falls size most blocks words committing orders devices actors a x s its.0 g ex its.1 migration block part device e plan.answer later f has room lands)
 
     read_has_failed : want plan ≡ Device (Read device e) → Carried Stays size most a s words committing orders devices actors (after_step (Migrate migration block) plan Fault x)
@@ -199,8 +197,8 @@ migrations_followed = record {
   cells = cells;
   read_done = λ size most blocks words committing orders devices actors a x migration block plan device e s ex task suits asked room g. read_is_done size most blocks words committing orders devices actors a x migration block plan s ex task suits g device e asked room;
   read_fails = λ size most blocks words committing orders devices actors a x migration block plan device e s ex task suits asked g. read_has_failed size most blocks words committing orders devices actors a x migration block plan s ex task suits g device e asked;
-  write_done = λ size most blocks words committing orders devices actors a x migration block plan device e s rule suited ex task suits asked room g. write_is_done size most blocks words committing orders devices actors a x migration block plan s ex task suits g device e rule suited asked room;
-  write_fails = λ size most blocks words committing orders devices actors a x migration block plan device e lands s rule suited ex task suits asked room g. write_has_failed size most blocks words committing orders devices actors a x migration block plan s ex task suits g device e rule suited lands asked room;
+  write_done = λ size most blocks words committing orders devices actors a x migration block plan device e s ex task suits asked room g. write_is_done size most blocks words committing orders devices actors a x migration block plan s ex task suits g device e asked room;
+  write_fails = λ size most blocks words committing orders devices actors a x migration block plan device e lands s ex task suits asked room g. write_has_failed size most blocks words committing orders devices actors a x migration block plan s ex task suits g device e lands asked room;
   maps = λ size most blocks words committing orders devices actors a x migration block b c plan s ex task suits asked free g. map_is_done size most blocks words committing orders devices actors a x migration block plan s ex task suits g b c asked free;
   is_refused = λ size most blocks words committing orders devices actors a x migration block b c plan refusal s ex task suits asked g. map_is_refused size most blocks words committing orders devices actors a x migration block plan s ex task suits g b c refusal asked;
   unmaps = λ size most blocks words committing orders devices actors a x migration block b plan s ex task suits asked leaving g. unmap_is_done size most blocks words committing orders devices actors a x migration block plan s ex task suits g b asked leaving;

@@ -217,12 +217,12 @@ extent_steps_followed = record {
       let k = has_step size [] words Reading (λ p. refl) part (ReadExtent device e) plan x.card y.0 next of_part (doing_of size most words x y.0 (Read extent) plan (g.each a x y.0 ex y.1) task) in
       subst (λ (p : Plan). Follows Quietly size most a s words committing orders devices (slice_set actors a (after_step (Read extent) p Fault x))) (sym k.is)
       (read_fails size most blocks words committing orders devices actors a x s y.0 ex y.1 g part k.is_part device e k.later plan.answer h extent k.of_block k.at);
-  write_done = λ size most blocks words committing orders devices actors a x extent content part plan device e s rule suited ex task of_part suits next h room beside g.
+  write_done = λ size most blocks words committing orders devices actors a x extent content part plan device e s ex task of_part suits next h room g.
       let y = own_there size most words committing orders devices actors s g a x ex in
       let k = has_step size content words Writing (λ p. refl) part (WriteExtent device e) plan x.card y.0 next of_part (doing_of size most words x y.0 (Write extent content) plan (g.each a x y.0 ex y.1) task) in
       subst (λ (p : Plan). Follows (Writes part.block.0 (e.first % size) e.count content) size most a s words committing orders (with_device device devices (written_each (device_in device devices) e.first (replicate e.count content))) (slice_set actors a (after_step (Write extent content) p Done x))) (sym k.is)
       (write_done size most blocks words committing orders devices actors a x s y.0 ex y.1 g part k.is_part device e k.later plan.answer h extent content k.of_block (subst (λ (p : Plan). Suits blocks p x.card) k.is suits) room k.at);
-  write_fails = λ size most blocks words committing orders devices actors a x extent content part plan device e lands s rule suited ex task of_part suits next h room beside g.
+  write_fails = λ size most blocks words committing orders devices actors a x extent content part plan device e lands s ex task of_part suits next h room g.
       let y = own_there size most words committing orders devices actors s g a x ex in
       let k = has_step size content words Writing (λ p. refl) part (WriteExtent device e) plan x.card y.0 next of_part (doing_of size most words x y.0 (Write extent content) plan (g.each a x y.0 ex y.1) task) in
       subst (λ (p : Plan). Follows (Writes part.block.0 (e.first % size) e.count content) size most a s words committing orders (with_device device devices (written_where lands (device_in device devices) e.first (replicate e.count content))) (slice_set actors a (after_step (Write extent content) p Fault x))) (sym k.is)

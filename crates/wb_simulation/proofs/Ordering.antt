@@ -22,8 +22,7 @@ use Rattle.wb_link.proofs.Lists.{get_set_same, get_set_other}
 use Rattle.wb_refines.specs.Tasks.{AllInBlocks, IsResting}
 use Rattle.wb_refines.specs.Models.{held_of}
 use Rattle.wb_refines.specs.Translation.{offsets}
-use Rattle.wb_refines.specs.Migrations.{order_on, job_under, migration_wants, Fills}
-use Rattle.wb_refines.specs.Copies.{migrating}
+use Rattle.wb_refines.specs.Migrations.{order_on, job_under, migration_wants, Fills, migrating}
 use Rattle.wb_refines.specs.Carrying.{without_block}
 use Rattle.wb_refines.proofs.Carrying.{under_order}
 use Rattle.wb_refines.proofs.Tasks.{within_offsets}

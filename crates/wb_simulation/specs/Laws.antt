@@ -1,8 +1,8 @@
 -- How what actors of a run do is followed in the abstract world, where a target stands.
-use Rattle.std.specs.Prelude.{◌++◌, Contains, ◌%◌, ◌/◌, ◌≡◌, ◌≤◌, ◌+◌, ◌⊎◌, ℕ, Bool, true, false, List, [], Some, None, length, replicate, slice_get, slice_set, Option}
+use Rattle.std.specs.Prelude.{◌++◌, Contains, ◌%◌, ◌≡◌, ◌≤◌, ◌+◌, ◌⊎◌, ℕ, Bool, true, false, List, [], Some, None, length, replicate, slice_get, slice_set, Option}
 use Rattle.wb_types.specs.declared.extent.Extent.{Extent}
 use Rattle.wb_types.specs.declared.mode.Dev.{Dev}
-use Rattle.wb_types.specs.declared.mode.Dev.TheVariants.{Metadata, Cache}
+use Rattle.wb_types.specs.declared.mode.Dev.TheVariants.{Metadata}
 use Rattle.wb_types.specs.declared.number.OBlock.{OBlock}
 use Rattle.wb_types.specs.declared.refusal.Refusal.{Refusal}
 use Rattle.wb_disk.specs.Device.{Content, History, only, synced}
@@ -15,7 +15,6 @@ use Rattle.wb_words.specs.declared.step.CellStep.{CellStep}
 use Rattle.wb_words.specs.declared.step.CellStep.TheVariants.{Look, SetFailed}
 use Rattle.wb_words.specs.declared.word.Word.TheVariants.{Fail}
 use Rattle.wb_policy.specs.declared.order.Order.{Order}
-use Rattle.wb_policy.specs.declared.order.Order.TheVariants.{Promote, Replace, Demote, Clean}
 use Rattle.wb_tasks.specs.Plan.{Plan, want, after, got_of, table, device_of}
 use Rattle.wb_tasks.specs.Tables.{BlockRange, Reading, Writing, OnBlock, Flushing}
 use Rattle.wb_tasks.specs.declared.step.Answer.{Answer}
@@ -36,7 +35,7 @@ use Rattle.wb_refines.specs.Flushes.{IsNoBegin, IsWrittenAfter}
 use Rattle.wb_runs.specs.declared.job.Job.{Job}
 use Rattle.wb_runs.specs.declared.job.Job.TheVariants.{Read, Write, Flush}
 use Rattle.wb_runs.specs.States.{Actor, resting, with_device}
-use Rattle.wb_runs.specs.Holding.{cards_of, AllSuited}
+use Rattle.wb_runs.specs.Holding.{cards_of}
 use Rattle.wb_simulation.specs.Carried.{held}
 use Rattle.wb_simulation.specs.Steps.{IsPart}
 use Rattle.wb_simulation.specs.Telling.{Quietly, Reads, Writes, Answers, Starts, Releases}
@@ -61,20 +60,7 @@ CellStepsFollowed = (size most blocks : ℕ) (words : Words) (committing : Bool)
 abbrev pub after_step : Job → Plan → Got → Actor → Actor
 after_step job plan got x = record x { task = Some (job, after plan got) }
 
--- an order leaves its cache block's entry as it is, or has this block of the origin copied home or leave
-abbrev pub IsFrom : OBlock → Order → Type 0
-IsFrom block (Promote b c) = Unit {0}
-IsFrom block (Replace old new c) = old ≡ block
-IsFrom block (Demote b) = b ≡ block
-IsFrom block (Clean b) = b ≡ block
-
--- What is written on the cache for a block is in no cache block out of which another one is copied.
-abbrev pub IsBesideOrders : ℕ → List (Option Order) → OBlock → Dev → Extent → Type 0
-IsBesideOrders size orders block Cache e = (c : ℕ) (order : Order) → slice_get orders c ≡ Some (Some order) → e.first / size ≡ c → IsFrom block order
-IsBesideOrders size orders block device e = Unit {0}
-
--- A step of a read or a write on an extent of a device, done or failing; of a write that fails each sector has landed or not. That the words keep
--- their rule, and everybody has what the task needs, says that nobody else writes a block of which a migration has read an extent.
+-- A step of a read or a write on an extent of a device, done or failing; of a write that fails each sector has landed or not.
 pub record ExtentStepsFollowed : Type 0 where
   pub read_done : (size most blocks : ℕ) (words : Words) (committing : Bool) (orders : List (Option Order)) (devices : Devices (List History)) (actors : List Actor) (a : ℕ) (x : Actor) (extent : Extent) (part : BlockRange) (plan : Plan) (device : Dev) (e : Extent) (contents : List Content) (s : World) →
       slice_get actors a ≡ Some x → x.task ≡ Some (Read extent, plan) → plan.job ≡ OnBlock (Reading part) → Suits blocks plan x.card → want plan ≡ Device (ReadExtent device e) → HoldsBlocks device → length contents ≡ e.count → GivesEach (device_in device devices) e.first contents →
@@ -83,10 +69,10 @@ pub record ExtentStepsFollowed : Type 0 where
       slice_get actors a ≡ Some x → x.task ≡ Some (Read extent, plan) → plan.job ≡ OnBlock (Reading part) → Suits blocks plan x.card → want plan ≡ Device (ReadExtent device e) → HoldsBlocks device →
       Agrees size most words committing orders devices actors s → Follows Quietly size most a s words committing orders devices (slice_set actors a (after_step (Read extent) plan Fault x))
   pub write_done : (size most blocks : ℕ) (words : Words) (committing : Bool) (orders : List (Option Order)) (devices : Devices (List History)) (actors : List Actor) (a : ℕ) (x : Actor) (extent : Extent) (content : Content) (part : BlockRange) (plan : Plan) (device : Dev) (e : Extent) (s : World) →
-      LockRule blocks words (cards_of actors) → AllSuited blocks actors → slice_get actors a ≡ Some x → x.task ≡ Some (Write extent content, plan) → plan.job ≡ OnBlock (Writing part) → Suits blocks plan x.card → want plan ≡ Device (WriteExtent device e) → HoldsBlocks device → e.first + e.count ≤ length (device_in device devices) → IsBesideOrders size orders part.block device e →
+      slice_get actors a ≡ Some x → x.task ≡ Some (Write extent content, plan) → plan.job ≡ OnBlock (Writing part) → Suits blocks plan x.card → want plan ≡ Device (WriteExtent device e) → HoldsBlocks device → e.first + e.count ≤ length (device_in device devices) →
       Agrees size most words committing orders devices actors s → Follows (Writes part.block.0 (e.first % size) e.count content) size most a s words committing orders (with_device device devices (written_each (device_in device devices) e.first (replicate e.count content))) (slice_set actors a (after_step (Write extent content) plan Done x))
   pub write_fails : (size most blocks : ℕ) (words : Words) (committing : Bool) (orders : List (Option Order)) (devices : Devices (List History)) (actors : List Actor) (a : ℕ) (x : Actor) (extent : Extent) (content : Content) (part : BlockRange) (plan : Plan) (device : Dev) (e : Extent) (lands : ℕ → Bool) (s : World) →
-      LockRule blocks words (cards_of actors) → AllSuited blocks actors → slice_get actors a ≡ Some x → x.task ≡ Some (Write extent content, plan) → plan.job ≡ OnBlock (Writing part) → Suits blocks plan x.card → want plan ≡ Device (WriteExtent device e) → HoldsBlocks device → e.first + e.count ≤ length (device_in device devices) → IsBesideOrders size orders part.block device e →
+      slice_get actors a ≡ Some x → x.task ≡ Some (Write extent content, plan) → plan.job ≡ OnBlock (Writing part) → Suits blocks plan x.card → want plan ≡ Device (WriteExtent device e) → HoldsBlocks device → e.first + e.count ≤ length (device_in device devices) →
       Agrees size most words committing orders devices actors s → Follows (Writes part.block.0 (e.first % size) e.count content) size most a s words committing orders (with_device device devices (written_where lands (device_in device devices) e.first (replicate e.count content))) (slice_set actors a (after_step (Write extent content) plan Fault x))
 
 -- The job is given to the actor there too, or to nobody, since the actor has kept something at a failure.

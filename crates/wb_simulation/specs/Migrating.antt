@@ -39,7 +39,7 @@ use Rattle.wb_link.specs.World.{World, Shared, Free, Mapped, Reserved, Apart}
 use Rattle.wb_link.specs.Tables.{Order as AbstractOrder}
 use Rattle.wb_refines.specs.Migrations.{IsWhere}
 use Rattle.wb_runs.specs.Effects.{contents_at, dropped, replacing}
-use Rattle.wb_runs.specs.Holding.{cards_of, AllSuited}
+use Rattle.wb_runs.specs.Holding.{cards_of}
 use Rattle.wb_contents.specs.Volume.{Locations}
 use Rattle.wb_simulation.specs.Carried.{order_there, IsOrderFor}
 use Rattle.wb_simulation.specs.Worlds.{Agrees, Turn, Stays, Reserves, Maps, Unmaps, GivesUp, FollowsBy}
@@ -135,10 +135,10 @@ pub record MigrationsFollowed : Type 0 where
       Carried Stays size most a s words committing orders devices actors (after_step (Migrate migration block) plan Fault x)
   -- a write takes it from there
   pub write_done : (size most blocks : ℕ) (words : Words) (committing : Bool) (orders : List (Option Order)) (devices : Devices (List History)) (actors : List Actor) (a : ℕ) (x : Actor) (migration : Migration) (block : OBlock) (plan : Plan) (device : Dev) (e : Extent) (s : World) →
-      LockRule blocks words (cards_of actors) → AllSuited blocks actors → slice_get actors a ≡ Some x → x.task ≡ Some (Migrate migration block, plan) → Suits blocks plan x.card → want plan ≡ Device (WriteExtent device e) → e.first + e.count ≤ length (device_in device devices) → Agrees size most words committing orders devices actors s →
+      slice_get actors a ≡ Some x → x.task ≡ Some (Migrate migration block, plan) → Suits blocks plan x.card → want plan ≡ Device (WriteExtent device e) → e.first + e.count ≤ length (device_in device devices) → Agrees size most words committing orders devices actors s →
       Carried Stays size most a s words committing orders (with_device device devices (written_each (device_in device devices) e.first x.buffer)) actors (after_step (Migrate migration block) plan Done x)
   pub write_fails : (size most blocks : ℕ) (words : Words) (committing : Bool) (orders : List (Option Order)) (devices : Devices (List History)) (actors : List Actor) (a : ℕ) (x : Actor) (migration : Migration) (block : OBlock) (plan : Plan) (device : Dev) (e : Extent) (lands : ℕ → Bool) (s : World) →
-      LockRule blocks words (cards_of actors) → AllSuited blocks actors → slice_get actors a ≡ Some x → x.task ≡ Some (Migrate migration block, plan) → Suits blocks plan x.card → want plan ≡ Device (WriteExtent device e) → e.first + e.count ≤ length (device_in device devices) → Agrees size most words committing orders devices actors s →
+      slice_get actors a ≡ Some x → x.task ≡ Some (Migrate migration block, plan) → Suits blocks plan x.card → want plan ≡ Device (WriteExtent device e) → e.first + e.count ≤ length (device_in device devices) → Agrees size most words committing orders devices actors s →
       Carried Stays size most a s words committing orders (with_device device devices (written_where lands (device_in device devices) e.first x.buffer)) actors (after_step (Migrate migration block) plan Fault x)
   -- A promotion's order is over once its block is mapped, a demotion's once it is unmapped; and each where it is given up.
   pub maps : (size most blocks : ℕ) (words : Words) (committing : Bool) (orders : List (Option Order)) (devices : Devices (List History)) (actors : List Actor) (a : ℕ) (x : Actor) (migration : Migration) (block : OBlock) (b : OBlock) (c : CBlock) (plan : Plan) (s : World) →
