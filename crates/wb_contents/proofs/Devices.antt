@@ -66,7 +66,7 @@ failed_sync_is_act size blank lands device = everywhere (by_block size blank (sy
       go b o false = sym (landed_blank (lands (b * size + o)) blank) ∙ landed_is (lands (b * size + o)) (only blank)
 
 -- the sectors of two blocks, or two of one block, are two sectors
-apart : (size b o b' o' : ℕ) → o < size → o' < size → Elsewhere b o b' o' → b' * size + o' ≢ b * size + o
+pub apart : (size b o b' o' : ℕ) → o < size → o' < size → Elsewhere b o b' o' → b' * size + o' ≢ b * size + o
 apart size b o b' o' l m (inl n) e = n (sym (div-mul-add b' size o' m) ∙ ap (λ v. v / size) e ∙ div-mul-add b size o l)
 apart size b o b' o' l m (inr n) e =
     let same : b' ≡ b = sym (div-mul-add b' size o' m) ∙ ap (λ v. v / size) e ∙ div-mul-add b size o l in

@@ -42,7 +42,7 @@ use Rattle.wb_promise.specs.Happenings.{Chosen, Plain, Orders, Asks, Happening}
 use Rattle.wb_promise.specs.Effects.{after_all, all_resting, IsRun}
 use Rattle.wb_promise.specs.Headline.{cached_from, place_of}
 use Rattle.wb_examples.specs.Possible.{one_block, first_block, first_cache_block, AboutToAnswer, Demotes, CanDemote}
-use Rattle.wb_runs.proofs.Lists.{set_there}
+use Rattle.wb_contents.proofs.Lists.{set_there}
 use Rattle.wb_examples.proofs.FirstOpening.{rooted_metadata as opened_metadata, run_append, after_append}
 use Rattle.wb_runs.proofs.MetadataRuns.{IsKnown, known_always, known_at_start}
 use Rattle.wb_runs.proofs.Desks.{changed}

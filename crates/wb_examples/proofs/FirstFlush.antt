@@ -30,11 +30,12 @@ use Rattle.wb_promise.specs.declared.event.What.TheVariants.{Started, Stepped}
 use Rattle.wb_promise.specs.States.{Shape, State, Actor, Target, Stands}
 use Rattle.wb_promise.specs.Happenings.{Chosen, Plain, Puts, Commits, Happening, AtWork}
 use Rattle.wb_promise.specs.Effects.{after_all, IsRun}
-use Rattle.wb_runs.proofs.Rooted.{length-grown, Fits, rooted, comes_next, root_does}
+use Rattle.wb_runs.proofs.Rooted.{Fits, rooted, comes_next, root_does}
 use Rattle.wb_runs.proofs.Metadata.{Quiet}
 use Rattle.wb_examples.proofs.Bare.{BareDesk}
 use Rattle.wb_examples.proofs.Beginning.{bare_commit, begins_bare}
 use denote.RawPtr.{null_ptr}
+use Rattle.wb_contents.proofs.Lengths.{length-grown}
 
 -- a happening that read nothing
 abbrev pub happened : {P A : Type 0} → Global → Event → What → Chosen P A → Happening P A

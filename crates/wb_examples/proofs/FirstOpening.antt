@@ -28,7 +28,7 @@ use Rattle.wb_examples.specs.Possible.{Opens, CanOpen, Flushes, CanFlush}
 use Rattle.wb_runs.proofs.Readings.{first_read, some_slot}
 use Rattle.wb_runs.proofs.Formatted.{HasNoTree, formatted_none, synced_none, none_images, none_readable}
 use Rattle.wb_examples.proofs.Completing.{stored, next_commit, all_read}
-use Rattle.wb_runs.proofs.Rooted.{length-grown, Fits, rooted, comes_next, root_does}
+use Rattle.wb_runs.proofs.Rooted.{Fits, rooted, comes_next, root_does}
 use Rattle.wb_examples.proofs.Bare.{BareDesk}
 use Rattle.wb_examples.proofs.FirstFlush.{happened, flushing, flush_run, flush_done}
 use Rattle.wb_runs.proofs.Metadata.{Quiet}
@@ -43,6 +43,7 @@ use Rattle.wb_promise.specs.declared.job.Job.TheVariants.{Flush}
 use Rattle.wb_promise.specs.States.{Target, Stands}
 use Rattle.wb_promise.specs.Happenings.{AtWork}
 use Rattle.wb_promise.specs.Effects.{target_over, words_by, card_by, card_over, all_resting, after_happening}
+use Rattle.wb_contents.proofs.Lengths.{length-grown}
 
 module _ (P A : Type 0) (policy : P) (alloc : A) (global : Global) (shape : Shape) (metadata cache origin : List History) (none : HasNoTree shape.geometry metadata) (size : length metadata ≡ shape.geometry.meta_sectors) (rest : List Actor) where
   -- the metadata once they were synced

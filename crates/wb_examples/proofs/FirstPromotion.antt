@@ -46,7 +46,7 @@ use Rattle.wb_promise.specs.Happenings.{Chosen, Plain, Orders, Asks, Happening}
 use Rattle.wb_promise.specs.Effects.{after_all, all_resting, IsRun}
 use Rattle.wb_promise.specs.Headline.{place_of}
 use Rattle.wb_examples.specs.Possible.{one_block, first_block, first_cache_block, AboutToAnswer, Promotes, CanPromote}
-use Rattle.wb_runs.proofs.Lists.{set_there}
+use Rattle.wb_contents.proofs.Lists.{set_there}
 use Rattle.wb_runs.proofs.Formatted.{HasNoTree, formatted_none}
 use Rattle.wb_examples.proofs.FirstFlush.{happened}
 use Rattle.wb_examples.proofs.FirstOpening.{happenings as first_opening, is_run as opens_run, target as opened_target, rooted_metadata as opened_metadata, opened_is, known as opened_known, run_append, after_append}

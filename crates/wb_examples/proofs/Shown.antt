@@ -6,7 +6,7 @@ use Rattle.wb_disk.specs.Device.{Content as Bytes, History, added, written}
 use Rattle.wb_promise.specs.States.{Shape, sector_count, block_size}
 use Rattle.wb_promise.specs.Effects.{sealing_steps}
 use Rattle.wb_promise.specs.Headline.{cached_from, place_of, content_of, shown_by}
-use Rattle.wb_runs.proofs.Lists.{set_there}
+use Rattle.wb_contents.proofs.Lists.{set_there}
 
 pub written_same : (device : List History) (at : ℕ) (h : History) (c : Bytes) → slice_get device at ≡ Some h → slice_get (written device at c) at ≡ Some (added h c)
 written_same device at h c e = rw e (set_there device at h (added h c) e)

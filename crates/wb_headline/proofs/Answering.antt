@@ -25,7 +25,7 @@ use Rattle.wb_simulation.specs.Opened.{located}
 use Rattle.wb_simulation.specs.Worlds.{zeros}
 use Rattle.wb_simulation.proofs.Opened.{found_at}
 use Rattle.wb_headline.specs.Desks.{block_there, orders_of}
-use Rattle.wb_headline.proofs.Showing.{there}
+use Rattle.wb_contents.proofs.Lists.{there_is as there}
 
 -- no order lives at a desk that was just opened
 pub no_orders_live : (count : ℕ) → orders_of (replicate count None) ≡ replicate count None

@@ -7,7 +7,7 @@ use Rattle.wb_meta.specs.Formats.{IsFormatted}
 use Rattle.wb_promise.specs.States.{Shape, Actor, start, resting, block_size, sector_count, cache_sector_count}
 use Rattle.wb_promise.specs.Clerk.{Doing, formatted}
 use Rattle.wb_promise.specs.Headline.{cached_from}
-use Rattle.wb_runs.proofs.Lists.{replicated}
+use Rattle.wb_contents.proofs.Lists.{replicated}
 use Rattle.wb_runs.proofs.Images.{Images}
 use Rattle.wb_runs.proofs.Formatted.{formatted_none, none_images, none_readable}
 use Rattle.wb_runs.proofs.Using.{used_start}
@@ -55,7 +55,7 @@ module _ (P A : Type 0) (shape : Shape) (metadata : List History) (f : IsFormatt
   begun = after_event first (Stopped crash)
 
   idle_there : (a : ℕ) (y : AbstractActor) → slice_get begun.world.actors a ≡ Some y → y.task ≡ None
-  idle_there a y e = ap (λ (v : AbstractActor). v.task) (replicated (length first.world.actors) a idle y e)
+  idle_there a y e = ap (λ (v : AbstractActor). v.task) (sym (replicated (length first.world.actors) a idle y e))
 
   images : Images
   images = none_images shape.geometry metadata (formatted_none shape.geometry metadata f)
@@ -105,8 +105,8 @@ module _ (P A : Type 0) (shape : Shape) (metadata : List History) (f : IsFormatt
       cache = length-replicate (cache_sector_count shape) _;
       origin = length-replicate (sector_count shape) _;
       seals = tt;
-      tasks = λ a x e. subst (λ (v : Actor). PlanInside shape v.task) (sym (replicated shape.actors a resting x e)) tt;
+      tasks = λ a x e. subst (λ (v : Actor). PlanInside shape v.task) (replicated shape.actors a resting x e) tt;
     };
-    noted_so = λ a d e. absurd (let same : ◌≡◌ {A = Option Doing} None (Some d) = sym (replicated shape.actors a None (Some d) e) in cc);
-    keeping = λ a x e. subst (λ (v : Actor). HasNone v) (sym (replicated shape.actors a resting x e)) (λ order h. absurd (omega (arith, h.1)));
+    noted_so = λ a d e. absurd (let same : ◌≡◌ {A = Option Doing} None (Some d) = replicated shape.actors a None (Some d) e in cc);
+    keeping = λ a x e. subst (λ (v : Actor). HasNone v) (replicated shape.actors a resting x e) (λ order h. absurd (omega (arith, h.1)));
   }

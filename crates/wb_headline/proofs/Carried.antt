@@ -23,7 +23,7 @@ use Rattle.wb_promise.specs.States.{Actor}
 use Rattle.wb_simulation.specs.Steps.{AreOfBlock}
 use Rattle.wb_simulation.specs.Worlds.{Agrees}
 use Rattle.wb_simulation.proofs.Followed.{begins_by, IsWithin, never_late, never_over}
-use Rattle.wb_headline.proofs.Showing.{there}
+use Rattle.wb_contents.proofs.Lists.{there_is as there}
 
 module _ (size most blocks : ℕ) (words : Words) (committing : Bool) (orders : List (Option Order)) (devices : Devices (List History)) (actors : List Actor) (s : World) (g : Agrees size most words committing orders devices actors s)
     (a : ℕ) (x : Actor) (migration : Migration) (block : OBlock) (plan : Plan) (ex : slice_get actors a ≡ Some x) (xt : x.task ≡ Some (Migrate migration block, plan)) (suits : Suits blocks plan x.card) where

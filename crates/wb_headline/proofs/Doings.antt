@@ -22,7 +22,7 @@ use Rattle.wb_promise.specs.Happenings.{begun_as}
 use Rattle.wb_promise.specs.Clerk.{Notes, Doing, begun, put, nobody, starting, failing, device_note, finished_note, noted_step, noted_what, readings_from, sector_for}
 use Rattle.wb_promise.specs.Headline.{IsLatest}
 use Rattle.wb_promise.specs.Latest.{IsGiven, GivesLatest, ReadsRightly}
-use Rattle.wb_link.proofs.Lists.{replicated}
+use Rattle.wb_contents.proofs.Lists.{replicated}
 
 -- a step that is chosen to fail does
 abbrev pub IsFault : Event → What → Type 0

@@ -7,7 +7,7 @@ use Rattle.wb_link.specs.World.{Actor, Record, IsRun, after_all}
 use Rattle.wb_link.specs.Clerk.{Notes, opened}
 use Rattle.wb_link.specs.Openings.{Event, On, Site, Stands, after_event, after_events, note_event, noted, AllRight, MayHappen, Happens, site}
 use Rattle.wb_link.proofs.Lives.{headline, start_is_linked}
-use Rattle.wb_link.proofs.Lists.{replicated}
+use Rattle.wb_contents.proofs.Lists.{replicated}
 use Rattle.wb_link.proofs.Runs.{fresh_noted}
 use Rattle.wb_contents.specs.Promises.{first_volume}
 use Rattle.wb_types.specs.declared.mode.Mode.TheVariants.{Writeback}

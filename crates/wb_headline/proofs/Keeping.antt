@@ -62,7 +62,7 @@ use Rattle.wb_promise.specs.Headline.{place_of}
 use Rattle.wb_runs.specs.Holding.{cards_of, AllSuited, TaskSuits}
 use Rattle.wb_promise.specs.Sealed.{SealsNext, Tells, number_of}
 use Rattle.wb_runs.proofs.Images.{Images}
-use Rattle.wb_runs.proofs.Lists.{set_other, set_there}
+use Rattle.wb_contents.proofs.Lists.{set_other, set_there}
 use Rattle.wb_runs.proofs.Metadata.{MetadataKept, unknowing}
 use Rattle.wb_runs.proofs.Ordering.{held_of, then_had}
 use Rattle.wb_runs.proofs.Owning.{Owned, dropped_is, owned_over, owned_same, owned_within}
@@ -72,7 +72,7 @@ use Rattle.wb_simulation.specs.Steps.{AreOfBlock}
 use Rattle.wb_simulation.proofs.Followed.{begins_by, doing_of}
 use Rattle.wb_simulation.proofs.Migrations.{migrations_followed}
 use Rattle.wb_headline.specs.Desks.{live_orders}
-use Rattle.wb_headline.proofs.Showing.{there}
+use Rattle.wb_contents.proofs.Lists.{there_is as there}
 use Rattle.wb_headline.proofs.Carried.{carried}
 use Rattle.wb_headline.proofs.Desking.{located_entered, located_left}
 use Rattle.wb_headline.proofs.Following.{size, most, Followed}

@@ -34,7 +34,7 @@ use Rattle.wb_promise.specs.Happenings.{block_range, Chosen, Gives, Falters, May
 use Rattle.wb_promise.specs.Effects.{actor_then, orders_then, awaiting_then, device_done, device_failed, stepped}
 use Rattle.wb_runs.specs.Holding.{cards_of, AllSuited}
 use Rattle.wb_promise.specs.Clerk.{Notes, Doing, noted_step, device_note, failing, put, readings_from, sector_for, write_note, enter_each, entering, finished_note, all_raised, Entering, enter}
-use Rattle.wb_runs.proofs.Lists.{set_there}
+use Rattle.wb_contents.proofs.Lists.{set_there}
 use Rattle.wb_runs.proofs.Images.{Images}
 use Rattle.wb_runs.proofs.Metadata.{MetadataKept}
 use Rattle.wb_runs.proofs.Extents.{may_start, some_sectors}
@@ -59,7 +59,7 @@ use Rattle.wb_promise.specs.Headline.{IsLatest, shown}
 use Rattle.wb_headline.specs.Desks.{live_orders}
 use Rattle.wb_headline.proofs.Following.{size, most, Followed, Goes, many}
 use Rattle.wb_headline.proofs.Targets.{standing, actor_is, beside, noted_within, stays_on}
-use Rattle.wb_headline.proofs.Showing.{there}
+use Rattle.wb_contents.proofs.Lists.{there_is as there}
 use Rattle.wb_headline.proofs.Events.{records_happen, is_right}
 use Rattle.wb_types.specs.declared.mode.Dev.TheVariants.{Metadata, Cache, Origin}
 use Rattle.wb_disk.specs.Crash.{Choice}
@@ -112,9 +112,6 @@ module _ (P A : Type 0) (shape : Shape) (images : Images) (t : Target P) (commit
   abbrev slots_now : List (Option Order)
   slots_now = live_orders t.desk
 
-  noted_less : Rattle.std.proofs.Common.◌<◌ a (length n.doings)
-  noted_less = noted_within P A shape images t commit devices actors n known f a x ex
-
   -- ---- a read
 
   module _ (extent : Extent) (plan : Plan) (xt : x.task ≡ Some (Read extent, plan)) (suits : Suits shape.geometry.origin_blocks plan x.card) (job_is : doing.job ≡ Read extent) (claim : JobClaim shape (Read extent) plan doing) (device : Dev) (e : Extent) (next : Device (ReadExtent device e) ≡ want plan) (holds : HoldsBlocks device) where
@@ -135,7 +132,7 @@ module _ (P A : Type 0) (shape : Shape) (images : Images) (t : Target P) (commit
         let doing2 : Doing = record doing { readings = doing.readings ++ readings_from n.histories (sector_for shape extent e) contents } in
         let s' = after_all f.site.world g.records in
         let m' = told f.notes g.records in
-        let once = notes_followed.read part.block.0 (e.first % size P A shape) contents Stays (size P A shape) (most P A shape) a f.site.world t.words t.desk.space.committing slots_now devices (slice_set actors a (after_step (Read extent) plan Done x)) g b.0 n f.notes b.1 noted_less f.notes_agree in
+        let once = notes_followed.read part.block.0 (e.first % size P A shape) contents Stays (size P A shape) (most P A shape) a f.site.world t.words t.desk.space.committing slots_now devices (slice_set actors a (after_step (Read extent) plan Done x)) g b.0 n f.notes b.1 (noted_within P A shape images t commit devices actors n known f a x ex) f.notes_agree in
         let first = notes_followed.redone (size P A shape) n s' m' a doing doing once noted refl refl in
         let second = notes_followed.redone (size P A shape) (put n a (Some doing)) s' m' a doing doing2 first (set_there n.doings a (Some doing) (Some doing) noted) refl refl in
         let y = after_step (Read extent) plan Done x in
@@ -153,7 +150,7 @@ module _ (P A : Type 0) (shape : Shape) (images : Images) (t : Target P) (commit
         let mid = failing doing (ReadExtent device e) Fault in
         let s' = after_all f.site.world g.records in
         let m' = told f.notes g.records in
-        let once = notes_followed.quiet Stays (size P A shape) (most P A shape) a f.site.world t.words t.desk.space.committing slots_now devices (slice_set actors a (after_step (Read extent) plan Fault x)) g b.0 n f.notes b.1 noted_less f.notes_agree in
+        let once = notes_followed.quiet Stays (size P A shape) (most P A shape) a f.site.world t.words t.desk.space.committing slots_now devices (slice_set actors a (after_step (Read extent) plan Fault x)) g b.0 n f.notes b.1 (noted_within P A shape images t commit devices actors n known f a x ex) f.notes_agree in
         let first = notes_followed.redone (size P A shape) n s' m' a doing mid once noted refl refl in
         let y = after_step (Read extent) plan Fault x in
         subst (λ (q : Job). Goes P A shape (record { devices = devices; commit = commit; phase = Stands (record { words = t.words; desk = t.desk }); actors = slice_set actors a (actor_then {P = P} {A = A} shape (Stands t) devices x (Device (ReadExtent device e)) Fault) }) (device_note shape (put n a (Some mid)) a mid q (ReadExtent device e) Fault contents)) (sym job_is)
@@ -204,7 +201,7 @@ module _ (P A : Type 0) (shape : Shape) (images : Images) (t : Target P) (commit
       writes_on =
           let b = beside P A shape images t commit devices actors n known f a x ex in
           let first = notes_followed.redone (size P A shape) n f.site.world f.notes a doing mid f.notes_agree noted same_entered same_then in
-          let less1 = subst (λ (k : ℕ). a < k) (sym (length-set n.doings a (Some mid))) noted_less in
+          let less1 = subst (λ (k : ℕ). a < k) (sym (length-set n.doings a (Some mid))) (noted_within P A shape images t commit devices actors n known f a x ex) in
           let second = notes_followed.write written_part.block.0 (e.first % size P A shape) e.count content Stays (size P A shape) (most P A shape) a f.site.world t.words t.desk.space.committing slots_now (with_device device devices list) (slice_set actors a (after_step (Write extent content) plan got x)) g b.0 n1 f.notes b.1 less1 first mid
           (set_there n.doings a (Some doing) (Some mid) noted) in_block in_range in
           stays_on P A shape images t commit devices actors n known f a x ex (Writes written_part.block.0 (e.first % size P A shape) e.count content) t.words (with_device device devices list) (after_step (Write extent content) plan got x) n2 g tt second (length-set n1.doings a _ ∙ length-set n.doings a (Some mid)) (entered_many (rising (sector_for shape extent e) e.count) (entering n1 mid)) (data_device device holds devices list)
@@ -253,7 +250,7 @@ module _ (P A : Type 0) (shape : Shape) (images : Images) (t : Target P) (commit
       let g = answer_follows job q plan xt suits job_is (Refuses refusal) next in
       let b = beside P A shape images t commit devices actors n known f a x ex in
       answered_with job q plan xt suits job_is (Refuses refusal) next (Refuses refusal) _ (put n a None) (length-set n.doings a None) refl g
-      (notes_followed.refused (job_for (size P A shape) (content_of job) plan.job) refusal Stays (size P A shape) (most P A shape) a f.site.world t.words t.desk.space.committing slots_now devices (slice_set actors a (record x { task = None })) g b.0 n f.notes b.1 noted_less f.notes_agree)
+      (notes_followed.refused (job_for (size P A shape) (content_of job) plan.job) refusal Stays (size P A shape) (most P A shape) a f.site.world t.words t.desk.space.committing slots_now devices (slice_set actors a (record x { task = None })) g b.0 n f.notes b.1 (noted_within P A shape images t commit devices actors n known f a x ex) f.notes_agree)
   answers (Read extent) q plan xt suits job_is claim Finished next contents =
       let part = block_range shape extent claim.cut in
       let of = job_for (size P A shape) [] (OnBlock (ReadingPart part)) in
@@ -261,7 +258,7 @@ module _ (P A : Type 0) (shape : Shape) (images : Images) (t : Target P) (commit
       let b = beside P A shape images t commit devices actors n known f a x ex in
       subst (λ (k : Job). Goes P A shape (record { devices = devices; commit = commit; phase = Stands (record { words = t.words; desk = t.desk }); actors = slice_set actors a (actor_then {P = P} {A = A} shape (Stands t) devices x (End Finished) Done) }) (finished_note n a doing k shown)) (sym job_is)
       (answered_with (Read extent) q plan xt suits job_is Finished next Finished of (put n a None) (length-set n.doings a None) refl g
-      (notes_followed.read_answered part.block.0 _ Stays (size P A shape) (most P A shape) a f.site.world t.words t.desk.space.committing slots_now devices (slice_set actors a (record x { task = None })) g b.0 n f.notes b.1 noted_less f.notes_agree))
+      (notes_followed.read_answered part.block.0 _ Stays (size P A shape) (most P A shape) a f.site.world t.words t.desk.space.committing slots_now devices (slice_set actors a (record x { task = None })) g b.0 n f.notes b.1 (noted_within P A shape images t commit devices actors n known f a x ex) f.notes_agree))
   answers (Write extent content) q plan xt suits job_is claim Finished next contents =
       let part = block_range shape extent claim.cut in
       let of = job_for (size P A shape) content (OnBlock (WritingPart part)) in
@@ -269,7 +266,7 @@ module _ (P A : Type 0) (shape : Shape) (images : Images) (t : Target P) (commit
       let b = beside P A shape images t commit devices actors n known f a x ex in
       subst (λ (k : Job). Goes P A shape (record { devices = devices; commit = commit; phase = Stands (record { words = t.words; desk = t.desk }); actors = slice_set actors a (actor_then {P = P} {A = A} shape (Stands t) devices x (End Finished) Done) }) (finished_note n a doing k shown)) (sym job_is)
       (answered_with (Write extent content) q plan xt suits job_is Finished next Finished of (record n { finished = all_raised n.finished doing.entered; doings = slice_set n.doings a None }) (length-set n.doings a None) refl g
-      (notes_followed.write_answered part.block.0 _ content Stays (size P A shape) (most P A shape) a f.site.world t.words t.desk.space.committing slots_now devices (slice_set actors a (record x { task = None })) g b.0 n f.notes b.1 noted_less f.notes_agree doing noted))
+      (notes_followed.write_answered part.block.0 _ content Stays (size P A shape) (most P A shape) a f.site.world t.words t.desk.space.committing slots_now devices (slice_set actors a (record x { task = None })) g b.0 n f.notes b.1 (noted_within P A shape images t commit devices actors n known f a x ex) f.notes_agree doing noted))
   answers job q plan xt suits job_is claim Finished next contents = absurd q
 
 -- newest by block and offset is latest by sector

@@ -33,6 +33,7 @@ use Rattle.wb_simulation.specs.Sites.{DevicesAgree, IsRunning, locations}
 use Rattle.wb_headline.proofs.Events.{Reached, committed_allowed, running_allowed}
 use Rattle.wb_headline.proofs.Following.{many, size, Followed}
 use Rattle.wb_headline.proofs.Arriving.{agreeing}
+use Rattle.wb_contents.proofs.Lists.{there_is as there}
 
 pub length-rising : (first count : ℕ) → length (rising first count) ≡ count
 length-rising first zero = refl
@@ -43,12 +44,6 @@ rising_at : (first count i x : ℕ) → slice_get (rising first count) i ≡ Som
 rising_at first zero i x e = absurd (cc)
 rising_at first (suc count) zero x e = let same : first ≡ x = cc in (omega (arith, same), omega arith)
 rising_at first (suc count) (suc i) x e = let r = rising_at (first + 1) count i x e in (let f = r.0 in omega (arith, f), let l = r.1 in omega (arith, l))
-
--- a list that is long enough has an element there
-pub there : {X : Type 0} (xs : List X) (i : ℕ) → i < length xs → (x : X) × (slice_get xs i ≡ Some x)
-there [] i l = absurd (omega (arith, l))
-there (x ∷ xs) zero l = (x, refl)
-there (x ∷ xs) (suc i) l = there xs i (omega (arith, l))
 
 module _ (shape : Shape) (n : Notes) (m : AbstractNotes) (histories : m.histories ≡ by_block (block_size shape) zeros n.histories) (floors : m.floors ≡ counts_by_block (block_size shape) n.floors) (many : length n.histories ≡ sector_count shape) where
   -- an entry of a sector's history there is one here

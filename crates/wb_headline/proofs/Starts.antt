@@ -38,7 +38,7 @@ use Rattle.wb_simulation.proofs.Starting.{starts_followed}
 use Rattle.wb_simulation.proofs.Opening.{openings_followed, images_followed}
 use Rattle.wb_simulation.proofs.Noted.{notes_followed}
 use Rattle.wb_headline.specs.Desks.{live_orders, block_there, DeskAgrees}
-use Rattle.wb_headline.proofs.Showing.{there}
+use Rattle.wb_contents.proofs.Lists.{there_is as there}
 use Rattle.wb_headline.proofs.Following.{opening_at, AtStage, IsOver, size, most, Sized, Followed, Goes}
 use Rattle.wb_headline.proofs.Arriving.{SameSectors, sized_so, arrives, opens, agreeing}
 use Rattle.wb_headline.proofs.Targets.{standing, beside, noted_within, stays_on, leads_on}

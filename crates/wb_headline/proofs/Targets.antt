@@ -28,7 +28,7 @@ use Rattle.wb_simulation.specs.Telling.{Telling, Quietly, Reads, Writes, Answers
 use Rattle.wb_simulation.specs.Worlds.{Agrees, Turn, Stays, FollowsBy, Follows}
 use Rattle.wb_simulation.proofs.Opening.{images_followed}
 use Rattle.wb_headline.specs.Desks.{DeskAgrees, live_orders}
-use Rattle.wb_headline.proofs.Showing.{there}
+use Rattle.wb_contents.proofs.Lists.{there_is as there}
 use Rattle.wb_headline.proofs.Events.{gone_on, records_reach}
 use Rattle.wb_headline.proofs.Unclean.{ArePlainRecords, steps_plain}
 use Rattle.wb_headline.proofs.Desking.{desk_stays}

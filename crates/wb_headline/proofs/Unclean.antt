@@ -6,7 +6,7 @@ use Rattle.wb_types.specs.declared.mode.Mode.{Mode}
 use Rattle.wb_link.specs.Tables.{Job, Promoting, Order, Script, Want, Begin, Begin_clean, End_running, Write_all, Sync_cache_device, Sync_origin_device, End, Got, Done, Short, Fault, want}
 use Rattle.wb_link.specs.World.{Gives, is_alone, World, Shared, Actor, Record, Start, Again, Step, Release, release_order, effect, if_landed, put_sector, put_where, contents_for, task_after, actor_after, step_task, step_actor, start_actor, again_actor, reserved, after_record, job_alone, given}
 use Rattle.wb_link.specs.Openings.{MayHappen, Happens, after_events, note_event, Site, Phase, Opens, Stage, Settling, Caching, Basing, Rooting, Answering, Outcome, Settled, Fine, Learns, Refused, Broke, Shown, Event, On, Stopped, Begins, Advances, after_event, advance, advanced, found_clean, emptied, stopped}
-use Rattle.wb_link.proofs.Lists.{replicated}
+use Rattle.wb_contents.proofs.Lists.{replicated}
 use Rattle.wb_link.proofs.Actors.{job_on, others_same}
 use Rattle.wb_link.proofs.Link.{Linked, Next, Ready, Receives, Safe}
 use Rattle.wb_link.proofs.Lives.{NotedIn, ends}

@@ -9,7 +9,7 @@ use Rattle.wb_link.specs.World.{Shared, Held, Actor, World, Apart, aside, taken,
 use Rattle.wb_link.proofs.Link.{NobodyAlone, Owes, Right, Safe, SetAside, Linked, acts_of}
 use Rattle.wb_link.proofs.Calm.{calmly}
 use Rattle.wb_link.proofs.Givings.{at_work, script_of, Comes, resting_safe, gives_flag, gives_done}
-use Rattle.wb_link.proofs.Lists.{get_set_other}
+use Rattle.wb_contents.proofs.Lists.{set_other}
 use Rattle.wb_link.proofs.Steps.{in_set}
 use Rattle.wb_link.proofs.Actors.{turned, placing_on, safe_on}
 use Rattle.wb_link.proofs.Agreeing.{blocks_agrees}
@@ -63,7 +63,7 @@ pub without_order : (size : ℕ) (w : World) (d : Volume) (a : ℕ) (x : Actor) 
 without_order size w d a x i here = put_aside size w d a x (record x { order = None }) i here (λ k p q e f. absurd (cc))
 
 pub beside_set : (actors : List Actor) (a j : ℕ) (y v : Actor) → j ≢ a → slice_get actors j ≡ Some v → slice_get (slice_set actors a y) j ≡ Some v
-beside_set actors a j y v n h = get_set_other actors a j y n ∙ h
+beside_set actors a j y v n h = set_other actors a j y n ∙ h
 
 -- And one of those is taken up.
 pub take_up : (size : ℕ) (w : World) (d : Volume) (a : ℕ) (x y : Actor) (p : Order) → Linked size w d → slice_get w.actors a ≡ Some x → y.order ≡ Some p → aside w.waiting x.order p.cache ≡ Some p →

@@ -1,7 +1,6 @@
 pub mod Views
 pub mod Acts
 pub mod Link
-pub mod Lists
 pub mod Steady
 pub mod Effects
 pub mod Actors

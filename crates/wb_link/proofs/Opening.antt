@@ -13,7 +13,7 @@ use Rattle.wb_contents.proofs.Run.{KeepsAll, all_kept, holds}
 use Rattle.wb_link.specs.World.{Block, Free, Mapped, Nothing, Shared, Actor, World, resting, drops}
 use Rattle.wb_link.specs.Openings.{Learnt, Stage, Settling, Caching, Basing, Looking, Rooting, Renewing, Answering, Phase, Stands, Gone, Opens, Stopping, Outcome, Settled, Fine, Learns, Refused, Broke, Shown, found_locations, found_clean, decided, stopped, Admitted, opened_on, Yields, advanced, next_phase, MayStop, emptied}
 use Rattle.wb_link.proofs.Link.{Ordered, Placing, Told, Bounded, Good, Sound, RestsAt, Disjoint, Safe, Linked}
-use Rattle.wb_link.proofs.Lists.{replicated}
+use Rattle.wb_contents.proofs.Lists.{replicated}
 use Rattle.wb_link.proofs.Steady.{quiet, part}
 use Rattle.wb_link.proofs.Givings.{resting_safe}
 

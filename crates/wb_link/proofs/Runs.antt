@@ -10,7 +10,7 @@ use Rattle.wb_link.specs.World.{Release, Held, effect, Actor, World, Record, Sta
 use Rattle.wb_link.specs.Clerk.{Notes, note, histories_after, noted_step, entered_after, Entry, job_noted, GivesLatest, IsRight, opened}
 use Rattle.wb_link.proofs.Copying.{alike_on}
 use Rattle.wb_link.proofs.Link.{Linked, acts_of, start_acts, Ready, ReadsRight}
-use Rattle.wb_link.proofs.Lists.{replicated}
+use Rattle.wb_contents.proofs.Lists.{replicated}
 use Rattle.wb_link.proofs.Steps.{in_set, stepped, step_is, step_linked, Facts, step_facts}
 use Rattle.wb_link.proofs.Acts.{Keeps}
 use Rattle.wb_link.proofs.Aside.{release_is, release_linked}

@@ -13,7 +13,7 @@ use Rattle.wb_link.specs.World.{IsFree, job_alone, AllWithin, AllDistinct, Cover
 use Rattle.wb_link.proofs.Views.{block_view}
 use Rattle.wb_link.proofs.Acts.{Keeps}
 use Rattle.wb_link.proofs.Link.{NobodyAlone, Ordered, Turns, SetAside, Agrees, Placing, Good, Sound, AllSound, Rests, Safe, Disjoint, Unowned, Linked, AllMine, start_acts}
-use Rattle.wb_link.proofs.Lists.{get_set_same, get_set_other}
+use Rattle.wb_contents.proofs.Lists.{set_there, set_other}
 use Rattle.wb_link.proofs.Aside.{apart_back, aside_cases, put_aside, take_up, without_order, beside_set, kept_safe}
 use Rattle.wb_link.proofs.Steady.{Acted, acted}
 use Rattle.wb_link.proofs.Effects.{KeepsShared, sound_put}
@@ -186,8 +186,8 @@ begins_safe n size a x job t e free startable = elim free [
 -- it owns what it has kept
 was_unowned : (actors : List Actor) (a : ℕ) (x : Actor) (job : Job) (b : ℕ) → slice_get actors a ≡ Some x → Unowned (slice_set actors a (given x job)) b → Unowned actors b
 was_unowned actors a x job b here u c z g = elim (cases_eq c a) [
-  | inl is ↦ let now : Some x ≡ Some z = sym here ∙ ap (λ k. slice_get actors k) (sym is) ∙ g in let same : x ≡ z = cc in subst (λ (v : Actor). v.held ≢ Owns b) same (u a (given x job) (get_set_same actors a x (given x job) here))
-  | inr o ↦ u c z (get_set_other actors a c _ o ∙ g)
+  | inl is ↦ let now : Some x ≡ Some z = sym here ∙ ap (λ k. slice_get actors k) (sym is) ∙ g in let same : x ≡ z = cc in subst (λ (v : Actor). v.held ≢ Owns b) same (u a (given x job) (set_there actors a x (given x job) here))
+  | inr o ↦ u c z (set_other actors a c _ o ∙ g)
 ]
 
 -- What a job needs that is given to an actor, whose order was put aside: this is shared then, and these orders are aside.
@@ -212,7 +212,7 @@ begun_linked size w d a x job t waiting i here task free nobody m = record {
     sound = m.res.sound;
     idle = λ e. m.res.root_written ∙ i.good.idle (sym m.res.committing ∙ e);
   };
-  rests = λ b u. subst (λ (v : _). Rests (t.seals b) v) (sym (done.keeps.block b (u a y (get_set_same w.actors a x y here)))) (subst (λ (f : ℕ → Seal). Rests (f b) (block_view d b)) (sym m.res.seals) (i.rests b (was_unowned w.actors a x job b here u)));
+  rests = λ b u. subst (λ (v : _). Rests (t.seals b) v) (sym (done.keeps.block b (u a y (set_there w.actors a x y here)))) (subst (λ (f : ℕ → Seal). Rests (f b) (block_view d b)) (sym m.res.seals) (i.rests b (was_unowned w.actors a x job b here u)));
   disjoint = λ b c z v g h n. in_set w.actors a x y here (λ k p. (q : Actor) (j : ℕ) → slice_get (slice_set w.actors a y) j ≡ Some q → k ≢ j → Disjoint p q)
       (λ q j f k. in_set w.actors a x y here (λ l r. a ≢ l → Disjoint y r) (λ bad. absurd (bad refl))
       (λ l r o f' k'. record { held = (i.disjoint a l x r here f' k').held; order = λ p q e f. apart_back q p (m.apart l r p q (λ z. k' (sym z)) f' e f); leads = (i.disjoint a l x r here f' k').leads; alone = λ e. m.alone e l r f' }) j q f k)
@@ -313,19 +313,16 @@ again_is size w a job x m = ap (λ o. again_actor w a o job) m.actor
 pub again_linked : (size : ℕ) (w : World) (d : Volume) (a : ℕ) (x : Actor) (job : Job) → Linked size w d → MayRepeat size w a job x → Linked size (repeated w a x job) (after_acts d (start_acts a job))
 again_linked size w d a x job i m = begun_linked size w d a x job w.shared (taken (aside w.waiting x.order) (order_of job)) i m.actor m.task m.free m.nobody_alone (record {
   res = unmoved size a x job w.shared d _ (again_agrees size a w.shared d job m.may i.good.agrees) i.good.sound
-      (again_startable size a w.shared d job m.order.0 i.good.agrees m.may m.order.1 (set_out.placed m.order.0.cache m.order.0 m.order.2)) (λ p e. set_out.placed p.cache p (is_out p e)) (λ p e. set_out.stands p.cache p (is_out p e));
-  apart = λ b y p q n g e f. set_out.apart p.cache p b y q (is_out p e) (beside_set w.actors a b (record x { order = None }) y n g) f;
+      (again_startable size a w.shared d job m.order.0 i.good.agrees m.may m.order.1 ((without_order size w d a x i m.actor).placed m.order.0.cache m.order.0 m.order.2)) (λ p e. (without_order size w d a x i m.actor).placed p.cache p (is_out p e)) (λ p e. (without_order size w d a x i m.actor).stands p.cache p (is_out p e));
+  apart = λ b y p q n g e f. (without_order size w d a x i m.actor).apart p.cache p b y q (is_out p e) (beside_set w.actors a b (record x { order = None }) y n g) f;
   alone = λ e. let not = only.0 in absurd (cc);
-  modes = λ q f. set_out.modes q.cache q (is_out q f);
+  modes = λ q f. (without_order size w d a x i m.actor).modes q.cache q (is_out q f);
   drops = λ f. let not = only.1 in absurd (cc);
   set = subst (λ (o : Option Order). SetAside w.shared (slice_set w.actors a (given x job)) (taken (aside w.waiting x.order) o) d.mode) (sym m.order.1) (take_up size w d a x (given x job) m.order.0 i m.actor m.order.1 m.order.2);
 }) where
   -- its order, and those that are aside once its own is
   is_out : (p : Order) → order_of job ≡ Some p → aside w.waiting x.order p.cache ≡ Some p
   is_out p e = let one : Some m.order.0 ≡ Some p = sym m.order.1 ∙ e in let same : m.order.0 ≡ p = cc in subst (λ (v : Order). aside w.waiting x.order v.cache ≡ Some v) same m.order.2
-
-  set_out : SetAside w.shared (slice_set w.actors a (record x { order = None })) (aside w.waiting x.order) d.mode
-  set_out = without_order size w d a x i m.actor
 
   only : (job_alone job ≡ false) × (job_drops job ≡ false)
   only = again_alone size w.shared job m.may

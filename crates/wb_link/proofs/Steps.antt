@@ -10,7 +10,7 @@ use Rattle.wb_link.specs.World.{Apart, is_alone, job_alone, task_after, Nothing,
 use Rattle.wb_link.proofs.Views.{block_view}
 use Rattle.wb_link.proofs.Acts.{Keeps, NotBlock}
 use Rattle.wb_link.proofs.Link.{Ordered, Turns, Placing, Rests, RestsAt, NobodyAlone, Ready, Owes, Receives, Right, Goes, Next, Safe, Disjoint, Unowned, Linked, acts_of}
-use Rattle.wb_link.proofs.Lists.{get_set_same, get_set_other}
+use Rattle.wb_contents.proofs.Lists.{set_there, set_other}
 use Rattle.wb_link.proofs.Steady.{Acted, acted}
 use Rattle.wb_link.proofs.Effects.{KeepsShared, effect_keeps, effect_sound, effect_idle, effect_fail}
 use Rattle.wb_link.proofs.Actors.{own_ordered, own_placing, order_from, apart_left, turned, placing_on, drops_was, WinsOver, disjoint_left, disjoint_right, other_busy, leader_busy, others_of, others_same, safe_on, is_false, no_task, task_was, alone_on, owes_alone, may_end, idle_safe, owns_or, disowned}
@@ -52,9 +52,9 @@ received size w d a x script next got i e t g wins = tt
 pub in_set : (actors : List Actor) (a : ℕ) (x y : Actor) → slice_get actors a ≡ Some x → (P : ℕ → Actor → Type 0) → P a y → ((b : ℕ) (z : Actor) → b ≢ a → slice_get actors b ≡ Some z → P b z) →
     (b : ℕ) (z : Actor) → slice_get (slice_set actors a y) b ≡ Some z → P b z
 in_set actors a x y e P here there b z g = elim (cases_eq b a) [
-  | inl s ↦ let now : Some y ≡ Some z = sym (get_set_same actors a x y e) ∙ ap (λ k. slice_get (slice_set actors a y) k) (sym s) ∙ g in
+  | inl s ↦ let now : Some y ≡ Some z = sym (set_there actors a x y e) ∙ ap (λ k. slice_get (slice_set actors a y) k) (sym s) ∙ g in
       let same : y ≡ z = cc in subst (λ (v : Actor). P b v) same (subst (λ (k : ℕ). P k y) (sym s) here)
-  | inr n ↦ there b z n (sym (get_set_other actors a b y n) ∙ g)
+  | inr n ↦ there b z n (sym (set_other actors a b y n) ∙ g)
 ]
 
 -- an actor that takes a step, and what comes of it
@@ -89,7 +89,7 @@ step_linked size w d a x script asked got i m = record {
     idle = effect_idle x s script.job x.buffer next got (i.leads a x m.actor) first.ready i.good.idle;
   };
   rests = λ b u. elim (owns_or x.held b) [
-    | inl own ↦ disowned x s t e script.job next got b first.ready own (u a y (get_set_same w.actors a x y m.actor)) first.owes
+    | inl own ↦ disowned x s t e script.job next got b first.ready own (u a y (set_there w.actors a x y m.actor)) first.owes
     | inr n ↦ rest_on b n (i.rests b (was_unowned b n u))
   ];
   disjoint = λ b c z v g h n. in_set w.actors a x y m.actor (λ k p. (q : Actor) (j : ℕ) → slice_get (slice_set w.actors a y) j ≡ Some q → k ≢ j → Disjoint p q)
@@ -205,12 +205,12 @@ step_linked size w d a x script asked got i m = record {
   -- a target that has not failed stands, once nobody is alone any more
   by_alone : (alone : Bool) → job_alone script.job ≡ alone → NobodyAlone (slice_set w.actors a (actor_after x script (want script) got)) → t.fail ≡ false → e.live ≡ true
   by_alone false n nobody f = done.keeps.live (is_now ∙ n) ∙ i.living (nobody_else size w d a x script i m.actor m.task n) (is_false w.shared.fail (λ h. let bad = fails h in absurd (cc)))
-  by_alone true n nobody f = ended_alone (task_after script (want script) got) refl n (nobody a (actor_after x script (want script) got) (get_set_same w.actors a x (actor_after x script (want script) got) m.actor)) f
+  by_alone true n nobody f = ended_alone (task_after script (want script) got) refl n (nobody a (actor_after x script (want script) got) (set_there w.actors a x (actor_after x script (want script) got) m.actor)) f
 
   was_unowned : (b : ℕ) → x.held ≢ Owns b → Unowned (slice_set w.actors a (actor_after x script (want script) got)) b → Unowned w.actors b
   was_unowned b n u c z g = elim (cases_eq c a) [
     | inl is ↦ let now : Some x ≡ Some z = sym m.actor ∙ ap (λ k. slice_get w.actors k) (sym is) ∙ g in let same : x ≡ z = cc in subst (λ (v : Actor). v.held ≢ Owns b) same n
-    | inr o ↦ u c z (get_set_other w.actors a c _ o ∙ g)
+    | inr o ↦ u c z (set_other w.actors a c _ o ∙ g)
   ]
 
   rest_on : (b : ℕ) → x.held ≢ Owns b → RestsAt w.shared d b → RestsAt t e b

@@ -8,7 +8,7 @@ use Rattle.wb_disk.proofs.Leaving.{newest_there}
 use Rattle.wb_link.specs.Openings.{Site, site, MayStop, Happens}
 use Rattle.wb_link.specs.Tables.{Order, Seal, Job, Want, Script, Answer, Done, Set_seal, Disown, Write_all, Sync_cache_device, Sync_origin_device, Put_root, Sync_metadata, End_running, Make_room, Map_to, Unmap_from, after}
 use Rattle.wb_link.specs.World.{World, Record, Shared, Actor, Nothing, Owns, Shares, Apart, AreIn, Gives, Wins, May, MayStep, IsRun, begins, is_alone, task_after, actor_after, after_record, after_all}
-use Rattle.wb_link.proofs.Lists.{get_set_same}
+use Rattle.wb_contents.proofs.Lists.{set_there}
 use Rattle.wb_link.proofs.Steps.{step_is}
 
 infixr 30 ◌▸◌
@@ -39,7 +39,7 @@ dones_run [] a x job answer here task sure run = (x, record { job = job; steps =
 dones_run (v ∷ vs) {size} {w} {rest} a x job answer here task sure run =
     let script : Script = record { job = job; steps = v ∷ vs; answer = answer } in
     let may : MayStep w a v Done x script = record { actor = here; task = task; asked = refl; gives = (sure w.shared w.actors).0; wins = (sure w.shared w.actors).1 } in
-    (x, script, may) ▹ dones_run vs a (actor_after x script v Done) job answer (ap (λ (u : World). slice_get u.actors a) (step_is w a v Done x script may) ∙ get_set_same w.actors a x _ here) ((sure w.shared w.actors).2 script) (λ s actors. (sure s actors).3) run
+    (x, script, may) ▹ dones_run vs a (actor_after x script v Done) job answer (ap (λ (u : World). slice_get u.actors a) (step_is w a v Done x script may) ∙ set_there w.actors a x _ here) ((sure w.shared w.actors).2 script) (λ s actors. (sure s actors).3) run
 
 only_one : (x y : Actor) (a : ℕ) → slice_get (x ∷ []) a ≡ Some y → x ≡ y
 only_one x y zero e = cc

@@ -39,7 +39,8 @@ use Rattle.wb_desk.specs.Desks.{DeskState}
 use Rattle.wb_machine.specs.Standing.{AllRoomy, Point, AtEnd, AtRefusal, HasMadeThere, HasReadAll, HasComeTo, StandsAt, StandsSo, plan_from}
 use Rattle.wb_machine.proofs.Members.{all_free}
 use Rattle.wb_machine.proofs.Served.{roomy_free}
-use Rattle.wb_machine.proofs.Openings.{busy, length_replicate, set_replicate, set_twice, there}
+use Rattle.wb_machine.proofs.Openings.{busy, length_replicate, set_replicate, there}
+use Rattle.wb_contents.proofs.Lists.{set_twice}
 
 -- the target is the one that was made
 target_is : (g : Geometry) (n a : ℕ) (made : Made) → IsMade g n a made → record { words = made.target.crew.words; desk = made.target.desk } ≡ target_over (shape_of g n) Writeback made.target.desk.policy (read_of made)

@@ -5,14 +5,6 @@ use Rattle.wb_disk.specs.Device.{Content as Bytes, History, grown, written}
 use Rattle.std.proofs.lemmas.List.{length-set}
 use Rattle.wb_disk.specs.Extents.{written_where}
 
-grown_length : (o : Option History) (device : List History) (at : ℕ) (c : Bytes) → length (grown o c device at) ≡ length device
-grown_length None device at c = refl
-grown_length (Some h) device at c = length-set device at _
-
-landed_length : (landed : Bool) (device : List History) (at : ℕ) (c : Bytes) → length (if landed then written device at c else device) ≡ length device
-landed_length true device at c = grown_length (slice_get device at) device at c
-landed_length false device at c = refl
-
 landed_past : (landed : Bool) (device : List History) (at : ℕ) (c : Bytes) → length device ≤ at → (if landed then written device at c else device) ≡ device
 landed_past true device at c l = ap (λ (o : Option History). grown o c device at) (slice_get_past device at l)
 landed_past false device at c l = refl

@@ -8,12 +8,7 @@ use Rattle.wb_promise.specs.declared.job.Job.{Job}
 use Rattle.wb_promise.specs.States.{Actor, resting}
 use Rattle.wb_promise.specs.Happenings.{OfSome}
 use Rattle.wb_machine.specs.Members.{Member, free, seat, seated, works_there}
-
--- a list in which an element was set to itself
-pub set_same : {X : Type 0} (xs : List X) (i : ℕ) (x : X) → slice_get xs i ≡ Some x → slice_set xs i x ≡ xs
-set_same [] i x e = refl
-set_same (z ∷ xs) zero x e = let same : z ≡ x = cc in ap (λ v. v ∷ xs) (sym same)
-set_same (z ∷ xs) (suc i) x e = ap (λ vs. z ∷ vs) (set_same xs i x e)
+use Rattle.wb_contents.proofs.Lists.{set_same}
 
 -- what was lent out and comes back as it was
 pub put_back : {X : Type 0} (xs : List X) (i : ℕ) (x y : X) → slice_get xs i ≡ Some x → y ≡ x → slice_set xs i y ≡ xs

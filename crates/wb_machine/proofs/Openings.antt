@@ -45,40 +45,14 @@ use Rattle.wb_machine.specs.Life.{Now, Happens, FailsOn, IsThere, device_step_of
 use Rattle.wb_machine.specs.Making.{reading_of}
 use Rattle.wb_machine.specs.Standing.{StandsSo}
 use Rattle.wb_machine.proofs.Members.{busy_there, idle_there, length_seated}
+use Rattle.wb_contents.proofs.Lists.{set_there, set_other, set_twice, replicated_there, there_is}
 
 -- ---- lists of one actor that opens, beside others that rest
-
-get_replicate : {X : Type 0} (n i : ℕ) (x : X) → i < n → slice_get (replicate n x) i ≡ Some x
-get_replicate zero i x h = absurd (omega arith)
-get_replicate (suc n) zero x h = refl
-get_replicate (suc n) (suc i) x h = get_replicate n i x (omega arith)
 
 pub set_replicate : {X : Type 0} (n i : ℕ) (x : X) → slice_set (replicate n x) i x ≡ replicate n x
 set_replicate zero i x = refl
 set_replicate (suc n) zero x = refl
 set_replicate (suc n) (suc i) x = ap (λ xs. x ∷ xs) (set_replicate n i x)
-
-pub set_twice : {X : Type 0} (xs : List X) (i : ℕ) (x y : X) → slice_set (slice_set xs i x) i y ≡ slice_set xs i y
-set_twice [] i x y = refl
-set_twice (z ∷ xs) zero x y = refl
-set_twice (z ∷ xs) (suc i) x y = ap (λ ys. z ∷ ys) (set_twice xs i x y)
-
-get_set : {X : Type 0} (xs : List X) (i : ℕ) (x y : X) → slice_get xs i ≡ Some x → slice_get (slice_set xs i y) i ≡ Some y
-get_set [] i x y e = absurd (cc)
-get_set (z ∷ xs) zero x y e = refl
-get_set (z ∷ xs) (suc i) x y e = get_set xs i x y e
-
-get_beside : {X : Type 0} (xs : List X) (i j : ℕ) (x : X) → i ≢ j → slice_get (slice_set xs i x) j ≡ slice_get xs j
-get_beside [] i j x h = refl
-get_beside (z ∷ xs) zero zero x h = absurd (h refl)
-get_beside (z ∷ xs) zero (suc j) x h = refl
-get_beside (z ∷ xs) (suc i) zero x h = refl
-get_beside (z ∷ xs) (suc i) (suc j) x h = get_beside xs i j x (λ e. h (ap suc e))
-
-slice_get_some : {X : Type 0} (xs : List X) (i : ℕ) → i < length xs → (x : X) × (slice_get xs i ≡ Some x)
-slice_get_some [] i h = absurd (omega arith)
-slice_get_some (z ∷ xs) zero h = (z, refl)
-slice_get_some (z ∷ xs) (suc i) h = slice_get_some xs i (omega arith)
 
 pub length_replicate : {X : Type 0} (n : ℕ) (x : X) → length (replicate n x) ≡ n
 length_replicate zero x = refl
@@ -97,10 +71,10 @@ pub all_rest : (n : ℕ) (o : Phase) → IsThere n o → all_resting (actors_of 
 all_rest n o h = resting_all (actors_of n o) ∙ ap (λ k. replicate k resting) (many n o h)
 
 within : (n : ℕ) (o : Phase) → IsThere n o → (a : ℕ) → a < n → (x : Actor) × (slice_get (actors_of n o) a ≡ Some x)
-within n o t a h = slice_get_some (actors_of n o) a (let l = many n o t in omega (arith, l))
+within n o t a h = there_is (actors_of n o) a (let l = many n o t in omega (arith, l))
 
 pub there : (n : ℕ) (o : Opener) → o.actor < n → slice_get (actors_of n (Underway o)) o.actor ≡ Some (opening_actor o.task)
-there n o h = get_set (replicate n resting) o.actor resting (opening_actor o.task) (get_replicate n o.actor resting h)
+there n o h = set_there (replicate n resting) o.actor resting (opening_actor o.task) (replicated_there n o.actor resting h)
 
 rests : (n a : ℕ) (P : Job × Plan → Type 0) → OfSome (slice_get (replicate n resting) a) (λ (x : Actor). OfSome x.task P) → ⊥
 rests zero a P h = h
@@ -108,7 +82,7 @@ rests (suc n) zero P h = h
 rests (suc n) (suc a) P h = rests n a P h
 
 pub idle_beside : (n : ℕ) (o : Opener) (a : ℕ) (P : Job × Plan → Type 0) → o.actor ≢ a → OfSome (slice_get (actors_of n (Underway o)) a) (λ (x : Actor). OfSome x.task P) → ⊥
-idle_beside n o a P e h = rests n a P (subst (λ (x : Option Actor). OfSome x (λ (y : Actor). OfSome y.task P)) (get_beside (replicate n resting) o.actor a (opening_actor o.task) e) h)
+idle_beside n o a P e h = rests n a P (subst (λ (x : Option Actor). OfSome x (λ (y : Actor). OfSome y.task P)) (set_other (replicate n resting) o.actor a (opening_actor o.task) (λ q. e (sym q))) h)
 
 -- who has no task is at nothing
 pub idle : (n : ℕ) (o : Phase) (a : ℕ) (P : Job × Plan → Type 0) → is_busy a o ≡ false → OfSome (slice_get (actors_of n o) a) (λ (x : Actor). OfSome x.task P) → ⊥
@@ -184,7 +158,7 @@ starts shape devices n o is_there so a (Open Writeback) what new j h i calm e f 
 })
   where
     some : slice_get (all_resting (actors_of n o)) a ≡ Some resting
-    some = ap (λ xs. slice_get xs a) (all_rest n o is_there) ∙ get_replicate n a resting h
+    some = ap (λ xs. slice_get xs a) (all_rest n o is_there) ∙ replicated_there n a resting h
 
     given : after_what shape (state_of n devices o) (Start a (Open Writeback)) Started Plain
         ≡ record { devices = contents_of devices; commit = None; phase = Opens Writeback None; actors = slice_set (all_resting (actors_of n o)) a (opening_actor (table (Opening shape.geometry.meta_sectors))) }

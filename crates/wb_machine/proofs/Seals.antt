@@ -21,6 +21,7 @@ use Rattle.wb_promise.specs.Effects.{card_by, sealing_steps, seals_of, words_by}
 use Rattle.wb_machine.specs.declared.making.Made.{Made}
 use Rattle.wb_machine.specs.Making.{AllFree, IsMade, block_seals, crew_by, read_of}
 use Rattle.wb_machine.specs.Members.{free}
+use Rattle.wb_contents.proofs.Lists.{set_twice}
 
 -- ---- steps, one after the other
 
@@ -31,11 +32,6 @@ words_come crew a (step ∷ steps) = words_come (crew_after crew a step) a steps
 pub blocks_stay : (crew : CrewState) (a : ℕ) (steps : List CellStep) → (crew_by crew a steps).blocks ≡ crew.blocks
 blocks_stay crew a [] = refl
 blocks_stay crew a (step ∷ steps) = blocks_stay (crew_after crew a step) a steps
-
-set_twice : {X : Type 0} (xs : List X) (i : ℕ) (x y : X) → slice_set (slice_set xs i x) i y ≡ slice_set xs i y
-set_twice [] i x y = refl
-set_twice (z ∷ xs) zero x y = refl
-set_twice (z ∷ xs) (suc i) x y = ap (λ ys. z ∷ ys) (set_twice xs i x y)
 
 pub cards_come : (crew : CrewState) (a : ℕ) (steps : List CellStep) → a < length crew.cards → (crew_by crew a steps).cards ≡ slice_set crew.cards a (card_by crew.words (card_of crew a) steps)
 cards_come crew a [] h = sym (set-get_or crew.cards a blank_card)

@@ -44,10 +44,11 @@ use Rattle.wb_machine.specs.Life.{Now, Happens, wants_target}
 use Rattle.wb_machine.specs.Members.{Member, free, seat, seated}
 use Rattle.wb_machine.specs.Serving.{Allows, FailsBy, FailsOrRests, GetsJob, IsPassed, Leads, LeavesStarted, NothingFails, Starts, StartsIf, Steps, StepsBy, chosen_at, commit_by, crew_then, desk_given, done_by, failed_by, member_then, noted_read, over, stood, told}
 use Rattle.wb_machine.specs.Standing.{AllRoomy, AllowsImages, IsRoomy}
-use Rattle.wb_machine.proofs.Members.{seat_at, set_both, set_same, set_task, somebody}
+use Rattle.wb_machine.proofs.Members.{seat_at, set_both, set_task, somebody}
 use Rattle.wb_machine.proofs.Openings.{passes}
 use Rattle.wb_machine.proofs.Possible.{has_task, the_task}
 use Rattle.wb_stage.specs.Asking.{IsGivenUp, order_of}
+use Rattle.wb_contents.proofs.Lists.{set_same}
 
 -- ---- an actor that is not there, or is at nothing
 

@@ -9,6 +9,7 @@ use Rattle.wb_types.specs.declared.entry.Entry.{Entry}
 use Rattle.wb_disk.specs.Device.{Content as Bytes}
 use Rattle.wb_promise.specs.States.{Shape, block_size, sector_count}
 use Rattle.wb_promise.specs.Headline.{content_of, place_of, shown_by}
+use Rattle.wb_contents.proofs.Lists.{there_is as there}
 
 rising_at : (first n i : ℕ) → i < n → slice_get (rising first n) i ≡ Some (first + i)
 rising_at first zero i l = absurd (omega (arith, l))
@@ -18,11 +19,6 @@ rising_at first (suc n) (suc i) l = rising_at (first + 1) n i (omega (arith, l))
 length-rising : (first n : ℕ) → length (rising first n) ≡ n
 length-rising first zero = refl
 length-rising first (suc n) = ap suc (length-rising (first + 1) n)
-
-there : {X : Type 0} (xs : List X) (i : ℕ) → i < length xs → (x : X) × (slice_get xs i ≡ Some x)
-there [] i l = absurd (omega (arith, l))
-there (x ∷ xs) zero l = (x, refl)
-there (x ∷ xs) (suc i) l = there xs i (omega (arith, l))
 
 module _ (shape : Shape) (entries : List (Option Entry)) (cache origin : List Bytes) (at : ℕ) where
   abbrev f : ℕ → Bytes

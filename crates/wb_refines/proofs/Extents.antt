@@ -9,6 +9,7 @@ use Rattle.wb_contents.proofs.Devices.{read_is_newest, write_is_act}
 use Rattle.wb_link.specs.World.{Shared, AreAlike, newest_at, put_sector, put_where, if_landed}
 use Rattle.wb_refines.specs.Models.{SameImages}
 use Rattle.wb_refines.specs.Data.{side, row, IsSide, SameBeside}
+use Rattle.wb_contents.proofs.Lengths.{length-grown}
 
 pub newest_side : (to : Option ℕ) (s : Shared) (b o : ℕ) → newest_at s to b o ≡ newest (side to s (row to b) o)
 newest_side None s b o = refl
@@ -36,10 +37,6 @@ reads_newest size blank s to b device i (c ∷ contents) o l g =
     (λ j. here j ∷ reads_newest size blank s to b device i contents (o + 1) (omega (arith, l)) (subst (λ v. GivesEach device v contents) same g.1) j)
 
 -- ---- writes
-
-pub length-grown : (o : Option History) (device : List History) (at : ℕ) (c : Content) → length (grown o c device at) ≡ length device
-length-grown None device at c = refl
-length-grown (Some h) device at c = length-set device at _
 
 pub put_beside : (to : Option ℕ) (s : Shared) (b o : ℕ) (c : Content) → SameBeside to s (put_sector s to b o c)
 put_beside None s b o c = record { other = refl; seals = refl; fail = refl; images = record { mapping = refl; blocks = refl; live = refl; mode = refl; committing = refl; began = refl; ended = refl; broken = refl; committed = refl; running = refl; root_written = refl; committed_clean = refl; running_clean = refl } }

@@ -3,7 +3,7 @@ use Rattle.std.proofs.Common.{◌≡◌, inl, inr, ℕ, zero, suc, List, [], ◌
 use Rattle.std.proofs.lemmas.Bool.{cases_eq}
 use Rattle.wb_link.specs.Tables.{Script, Want, Share, Own, Got, Done, want}
 use Rattle.wb_link.specs.World.{Shared, Held, Nothing, Shares, Owns, Actor, World, effect, actor_after, task_after, Wins, Record, Step, step_task, step_actor, after_record, after_all, IsRun}
-use Rattle.wb_link.proofs.Lists.{get_set_same, get_set_other}
+use Rattle.wb_contents.proofs.Lists.{set_there, set_other, set_twice}
 use Rattle.wb_refines.specs.Going.{records, shared_after, gone, WinsBeside, MayGo}
 
 -- the world with another shared state and another actor
@@ -24,24 +24,14 @@ wins_of actors a y next got e wins = tt
 
 -- others stay as they are
 beside_on : (actors : List Actor) (a : ℕ) (z : Actor) (held : Held) (next : Want) (got : Got) → WinsBeside actors a held next got → WinsBeside (slice_set actors a z) a held next got
-beside_on actors a z held (Share b) Done w = (w.0, λ c x n g. w.1 c x n (sym (get_set_other actors a c z n) ∙ g))
-beside_on actors a z held (Own b) Done w = (w.0, λ c x n g. w.1 c x n (sym (get_set_other actors a c z n) ∙ g))
+beside_on actors a z held (Share b) Done w = (w.0, λ c x n g. w.1 c x n (sym (set_other actors a c z n) ∙ g))
+beside_on actors a z held (Own b) Done w = (w.0, λ c x n g. w.1 c x n (sym (set_other actors a c z n) ∙ g))
 beside_on actors a z held next got w = tt
 
 may_on : (actors : List Actor) (a : ℕ) (z : Actor) (gots : List Got) (s : Shared) (y : Actor) (task : Option Script) → MayGo actors a s y task gots → MayGo (slice_set actors a z) a s y task gots
 may_on actors a z [] s y task m = tt
 may_on actors a z (got ∷ gots) s y None m = absurd m
 may_on actors a z (got ∷ gots) s y (Some script) m = (m.0, beside_on actors a z y.held (want script) got m.1, may_on actors a z gots _ _ _ m.2)
-
-pub set_twice : {X : Type 0} (xs : List X) (i : ℕ) (x y : X) → slice_set (slice_set xs i x) i y ≡ slice_set xs i y
-set_twice [] i x y = refl
-set_twice (z ∷ xs) zero x y = refl
-set_twice (z ∷ xs) (suc i) x y = ap (λ ys. z ∷ ys) (set_twice xs i x y)
-
-pub set_same : {X : Type 0} (xs : List X) (i : ℕ) (x : X) → slice_get xs i ≡ Some x → slice_set xs i x ≡ xs
-set_same [] i x e = refl
-set_same (z ∷ xs) zero x e = let same : z ≡ x = cc in ap (λ v. v ∷ xs) (sym same)
-set_same (z ∷ xs) (suc i) x e = ap (λ ys. z ∷ ys) (set_same xs i x e)
 
 -- one step of it
 pub step_own : (w : World) (a : ℕ) (y : Actor) (script : Script) (got : Got) → slice_get w.actors a ≡ Some y → y.task ≡ Some script →
@@ -56,7 +46,7 @@ own_steps (got ∷ gots) w a y (Some script) e t =
     let y' = actor_after y script (want script) got in
     let s' = effect w.shared script.job y.buffer (want script) got in
     ap (λ (v : World). after_all v (records a (task_after script (want script) got) gots)) (step_own w a y script got e t)
-    ∙ own_steps gots (with_own w a s' y') a y' (task_after script (want script) got) (get_set_same w.actors a y y' e) refl
+    ∙ own_steps gots (with_own w a s' y') a y' (task_after script (want script) got) (set_there w.actors a y y' e) refl
     ∙ (λ i. record { shared = shared_after s' y' (task_after script (want script) got) gots; actors = set_twice w.actors a y' (gone y' (task_after script (want script) got) gots) i; waiting = w.waiting })
 
 pub record Went (size : ℕ) (w : World) (a : ℕ) (rs : List Record) (s : Shared) (y : Actor) : Type 0 where
@@ -76,5 +66,5 @@ goes size gots w a y task e t m = record { run = runs size gots w a y task e t m
         let s' = effect w.shared script.job y.buffer (want script) got in (
           (y, script, record { actor = e; task = t; asked = refl; gives = m.0; wins = wins_of w.actors a y (want script) got e m.1 }),
           subst (λ (v : World). IsRun size v (records a (task_after script (want script) got) gots)) (sym (step_own w a y script got e t))
-              (runs size gots (with_own w a s' y') a y' (task_after script (want script) got) (get_set_same w.actors a y y' e) refl (may_on w.actors a y' gots s' y' (task_after script (want script) got) m.2)),
+              (runs size gots (with_own w a s' y') a y' (task_after script (want script) got) (set_there w.actors a y y' e) refl (may_on w.actors a y' gots s' y' (task_after script (want script) got) m.2)),
         )

@@ -25,7 +25,7 @@ use Rattle.wb_promise.specs.declared.job.Job.TheVariants.{Read, Write, Open}
 use Rattle.wb_promise.specs.States.{Shape, Actor}
 use Rattle.wb_promise.specs.Happenings.{block_range, extent_refusal}
 use Rattle.wb_promise.specs.Clerk.{Doing, Reading, Position, Entering, enter_each, readings_from, sector_for}
-use Rattle.wb_runs.proofs.Lists.{set_other, set_there}
+use Rattle.wb_contents.proofs.Lists.{set_other, set_there}
 use Rattle.wb_runs.proofs.Extents.{may_start, cut_within}
 use Rattle.wb_runs.proofs.Covering.{home, homes, extents_left, read_covers, write_covers, read_moves, write_moves}
 use Rattle.wb_runs.proofs.Opening.{OpenClaim}

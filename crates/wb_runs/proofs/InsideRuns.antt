@@ -50,8 +50,8 @@ use Rattle.wb_promise.specs.Effects.{put_by, contents_for, device_done, device_f
 use Rattle.wb_promise.specs.Clerk.{Notes, formatted}
 use Rattle.wb_promise.specs.Headline.{note_happening}
 use Rattle.wb_runs.specs.Inside.{StepInside, TaskInside, StaysInside}
-use Rattle.wb_runs.proofs.Lists.{replicated, first_or}
-use Rattle.wb_runs.proofs.Rooted.{length-grown}
+use Rattle.wb_contents.proofs.Lists.{replicated}
+use Rattle.wb_runs.proofs.Lists.{first_or}
 use Rattle.wb_runs.proofs.Extents.{MayStart, Within, AllWithin, may_start, cut_within, cut_inside, cut_of_block}
 use Rattle.wb_runs.proofs.Images.{Images}
 use Rattle.wb_runs.proofs.Metadata.{MetadataKept}
@@ -62,12 +62,9 @@ use Rattle.wb_runs.proofs.Using.{order_inside, replacement_inside}
 use Rattle.wb_runs.proofs.Bounds.{SealInside, SealsInside, seals_after, fresh_inside, sealed_inside, AllInside, PartInside, JobInside, MigrationInside, inside_after}
 use Rattle.wb_runs.proofs.LinkedRuns.{Base, base_after, base_start}
 use Rattle.wb_policy.specs.declared.order.Order.{Order}
+use Rattle.wb_contents.proofs.Lengths.{length-landed}
 
 -- ---- sizes
-
-length-landed : (landed : Bool) (device : List History) (at : ℕ) (c : Bytes) → length (if landed then written device at c else device) ≡ length device
-length-landed true device at c = length-grown (slice_get device at) device at c
-length-landed false device at c = refl
 
 pub length-written_where : (lands : ℕ → Bool) (device : List History) (at : ℕ) (cs : List Bytes) → length (written_where lands device at cs) ≡ length device
 length-written_where lands device at [] = refl
@@ -424,6 +421,6 @@ module _ (P A : Type 0) (shape : Shape) where
         cache = length-replicate (cache_sector_count shape) _;
         origin = length-replicate (sector_count shape) _;
         seals = tt;
-        tasks = λ a x e. subst (λ (v : Actor). PlanInside shape v.task) (sym (replicated shape.actors a resting x e)) tt;
+        tasks = λ a x e. subst (λ (v : Actor). PlanInside shape v.task) (replicated shape.actors a resting x e) tt;
       }) run in
       record { cache = i.cache; origin = i.origin; tasks = λ a x e. next_inside x.task (i.tasks a x e) }

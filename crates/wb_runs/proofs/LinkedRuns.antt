@@ -32,7 +32,8 @@ use Rattle.wb_promise.specs.Clerk.{Notes, Doing, noted_step, noted_what, finishe
 use Rattle.wb_promise.specs.Headline.{SkipsRightly, AllSkipRightly, note_happening, noted}
 use Rattle.wb_runs.specs.Laws.{RefusedBy, RefusedRightly, RefusesByCause, AllRefuseByCause, IsCovered, DoingCovers, AnswerCovers, AllCover}
 use Rattle.wb_runs.specs.Holding.{TaskSuits}
-use Rattle.wb_runs.proofs.Lists.{set_other, set_there, replicated, replicated_there, rests, there_rests, free}
+use Rattle.wb_contents.proofs.Lists.{set_other, set_there, replicated, replicated_there}
+use Rattle.wb_runs.proofs.Lists.{rests, there_rests, free}
 use Rattle.wb_runs.proofs.MetadataRuns.{IsKnown, known_after, known_at_start}
 use Rattle.wb_runs.proofs.Opening.{open_refuses}
 use Rattle.wb_runs.proofs.Claims.{JobClaim, NotedClaim, TaskClaim, AllClaim, Noted, claim_set, noted_of, read_ends, write_ends}
@@ -459,7 +460,7 @@ module _ (P A : Type 0) (shape : Shape) where
 
   pub links_start : (metadata : List History) → LinkedTo (start shape metadata) (formatted shape)
   links_start metadata = idle (replicate shape.actors resting) (replicate shape.actors None) Gone (formatted shape) refl
-      (λ b z e. let same = replicated shape.actors b resting z e in (ap (λ (v : Actor). v.task) same, replicated_there shape.actors b None (inside shape.actors b z e))) tt
+      (λ b z e. let same = sym (replicated shape.actors b resting z e) in (ap (λ (v : Actor). v.task) same, replicated_there shape.actors b None (inside shape.actors b z e))) tt
     where
       inside : (k b : ℕ) (z : Actor) → slice_get (replicate k resting) b ≡ Some z → Rattle.std.specs.Prelude.◌<◌ b k
       inside zero b z e = absurd (cc)

@@ -26,7 +26,7 @@ use Rattle.wb_promise.specs.States.{Shape, State, Actor, Phase, Stands, Gone, Op
 use Rattle.wb_promise.specs.Happenings.{Chosen, Gives, block_range}
 use Rattle.wb_promise.specs.Effects.{task_then}
 use Rattle.wb_promise.specs.Clerk.{Notes, Doing, put, failing, device_note, noted_step, enter_each, entering, sector_for}
-use Rattle.wb_runs.proofs.Lists.{set_other, set_there}
+use Rattle.wb_contents.proofs.Lists.{set_other, set_there}
 use Rattle.wb_runs.proofs.Images.{Images}
 use Rattle.wb_runs.proofs.Metadata.{MetadataKept}
 use Rattle.wb_runs.proofs.Opening.{Comes, Causes, IsOpenNext, open_next, open_on, failing_same, still_refuses, fault_why, reading_comes, reading_why}

@@ -8,29 +8,6 @@ use Rattle.wb_promise.specs.declared.event.Event.TheVariants.{Start}
 use Rattle.wb_promise.specs.States.{State, Actor, resting}
 use Rattle.wb_promise.specs.Happenings.{DoesNotApply}
 
-pub set_other : {X : Type 0} (xs : List X) (i j : ℕ) (y : X) → j ≢ i → slice_get (slice_set xs i y) j ≡ slice_get xs j
-set_other [] i j y n = refl
-set_other (z ∷ xs) zero zero y n = absurd (n refl)
-set_other (z ∷ xs) zero (suc j) y n = refl
-set_other (z ∷ xs) (suc i) zero y n = refl
-set_other (z ∷ xs) (suc i) (suc j) y n = set_other xs i j y (λ e. n (ap suc e))
-
-pub set_there : {X : Type 0} (xs : List X) (i : ℕ) (x y : X) → slice_get xs i ≡ Some x → slice_get (slice_set xs i y) i ≡ Some y
-set_there [] i x y e = absurd (cc)
-set_there (z ∷ xs) zero x y e = refl
-set_there (z ∷ xs) (suc i) x y e = set_there xs i x y e
-
--- what stands in a list of one thing
-pub replicated : {X : Type 0} (k i : ℕ) (x y : X) → slice_get (replicate k x) i ≡ Some y → y ≡ x
-replicated zero i x y e = absurd (cc)
-replicated (suc k) zero x y e = cc
-replicated (suc k) (suc i) x y e = replicated k i x y e
-
-pub replicated_there : {X : Type 0} (k i : ℕ) (x : X) → i < k → slice_get (replicate k x) i ≡ Some x
-replicated_there zero i x l = absurd (omega (arith, l))
-replicated_there (suc k) zero x l = refl
-replicated_there (suc k) (suc i) x l = replicated_there k i x (omega (arith, l))
-
 -- what a list has is its first element, or another one
 pub first_or : {X : Type 0} (x y : X) (xs : List X) (Is : Type 0) → Contains (x ∷ xs) y → (y ≡ x → Is) → (Contains xs y → Is) → Is
 first_or x y xs Is c first later = elim (Contains-append_cases (x ∷ []) xs y c) [ inl s ↦ first (Contains-one x y s) | inr r ↦ later r ]

@@ -16,7 +16,8 @@ use Rattle.wb_stage.specs.Asking.{is_of}
 use Rattle.wb_promise.specs.States.{Actor}
 use Rattle.wb_promise.specs.Effects.{dropped}
 use Rattle.wb_runs.proofs.Ordering.{held_of}
-use Rattle.wb_runs.proofs.Lists.{set_other, set_there, first_or}
+use Rattle.wb_contents.proofs.Lists.{set_other, set_there}
+use Rattle.wb_runs.proofs.Lists.{first_or}
 
 -- ---- orders of a block
 

@@ -34,7 +34,8 @@ use Rattle.wb_promise.specs.Effects.{device_done, device_failed, commit_then, re
 use Rattle.wb_promise.specs.Clerk.{Notes, formatted}
 use Rattle.wb_promise.specs.Headline.{note_happening}
 use Rattle.wb_runs.specs.Holding.{TaskSuits, AllSuited}
-use Rattle.wb_runs.proofs.Lists.{set_other, set_there, rests, free}
+use Rattle.wb_contents.proofs.Lists.{set_other, set_there}
+use Rattle.wb_runs.proofs.Lists.{rests, free}
 use Rattle.wb_runs.proofs.Images.{Images}
 use Rattle.wb_runs.proofs.Metadata.{AtDesk, MetadataKept}
 use Rattle.wb_runs.proofs.Claims.{TaskClaim, Noted, noted_of}

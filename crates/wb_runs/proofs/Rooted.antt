@@ -11,10 +11,6 @@ use Rattle.wb_devices.specs.declared.running.RunningCommit.{RunningCommit}
 use Rattle.wb_devices.specs.Committing.{goes_on, is_coming}
 use Rattle.wb_runs.proofs.Spelling.{spelling, spelled_root}
 
-pub length-grown : (o : Option History) (device : List History) (at : ℕ) (c : Bytes) → length (grown o c device at) ≡ length device
-length-grown None device at c = refl
-length-grown (Some h) device at c = length-set device at _
-
 -- the device has the size that the image is for
 abbrev pub Fits : RunningCommit → List History → Type 0
 Fits c device = length device ≡ c.image.root.geometry.meta_sectors

@@ -13,7 +13,7 @@ use Rattle.wb_words.specs.Ready.{IsReady}
 use Rattle.wb_words.proofs.RuleKept.{step_keeps, fresh_rule}
 use Rattle.wb_promise.specs.States.{Actor, resting}
 use Rattle.wb_runs.specs.Holding.{cards_of}
-use Rattle.wb_runs.proofs.Lists.{set_other, set_there}
+use Rattle.wb_contents.proofs.Lists.{set_other, set_there}
 
 pub cards_set : (xs : List Actor) (i : ℕ) (y : Actor) → cards_of (slice_set xs i y) ≡ slice_set (cards_of xs) i y.card
 cards_set [] i y = refl

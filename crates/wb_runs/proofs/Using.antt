@@ -46,7 +46,8 @@ use Rattle.wb_tasks.specs.declared.step.Migration.{Migration}
 use Rattle.wb_tasks.specs.declared.step.Migration.TheVariants.{Promote, Demote, Clean}
 use Rattle.wb_policy.specs.declared.order.Order.{Order}
 use Rattle.wb_devices.specs.declared.devices.Devices.{Devices}
-use Rattle.wb_runs.proofs.Lists.{replicated, free, first_or}
+use Rattle.wb_contents.proofs.Lists.{replicated}
+use Rattle.wb_runs.proofs.Lists.{free, first_or}
 use Rattle.wb_runs.proofs.Images.{Turns}
 use Rattle.wb_runs.proofs.Ordering.{OrderInside, OrdersInside, AllOrdersInside, orders_left, order_given, held_of, in_orders}
 use Rattle.wb_runs.proofs.Sealing.{EntriesInside, fresh_taken, all_sealed, Sealed}
@@ -512,9 +513,9 @@ module _ (P A : Type 0) (shape : Shape) where
 
   pub used_start : (metadata : List History) → AfterWhat (start shape metadata)
   used_start metadata = record {
-    suited = λ a x e. subst (λ (v : Actor). TaskSuits blocks v.card v.task) (sym (replicated shape.actors a resting x e)) refl;
-    here = λ a x e. ap (λ (v : Actor). v.card) (replicated shape.actors a resting x e);
-    orders = λ a x e. subst (λ (v : Actor). OrdersInside shape.geometry (held_of v)) (sym (replicated shape.actors a resting x e)) (λ order m. absurd (omega (arith, m.1)));
+    suited = λ a x e. subst (λ (v : Actor). TaskSuits blocks v.card v.task) (replicated shape.actors a resting x e) refl;
+    here = λ a x e. ap (λ (v : Actor). v.card) (sym (replicated shape.actors a resting x e));
+    orders = λ a x e. subst (λ (v : Actor). OrdersInside shape.geometry (held_of v)) (replicated shape.actors a resting x e) (λ order m. absurd (omega (arith, m.1)));
   }
 
   pub run_used : (metadata : List History) (hs : List (Happening P A)) → IsFormatted shape.geometry metadata → Rattle.std.specs.Prelude.length metadata ≡ shape.geometry.meta_sectors → IsRun shape (start shape metadata) hs → AreUsedRightly shape (after_all shape (start shape metadata) hs)

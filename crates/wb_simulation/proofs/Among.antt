@@ -30,6 +30,7 @@ use Rattle.wb_simulation.specs.Worlds.{zeros, Agrees, OrdersAgree, Turn, Stays, 
 use Rattle.wb_simulation.proofs.Cells.{Leading, shared_stays, gone_nowhere}
 use Rattle.wb_simulation.proofs.Kept.{stands_on}
 use Rattle.wb_simulation.proofs.Orders.{who, by_pair, CarriesOthers, IsDone, IsNoMigration, does_none, orders_on, carries_same}
+use Rattle.wb_contents.proofs.Lists.{there_is}
 
 -- the failed bit is never cleared
 pub failed_stays : (words : Words) (step : CellStep) (failures suspensions : ℕ) → words.fail ≡ fail_word failures suspensions → flag words.fail ≡ true → flag (words_after words step).fail ≡ true
@@ -53,11 +54,6 @@ failed_stays words SetSuspended f z e t = ap (λ v. flag (bit_or v 2)) e ∙ by_
 failed_stays words step f z e t = t
 
 -- ---- who is there
-
-pub there_is : {X : Type 0} (xs : List X) (i : ℕ) → i < length xs → (x : X) × (slice_get xs i ≡ Some x)
-there_is [] i l = absurd (omega (arith, l))
-there_is (x ∷ xs) zero l = (x, refl)
-there_is (x ∷ xs) (suc i) l = there_is xs i (omega (arith, l))
 
 pub card_there : (actors : List Actor) (a : ℕ) (x : Actor) → slice_get actors a ≡ Some x → slice_get (cards_of actors) a ≡ Some x.card
 card_there [] a x e = absurd (cc)

@@ -9,18 +9,11 @@ use Rattle.wb_contents.proofs.Sectors.{Elsewhere, here_is, elsewhere_is}
 use Rattle.wb_link.specs.Clerk.{Entry, raised as raised_there}
 use Rattle.wb_promise.specs.Clerk.{Position, raised, all_raised, greater_of}
 use Rattle.wb_simulation.specs.Noting.{counts_by_block, AreEntries}
+use Rattle.wb_contents.proofs.Devices.{apart}
 
 -- two functions of block and offset that agree everywhere
 pub everywhere : {X : Type 0} (f g : ℕ → ℕ → X) → ((b o : ℕ) → f b o ≡ g b o) → f ≡ g
 everywhere f g h = λ i b o. h b o i
-
--- the sectors of two blocks, or two of one block, are two sectors
-apart : (size b o b' o' : ℕ) → o < size → o' < size → Elsewhere b o b' o' → b' * size + o' ≢ b * size + o
-apart size b o b' o' l m (inl n) e = n (sym (div-mul-add b' size o' m) ∙ ap (λ v. v / size) e ∙ div-mul-add b size o l)
-apart size b o b' o' l m (inr n) e =
-    let same : b' ≡ b = sym (div-mul-add b' size o' m) ∙ ap (λ v. v / size) e ∙ div-mul-add b size o l in
-    let f : b' * size ≡ b * size = ap (λ v. v * size) same in
-    n (omega (arith, e, f))
 
 -- a number put into the list is put into that view
 pub set_count : (size : ℕ) (counts : List ℕ) (b o v : ℕ) → o < size → b * size + o < length counts →

@@ -21,7 +21,7 @@ use Rattle.wb_stage.specs.Asking.{is_of}
 use Rattle.wb_devices.specs.declared.devices.Devices.{Devices}
 use Rattle.wb_link.specs.Tables.{Order as AbstractOrder, Got, Done as DoneThere, Short, Map_to, Unmap_from, Give_up, Promoting, Returning, Failed as AnsweredFailed}
 use Rattle.wb_link.specs.World.{World, Shared, Nothing, effect, Actor as AbstractActor, following}
-use Rattle.wb_link.proofs.Lists.{get_set_same, get_set_other}
+use Rattle.wb_contents.proofs.Lists.{set_there, set_other}
 use Rattle.wb_refines.specs.Translation.{offsets}
 use Rattle.wb_refines.specs.Models.{WordsAgree, plan_of, held_of, SawSeal, held_for}
 use Rattle.wb_refines.specs.Migrations.{order_on, job_under, migrating}
@@ -125,10 +125,10 @@ module _ (size most blocks : ℕ) (words : Words) (committing : Bool) (orders : 
 
     -- others are at what they were at
     carries : CarriesOthers size orders over devices devices actors s a
-    carries b v u m bl pt plan n ev eu task job k = carried_beside size orders over devices m bl pt plan.steps plan.answer v u (λ p e. get_set_other orders f.c.0 p.cache None (alone b u p n eu e)) k
+    carries b v u m bl pt plan n ev eu task job k = carried_beside size orders over devices m bl pt plan.steps plan.answer v u (λ p e. set_other orders f.c.0 p.cache None (alone b u p n eu e)) k
 
     over_here : slice_get (slice_set orders f.c.0 None) f.c.0 ≡ Some None
-    over_here = get_set_same orders f.c.0 (Some f.order) None its
+    over_here = set_there orders f.c.0 (Some f.order) None its
 
     -- it ends it
     module _ (turn : Turn) (results : List Got) (t : Shared) (z : AbstractActor) (goes : GoesTo s.actors a s.shared y results t z)
@@ -147,7 +147,7 @@ module _ (size most blocks : ℕ) (words : Words) (committing : Bool) (orders : 
                 turn over gone_on mode commits broken turned desk
                 (goes_so size words words (λ e. e) orders over devices devices actors a x left_over s y (gone y y.task results) ex ey g.orders_agree carries (is_done size words over devices migration block part left left_over (gone y y.task results) refl gone_on refl)
                 (λ d. d ≡ f.c.0) (λ d. elim (cases_eq d f.c.0) [ inl e ↦ inl e | inr n ↦ inr n ]) (λ p e. let bad : None ≡ Some p = sym gone_none ∙ e in absurd (cc))
-                (λ p e away. absurd (let both : Some own ≡ Some p = sym y_under ∙ e in let same : own ≡ p = cc in away (ap (λ (q : AbstractOrder). q.cache) (sym same)))) (λ d n. get_set_other orders f.c.0 d None n)
+                (λ p e away. absurd (let both : Some own ≡ Some p = sym y_under ∙ e in let same : own ≡ p = cc in away (ap (λ (q : AbstractOrder). q.cache) (sym same)))) (λ d n. set_other orders f.c.0 d None n)
                 (λ d o e eo. let both : Some None ≡ Some o = sym over_here ∙ ap (slice_get over) (sym e) ∙ eo in let same : None ≡ o = cc in sym same) waits_not alone (λ o h p e. let bad : None ≡ Some p = sym gone_none ∙ e in absurd (cc)) t turns);
           }
 

@@ -13,10 +13,10 @@ use Rattle.wb_link.specs.Tables.{Script, Job as AbstractJob, Reading, Writing, W
 use Rattle.wb_link.specs.World.{Release, release_order, World, Shared, Record, Start, Again, Actor as AbstractActor, resting, after_all, after_record, actor_after, task_after, start_actor, again_actor, reserved, given, aside, taken, order_of}
 use Rattle.wb_link.specs.Clerk.{Notes as AbstractNotes, Entry, histories_after, entered_after, finished_after, floors_after, job_noted, note, noted_step, opened, raised as raised_there}
 use Rattle.wb_link.specs.Openings.{On, AllRight}
-use Rattle.wb_link.proofs.Lists.{get_set_same, get_set_other, replicated}
+use Rattle.wb_contents.proofs.Lists.{set_there, set_other, replicated, set_twice, set_same}
 use Rattle.wb_link.proofs.Steps.{in_set}
 use Rattle.wb_refines.specs.Going.{records, shared_after, gone}
-use Rattle.wb_refines.proofs.Going.{own_steps, with_own, set_twice, set_same}
+use Rattle.wb_refines.proofs.Going.{own_steps, with_own}
 use Rattle.wb_promise.specs.declared.job.Job.{Job}
 use Rattle.wb_promise.specs.Clerk.{Notes, Doing, Position, Entering, begins, begun, put, nobody, entering, enter, enter_each, write_note, all_raised, greater_of}
 use Rattle.wb_simulation.specs.Noting.{counts_by_block, AreEntries, DoesAlike, IsNotedSo, NotesAgree}
@@ -159,10 +159,10 @@ module _ (size a : ℕ) (s : World) (y : AbstractActor) (n : Notes) (m : Abstrac
   unnoted_after gots u = untold_after gots (untold gots y.task m a job_here u) (unnoted_going y.task gots u)
 
   put_others : (o : Option Doing) (b : ℕ) → b ≢ a → slice_get (slice_set n.doings a o) b ≡ slice_get n.doings b
-  put_others o b ne = get_set_other n.doings a b o ne
+  put_others o b ne = set_other n.doings a b o ne
 
   set_here : (o was : Option Doing) → slice_get n.doings a ≡ Some was → slice_get (slice_set n.doings a o) a ≡ Some o
-  set_here o was e = get_set_same n.doings a was o e
+  set_here o was e = set_there n.doings a was o e
 
   -- ---- a write
 
@@ -346,7 +346,7 @@ module _ (size a : ℕ) (s : World) (y : AbstractActor) (n : Notes) (m : Abstrac
   y1 = given y abstract_job
 
   ey1 : slice_get s1.actors a ≡ Some y1
-  ey1 = subst (λ (w : World). slice_get w.actors a ≡ Some y1) (sym (ap (λ o. start_actor s a o abstract_job) ey)) (get_set_same s.actors a y y1 ey)
+  ey1 = subst (λ (w : World). slice_get w.actors a ≡ Some y1) (sym (ap (λ o. start_actor s a o abstract_job) ey)) (set_there s.actors a y y1 ey)
 
   among1 : a < length n1.doings
   among1 = subst (λ (k : ℕ). a < k) (sym (length-set n.doings a (Some (begun n job)))) among
@@ -361,7 +361,7 @@ module _ (size a : ℕ) (s : World) (y : AbstractActor) (n : Notes) (m : Abstrac
   looked = after (table abstract_job) (Flag true)
 
   ey2 : slice_get s2.actors a ≡ Some y2
-  ey2 = subst (λ (w : World). slice_get w.actors a ≡ Some y2) (sym (own_steps (Flag true ∷ []) s1 a y1 (Some (table abstract_job)) ey1 refl)) (get_set_same s1.actors a y1 y2 ey1)
+  ey2 = subst (λ (w : World). slice_get w.actors a ≡ Some y2) (sym (own_steps (Flag true ∷ []) s1 a y1 (Some (table abstract_job)) ey1 refl)) (set_there s1.actors a y1 y2 ey1)
 
   g2 : NotesAgree size n1 s2 (told (note m (Start a abstract_job)) (records a (Some (table abstract_job)) (Flag true ∷ [])))
   g2 = carried_after size a s1 y1 n1 (note m (Start a abstract_job)) ey1 among1 (start_after size a s y n m ey among g abstract_job job was here) (Flag true ∷ []) (migrates, tt, tt)
@@ -378,7 +378,7 @@ module _ (size a : ℕ) (s : World) (y : AbstractActor) (n : Notes) (m : Abstrac
   ends script e n' = ap (λ (w : Script). (gone y2 (Some w) (Done ∷ [])).task) (λ i. record { job = script.job; steps = n' i; answer = script.answer })
 
   ey3 : slice_get s3.actors a ≡ Some (gone y2 (Some looked) (Done ∷ []))
-  ey3 = subst (λ (w : World). slice_get w.actors a ≡ Some (gone y2 (Some looked) (Done ∷ []))) (sym (own_steps (Done ∷ []) s2 a y2 (Some looked) ey2 refl)) (get_set_same s2.actors a y2 (gone y2 (Some looked) (Done ∷ [])) ey2)
+  ey3 = subst (λ (w : World). slice_get w.actors a ≡ Some (gone y2 (Some looked) (Done ∷ []))) (sym (own_steps (Done ∷ []) s2 a y2 (Some looked) ey2 refl)) (set_there s2.actors a y2 (gone y2 (Some looked) (Done ∷ [])) ey2)
 
   failing_after : NotesAgree size n1 (after_all s (Start a abstract_job ∷ records a (Some (table abstract_job)) (Flag true ∷ Done ∷ []))) (told m (Start a abstract_job ∷ records a (Some (table abstract_job)) (Flag true ∷ Done ∷ [])))
   failing_after =
@@ -440,9 +440,9 @@ notes_followed = record {
     floors_as_many = g.floors_as_many;
     each = λ b z l ez. elim (cases_eq b a) [
       | inl same ↦ subst (λ (k : ℕ). IsNotedSo size (length n.histories) z.task (slice_get (slice_set n.doings a (Some doing')) k) k m) (sym same)
-          (subst (λ (o : Option (Option Doing)). IsNotedSo size (length n.histories) z.task o a m) (sym (get_set_same n.doings a (Some doing) (Some doing') here))
+          (subst (λ (o : Option (Option Doing)). IsNotedSo size (length n.histories) z.task o a m) (sym (set_there n.doings a (Some doing) (Some doing') here))
           (redone_so size (length n.histories) z.task doing doing' a m e f (subst (λ (o : Option (Option Doing)). IsNotedSo size (length n.histories) z.task o a m) here (g.each a z (slice_get_within n.doings a (Some doing) here) (ap (slice_get s.actors) (sym same) ∙ ez)))))
-      | inr ne ↦ subst (λ (o : Option (Option Doing)). IsNotedSo size (length n.histories) z.task o b m) (sym (get_set_other n.doings a b (Some doing') ne)) (g.each b z (subst (λ (k : ℕ). b < k) (length-set n.doings a (Some doing')) l) ez)
+      | inr ne ↦ subst (λ (o : Option (Option Doing)). IsNotedSo size (length n.histories) z.task o b m) (sym (set_other n.doings a b (Some doing') ne)) (g.each b z (subst (λ (k : ℕ). b < k) (length-set n.doings a (Some doing')) l) ez)
     ];
   };
   ended = λ size n s t m g. record {

@@ -10,7 +10,7 @@ use Rattle.wb_words.specs.SharedWords.{Words, word_at, fresh_words, seal_word, f
 use Rattle.wb_words.specs.Effects.{words_after}
 use Rattle.wb_tree.specs.Mapping.{IsMapping}
 use Rattle.wb_link.specs.World.{Shared, Actor as AbstractActor, resting as idle}
-use Rattle.wb_link.proofs.Lists.{replicated}
+use Rattle.wb_contents.proofs.Lists.{replicated}
 use Rattle.wb_refines.specs.Models.{SealAgrees}
 use Rattle.wb_refines.specs.Translation.{number_of}
 use Rattle.wb_refines.proofs.Cells.{tells_dirty}

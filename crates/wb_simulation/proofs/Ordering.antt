@@ -18,7 +18,7 @@ use Rattle.wb_tasks.specs.declared.step.Migration.TheVariants.{Promote}
 use Rattle.wb_devices.specs.declared.devices.Devices.{Devices}
 use Rattle.wb_link.specs.Tables.{Job as AbstractJob, Order as AbstractOrder, Finished as AnsweredDone, Script, Flag, Done as DoneThere, table as table_there}
 use Rattle.wb_link.specs.World.{IsRun, World, Shared, Start, Again, Apart, Ungiven, MayStart, MayAgain, Actor as AbstractActor, reserved, Record, order_of as order_of_job, aside, taken, given, after_all, start_actor, again_actor}
-use Rattle.wb_link.proofs.Lists.{get_set_same, get_set_other}
+use Rattle.wb_contents.proofs.Lists.{set_there, set_other, set_twice}
 use Rattle.wb_refines.specs.Tasks.{AllInBlocks, IsResting}
 use Rattle.wb_refines.specs.Models.{held_of}
 use Rattle.wb_refines.specs.Translation.{offsets}
@@ -33,7 +33,7 @@ use Rattle.wb_simulation.proofs.Cut.{whole_part, whole_covered}
 use Rattle.wb_contents.proofs.Positions.{changed_same, changed_other}
 use Rattle.wb_link.proofs.Aside.{aside_cases}
 use Rattle.wb_refines.specs.Going.{records, shared_after, gone, MayGo}
-use Rattle.wb_refines.proofs.Going.{goes, set_twice}
+use Rattle.wb_refines.proofs.Going.{goes}
 use Rattle.wb_simulation.specs.Steps.{IsPart}
 use Rattle.wb_simulation.specs.Carried.{held, order_there, live_there, IsOf, IsOrderFor, IsCarried}
 use Rattle.wb_simulation.specs.Telling.{Resumes, IsResumed, Given, Kept, Failing, Nowhere}
@@ -225,7 +225,7 @@ module _ (size most : ℕ) (words : Words) (committing : Bool) (orders : List (O
     aside_not d p e w = not_aside size most words committing orders devices actors s g c.0 no_order a y ey d p e w
 
     starts_so : IsResting y → Goal
-    starts_so idle = begins_there orders_then (order ∷ x.orders) (get_set_same orders c.0 None (Some order) no_order) (Contains-first order x.orders) (λ d n. get_set_other orders c.0 d (Some order) n) (aside s.waiting y.order) (λ d n. refl) aside_not alone (reserved s.shared job) (is_given migration).mapping (given_by migration c.0) (Start a job ∷ []) (fills_given migration may)
+    starts_so idle = begins_there orders_then (order ∷ x.orders) (set_there orders c.0 None (Some order) no_order) (Contains-first order x.orders) (λ d n. set_other orders c.0 d (Some order) n) (aside s.waiting y.order) (λ d n. refl) aside_not alone (reserved s.shared job) (is_given migration).mapping (given_by migration c.0) (Start a job ∷ []) (fills_given migration may)
         ((y, record { actor = ey; task = idle.task; free = inl (idle.held, idle.leads); nobody_alone = nobody_alone size most words committing orders devices actors s g; may = may_start migration may free waits }), tt)
         (ap (λ (o : Option AbstractActor). start_actor s a o job) ey ∙ (λ i. record { shared = reserved s.shared job; actors = slice_set s.actors a (given_is idle i); waiting = aside s.waiting y.order })) (Given job (under_migrates own (offsets size cut) migration) refl) (is_given migration)
 
@@ -239,10 +239,10 @@ module _ (size most : ℕ) (words : Words) (committing : Bool) (orders : List (O
         let begun_is : start_actor s a (slice_get s.actors a) job ≡ w1 = ap (λ (o : Option AbstractActor). start_actor s a o job) ey in
         let stopped : t.fail ≡ true = (is_given migration).words_agree.fail ∙ failed in
         let f = falls (slice_set s.actors a y1) migration t y1 stopped in
-        let went = goes size results w1 a y1 (Some (table_there job)) (get_set_same s.actors a y y1 ey) refl f.0 in
+        let went = goes size results w1 a y1 (Some (table_there job)) (set_there s.actors a y y1 ey) refl f.0 in
         let w2 : World = record { shared = t; actors = slice_set s.actors a (record y { task = None; order = Some own }); waiting = aside s.waiting y.order } in
         let then_is : after_all w1 (records a (Some (table_there job)) results) ≡ w2 = went.is ∙ (λ i. record { shared = f.1 i; actors = slice_set (slice_set s.actors a y1) a (f.2 i); waiting = aside s.waiting y.order }) ∙ (λ i. record { shared = t; actors = set_twice s.actors a y1 (record y { task = None; order = under_order own (offsets size cut) migration i }) i; waiting = aside s.waiting y.order }) in
-        falls_there orders_then (order ∷ x.orders) (get_set_same orders c.0 None (Some order) no_order) (Contains-first order x.orders) (λ d n. get_set_other orders c.0 d (Some order) n) (aside s.waiting y.order) (λ d n. refl) aside_not alone t (is_given migration).mapping (given_by migration c.0) (Start a job ∷ records a (Some (table_there job)) results) failed (
+        falls_there orders_then (order ∷ x.orders) (set_there orders c.0 None (Some order) no_order) (Contains-first order x.orders) (λ d n. set_other orders c.0 d (Some order) n) (aside s.waiting y.order) (λ d n. refl) aside_not alone t (is_given migration).mapping (given_by migration c.0) (Start a job ∷ records a (Some (table_there job)) results) failed (
           (y, record { actor = ey; task = rest.0; free = inr (g.words_agree.fail ∙ failed); nobody_alone = nobody_alone size most words committing orders devices actors s g; may = may_start migration may free waits }),
           subst (λ (w : World). IsRun size w (records a (Some (table_there job)) results)) (sym begun_is) went.run,
         )

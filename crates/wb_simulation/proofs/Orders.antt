@@ -17,7 +17,7 @@ use Rattle.wb_devices.specs.declared.devices.Devices.{Devices}
 use Rattle.wb_link.specs.Tables.{Order as AbstractOrder}
 use Rattle.wb_link.specs.World.{aside, World, Shared, Actor as AbstractActor}
 use Rattle.wb_link.proofs.Aside.{aside_cases}
-use Rattle.wb_link.proofs.Lists.{get_set_same, get_set_other}
+use Rattle.wb_contents.proofs.Lists.{set_there, set_other}
 use Rattle.wb_refines.specs.Migrations.{order_on}
 use Rattle.wb_refines.specs.Models.{plan_of}
 use Rattle.wb_refines.specs.Carried.{IsMigrationAt}
@@ -45,8 +45,8 @@ cache_there m c (Clean block) = refl
 -- the one that was set, or another one that was there
 pub who : {X : Type 0} (xs : List X) (a : ℕ) (x x' : X) → slice_get xs a ≡ Some x → (b : ℕ) (v : X) → slice_get (slice_set xs a x') b ≡ Some v → ((b ≡ a) × (x' ≡ v)) ⊎ ((b ≢ a) × (slice_get xs b ≡ Some v))
 who {X} xs a x x' ex b v e = elim (cases_eq b a) [
-  | inl same ↦ inl (same, (let both : Some x' ≡ Some v = sym (get_set_same xs a x x' ex) ∙ ap (λ k. slice_get (slice_set xs a x') k) (sym same) ∙ e in let one : x' ≡ v = cc in one))
-  | inr n ↦ inr (n, sym (get_set_other xs a b x' n) ∙ e)
+  | inl same ↦ inl (same, (let both : Some x' ≡ Some v = sym (set_there xs a x x' ex) ∙ ap (λ k. slice_get (slice_set xs a x') k) (sym same) ∙ e in let one : x' ≡ v = cc in one))
+  | inr n ↦ inr (n, sym (set_other xs a b x' n) ∙ e)
 ]
 
 -- what holds of this actor and its abstract one, and of the others as they were, holds of all
@@ -176,7 +176,7 @@ module _ (size : ℕ) (words words' : Words) (up : flag words.fail ≡ true → 
     there : (c : ℕ) (o : Option Order) (p : AbstractOrder) → slice_get orders c ≡ Some o → p.cache ≡ c → (Here c → ⊥) → IsThere s p → IsThere then_is p
     there c o p e at n h = elim (forth c o p e at n h) [
       | inl w ↦ inl w
-      | inr r ↦ elim r [ inl k ↦ inr (a, y', get_set_same s.actors a y y' ey, k) | inr k ↦ inr (k.0, k.1, get_set_other s.actors a k.0 y' k.2 ∙ k.3, k.4) ]
+      | inr r ↦ elim r [ inl k ↦ inr (a, y', set_there s.actors a y y' ey, k) | inr k ↦ inr (k.0, k.1, set_other s.actors a k.0 y' k.2 ∙ k.3, k.4) ]
     ]
 
     was : (p : AbstractOrder) → (Here p.cache → ⊥) → IsThere then_is p → IsThere s p
@@ -201,7 +201,7 @@ module _ (size : ℕ) (words words' : Words) (up : flag words.fail ≡ true → 
     pub orders_so : OrdersAgree size words' orders' devices' (slice_set actors a x') then_is
     orders_so = record {
       live = λ c o e p at. elim (here_or c) [
-        | inl k ↦ let l = lives c o p k e at in (λ f. inr (a, y', get_set_same s.actors a y y' ey, l.0 f), λ h. l.1 (its_own p (subst Here (sym at) k) h))
+        | inl k ↦ let l = lives c o p k e at in (λ f. inr (a, y', set_there s.actors a y y' ey, l.0 f), λ h. l.1 (its_own p (subst Here (sym at) k) h))
         | inr n ↦ let f = sym (beside c n) ∙ e in let k = g.live c o f p at in let same = turns c o n f in (λ l. there c o p f at n (k.0 (sym same ∙ l)), λ h. same ∙ k.1 (was p (λ v. n (subst Here at v)) h))
       ];
       once = λ b v p ev e. elim (who s.actors a y y' ey b v ev) [

@@ -9,14 +9,13 @@ use Rattle.wb_policy.specs.declared.order.Order.{Order}
 use Rattle.wb_devices.specs.declared.devices.Devices.{Devices}
 use Rattle.wb_link.specs.Tables.{Order as AbstractOrder}
 use Rattle.wb_link.specs.World.{World, Shared, Release, release_order, given_back, aside, after_record, Actor as AbstractActor}
-use Rattle.wb_link.proofs.Lists.{get_set_same, get_set_other}
+use Rattle.wb_contents.proofs.Lists.{set_there, set_other, set_same}
 use Rattle.wb_promise.specs.States.{Actor}
 use Rattle.wb_simulation.specs.Actors.{StandsFor}
 use Rattle.wb_simulation.specs.Carried.{held, live_there, order_there}
 use Rattle.wb_simulation.specs.Telling.{Releases}
 use Rattle.wb_simulation.specs.Worlds.{Agrees, OrdersAgree, GivesUp, FollowsBy}
 use Rattle.wb_simulation.specs.Laws.{IsOnlyOf}
-use Rattle.wb_refines.proofs.Going.{set_same}
 use Rattle.wb_simulation.proofs.Starting.{begins}
 use Rattle.wb_simulation.proofs.Orders.{IsNoMigration, CarriesOthers, cache_there, carried_beside, does_none, begins_so}
 use Rattle.wb_simulation.proofs.Among.{whose, nobody_alone}
@@ -56,13 +55,13 @@ module _ (size most : ℕ) (words : Words) (committing : Bool) (orders : List (O
 
   -- a migration is at what it was at, where its order is another one
   carries : CarriesOthers size orders over devices devices actors s a
-  carries b z u m bl part plan n ez eu task job k = carried_beside size orders over devices m bl part plan.steps plan.answer z u (λ p e. get_set_other orders c p.cache None (nobody b u p eu e)) k
+  carries b z u m bl part plan n ez eu task job k = carried_beside size orders over devices m bl part plan.steps plan.answer z u (λ p e. set_other orders c p.cache None (nobody b u p eu e)) k
 
   ordered : OrdersAgree size words over devices (slice_set actors a x') (record { shared = t; actors = slice_set s.actors a y; waiting = changed s.waiting c None })
   ordered = begins_so size words words (λ f. f) orders over devices devices actors a x x' s y y ex ey g.orders_agree carries (does_none size words over devices x' y other) (λ d. d ≡ c) (λ d. elim (cases_eq d c) [ inl e ↦ inl e | inr n ↦ inr n ]) (changed s.waiting c None)
       (λ p e. let bad : None ≡ Some p = sym none ∙ e in absurd (cc))
-      (λ d o p e eo l. let both : Some None ≡ Some o = sym (get_set_same orders c (Some order) None slot) ∙ ap (slice_get over) (sym e) ∙ eo in let is : None ≡ o = cc in let bad : None ≡ Some p = ap (live_there s.shared.mapping d) is ∙ l in absurd (cc))
-      (λ d n. get_set_other orders c d None n) (λ d n. changed_other s.waiting c d None n ∙ sym (ap (λ (o : Option AbstractOrder). aside s.waiting o d) none))
+      (λ d o p e eo l. let both : Some None ≡ Some o = sym (set_there orders c (Some order) None slot) ∙ ap (slice_get over) (sym e) ∙ eo in let is : None ≡ o = cc in let bad : None ≡ Some p = ap (live_there s.shared.mapping d) is ∙ l in absurd (cc))
+      (λ d n. set_other orders c d None n) (λ d n. changed_other s.waiting c d None n ∙ sym (ap (λ (o : Option AbstractOrder). aside s.waiting o d) none))
       (λ d p e w. let bad : None ≡ Some p = sym (changed_same s.waiting c None) ∙ ap (changed s.waiting c None) (sym e) ∙ w in absurd (cc)) (λ b v p n ev e at. nobody b v p ev e at) t refl
 
   pub released_there : FollowsBy (GivesUp c) Releases size most a s words committing over devices (slice_set actors a x')
