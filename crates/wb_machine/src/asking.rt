@@ -1,11 +1,12 @@
 //! The desk is asked for a commit, for an entry, to let one go, or to give up an order, by the one performer of such steps.
 
-ghost use Rattle.std.specs.Prelude.{◌≡◌, length, All};
+ghost use Rattle.std.specs.Prelude.{◌≡◌, length, All, IfSome};
 ghost use Rattle.wb_types.specs.declared.number.Place.{Place as PlaceValue};
 ghost use Rattle.wb_format.specs.declared.node.Node.{Node as NodeValue};
 ghost use Rattle.wb_types.specs.Limits.{node_count};
 ghost use Rattle.wb_tasks.specs.Plan.{Fits};
 ghost use Rattle.wb_tasks.specs.declared.step.Want.TheVariants.{Desk as OnDesk};
+ghost use Rattle.wb_promise.specs.Happenings.{AreWhole};
 ghost use Rattle.wb_machine.specs.Serving.{Allows, IsAskable, WasAsked};
 
 use std::alloc::Global;
@@ -33,10 +34,20 @@ pub(crate) fn ask(
     ensures kind { Fits (OnDesk step) result }
 {
     let got = asking::ask(alloc, desk, commit, held, step);
-    if let (Got::Began(_), Some(running)) = (got, &*commit) {
-        see_whole(running.image().nodes.as_slice());
+    match got {
+        Got::Began(_) => see_commit(&*commit),
+        _ => {}
     }
     got
+}
+
+/// The image of a commit has nodes with all their words. It does nothing.
+fn see_commit(commit: &Option<RunningCommit>)
+    ensures { IfSome commit.now (λ running. AreWhole running.image) }
+{
+    if let Some(running) = commit {
+        see_whole(running.image().nodes.as_slice());
+    }
 }
 
 /// Each node has all its words, an array's. It does nothing.

@@ -3,7 +3,7 @@ use Rattle.std.proofs.Common.{◌≡◌, inl, inr, ℕ, zero, suc, List, [], ◌
 use Rattle.std.proofs.lemmas.Bool.{cases_eq}
 use Rattle.wb_link.specs.Tables.{Script, Want, Share, Own, Got, Done, want}
 use Rattle.wb_link.specs.World.{Shared, Held, Nothing, Shares, Owns, Actor, World, effect, actor_after, task_after, Wins, Record, Step, step_task, step_actor, after_record, after_all, IsRun}
-use Rattle.wb_contents.proofs.Lists.{set_there, set_other, set_twice}
+use Rattle.wb_contents.proofs.Lists.{set_there, set_other, set_twice, set_same}
 use Rattle.wb_refines.specs.Going.{records, shared_after, gone, WinsBeside, MayGo}
 
 -- the world with another shared state and another actor
