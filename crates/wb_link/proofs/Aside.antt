@@ -68,7 +68,7 @@ beside_set actors a j y v n h = set_other actors a j y n ∙ h
 -- And one of those is taken up.
 pub take_up : (size : ℕ) (w : World) (d : Volume) (a : ℕ) (x y : Actor) (p : Order) → Linked size w d → slice_get w.actors a ≡ Some x → y.order ≡ Some p → aside w.waiting x.order p.cache ≡ Some p →
     SetAside w.shared (slice_set w.actors a y) (taken (aside w.waiting x.order) (Some p)) d.mode
-take_up size w d a x y p i here own there = record {
+take_up size w d a x y p i here own there = let all = without_order size w d a x i here in record {
   at = λ k q e. all.at k q (taken_was (aside w.waiting x.order) p k q e).1;
   stands = λ k q e. all.stands k q (taken_was (aside w.waiting x.order) p k q e).1;
   placed = λ k q e. all.placed k q (taken_was (aside w.waiting x.order) p k q e).1;
@@ -78,9 +78,7 @@ take_up size w d a x y p i here own there = record {
       b z g r;
   each = λ j k q r e f n. all.each j k q r (taken_was (aside w.waiting x.order) p j q e).1 (taken_was (aside w.waiting x.order) p k r f).1 n;
   modes = λ k q e. all.modes k q (taken_was (aside w.waiting x.order) p k q e).1;
-} where
-  all : SetAside w.shared (slice_set w.actors a (record x { order = None })) (aside w.waiting x.order) d.mode
-  all = without_order size w d a x i here
+}
 
 -- ---- an order that is aside is given up
 

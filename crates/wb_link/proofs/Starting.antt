@@ -311,7 +311,7 @@ pub again_is : (size : ℕ) (w : World) (a : ℕ) (job : Job) (x : Actor) → Ma
 again_is size w a job x m = ap (λ o. again_actor w a o job) m.actor
 
 pub again_linked : (size : ℕ) (w : World) (d : Volume) (a : ℕ) (x : Actor) (job : Job) → Linked size w d → MayRepeat size w a job x → Linked size (repeated w a x job) (after_acts d (start_acts a job))
-again_linked size w d a x job i m = begun_linked size w d a x job w.shared (taken (aside w.waiting x.order) (order_of job)) i m.actor m.task m.free m.nobody_alone (record {
+again_linked size w d a x job i m = let set_out = without_order size w d a x i m.actor in begun_linked size w d a x job w.shared (taken (aside w.waiting x.order) (order_of job)) i m.actor m.task m.free m.nobody_alone (record {
   res = unmoved size a x job w.shared d _ (again_agrees size a w.shared d job m.may i.good.agrees) i.good.sound
       (again_startable size a w.shared d job m.order.0 i.good.agrees m.may m.order.1 ((without_order size w d a x i m.actor).placed m.order.0.cache m.order.0 m.order.2)) (λ p e. (without_order size w d a x i m.actor).placed p.cache p (is_out p e)) (λ p e. (without_order size w d a x i m.actor).stands p.cache p (is_out p e));
   apart = λ b y p q n g e f. (without_order size w d a x i m.actor).apart p.cache p b y q (is_out p e) (beside_set w.actors a b (record x { order = None }) y n g) f;

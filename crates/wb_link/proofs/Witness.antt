@@ -1,11 +1,12 @@
 -- The world is not empty: a run of one actor that writes, promotes, writes again, flushes and demotes.
 use Rattle.std.proofs.Common.{◌≡◌, ◌≢◌, ◌<◌, inl, inr, ℕ, zero, suc, Bool, true, false, cond, List, [], ◌∷◌, ◌++◌, Option, Some, None, refl, sym, ap, subst, ◌∙◌, arith, slice_get}
-use Rattle.wb_link.specs.Examples.{dones, order, one_actor, replacement, follower, replaced, settles, lives_of, reopening, one_clean, past_the_cache}
-use Rattle.wb_disk.specs.Device.{History, newest, added, only}
+use Rattle.wb_link.specs.Examples.{dones, order, one_actor, replacement, follower, replaced, settles, shown, cut_short, lives_of, opening, reopening, one_clean, past_the_cache}
+use Rattle.wb_disk.specs.Device.{Content, History, newest, added, only}
 use Rattle.wb_contents.specs.Volume.{changed, changed_at, at_location}
 use Rattle.wb_contents.specs.Acts.{all_synced}
 use Rattle.wb_disk.proofs.Leaving.{newest_there}
-use Rattle.wb_link.specs.Openings.{Site, site, MayStop, Happens}
+use Rattle.wb_types.specs.declared.mode.Mode.TheVariants.{Writeback}
+use Rattle.wb_link.specs.Openings.{Site, site, MayOpen, MayStop, Happens, after_events}
 use Rattle.wb_link.specs.Tables.{Order, Seal, Job, Want, Script, Answer, Done, Set_seal, Disown, Write_all, Sync_cache_device, Sync_origin_device, Put_root, Sync_metadata, End_running, Make_room, Map_to, Unmap_from, after}
 use Rattle.wb_link.specs.World.{World, Record, Shared, Actor, Nothing, Owns, Shares, Apart, AreIn, Gives, Wins, May, MayStep, IsRun, begins, is_alone, task_after, actor_after, after_record, after_all}
 use Rattle.wb_contents.proofs.Lists.{set_there}
@@ -166,6 +167,19 @@ place_same : (f g m n : ℕ → ℕ → History) → ((b o : ℕ) → newest (f 
 place_same f g m n h i None b o = h b o
 place_same f g m n h i (Some k) b o = i k o
 
+-- an opening that shows what is there
+opened : (size : ℕ) (w : Site) (view : ℕ → ℕ → Content) → MayOpen w → ((b o : ℕ) → view b o ≡ shown w.world.shared b o) → Happens size w (opening Writeback (record { locations = w.world.shared.committed; clean = w.world.shared.committed_clean }) view)
+opened size w view may same =
+    may ▸
+    (_, _, refl, (λ e. absurd (cc))) ▸
+    (_, _, refl, tt) ▸
+    (_, _, refl, tt) ▸
+    (_, _, refl, (refl, refl, tt)) ▸
+    (_, _, refl, tt) ▸
+    (_, _, refl, tt) ▸
+    (_, _, refl, ((λ k. inl refl), (λ b o. same b o ∙ place_same w.world.shared.origin w.world.shared.cache _ _ (λ c i. refl) (λ c i. refl) (w.world.shared.committed b) b o))) ▸
+    tt
+
 pub many_lives : (size : ℕ) (w : Site) → Happens size w (lives_of w.world.shared)
 many_lives size w =
     may_settle w.world.shared false (λ e. absurd (cc)) ▸
@@ -180,27 +194,10 @@ many_lives size w =
     (_, _, refl, (refl, refl, tt)) ▸
     (_, _, refl, tt) ▸
     record { root = λ e. refl; origin = λ b o. newest_there (only (newest (w.world.shared.origin b o))); cache = λ k o. newest_there (only (newest (w.world.shared.cache k o))) } ▸
-    inl (λ e. absurd (cc)) ▸
-    (_, _, refl, (λ e. absurd (cc))) ▸
-    (_, _, refl, tt) ▸
-    (_, _, refl, tt) ▸
-    (_, _, refl, (refl, refl, tt)) ▸
-    (_, _, refl, tt) ▸
-    (_, _, refl, tt) ▸
-    (_, _, refl, ((λ k. inl refl), (λ b o. place_same w.world.shared.origin w.world.shared.cache _ _ (λ c i. refl) (λ c i. refl) (w.world.shared.committed b) b o))) ▸
-    tt
+    opened size (after_events w (cut_short w.world.shared)) (shown w.world.shared) (inl (λ e. absurd (cc))) (λ b o. place_same w.world.shared.origin w.world.shared.cache _ _ (λ c i. refl) (λ c i. refl) (w.world.shared.committed b) b o)
 
 pub without_crash : (size : ℕ) (w : Site) → w.world.shared.fail ≡ true → Happens size w (reopening w.world.shared)
-without_crash size w f =
-    inr f ▸
-    (_, _, refl, (λ e. absurd (cc))) ▸
-    (_, _, refl, tt) ▸
-    (_, _, refl, tt) ▸
-    (_, _, refl, (refl, refl, tt)) ▸
-    (_, _, refl, tt) ▸
-    (_, _, refl, tt) ▸
-    (_, _, refl, ((λ k. inl refl), (λ b o. place_same w.world.shared.origin w.world.shared.cache _ _ (λ c i. refl) (λ c i. refl) (w.world.shared.committed b) b o))) ▸
-    tt
+without_crash size w f = opened size w (shown w.world.shared) (inr f) (λ b o. refl)
 
 -- A life past the cache.
 

@@ -3,6 +3,7 @@
 use Rattle.std.specs.Prelude.{◌++◌, ℕ, Bool, true, false, cond, List, [], ◌∷◌, Some, None}
 use Rattle.wb_disk.specs.Device.{Content, newest}
 use Rattle.wb_contents.specs.Volume.{at_location, changed}
+use Rattle.wb_types.specs.declared.mode.Mode.{Mode}
 use Rattle.wb_types.specs.declared.mode.Mode.TheVariants.{Writeback, Writethrough, Passthrough}
 use Rattle.wb_link.specs.Tables.{Order, Seal, Answer, Want, Reading, Writing, Suspending, Promoting, Returning, Flushing, Finished, Look_fail, Share, Leave, Own, Look_seal, Set_seal, Disown, Read_all, Write_all, Begin, Sync_cache_device, Sync_origin_device, Put_root, Sync_metadata, End_running, Make_room, Map_to, Unmap_from, Unmap_plain, Begin_clean, Set_suspended, Failed, Short, End, Done, Flag, Seen, Gave, Ticket, Served}
 use Rattle.wb_link.specs.World.{Mapped, Shared, Start, Again, Step, Record}
@@ -88,12 +89,24 @@ replaced = promoted [] ++
 abbrev pub settles : Shared → Bool → Stopping
 settles s new_root = record { origin = λ b o. newest (s.origin b o); cache = λ k o. newest (s.cache k o); new_root = new_root }
 
-abbrev pub shown : Shared → Event
-shown s = Advances (Shown (λ k. Mapped) (λ b o. newest (at_location s.origin s.cache (s.committed b) b o)))
+-- what an opening shows that finds the committed image
+abbrev pub shown : Shared → ℕ → ℕ → Content
+shown s b o = newest (at_location s.origin s.cache (s.committed b) b o)
 
--- A crash, an opening that fails at its last sync, another that a crash ends once its root was written, and a whole one.
-abbrev pub lives_of : Shared → List Event
-lives_of s = Stopped (settles s false) ∷
+-- a whole opening, which learns and shows this
+abbrev pub opening : Mode → Learnt → (ℕ → ℕ → Content) → List Event
+opening mode learnt view = Begins mode ∷
+    Advances (Settled false) ∷
+    Advances Fine ∷
+    Advances Fine ∷
+    Advances (Learns learnt) ∷
+    Advances Fine ∷
+    Advances Fine ∷
+    Advances (Shown (λ k. Mapped) view) ∷ []
+
+-- A crash, an opening that fails at its last sync, another that a crash ends once its root was written,
+abbrev pub cut_short : Shared → List Event
+cut_short s = Stopped (settles s false) ∷
     Begins Writeback ∷
     Advances (Settled false) ∷
     Advances Fine ∷
@@ -104,26 +117,15 @@ lives_of s = Stopped (settles s false) ∷
     Advances Fine ∷
     Advances (Learns (record { locations = s.committed; clean = s.committed_clean })) ∷
     Advances Fine ∷
-    Stopped (settles s true) ∷
-    Begins Writeback ∷
-    Advances (Settled false) ∷
-    Advances Fine ∷
-    Advances Fine ∷
-    Advances (Learns (record { locations = s.committed; clean = λ b. false })) ∷
-    Advances Fine ∷
-    Advances Fine ∷
-    shown s ∷ []
+    Stopped (settles s true) ∷ []
+
+-- and a whole one
+abbrev pub lives_of : Shared → List Event
+lives_of s = cut_short s ++ opening Writeback (record { locations = s.committed; clean = λ b. false }) (shown s)
 
 -- an opening without a crash, which finds the committed image
 abbrev pub reopening : Shared → List Event
-reopening s = Begins Writeback ∷
-    Advances (Settled false) ∷
-    Advances Fine ∷
-    Advances Fine ∷
-    Advances (Learns (record { locations = s.committed; clean = s.committed_clean })) ∷
-    Advances Fine ∷
-    Advances Fine ∷
-    shown s ∷ []
+reopening s = opening Writeback (record { locations = s.committed; clean = s.committed_clean }) (shown s)
 
 -- these records, and then these events
 abbrev pub then_all : List Record → List Event → List Event
@@ -176,12 +178,5 @@ past_the_cache = then_all promoted_and_suspended (
     Advances Fine ∷
     Advances (Learns one_clean) ∷
     Advances Refused ∷
-    Begins Passthrough ∷
-    Advances (Settled false) ∷
-    Advances Fine ∷
-    Advances Fine ∷
-    Advances (Learns one_clean) ∷
-    Advances Fine ∷
-    Advances Fine ∷
-    Advances (Shown (λ k. Mapped) (λ b o. [])) ∷
+    opening Passthrough one_clean (λ b o. []) ++
     then_all read_and_written [])

@@ -11,7 +11,7 @@ use Rattle.wb_refines.specs.Models.{SameImages}
 use Rattle.wb_refines.specs.Data.{side, row, IsSide, SameBeside}
 use Rattle.wb_contents.proofs.Lengths.{length-grown}
 
-pub newest_side : (to : Option ℕ) (s : Shared) (b o : ℕ) → newest_at s to b o ≡ newest (side to s (row to b) o)
+newest_side : (to : Option ℕ) (s : Shared) (b o : ℕ) → newest_at s to b o ≡ newest (side to s (row to b) o)
 newest_side None s b o = refl
 newest_side (Some k) s b o = refl
 
@@ -20,7 +20,7 @@ put_side None s b o c = refl
 put_side (Some k) s b o c = refl
 
 -- a sector that is written is written in its list
-pub put_is : (size : ℕ) (blank : Content) (to : Option ℕ) (device : List History) (s : Shared) (b o : ℕ) (c : Content) → o < size → row to b * size + o < length device → IsSide size blank to device s →
+put_is : (size : ℕ) (blank : Content) (to : Option ℕ) (device : List History) (s : Shared) (b o : ℕ) (c : Content) → o < size → row to b * size + o < length device → IsSide size blank to device s →
     IsSide size blank to (written device (row to b * size + o) c) (put_sector s to b o c)
 put_is size blank to device s b o c l m i = put_side to s b o c ∙ ap (λ (f : ℕ → ℕ → History). changed_at f (row to b) o (added (f (row to b) o) c)) i ∙ sym (write_is_act size blank device (row to b) o c l m)
 
@@ -38,62 +38,38 @@ reads_newest size blank s to b device i (c ∷ contents) o l g =
 
 -- ---- writes
 
-pub put_beside : (to : Option ℕ) (s : Shared) (b o : ℕ) (c : Content) → SameBeside to s (put_sector s to b o c)
-put_beside None s b o c = record { other = refl; seals = refl; fail = refl; images = record { mapping = refl; blocks = refl; live = refl; mode = refl; committing = refl; began = refl; ended = refl; broken = refl; committed = refl; running = refl; root_written = refl; committed_clean = refl; running_clean = refl } }
-put_beside (Some k) s b o c = record { other = refl; seals = refl; fail = refl; images = record { mapping = refl; blocks = refl; live = refl; mode = refl; committing = refl; began = refl; ended = refl; broken = refl; committed = refl; running = refl; root_written = refl; committed_clean = refl; running_clean = refl } }
 
 pub same_beside : (to : Option ℕ) (s : Shared) → SameBeside to s s
 same_beside to s = record { other = refl; seals = refl; fail = refl; images = record { mapping = refl; blocks = refl; live = refl; mode = refl; committing = refl; began = refl; ended = refl; broken = refl; committed = refl; running = refl; root_written = refl; committed_clean = refl; running_clean = refl } }
 
-both_images : (s t u : Shared) → SameImages s t → SameImages t u → SameImages s u
-both_images s t u p q = record {
-  mapping = q.mapping ∙ p.mapping;
-  blocks = q.blocks ∙ p.blocks;
-  live = q.live ∙ p.live;
-  mode = q.mode ∙ p.mode;
-  committing = q.committing ∙ p.committing;
-  began = q.began ∙ p.began;
-  ended = q.ended ∙ p.ended;
-  broken = q.broken ∙ p.broken;
-  committed = q.committed ∙ p.committed;
-  running = q.running ∙ p.running;
-  root_written = q.root_written ∙ p.root_written;
-  committed_clean = q.committed_clean ∙ p.committed_clean;
-  running_clean = q.running_clean ∙ p.running_clean;
-}
+put_beside : (to : Option ℕ) (s t : Shared) (b o : ℕ) (c : Content) → SameBeside to s t → SameBeside to s (put_sector t to b o c)
+put_beside None s t b o c k = record { other = k.other; seals = k.seals; fail = k.fail; images = record { mapping = k.images.mapping; blocks = k.images.blocks; live = k.images.live; mode = k.images.mode; committing = k.images.committing; began = k.images.began; ended = k.images.ended; broken = k.images.broken; committed = k.images.committed; running = k.images.running; root_written = k.images.root_written; committed_clean = k.images.committed_clean; running_clean = k.images.running_clean } }
+put_beside (Some j) s t b o c k = record { other = k.other; seals = k.seals; fail = k.fail; images = record { mapping = k.images.mapping; blocks = k.images.blocks; live = k.images.live; mode = k.images.mode; committing = k.images.committing; began = k.images.began; ended = k.images.ended; broken = k.images.broken; committed = k.images.committed; running = k.images.running; root_written = k.images.root_written; committed_clean = k.images.committed_clean; running_clean = k.images.running_clean } }
 
-pub both_beside : (to : Option ℕ) (s t u : Shared) → SameBeside to s t → SameBeside to t u → SameBeside to s u
-both_beside to s t u p q = record { other = q.other ∙ p.other; seals = q.seals ∙ p.seals; fail = q.fail ∙ p.fail; images = both_images s t u p.images q.images }
-
--- ---- a sector that landed or not
-
-pub put_if : (size : ℕ) (blank : Content) (to : Option ℕ) (t : Bool) (device : List History) (s : Shared) (b o : ℕ) (c : Content) → o < size → row to b * size + o < length device → IsSide size blank to device s →
-    IsSide size blank to (if t then written device (row to b * size + o) c else device) (if_landed t (put_sector s to b o c) s)
-put_if size blank to true device s b o c l m i = put_is size blank to device s b o c l m i
-put_if size blank to false device s b o c l m i = i
-
-pub beside_if : (t : Bool) (to : Option ℕ) (s : Shared) (b o : ℕ) (c : Content) → SameBeside to s (if_landed t (put_sector s to b o c) s)
-beside_if true to s b o c = put_beside to s b o c
-beside_if false to s b o c = same_beside to s
-
-pub length-if : (t : Bool) (device : List History) (at : ℕ) (c : Content) → length (if t then written device at c else device) ≡ length device
-length-if true device at c = length-grown (slice_get device at) device at c
-length-if false device at c = refl
-
+-- each sector of an extent, which has landed or not
 module _ (size : ℕ) (blank : Content) (to : Option ℕ) (b : ℕ) (contents : ℕ → Content) (lands : ℕ → Bool) where
-  -- each sector of an extent
+  put_if : (t : Bool) (device : List History) (s : Shared) (o : ℕ) → o < size → row to b * size + o < length device → IsSide size blank to device s → let device' = if t then written device (row to b * size + o) (contents o) else device in
+      IsSide size blank to device' (if_landed t (put_sector s to b o (contents o)) s) × (length device' ≡ length device)
+  put_if true device s o l m i = (put_is size blank to device s b o (contents o) l m i, length-grown (slice_get device (row to b * size + o)) device (row to b * size + o) (contents o))
+  put_if false device s o l m i = (i, refl)
+
   pub put_where_is : (count : ℕ) (s : Shared) (device : List History) (o : ℕ) → IsSide size blank to device s → o + count ≤ size → row to b * size + o + count ≤ length device →
       IsSide size blank to (written_where lands device (row to b * size + o) (map contents (rising o count))) (put_where (λ q. lands (row to b * size + q)) s to b (rising o count) contents)
   put_where_is zero s device o i l m = i
   put_where_is (suc count) s device o i l m =
+      let same : row to b * size + (o + 1) ≡ suc (row to b * size + o) = omega arith in
       let landed = lands (row to b * size + o) in
       let s' = if_landed landed (put_sector s to b o (contents o)) s in
       let device' = if landed then written device (row to b * size + o) (contents o) else device in
-      let same : suc (row to b * size + o) ≡ row to b * size + (o + 1) = omega arith in
-      let wider = length-if landed device (row to b * size + o) (contents o) in
-      subst (λ (v : ℕ). IsSide size blank to (written_where lands device' v (map contents (rising (o + 1) count))) (put_where (λ q. lands (row to b * size + q)) s' to b (rising (o + 1) count) contents)) (sym same)
-      (put_where_is count s' device' (o + 1) (put_if size blank to landed device s b o (contents o) (omega (arith, l)) (omega (arith, m)) i) (omega (arith, l)) (omega (arith, m, wider)))
+      let went = put_if landed device s o (omega (arith, l)) (omega (arith, m)) i in
+      let wide = went.1 in
+      subst (λ (v : ℕ). IsSide size blank to (written_where lands device' v (map contents (rising (o + 1) count))) (put_where (λ q. lands (row to b * size + q)) s' to b (rising (o + 1) count) contents)) same
+      (put_where_is count s' device' (o + 1) went.0 (omega (arith, l)) (omega (arith, m, wide)))
 
-  pub where_beside : (os : List ℕ) (s : Shared) → SameBeside to s (put_where (λ q. lands (row to b * size + q)) s to b os contents)
-  where_beside [] s = same_beside to s
-  where_beside (o ∷ os) s = let s' = if_landed (lands (row to b * size + o)) (put_sector s to b o (contents o)) s in both_beside to s s' _ (beside_if (lands (row to b * size + o)) to s b o (contents o)) (where_beside os s')
+  beside_if : (t : Bool) (s u : Shared) (o : ℕ) → SameBeside to s u → SameBeside to s (if_landed t (put_sector u to b o (contents o)) u)
+  beside_if true s u o k = put_beside to s u b o (contents o) k
+  beside_if false s u o k = k
+
+  pub where_beside : (os : List ℕ) (s t : Shared) → SameBeside to s t → SameBeside to s (put_where (λ q. lands (row to b * size + q)) t to b os contents)
+  where_beside [] s t k = k
+  where_beside (o ∷ os) s t k = where_beside os s _ (beside_if (lands (row to b * size + o)) s t o k)

@@ -41,7 +41,7 @@ pub extents_followed : ExtentsFollowed
 extents_followed = record {
   read_done = λ size blank actors a s y job to block os rest answer list i. record { may = (alike_self os (newest_at s to block), tt, tt); side_is = i; beside = same_beside to s; is = refl };
   read_fails = λ size blank actors a s y job to block os rest answer list i. record { may = (tt, tt, tt); side_is = i; beside = same_beside to s; is = refl };
-  write_done = λ size blank actors a s y job block device e rest answer list n i l. record { may = (tt, tt, tt); side_is = lands_so size blank s block device e list n i (λ q. true) (contents_for job y.buffer) l; beside = where_beside size blank (location_at size device e) block (contents_for job y.buffer) (λ q. true) (offsets_in size e) s; is = refl };
-  write_fails = λ size blank actors a s y job block device e rest answer list lands n i l. record { may = (tt, tt, tt); side_is = lands_so size blank s block device e list n i lands (contents_for job y.buffer) l; beside = where_beside size blank (location_at size device e) block (contents_for job y.buffer) lands (offsets_in size e) s; is = refl };
+  write_done = λ size blank actors a s y job block device e rest answer list n i l. record { may = (tt, tt, tt); side_is = lands_so size blank s block device e list n i (λ q. true) (contents_for job y.buffer) l; beside = where_beside size blank (location_at size device e) block (contents_for job y.buffer) (λ q. true) (offsets_in size e) s s (same_beside (location_at size device e) s); is = refl };
+  write_fails = λ size blank actors a s y job block device e rest answer list lands n i l. record { may = (tt, tt, tt); side_is = lands_so size blank s block device e list n i lands (contents_for job y.buffer) l; beside = where_beside size blank (location_at size device e) block (contents_for job y.buffer) lands (offsets_in size e) s s (same_beside (location_at size device e) s); is = refl };
   reads = λ size blank s block device e list contents n i m g. given size blank s block device e list n i contents m g;
 }
