@@ -4,7 +4,7 @@ use Rattle.std.proofs.lemmas.List.{length-replicate}
 use Rattle.wb_types.proofs.Lists.{Contains-first}
 use Rattle.wb_disk.specs.Device.{History, only}
 use Rattle.wb_meta.specs.Formats.{IsFormatted}
-use Rattle.wb_promise.specs.States.{Shape, Actor, start, resting, block_size, sector_count, cache_sector_count}
+use Rattle.wb_promise.specs.States.{Shape, Actor, start, resting, sector_count, cache_sector_count}
 use Rattle.wb_promise.specs.Clerk.{Doing, formatted}
 use Rattle.wb_promise.specs.Headline.{cached_from}
 use Rattle.wb_contents.proofs.Lists.{replicated}

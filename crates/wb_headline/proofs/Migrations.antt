@@ -31,7 +31,7 @@ use Rattle.wb_promise.specs.declared.job.Job.{Job}
 use Rattle.wb_promise.specs.declared.job.Job.TheVariants.{Migrate}
 use Rattle.wb_promise.specs.States.{Shape, Actor, Target, Stands, with_device, State}
 use Rattle.wb_promise.specs.Effects.{actor_then, awaiting_then, contents_at, orders_then, dropped, replacing}
-use Rattle.wb_runs.specs.Holding.{cards_of, AllSuited, TaskSuits}
+use Rattle.wb_runs.specs.Holding.{cards_of, TaskSuits}
 use Rattle.wb_promise.specs.Clerk.{Notes, Doing, noted_step, device_note, finished_note, failing, put}
 use Rattle.wb_runs.proofs.Images.{Images, later_of}
 use Rattle.wb_runs.proofs.Metadata.{MetadataKept, AtDesk, unknowing, kept_readable}

@@ -1,30 +1,23 @@
 -- Where a desk has a block, and what its live orders say of that: a seal that tells it tells where an order has the block, and what is
 -- written there is beside other orders.
-use Rattle.std.proofs.Common.{◌≢◌, ◌≡◌, ◌∙◌, ◌<◌, ◌/◌, inl, inr, ℕ, zero, suc, List, [], ◌∷◌, Option, Some, None, refl, sym, ap, subst, arith, length, slice_get, slice_set}
-use Rattle.std.proofs.lemmas.Option.{get_or_from_slice_get}
-use Rattle.wb_types.specs.declared.extent.Extent.{Extent}
-use Rattle.wb_types.specs.declared.mode.Dev.{Dev}
-use Rattle.wb_types.specs.declared.mode.Dev.TheVariants.{Metadata, Cache, Origin}
+use Rattle.std.proofs.Common.{◌≢◌, ◌≡◌, ◌∙◌, ◌<◌, inl, inr, ℕ, zero, suc, List, [], ◌∷◌, Option, Some, None, refl, sym, ap, subst, arith, length, slice_get, slice_set}
 use Rattle.wb_types.specs.declared.number.OBlock.{OBlock}
 use Rattle.wb_types.specs.declared.number.CBlock.{CBlock}
 use Rattle.wb_words.specs.SharedWords.{Words, word_at, place_in}
 use Rattle.wb_policy.specs.Law.{IsMappedAt}
 use Rattle.wb_policy.specs.declared.order.Order.{Order}
 use Rattle.wb_policy.specs.declared.order.Order.TheVariants.{Promote as PromoteOrder, Replace, Demote as DemoteOrder, Clean as CleanOrder}
-use Rattle.wb_space.specs.declared.block.Block.{Block}
-use Rattle.wb_space.specs.declared.block.Block.TheVariants.{Free, Mapped}
-use Rattle.wb_space.specs.Blocks.{state, IsClaimed}
+use Rattle.wb_space.specs.Blocks.{state}
 use Rattle.wb_orders.specs.declared.live_order.LiveOrder.{LiveOrder}
 use Rattle.wb_orders.specs.Orders.{order_at}
 use Rattle.wb_desk.specs.Desks.{DeskState, DeskInvariant, Names, NamesWhatIs, holdings}
-use Rattle.wb_desk.proofs.Leaving.{mapped_state}
 use Rattle.wb_desk.proofs.Seen.{there}
 use Rattle.wb_tasks.specs.declared.step.Migration.{Migration}
 use Rattle.wb_tasks.specs.declared.step.Migration.TheVariants.{Promote, Demote, Clean}
-use Rattle.wb_refines.specs.Translation.{location_at, number_of}
+use Rattle.wb_refines.specs.Translation.{number_of}
 use Rattle.wb_refines.specs.Migrations.{IsWhere}
 use Rattle.wb_promise.specs.Headline.{place_of}
-use Rattle.wb_runs.proofs.Located.{same_block, one_there, stands_there}
+use Rattle.wb_runs.proofs.Located.{stands_there}
 use Rattle.wb_runs.proofs.Metadata.{unknowing}
 use Rattle.wb_contents.specs.Volume.{Locations}
 use Rattle.wb_simulation.specs.Carried.{IsOrderFor, IsReplacing}

@@ -1,9 +1,7 @@
 -- What is kept of a state of a run and its notes, and what a seal tells then.
-use Rattle.std.proofs.Common.{◌≡◌, ◌≢◌, ◌∙◌, ◌<◌, ◌/◌, arith, inl, inr, ℕ, Bool, List, Option, Some, None, refl, sym, ap, subst, slice_get}
+use Rattle.std.proofs.Common.{◌≡◌, ◌≢◌, ◌∙◌, inl, inr, ℕ, Bool, List, Option, Some, None, refl, sym, ap, subst, slice_get}
 use Rattle.std.proofs.lemmas.Bool.{cases_eq}
 use Rattle.std.proofs.lemmas.Option.{some_pair_parts}
-use Rattle.wb_types.specs.declared.extent.Extent.{Extent}
-use Rattle.wb_types.specs.declared.mode.Dev.{Dev}
 use Rattle.wb_types.specs.declared.number.CBlock.{CBlock}
 use Rattle.wb_disk.specs.Device.{Content as Bytes, History}
 use Rattle.wb_disk.specs.Crash.{Choice}
@@ -12,36 +10,30 @@ use Rattle.wb_words.specs.SharedWords.{word_at, place_in}
 use Rattle.wb_words.specs.declared.word.Access.TheVariants.{Owned}
 use Rattle.wb_words.specs.declared.card.Hold.TheVariants.{Held}
 use Rattle.wb_words.specs.declared.step.CellStep.TheVariants.{Seal}
-use Rattle.wb_tasks.specs.Tables.{BlockRange, Writing, OnBlock}
 use Rattle.wb_tasks.specs.Plan.{Plan, want, device_of}
 use Rattle.wb_types.specs.declared.number.OBlock.{OBlock}
 use Rattle.wb_tasks.specs.declared.step.Want.{Want}
-use Rattle.wb_tasks.specs.declared.step.DeviceStep.TheVariants.{Write as WriteExtent}
-use Rattle.wb_tasks.specs.declared.step.Want.TheVariants.{Cell, Device}
+use Rattle.wb_tasks.specs.declared.step.Want.TheVariants.{Cell}
 use Rattle.wb_refines.specs.Translation.{number_of}
 use Rattle.wb_tasks.specs.declared.step.Got.{Got}
 use Rattle.wb_tasks.specs.declared.step.Got.TheVariants.{Fault}
 use Rattle.wb_devices.specs.declared.devices.Devices.{Devices}
 use Rattle.wb_devices.specs.declared.running.RunningCommit.{RunningCommit}
 use Rattle.wb_promise.specs.declared.job.Job.{Job}
-use Rattle.wb_promise.specs.declared.job.Job.TheVariants.{Write}
-use Rattle.wb_promise.specs.States.{Shape, State, Actor, Target, Stands, block_size, sector_count}
-use Rattle.wb_promise.specs.Happenings.{Chosen, OfSome, block_range}
+use Rattle.wb_promise.specs.States.{Shape, State, Actor, Target, Stands, sector_count}
+use Rattle.wb_promise.specs.Happenings.{Chosen, OfSome}
 use Rattle.wb_promise.specs.Effects.{device_done, device_failed, stepped}
 use Rattle.wb_promise.specs.Clerk.{Notes, Doing, noted_step}
 use Rattle.wb_promise.specs.Headline.{place_of, shown}
-use Rattle.wb_runs.specs.Holding.{TaskSuits}
 use Rattle.wb_promise.specs.Sealed.{SealsNext, Tells, number_of as number_here}
 use Rattle.wb_runs.proofs.MetadataRuns.{IsKnown}
 use Rattle.wb_runs.proofs.Using.{UsedRightly}
-use Rattle.wb_runs.proofs.Claims.{JobClaim, Noted, TaskClaim, noted_of}
+use Rattle.wb_runs.proofs.Claims.{Noted, TaskClaim, noted_of}
 use Rattle.wb_runs.proofs.Linking.{Linked}
 use Rattle.wb_runs.proofs.LinkedRuns.{Base}
 use Rattle.wb_runs.proofs.InsideRuns.{Inside}
 use Rattle.wb_headline.proofs.Doings.{AllNotedSo}
 use Rattle.wb_headline.proofs.Following.{Goes}
-use Rattle.wb_headline.specs.Desks.{live_orders}
-use Rattle.wb_runs.proofs.Ruling.{card_at}
 use Rattle.wb_headline.proofs.Keeping.{Keeping, sealing_owns}
 use Rattle.wb_headline.proofs.Telling.{owned_alone}
 

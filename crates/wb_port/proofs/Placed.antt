@@ -115,8 +115,11 @@ module _ (part : BlockRange) (some : 0 < part.block_sectors) (are : AreIn (part.
 
   pub writes_there : Works (Followed (MovesAt (Writing part))) (Writing part)
   writes_there = record {
-    seal = λ c ws f t. (tt, subst (λ (place : Option CBlock). IsFollowed (MovesAt (Writing part)) place (dirty_in (seal_word (Some c) true)) ws) (sym (t true))
-        (subst (λ (dirty : Bool). IsFollowed (MovesAt (Writing part)) (Some c) dirty ws) (sym (dirty_told (Some c))) (f t)));
+    seal = λ c ws f t. (
+      tt,
+      subst (λ (place : Option CBlock). IsFollowed (MovesAt (Writing part)) place (dirty_in (seal_word (Some c) true)) ws) (sym (t true))
+          (subst (λ (dirty : Bool). IsFollowed (MovesAt (Writing part)) (Some c) dirty ws) (sym (dirty_told (Some c))) (f t)),
+    );
     home = λ dirty e ws m f t. ((of e m, tt), f t);
     cached = λ c e ws m f t. ((copied c e m, refl), f t);
     last = last;

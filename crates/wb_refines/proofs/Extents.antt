@@ -1,13 +1,11 @@
 -- A write of an extent there is a write of its sectors in the list.
 use Rattle.std.proofs.Common.{◌≡◌, ◌<◌, ◌≤◌, ◌+◌, ◌*◌, ◌∙◌, ℕ, zero, suc, Bool, true, false, if◌then◌else◌, List, [], ◌∷◌, Option, Some, None, refl, sym, ap, subst, arith, map, length, slice_get}
-use Rattle.std.proofs.lemmas.List.{length-set}
 use Rattle.wb_types.specs.Extents.{rising}
-use Rattle.wb_disk.specs.Device.{Content, History, newest, added, grown, written}
+use Rattle.wb_disk.specs.Device.{Content, History, newest, added, written}
 use Rattle.wb_disk.specs.Extents.{GivesEach, written_where}
 use Rattle.wb_contents.specs.Volume.{changed_at}
 use Rattle.wb_contents.proofs.Devices.{read_is_newest, write_is_act}
 use Rattle.wb_link.specs.World.{Shared, AreAlike, newest_at, put_sector, put_where, if_landed}
-use Rattle.wb_refines.specs.Models.{SameImages}
 use Rattle.wb_refines.specs.Data.{side, row, IsSide, SameBeside}
 use Rattle.wb_contents.proofs.Lengths.{length-grown}
 
@@ -37,7 +35,6 @@ reads_newest size blank s to b device i (c ∷ contents) o l g =
     (λ j. here j ∷ reads_newest size blank s to b device i contents (o + 1) (omega (arith, l)) (subst (λ v. GivesEach device v contents) same g.1) j)
 
 -- ---- writes
-
 
 pub same_beside : (to : Option ℕ) (s : Shared) → SameBeside to s s
 same_beside to s = record { other = refl; seals = refl; fail = refl; images = record { mapping = refl; blocks = refl; live = refl; mode = refl; committing = refl; began = refl; ended = refl; broken = refl; committed = refl; running = refl; root_written = refl; committed_clean = refl; running_clean = refl } }

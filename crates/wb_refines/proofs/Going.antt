@@ -1,5 +1,5 @@
 -- What an actor of the abstract world may do by itself is a run of that world.
-use Rattle.std.proofs.Common.{◌≡◌, inl, inr, ℕ, zero, suc, List, [], ◌∷◌, Option, Some, None, refl, sym, ap, subst, ◌∙◌, slice_get, slice_set}
+use Rattle.std.proofs.Common.{◌≡◌, inl, inr, ℕ, List, [], ◌∷◌, Option, Some, None, refl, sym, ap, subst, ◌∙◌, slice_get, slice_set}
 use Rattle.std.proofs.lemmas.Bool.{cases_eq}
 use Rattle.wb_link.specs.Tables.{Script, Want, Share, Own, Got, Done, want}
 use Rattle.wb_link.specs.World.{Shared, Held, Nothing, Shares, Owns, Actor, World, effect, actor_after, task_after, Wins, Record, Step, step_task, step_actor, after_record, after_all, IsRun}

@@ -1,5 +1,5 @@
 -- Lists of one thing, and lists of which one element changed.
-use Rattle.std.proofs.Common.{◌≡◌, ◌≢◌, ◌<◌, inl, inr, ℕ, zero, suc, List, [], ◌∷◌, Some, None, Option, refl, sym, ap, arith, slice_get, slice_set, replicate, map, Contains}
+use Rattle.std.proofs.Common.{◌≡◌, inl, inr, ℕ, zero, suc, List, [], ◌∷◌, Some, None, Option, refl, sym, ap, slice_get, map, Contains}
 use Rattle.std.proofs.lemmas.List.Elements.{Contains-append_cases}
 use Rattle.wb_types.proofs.Lists.{Contains-one}
 use Rattle.wb_tasks.specs.Plan.{Plan}

@@ -1,8 +1,7 @@
 -- A commit's root can be written.
-use Rattle.std.proofs.Common.{◌≡◌, ◌∙◌, ◌<◌, ◌^◌, ◌&&◌, ◌==◌, ℕ, true, List, Option, Some, None, refl, sym, ap, subst, length}
+use Rattle.std.proofs.Common.{◌≡◌, ◌∙◌, ◌<◌, ◌^◌, ◌&&◌, ◌==◌, true, List, refl, sym, ap, subst, length}
 use Rattle.std.proofs.lemmas.Bool.{eq-eqb}
-use Rattle.std.proofs.lemmas.List.{length-set}
-use Rattle.wb_disk.specs.Device.{Content as Bytes, History, grown, written}
+use Rattle.wb_disk.specs.Device.{History, written}
 use Rattle.wb_meta.specs.Steps.{DoesStep, slot_of}
 use Rattle.wb_meta.specs.declared.commit_steps.CommitSteps.{CommitSteps}
 use Rattle.wb_meta.specs.declared.commit_steps.CommitSteps.TheVariants.{NodesSynced}

@@ -10,7 +10,6 @@ use Rattle.wb_disk.specs.Extents.{written_each, written_where}
 use Rattle.wb_words.specs.SharedWords.{Words}
 use Rattle.wb_policy.specs.declared.order.Order.{Order}
 use Rattle.wb_policy.specs.declared.order.Order.TheVariants.{Replace, Demote as DemoteOrder}
-use Rattle.wb_words.specs.Rule.{LockRule}
 use Rattle.wb_words.specs.declared.card.Hold.TheVariants.{Nothing as HoldsNothing}
 use Rattle.wb_tasks.specs.Tables.{BlockRange, Migrating, OnBlock}
 use Rattle.wb_tasks.specs.Plan.{Plan, want, after}
@@ -31,7 +30,6 @@ use Rattle.wb_refines.specs.Migrations.{Fills, order_on}
 use Rattle.wb_promise.specs.declared.job.Job.TheVariants.{Migrate}
 use Rattle.wb_promise.specs.Effects.{contents_at, dropped, replacing}
 use Rattle.wb_promise.specs.States.{Actor, with_device}
-use Rattle.wb_runs.specs.Holding.{cards_of, AllSuited}
 use Rattle.wb_simulation.specs.Worlds.{Agrees, Stays, Maps, Unmaps, GivesUp}
 use Rattle.wb_simulation.specs.Laws.{after_step}
 use Rattle.wb_simulation.specs.Migrating.{MigrationsFollowed, Carried, EndsOrder, TurnsOrder, LeavesFrom, Goes}

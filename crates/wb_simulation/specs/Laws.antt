@@ -1,8 +1,8 @@
 -- How what actors of a run do is followed in the abstract world, where a target stands.
-use Rattle.std.specs.Prelude.{◌++◌, Contains, ◌%◌, ◌/◌, ◌≡◌, ◌≤◌, ◌+◌, ◌⊎◌, ℕ, Bool, true, false, List, [], Some, None, length, replicate, slice_get, slice_set, Option}
+use Rattle.std.specs.Prelude.{◌++◌, Contains, ◌%◌, ◌≡◌, ◌≤◌, ◌+◌, ◌⊎◌, ℕ, Bool, true, false, List, [], Some, None, length, replicate, slice_get, slice_set, Option}
 use Rattle.wb_types.specs.declared.extent.Extent.{Extent}
 use Rattle.wb_types.specs.declared.mode.Dev.{Dev}
-use Rattle.wb_types.specs.declared.mode.Dev.TheVariants.{Metadata, Cache}
+use Rattle.wb_types.specs.declared.mode.Dev.TheVariants.{Metadata}
 use Rattle.wb_types.specs.declared.number.OBlock.{OBlock}
 use Rattle.wb_types.specs.declared.refusal.Refusal.{Refusal}
 use Rattle.wb_disk.specs.Device.{Content, History, only, synced}
@@ -15,7 +15,6 @@ use Rattle.wb_words.specs.declared.step.CellStep.{CellStep}
 use Rattle.wb_words.specs.declared.step.CellStep.TheVariants.{Look, SetFailed}
 use Rattle.wb_words.specs.declared.word.Word.TheVariants.{Fail}
 use Rattle.wb_policy.specs.declared.order.Order.{Order}
-use Rattle.wb_policy.specs.declared.order.Order.TheVariants.{Promote, Replace, Demote, Clean}
 use Rattle.wb_tasks.specs.Plan.{Plan, want, after, got_of, table, device_of}
 use Rattle.wb_tasks.specs.Tables.{BlockRange, Reading, Writing, OnBlock, Flushing}
 use Rattle.wb_tasks.specs.declared.step.Answer.{Answer}
@@ -36,7 +35,7 @@ use Rattle.wb_refines.specs.Flushes.{IsNoBegin, IsWrittenAfter}
 use Rattle.wb_promise.specs.declared.job.Job.{Job}
 use Rattle.wb_promise.specs.declared.job.Job.TheVariants.{Read, Write, Flush}
 use Rattle.wb_promise.specs.States.{Actor, resting, with_device}
-use Rattle.wb_runs.specs.Holding.{cards_of, AllSuited}
+use Rattle.wb_runs.specs.Holding.{cards_of}
 use Rattle.wb_simulation.specs.Carried.{held}
 use Rattle.wb_simulation.specs.Steps.{IsPart}
 use Rattle.wb_simulation.specs.Telling.{Quietly, Reads, Writes, Answers, Starts, Releases}

@@ -39,7 +39,7 @@ use Rattle.wb_link.specs.World.{World, Shared, Free, Mapped, Reserved, Apart}
 use Rattle.wb_link.specs.Tables.{Order as AbstractOrder}
 use Rattle.wb_refines.specs.Migrations.{IsWhere}
 use Rattle.wb_promise.specs.Effects.{contents_at, dropped, replacing}
-use Rattle.wb_runs.specs.Holding.{cards_of, AllSuited}
+use Rattle.wb_runs.specs.Holding.{cards_of}
 use Rattle.wb_contents.specs.Volume.{Locations}
 use Rattle.wb_simulation.specs.Carried.{order_there, IsOrderFor}
 use Rattle.wb_simulation.specs.Worlds.{Agrees, Turn, Stays, Reserves, Maps, Unmaps, GivesUp, FollowsBy}
