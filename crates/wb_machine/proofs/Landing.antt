@@ -1,8 +1,7 @@
 -- What is written behind the last sector.
-use Rattle.std.proofs.Common.{◌≡◌, ◌≤◌, ◌⊎◌, ◌+◌, inl, inr, ℕ, zero, suc, Bool, true, false, if◌then◌else◌, List, [], ◌∷◌, Option, Some, None, take, length, refl, sym, ap, ◌∙◌, arith, slice_get}
+use Rattle.std.proofs.Common.{◌≡◌, ◌≤◌, ◌⊎◌, ◌+◌, inl, inr, ℕ, zero, suc, Bool, true, false, if◌then◌else◌, List, [], ◌∷◌, Option, take, length, refl, sym, ap, ◌∙◌, arith}
 use Rattle.std.proofs.lemmas.Option.{slice_get_past}
 use Rattle.wb_disk.specs.Device.{Content as Bytes, History, grown, written}
-use Rattle.std.proofs.lemmas.List.{length-set}
 use Rattle.wb_disk.specs.Extents.{written_where}
 use Rattle.wb_contents.proofs.Lengths.{length-landed}
 

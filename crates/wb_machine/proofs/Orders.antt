@@ -13,22 +13,21 @@ use Rattle.wb_tasks.specs.declared.step.Migration.TheVariants.{Demote}
 use Rattle.wb_promise.specs.declared.job.Job.{Job}
 use Rattle.wb_promise.specs.declared.job.Job.TheVariants.{Read, Write, Flush, Open, Migrate, Replace}
 use Rattle.wb_promise.specs.declared.event.What.{What}
-use Rattle.wb_promise.specs.declared.event.What.TheVariants.{Skipped, Refused, Started}
+use Rattle.wb_promise.specs.declared.event.What.TheVariants.{Refused, Started}
 use Rattle.wb_promise.specs.States.{Shape, block_size}
 use Rattle.wb_types.specs.declared.number.OBlock.{OBlock}
 use Rattle.wb_stage.specs.Asking.{is_of}
 use Rattle.wb_promise.specs.Effects.{dropped, replacing}
-use Rattle.wb_promise.specs.Happenings.{Plain, Cut, Orders, job_refusal, order_for, task_job, KeepsMigration, KeepsReplacement, begun_as}
+use Rattle.wb_promise.specs.Happenings.{Plain, Cut, Orders, job_refusal, order_for, task_job, KeepsReplacement, begun_as}
 use Rattle.wb_machine.specs.Life.{wants_target}
 use Rattle.wb_machine.specs.Members.{Member}
-use Rattle.wb_machine.specs.Serving.{GetsJob, Starts, StartsIf, TakesOrder, cut_for, GetsOrder, KeepsFor, is_ordered, order_by}
+use Rattle.wb_machine.specs.Serving.{GetsJob, Starts, StartsIf, TakesOrder, cut_for, GetsOrder, is_ordered, order_by}
 use Rattle.wb_policy.specs.declared.order.Order.TheVariants.{Replace as ReplaceOrder}
-use Rattle.wb_policy.specs.Law.{IsMappedAt, IsUnmapped}
+use Rattle.wb_policy.specs.Law.{IsMappedAt}
 use Rattle.wb_desk.specs.Calls.{reserved}
 use Rattle.wb_desk.specs.Entries.{is_replacement}
 use Rattle.wb_desk.proofs.Index.{mapped_once}
 use Rattle.wb_types.specs.declared.number.CBlock.{CBlock}
-use Rattle.wb_tasks.specs.declared.step.Migration.{Migration}
 use Rattle.wb_tree.specs.Mapping.{IsMapping}
 
 pub none_of : {X : Type 0} (o : Option X) → is_some o ≡ false → o ≡ None

@@ -16,10 +16,9 @@ use Rattle.wb_policy.specs.declared.order.Order.{Order}
 use Rattle.wb_policy.specs.declared.quiet.Quiet.{Quiet}
 use Rattle.wb_desk.specs.Commits.{commit_ended}
 use Rattle.wb_desk.specs.Desks.{DeskState}
-use Rattle.wb_tasks.specs.Tables.{TaskJob, OnBlock, Flushing, Opening as OpeningOf, Reading, Writing, Migrating}
+use Rattle.wb_tasks.specs.Tables.{TaskJob}
 use Rattle.wb_tasks.specs.Plan.{Plan, table, want}
-use Rattle.wb_tasks.specs.Ready.{IsOwnStep}
-use Rattle.wb_tasks.proofs.Readiness.{is_own_step, job_stays}
+use Rattle.wb_tasks.proofs.Readiness.{job_stays}
 use Rattle.wb_tasks.specs.declared.step.DeviceStep.{DeviceStep}
 use Rattle.wb_tasks.specs.declared.step.DeviceStep.TheVariants.{Read as ReadExtent, Write as WriteExtent, Sync, ReadMetadata, WriteNode, WriteRoot}
 use Rattle.wb_tasks.specs.declared.step.DeskStep.TheVariants.{Map, Unmap, ReleaseOrder, BeginCommit, EndCommit}
@@ -37,12 +36,11 @@ use Rattle.wb_promise.specs.declared.event.What.TheVariants.{Skipped, Refused, S
 use Rattle.wb_promise.specs.States.{Shape, Actor, Stands, Phase, Target as RunTarget}
 use Rattle.wb_promise.specs.Happenings.{Chosen, Plain, Cut, Orders, Begins, Reaches, Puts, Commits, Asks, Opened, OfSome, DoesNotApply, DoesMap, DoesRelease, DoesUnmap, Gives, Falters, MayFailAt, StartGives, task_job, begun_as}
 use Rattle.wb_promise.specs.Effects.{after_what, asked_desk, begun_desk, card_then, commit_then, cut_of, desk_then, devices_then, given, job_of, phase_given, task_then, went, words_then}
-use Rattle.wb_runs.specs.Holding.{TaskSuits}
 use Rattle.wb_runs.proofs.Desks.{is_live, is_unmappable}
 use Rattle.wb_machine.specs.declared.target.Target.{Target}
 use Rattle.wb_machine.specs.Life.{Now, Happens, wants_target}
 use Rattle.wb_machine.specs.Members.{Member, free, seat, seated}
-use Rattle.wb_machine.specs.Serving.{Allows, FailsBy, FailsOrRests, GetsJob, IsPassed, Leads, LeavesStarted, NothingFails, Starts, StartsIf, Steps, StepsBy, chosen_at, commit_by, crew_then, desk_given, done_by, failed_by, member_then, noted_read, over, stood, told}
+use Rattle.wb_machine.specs.Serving.{FailsBy, FailsOrRests, GetsJob, IsPassed, Leads, LeavesStarted, NothingFails, Starts, StartsIf, Steps, StepsBy, chosen_at, commit_by, crew_then, desk_given, done_by, failed_by, member_then, noted_read, over, stood, told}
 use Rattle.wb_machine.specs.Standing.{AllRoomy, AllowsImages, IsRoomy}
 use Rattle.wb_machine.proofs.Members.{seat_at, set_both, set_task, somebody}
 use Rattle.wb_machine.proofs.Openings.{passes}
