@@ -7,7 +7,6 @@ use Rattle.wb_disk.specs.Extents.{GivesEach, written_where}
 use Rattle.wb_contents.specs.Volume.{changed_at}
 use Rattle.wb_contents.proofs.Devices.{read_is_newest, write_is_act}
 use Rattle.wb_link.specs.World.{Shared, AreAlike, newest_at, put_sector, put_where, if_landed}
-use Rattle.wb_refines.specs.Models.{SameImages}
 use Rattle.wb_refines.specs.Data.{side, row, IsSide, SameBeside}
 
 newest_side : (to : Option ℕ) (s : Shared) (b o : ℕ) → newest_at s to b o ≡ newest (side to s (row to b) o)
