@@ -1,5 +1,5 @@
 -- What a list has after one of its elements was set, and one that has an element many times.
-use Rattle.std.proofs.Common.{◌≡◌, ◌≢◌, ◌<◌, ℕ, zero, suc, List, [], ◌∷◌, Some, refl, sym, ap, arith, length, slice_get, slice_set, replicate}
+use Rattle.std.proofs.Common.{◌≡◌, ◌≢◌, ◌<◌, ℕ, zero, suc, List, [], ◌∷◌, Option, Some, None, refl, sym, ap, arith, length, slice_get, slice_set, replicate}
 -- what was put in is there
 pub use Rattle.wb_disk.proofs.Sectors.{slice_get-set as set_there}
 
@@ -36,3 +36,8 @@ pub replicated_there : {X : Type 0} (k i : ℕ) (x : X) → i < k → slice_get 
 replicated_there zero i x l = absurd (omega (arith, l))
 replicated_there (suc k) zero x l = refl
 replicated_there (suc k) (suc i) x l = replicated_there k i x (omega (arith, l))
+
+-- what is not there
+pub none_there : {X : Type 0} (o : Option X) → ((x : X) → o ≡ Some x → ⊥) → o ≡ None
+none_there None n = refl
+none_there (Some x) n = absurd (n x refl)

@@ -10,7 +10,7 @@ use Rattle.wb_words.specs.SharedWords.{Words, word_at, fresh_words, seal_word, f
 use Rattle.wb_words.specs.Effects.{words_after}
 use Rattle.wb_tree.specs.Mapping.{IsMapping}
 use Rattle.wb_link.specs.World.{Shared, Actor as AbstractActor, resting as idle}
-use Rattle.wb_contents.proofs.Lists.{replicated}
+use Rattle.wb_contents.proofs.Lists.{replicated, none_there}
 use Rattle.wb_refines.specs.Models.{SealAgrees}
 use Rattle.wb_refines.specs.Translation.{number_of}
 use Rattle.wb_refines.proofs.Cells.{tells_dirty}
@@ -153,15 +153,11 @@ found_at (Some entry ∷ entries) block c k e = by (entry.origin.0 == block) ref
     by true same e later = let is : c ≡ k = cc in (zero, entry, omega (arith, is), omega arith, refl, eqb-true entry.origin.0 block same)
     by false same e later = let f = later e in (suc f.0, f.1, (let is = f.2 in omega (arith, is)), (let l = f.3 in omega (arith, l)), f.4, f.5)
 
-none_or_some : (o : Option ℕ) → ((k : ℕ) → o ≡ Some k → ⊥) → o ≡ None
-none_or_some None n = refl
-none_or_some (Some k) n = absurd (n k refl)
-
 once_of : (entries : List (Option Entry)) → ((i j : ℕ) (entry other : Entry) → slice_index_or entries i None ≡ Some entry → slice_index_or entries j None ≡ Some other → entry.origin ≡ other.origin → i ≡ j) → AreOnce entries
 once_of [] once = tt
 once_of (None ∷ entries) once = once_of entries (λ i j entry other e f same. let is = once (suc i) (suc j) entry other e f same in omega (arith, is))
 once_of (Some entry ∷ entries) once = (
-  λ c. none_or_some (cached_from entry.origin.0 c entries) (λ k e.
+  λ c. none_there (cached_from entry.origin.0 c entries) (λ k e.
       let f = found_at entries entry.origin.0 c k e in
       let same : entry.origin ≡ f.1.origin = (λ i. record { 0 = sym f.5 i }) in
       let is = once zero (suc f.0) entry f.1 refl f.4 same in omega (arith, is)),
