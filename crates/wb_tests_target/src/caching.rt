@@ -81,6 +81,29 @@ pub fn replaces(rt: &impl Wait, target: &Target<TinyLfu>, client: &mut Lent<'_>)
         && shows(rt, client, 0, 0x10)
 }
 
+/// Whether the block that leaves is the least recent one, and not the one that came first.
+pub fn replaces_another(rt: &impl Wait, target: &Target<TinyLfu>, client: &mut Lent<'_>) -> bool {
+    if !fill_cache(rt, client) || !shows(rt, client, 0, 0x10) {
+        return false;
+    }
+    for _ in 0..3 {
+        if !write_and_read(rt, client, 320, 0x55) {
+            return false;
+        }
+    }
+    worked(rt, client) == Some(Order::Replace(OBlock(1), OBlock(5), CBlock(1)))
+        && target.counts(rt).demotions == 1
+        && shows(rt, client, 320, 0x55)
+        && shows(rt, client, 64, 0x10)
+        && shows(rt, client, 0, 0x10)
+}
+
+#[test]
+fn the_least_recent_block_leaves_and_no_other(rt: HostRuntime) -> Result<(), Fail> {
+    assert!(rt; answered(&rt, rt.alloc(), Question::ReplacesAnother)?);
+    Ok(())
+}
+
 #[test]
 fn a_block_that_is_wanted_more_replaces_the_least_recent(rt: HostRuntime) -> Result<(), Fail> {
     assert!(rt; answered(&rt, rt.alloc(), Question::Replaces)?);

@@ -7,7 +7,7 @@ use wb_disk::{Disk, MemDisk};
 use wb_meta::format;
 use wb_policy::{Order, Policy, TinyLfu};
 use wb_target::{Client, Target};
-use wb_types::{Content, Geometry, Mode, Refusal, SECTOR_BYTES, Sector};
+use wb_types::{Content, Geometry, Key, Mode, Refusal, SECTOR_BYTES, Sector};
 
 pub type Memory = Devices<MemDisk>;
 
@@ -27,7 +27,16 @@ pub fn formatted(alloc: Global) -> Result<Memory, Refusal> {
 
 /// A target that is opened over devices.
 pub fn open(alloc: Global, devices: Memory) -> Result<(Memory, Target<TinyLfu>), Refusal> {
-    let (devices, target) = Target::open(alloc, devices, 64, Mode::Writeback, &[]);
+    open_with(alloc, devices, &[])
+}
+
+/// One that is told these values.
+pub fn open_with(
+    alloc: Global,
+    devices: Memory,
+    keys: &[(Key, u64)],
+) -> Result<(Memory, Target<TinyLfu>), Refusal> {
+    let (devices, target) = Target::open(alloc, devices, 64, Mode::Writeback, keys);
     Ok((devices, target?))
 }
 

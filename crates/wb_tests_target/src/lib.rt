@@ -18,7 +18,11 @@ mod questions;
 #[cfg(test)]
 mod requests;
 #[cfg(test)]
+mod retiring;
+#[cfg(test)]
 mod threads;
+#[cfg(test)]
+mod ticks;
 #[cfg(test)]
 mod unclean;
 #[cfg(test)]

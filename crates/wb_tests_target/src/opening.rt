@@ -1,13 +1,13 @@
 //! Openings that are refused, and what they leave.
 
-use crate::fixture::{Memory, formatted};
-use crate::questions::{Question, answered, answered_over};
+use crate::fixture::{Lent, Memory, formatted, shows, worked, write_and_read};
+use crate::questions::{Question, answered, answered_over, answered_under};
 use std::alloc::Global;
 use std::sync::Wait;
 use std::test::Fail;
-use wb_policy::TinyLfu;
+use wb_policy::{Order, TinyLfu};
 use wb_target::Target;
-use wb_types::{Key, Mode, Refusal};
+use wb_types::{CBlock, Key, Mode, OBlock, Refusal};
 
 /// Whether the first root that an opening has written is a target's.
 pub fn was_opened(rt: &impl Wait, target: &Target<TinyLfu>) -> bool {
@@ -54,5 +54,21 @@ pub fn tells_status(rt: &impl Wait, alloc: Global, target: &Target<TinyLfu>) -> 
 #[test]
 fn a_status_line_tells_how_a_target_is(rt: HostRuntime) -> Result<(), Fail> {
     assert!(rt; answered(&rt, rt.alloc(), Question::TellsStatus)?);
+    Ok(())
+}
+
+/// Whether a block is cached at its third access, and at none before.
+pub fn caches_at_the_third(rt: &impl Wait, client: &mut Lent<'_>) -> bool {
+    write_and_read(rt, client, 70, 0x11)
+        && worked(rt, client).is_none()
+        && shows(rt, client, 70, 0x11)
+        && worked(rt, client) == Some(Order::Promote(OBlock(1), CBlock(0)))
+}
+
+#[test]
+fn a_target_goes_by_the_values_that_its_opening_was_told(rt: HostRuntime) -> Result<(), Fail> {
+    let keys = [(Key::PromoteMin, 3)];
+    let devices = formatted(rt.alloc())?;
+    assert!(rt; answered_under(&rt, rt.alloc(), devices, &keys, Question::CachesAtTheThird)?);
     Ok(())
 }

@@ -1,25 +1,30 @@
 //! What is asked of a target over formatted devices in memory, and of a client of it, which are then let go.
 
-use crate::caching::{caches, replaces};
+use crate::caching::{caches, replaces, replaces_another};
 use crate::faults::{Rounds, shows_allowed};
-use crate::fixture::{Lent, Memory, client_of, formatted, open, shows};
-use crate::opening::{tells_status, was_opened};
-use crate::requests::{defers, refuses, settles_alone};
+use crate::fixture::{Lent, Memory, client_of, formatted, open_with, shows};
+use crate::opening::{caches_at_the_third, tells_status, was_opened};
+use crate::requests::{defers, refuses, settles_all, settles_alone};
+use crate::ticks::ticks;
 use crate::unclean::orders;
 use crate::workers::{carries_out_all, takes_no_more};
 use std::alloc::Global;
 use std::sync::Wait;
 use wb_policy::{Order, TinyLfu};
 use wb_target::Target;
-use wb_types::Refusal;
+use wb_types::{Key, Refusal};
 
 #[derive(Clone, Copy)]
 pub enum Question {
     Caches,
+    CachesAtTheThird,
     Replaces,
+    ReplacesAnother,
     Refuses,
     Defers,
     SettlesAlone,
+    SettlesAll,
+    Ticks,
     TakesNoMore,
     CarriesOutAll,
     /// Whether a sector begins with this byte.
@@ -41,14 +46,24 @@ pub fn answered(rt: &impl Wait, alloc: Global, question: Question) -> Result<boo
 }
 
 /// That over these.
-// Letting a target and a client go is dear to prove: the following two alone do.
 pub fn answered_over(
     rt: &impl Wait,
     alloc: Global,
     devices: Memory,
     question: Question,
 ) -> Result<bool, Refusal> {
-    let (devices, target) = open(alloc, devices)?;
+    answered_under(rt, alloc, devices, &[], question)
+}
+
+/// That of a target which is told these values.
+pub fn answered_under(
+    rt: &impl Wait,
+    alloc: Global,
+    devices: Memory,
+    keys: &[(Key, u64)],
+    question: Question,
+) -> Result<bool, Refusal> {
+    let (devices, target) = open_with(alloc, devices, keys)?;
     answered_of(rt, alloc, &target, devices, question)
 }
 
@@ -72,10 +87,14 @@ fn answer(
 ) -> bool {
     match question {
         Question::Caches => caches(rt, target, client),
+        Question::CachesAtTheThird => caches_at_the_third(rt, client),
         Question::Replaces => replaces(rt, target, client),
+        Question::ReplacesAnother => replaces_another(rt, target, client),
         Question::Refuses => refuses(client),
         Question::Defers => defers(rt, client),
         Question::SettlesAlone => settles_alone(rt, client),
+        Question::SettlesAll => settles_all(rt, client),
+        Question::Ticks => ticks(rt, target, client),
         Question::TakesNoMore => takes_no_more(rt, client),
         Question::CarriesOutAll => carries_out_all(rt, target, client),
         Question::Shows(at, byte) => shows(rt, client, at, byte),

@@ -67,3 +67,22 @@ fn accesses_are_settled_without_waiting_where_nobody_is_at_the_desk(
     assert!(rt; answered(&rt, rt.alloc(), Question::SettlesAlone)?);
     Ok(())
 }
+
+/// Whether two accesses of each of two blocks, settled by one call, order that both be cached.
+pub fn settles_all(rt: &impl Wait, client: &mut Lent<'_>) -> bool {
+    let sector = [begun_with(0x11)];
+    for first in [0, 0, 64, 64] {
+        if client.port.try_write(Sector(first), &sector) != Ok(()) {
+            return false;
+        }
+    }
+    client.settle(rt);
+    worked(rt, client) == Some(Order::Promote(OBlock(0), CBlock(0)))
+        && worked(rt, client) == Some(Order::Promote(OBlock(1), CBlock(1)))
+}
+
+#[test]
+fn all_accesses_are_settled_by_one_call(rt: HostRuntime) -> Result<(), Fail> {
+    assert!(rt; answered(&rt, rt.alloc(), Question::SettlesAll)?);
+    Ok(())
+}

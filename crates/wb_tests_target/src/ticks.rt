@@ -1,0 +1,27 @@
+//! Ticks, by which dirty blocks are written back.
+
+use crate::fixture::{Lent, begun_with, shows, worked, write_and_read};
+use crate::questions::{Question, answered};
+use std::sync::Wait;
+use std::test::Fail;
+use wb_policy::{Order, TinyLfu};
+use wb_target::{Flushed, Target};
+use wb_types::{OBlock, Sector};
+
+/// Whether a tick orders that the dirty block be written back, after which none is dirty.
+pub fn ticks(rt: &impl Wait, target: &Target<TinyLfu>, client: &mut Lent<'_>) -> bool {
+    write_and_read(rt, client, 70, 0x11)
+        && worked(rt, client).is_some()
+        && client.write(rt, Sector(70), &[begun_with(0x22)]).is_ok()
+        && target.dirty(rt) == 1
+        && client.tick(rt) == Ok(Flushed::Led)
+        && worked(rt, client) == Some(Order::Clean(OBlock(1)))
+        && target.dirty(rt) == 0
+        && shows(rt, client, 70, 0x22)
+}
+
+#[test]
+fn a_tick_has_a_dirty_block_written_back(rt: HostRuntime) -> Result<(), Fail> {
+    assert!(rt; answered(&rt, rt.alloc(), Question::Ticks)?);
+    Ok(())
+}
