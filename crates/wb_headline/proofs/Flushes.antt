@@ -47,8 +47,8 @@ use Rattle.wb_devices.specs.declared.running.RunningCommit.{RunningCommit}
 use Rattle.wb_devices.specs.Moving.{device_in}
 use Rattle.wb_devices.specs.Committing.{is_coming, is_committed}
 use Rattle.wb_stage.specs.Asking.{DidRelease, HasBegun, IsGivenUp, ended}
-use Rattle.wb_roots.specs.Roots.{MayBeReadAs, Commit}
-use Rattle.wb_roots.proofs.Leading.{after_failure, after_failed_node}
+use Rattle.wb_meta.specs.Roots.{MayBeReadAs, Commit}
+use Rattle.wb_meta.proofs.Leading.{after_failure, after_failed_node}
 use Rattle.wb_promise.specs.declared.job.Job.{Job}
 use Rattle.wb_promise.specs.declared.job.Job.TheVariants.{Flush}
 use Rattle.wb_promise.specs.States.{Shape, State, Actor, Target, Stands, with_device}

@@ -27,7 +27,7 @@ use Rattle.wb_tasks.specs.declared.step.Got.TheVariants.{Done, Fault, Refused as
 use Rattle.wb_devices.specs.declared.devices.Devices.{Devices}
 use Rattle.wb_devices.specs.declared.running.RunningCommit.{RunningCommit}
 use Rattle.wb_devices.specs.Opened.{HasCome, got_of_refusal}
-use Rattle.wb_roots.proofs.Deciding.{read_is_committed}
+use Rattle.wb_meta.proofs.Deciding.{read_is_committed}
 use Rattle.wb_promise.specs.declared.job.Job.{Job}
 use Rattle.wb_promise.specs.declared.job.Job.TheVariants.{Open}
 use Rattle.wb_promise.specs.States.{Shape, State, Actor, Opens}
@@ -57,7 +57,7 @@ opening_same shape shown n a doing mode step got read j =
 
 -- the images as they are, read so, beside a root that leads to this state
 with_root : (shape : Shape) (sectors : ℕ) (committed new : Stored) (later : Option Stored) (learnt : Learnt) (old now : Devices (List History)) (s : Shared) → DevicesAgree shape.geometry sectors committed later old s → HasRoot learnt later → learnt.locations ≡ locations new →
-    now.origin ≡ old.origin → now.cache ≡ old.cache → Rattle.wb_roots.specs.Roots.MayBeReadAs shape.geometry committed (Some new) now.metadata → DevicesAgree shape.geometry sectors committed (Some new) now s
+    now.origin ≡ old.origin → now.cache ≡ old.cache → Rattle.wb_meta.specs.Roots.MayBeReadAs shape.geometry committed (Some new) now.metadata → DevicesAgree shape.geometry sectors committed (Some new) now s
 with_root shape sectors committed new later learnt old now s d r same o c read =
     let runs = subst (λ (l : Option Stored). Rattle.wb_simulation.specs.Sites.IsRunning l s) r.1 d.images.later_is in
     record {
@@ -315,9 +315,9 @@ module _ (P A : Type 0) (shape : Shape) (images : Images) (devices : Devices (Li
         root_done read does =
             let t = rooted_on A shape.geometry images (AllRead rd.0.stored) rd.0.running device new k does in
             let goal = t.kept.of.new in
-            let same_new : goal ≡ k.of.new = ap (λ (c : Rattle.wb_roots.specs.Roots.Commit). c.new) t.of_is in
-            let old : t.kept.of.old ≡ images.committed = ap (λ (c : Rattle.wb_roots.specs.Roots.Commit). c.old) t.of_is ∙ old_is i rd.0 in
-            let read_so = subst (λ (s : Stored). Rattle.wb_roots.specs.Roots.MayBeReadAs shape.geometry s (Some goal) new) old (two_read shape.geometry t.kept.of new t.now _ t.kept.under) in
+            let same_new : goal ≡ k.of.new = ap (λ (c : Rattle.wb_meta.specs.Roots.Commit). c.new) t.of_is in
+            let old : t.kept.of.old ≡ images.committed = ap (λ (c : Rattle.wb_meta.specs.Roots.Commit). c.old) t.of_is ∙ old_is i rd.0 in
+            let read_so = subst (λ (s : Stored). Rattle.wb_meta.specs.Roots.MayBeReadAs shape.geometry s (Some goal) new) old (two_read shape.geometry t.kept.of new t.now _ t.kept.under) in
             let leads : i.locations ≡ locations goal = leads_to i rd.0 ∙ ap locations (sym same_new) in
             let l = openings_followed.roots i goal new leads shape.geometry (size P A shape) images.committed f.phase.later Writeback f.site devices ph f.phase.devices_follow.agree read_so in
             let v = arrives P A shape images w n (n' WriteRoot Done read) f (same WriteRoot Done read) images.committed (Some goal) (OpensThere Writeback (Renewing i)) devices' l (no_stand (Renewing i)) in
@@ -329,7 +329,7 @@ module _ (P A : Type 0) (shape : Shape) (images : Images) (devices : Devices (Li
         pub root_fails : (read : List Bytes) → FailsStep rd.0.running.image rd.0.running.steps device new → Goes P A shape (after_it WriteRoot Fault (Puts new) devices') (n' WriteRoot Fault read)
         root_fails read bad =
             let goal = k.of.new in
-            let read_so = subst (λ (s : Stored). Rattle.wb_roots.specs.Roots.MayBeReadAs shape.geometry s (Some goal) new) (old_is i rd.0) (two_left shape.geometry k.of device images rd.0.running new k.under bad) in
+            let read_so = subst (λ (s : Stored). Rattle.wb_meta.specs.Roots.MayBeReadAs shape.geometry s (Some goal) new) (old_is i rd.0) (two_left shape.geometry k.of device images rd.0.running new k.under bad) in
             let l = openings_followed.root_fails i goal new (leads_to i rd.0) shape.geometry (size P A shape) images.committed f.phase.later Writeback f.site devices ph f.phase.devices_follow.agree read_so in
             let v = arrives P A shape images w n (n' WriteRoot Fault read) f (same WriteRoot Fault read) images.committed (Some goal) GoneThere devices' l no_gone in
             goes_to (opening_at total left (Rooting i)) xt WriteRoot Fault read (Puts new) (Rattle.wb_runs.proofs.Underway.images_of k.of true) (Some goal) GoneThere devices' None None _
@@ -346,16 +346,16 @@ module _ (P A : Type 0) (shape : Shape) (images : Images) (devices : Devices (Li
 
         agree_so : DevicesAgree shape.geometry (size P A shape) images.committed (Some kept.of.new) devices f.site.world.shared
         agree_so = with_root shape (size P A shape) images.committed kept.of.new f.phase.later i devices devices f.site.world.shared f.phase.devices_follow.agree rd.1 (leads_to i rd.0) refl refl
-            (subst (λ (s : Stored). Rattle.wb_roots.specs.Roots.MayBeReadAs shape.geometry s (Some kept.of.new) device) (old_is i rd.0) (two_read shape.geometry kept.of device images rd.0.running kept.under))
+            (subst (λ (s : Stored). Rattle.wb_meta.specs.Roots.MayBeReadAs shape.geometry s (Some kept.of.new) device) (old_is i rd.0) (two_read shape.geometry kept.of device images rd.0.running kept.under))
 
         pub renew_done : (read : List Bytes) → DoesStep rd.0.running.image rd.0.running.steps device new → Goes P A shape (after_it (Sync Metadata) Done Plain renewed) (n' (Sync Metadata) Done read)
         renew_done read does =
             let t = rooted_on A shape.geometry images (AllRead rd.0.stored) rd.0.running device new kept does in
             let goal = kept.of.new in
-            let new_is : t.kept.of.new ≡ goal = ap (λ (c : Rattle.wb_roots.specs.Roots.Commit). c.new) t.of_is in
-            let old : t.kept.of.old ≡ images.committed = ap (λ (c : Rattle.wb_roots.specs.Roots.Commit). c.old) t.of_is ∙ old_is i rd.0 in
-            let read_so = subst (λ (s : Stored). Rattle.wb_roots.specs.Roots.MayBeReadAs shape.geometry images.committed (Some s) new) new_is
-            (subst (λ (s : Stored). Rattle.wb_roots.specs.Roots.MayBeReadAs shape.geometry s (Some t.kept.of.new) new) old (two_read shape.geometry t.kept.of new t.now _ t.kept.under)) in
+            let new_is : t.kept.of.new ≡ goal = ap (λ (c : Rattle.wb_meta.specs.Roots.Commit). c.new) t.of_is in
+            let old : t.kept.of.old ≡ images.committed = ap (λ (c : Rattle.wb_meta.specs.Roots.Commit). c.old) t.of_is ∙ old_is i rd.0 in
+            let read_so = subst (λ (s : Stored). Rattle.wb_meta.specs.Roots.MayBeReadAs shape.geometry images.committed (Some s) new) new_is
+            (subst (λ (s : Stored). Rattle.wb_meta.specs.Roots.MayBeReadAs shape.geometry s (Some t.kept.of.new) new) old (two_read shape.geometry t.kept.of new t.now _ t.kept.under)) in
             let l = openings_followed.renews i new shape.geometry (size P A shape) images.committed (Some goal) Writeback f.site devices ph agree_so read_so in
             let v = arrives P A shape images w n (n' (Sync Metadata) Done read) f (same (Sync Metadata) Done read) images.committed (Some goal) (OpensThere Writeback (Answering i)) renewed l (no_stand (Answering i)) in
             goes_to (opening_at total left (Renewing i)) xt (Sync Metadata) Done read Plain t.now (Some goal) (OpensThere Writeback (Answering i)) renewed (Some (AllRead rd.0.stored)) (Some _) (opening_at total left (Answering i))
@@ -366,7 +366,7 @@ module _ (P A : Type 0) (shape : Shape) (images : Images) (devices : Devices (Li
         pub renew_fails : (read : List Bytes) → FailsStep rd.0.running.image rd.0.running.steps device new → Goes P A shape (after_it (Sync Metadata) Fault Plain renewed) (n' (Sync Metadata) Fault read)
         renew_fails read bad =
             let goal = kept.of.new in
-            let read_so = subst (λ (s : Stored). Rattle.wb_roots.specs.Roots.MayBeReadAs shape.geometry s (Some goal) new) (old_is i rd.0) (two_left shape.geometry kept.of device images rd.0.running new kept.under bad) in
+            let read_so = subst (λ (s : Stored). Rattle.wb_meta.specs.Roots.MayBeReadAs shape.geometry s (Some goal) new) (old_is i rd.0) (two_left shape.geometry kept.of device images rd.0.running new kept.under bad) in
             let l = openings_followed.renewing_fails i new shape.geometry (size P A shape) images.committed (Some goal) Writeback f.site devices ph agree_so read_so in
             let v = arrives P A shape images w n (n' (Sync Metadata) Fault read) f (same (Sync Metadata) Fault read) images.committed (Some goal) GoneThere renewed l no_gone in
             goes_to (opening_at total left (Renewing i)) xt (Sync Metadata) Fault read Plain (Rattle.wb_runs.proofs.Underway.images_of kept.of true) (Some goal) GoneThere renewed None None _

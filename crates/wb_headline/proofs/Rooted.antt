@@ -12,8 +12,8 @@ use Rattle.wb_meta.specs.declared.read_steps.ReadSteps.TheVariants.{Done as AllR
 use Rattle.wb_meta.specs.declared.read_steps.State.{State as StoredThere}
 use Rattle.wb_meta.proofs.Stepping.{fails as step_fails}
 use Rattle.wb_devices.specs.declared.running.RunningCommit.{RunningCommit}
-use Rattle.wb_roots.specs.Roots.{MayBeReadAs, Commit}
-use Rattle.wb_roots.proofs.Leading.{after_failure}
+use Rattle.wb_meta.specs.Roots.{MayBeReadAs, Commit}
+use Rattle.wb_meta.proofs.Leading.{after_failure}
 use Rattle.wb_promise.specs.Headline.{cached_from, place_of}
 use Rattle.wb_runs.proofs.Images.{Images, Turn, Ends, Settles, Turned, later_of}
 use Rattle.wb_runs.proofs.Underway.{Underway, Readable, images_of, underway_readable, led_on}

@@ -25,7 +25,7 @@ use Rattle.wb_simulation.proofs.Opened.{found_at}
 use Rattle.wb_types.specs.declared.geometry.Geometry.{Geometry}
 use Rattle.wb_tree.proofs.Reading.MappingRead.{mapping_read}
 use Rattle.wb_meta.specs.Representing.{Represents, Stored}
-use Rattle.wb_roots.specs.Roots.{AreOneOf, IsOf}
+use Rattle.wb_meta.specs.Roots.{AreOneOf, IsOf}
 use Rattle.wb_runs.proofs.Images.{Images}
 use Rattle.wb_runs.proofs.Metadata.{MetadataKept}
 use Rattle.wb_link.specs.Openings.{Site}

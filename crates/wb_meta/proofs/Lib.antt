@@ -14,3 +14,5 @@ pub mod OneReading
 pub mod Round
 pub mod Reading
 pub mod Reopening
+pub mod Leading
+pub mod Deciding

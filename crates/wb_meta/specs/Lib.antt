@@ -9,3 +9,5 @@ pub mod Slots
 pub mod Reads
 pub mod Openings
 pub mod Laws
+pub mod Roots
+pub mod RootLaws

@@ -12,6 +12,7 @@ mod formatting;
 mod law;
 mod opening;
 mod read_steps;
+mod roots;
 mod sector;
 mod slot;
 
@@ -23,4 +24,5 @@ pub use law::{
 };
 pub use opening::opening_image;
 pub use read_steps::{ReadSteps, State, read_state};
+pub use roots::{commits_lead_on, one_state_is_read};
 pub use wb_tree::Image;

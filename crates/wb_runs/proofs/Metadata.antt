@@ -36,9 +36,9 @@ use Rattle.wb_devices.specs.declared.running.RunningCommit.{RunningCommit}
 use Rattle.wb_stage.specs.Asking.{HasBegun, ended}
 use Rattle.wb_devices.specs.Committing.{is_committed}
 use Rattle.wb_devices.specs.Opened.{HasNextRoot}
-use Rattle.wb_roots.specs.Roots.{MayBeReadAs, Commit, commit_of, opening_of}
-use Rattle.wb_roots.proofs.Leading.{commit_begins, opening_begins}
-use Rattle.wb_roots.proofs.Deciding.{stored_is_read, read_is_committed}
+use Rattle.wb_meta.specs.Roots.{MayBeReadAs, Commit, commit_of, opening_of}
+use Rattle.wb_meta.proofs.Leading.{commit_begins, opening_begins}
+use Rattle.wb_meta.proofs.Deciding.{stored_is_read, read_is_committed}
 use Rattle.wb_promise.specs.States.{Phase, Stands, Gone, Opens}
 use Rattle.wb_runs.proofs.Images.{Images, one_image, IsFit, Begins, Ends, Turns}
 use Rattle.wb_runs.proofs.Underway.{Readable, Underway, Found, underway_readable, found_readable, all_done}

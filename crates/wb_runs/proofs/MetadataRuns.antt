@@ -12,7 +12,7 @@ use Rattle.wb_tasks.specs.Plan.{Plan, want, device_of}
 use Rattle.wb_tasks.specs.declared.step.Want.{Want}
 use Rattle.wb_tasks.specs.declared.step.Got.{Got}
 use Rattle.wb_tasks.specs.declared.step.Got.TheVariants.{Fault}
-use Rattle.wb_roots.specs.Roots.{AreOneOf}
+use Rattle.wb_meta.specs.Roots.{AreOneOf}
 use Rattle.wb_promise.specs.declared.job.Job.{Job}
 use Rattle.wb_promise.specs.declared.job.Job.TheVariants.{Read, Write, Flush, Open, Migrate, Replace}
 use Rattle.wb_promise.specs.declared.event.Event.{Event}
@@ -165,7 +165,7 @@ module _ (P A : Type 0) (shape : Shape) where
       old : Represents sectors i.committed.root i.committed.found → CanBeRead shape sectors
       old represents = record { stored = i.committed; represents = represents; geometry = r.read.same_geometry; clean = r.fit }
 
-      by_written : (written : Bool) (running : Option Stored) → IsFitToo running → Rattle.wb_roots.specs.Roots.IsOf shape.geometry (if written then running else None) → AreOneOf i.committed (if written then running else None) sectors → CanBeRead shape sectors
+      by_written : (written : Bool) (running : Option Stored) → IsFitToo running → Rattle.wb_meta.specs.Roots.IsOf shape.geometry (if written then running else None) → AreOneOf i.committed (if written then running else None) sectors → CanBeRead shape sectors
       by_written false running f g are = old are
       by_written true None f g are = old are
       by_written true (Some s) f g are = elim are [ inl o ↦ old o | inr n ↦ record { stored = s; represents = n; geometry = g; clean = f } ]

@@ -19,10 +19,10 @@ use Rattle.wb_tasks.specs.declared.step.DeviceStep.{DeviceStep}
 use Rattle.wb_tasks.specs.declared.step.DeviceStep.TheVariants.{Sync, WriteNode, WriteRoot}
 use Rattle.wb_devices.specs.declared.running.RunningCommit.{RunningCommit}
 use Rattle.wb_devices.specs.Committing.{goes_on, is_coming, is_committed}
-use Rattle.wb_roots.specs.Roots.{MayBeReadAs, IsSettled, Commit, CanBeMade}
-use Rattle.wb_roots.specs.Laws.{IsDecided}
-use Rattle.wb_roots.proofs.Leading.{during, early, after_failure, after_failed_node, when_done}
-use Rattle.wb_roots.proofs.Deciding.{crash_decides, sync_decides, failed_sync_leaves}
+use Rattle.wb_meta.specs.Roots.{MayBeReadAs, IsSettled, Commit, CanBeMade}
+use Rattle.wb_meta.specs.RootLaws.{IsDecided}
+use Rattle.wb_meta.proofs.Leading.{during, early, after_failure, after_failed_node, when_done}
+use Rattle.wb_meta.proofs.Deciding.{crash_decides, sync_decides, failed_sync_leaves}
 use Rattle.wb_runs.proofs.Images.{Images, later_of, one_image, Turn, Stays, Puts, Settles, Turned, IsFit, IsFitToo, Turns}
 
 -- A device of this geometry is read as these images. A root that is marked clean has no entry.

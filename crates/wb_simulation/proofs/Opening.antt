@@ -8,9 +8,9 @@ use Rattle.wb_contents.specs.Devices.{by_block, CrashLeaves}
 use Rattle.wb_contents.specs.Acts.{all_synced, partly_synced}
 use Rattle.wb_contents.proofs.Devices.{sync_is_act, failed_sync_is_act, crash_is_act}
 use Rattle.wb_meta.specs.Representing.{Stored}
-use Rattle.wb_roots.specs.Roots.{IsSettled}
-use Rattle.wb_roots.specs.Laws.{IsDecided}
-use Rattle.wb_roots.proofs.Deciding.{crash_decides, sync_decides, failed_sync_leaves, read_is_committed}
+use Rattle.wb_meta.specs.Roots.{IsSettled}
+use Rattle.wb_meta.specs.RootLaws.{IsDecided}
+use Rattle.wb_meta.proofs.Deciding.{crash_decides, sync_decides, failed_sync_leaves, read_is_committed}
 use Rattle.wb_contents.specs.Volume.{at_location}
 use Rattle.wb_types.specs.declared.mode.Mode.TheVariants.{Writeback}
 use Rattle.wb_promise.specs.Headline.{place_of}

@@ -13,7 +13,7 @@ use Rattle.wb_contents.specs.Volume.{Locations}
 use Rattle.wb_meta.specs.Reads.{FitsDevice}
 use Rattle.wb_meta.specs.Representing.{Stored}
 use Rattle.wb_meta.specs.States.{RepresentsState}
-use Rattle.wb_roots.specs.Roots.{MayBeReadAs, IsSettled}
+use Rattle.wb_meta.specs.Roots.{MayBeReadAs, IsSettled}
 use Rattle.wb_devices.specs.declared.devices.Devices.{Devices}
 use Rattle.wb_contents.specs.Conditions.{IsUnnamed}
 use Rattle.wb_link.specs.World.{Shared, Block, Free, Mapped}

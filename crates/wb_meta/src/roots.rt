@@ -1,9 +1,8 @@
-//! Which root and tree a metadata device may be read as, over any number of commits, faults, crashes and openings:
-//! definitions and laws, no code. They put the laws of single commits, readings and openings together.
-#![tactic(auto)]
+//! Which root and tree a metadata device may be read as, over any number of commits, faults, crashes and openings: laws, which put
+//! those of single commits, readings and openings together.
 
-ghost use Rattle.wb_roots.specs.Laws.{CommitBegins, OpeningBegins, CommitGoesOn, CommitFails, OneOfTwoDuring, OldBeforeRoot, OneOfTwoAfterFailure, OldAfterFailedNode, StoresWhenDone};
-ghost use Rattle.wb_roots.specs.Laws.{StoredIsRead, CrashDecides, SyncDecides, FailedSyncLeaves, ReadIsCommitted, NothingIsRefused};
+ghost use Rattle.wb_meta.specs.RootLaws.{CommitBegins, OpeningBegins, CommitGoesOn, CommitFails, OneOfTwoDuring, OldBeforeRoot, OneOfTwoAfterFailure, OldAfterFailedNode, StoresWhenDone};
+ghost use Rattle.wb_meta.specs.RootLaws.{StoredIsRead, CrashDecides, SyncDecides, FailedSyncLeaves, ReadIsCommitted, NothingIsRefused};
 
 /// A commit of the next image of a stored tree, and one of an opening's root over it, begin, go on by their steps, or
 /// fail. Until the root is written the device is read as the old state, then as the old or the new one, also after a

@@ -16,8 +16,8 @@ use Rattle.wb_meta.specs.Reads.{FitsDevice}
 use Rattle.wb_meta.specs.States.{RepresentsState, SpeaksOfSectors, IsRefusedBy}
 use Rattle.wb_meta.proofs.OneReading.{one_tree, not_refused}
 use Rattle.wb_meta.proofs.Round.{stored_read}
-use Rattle.wb_roots.specs.Roots.{Are, MayBeReadAs, IsSettled}
-use Rattle.wb_roots.specs.Laws.{IsDecided}
+use Rattle.wb_meta.specs.Roots.{Are, MayBeReadAs, IsSettled}
+use Rattle.wb_meta.specs.RootLaws.{IsDecided}
 
 pub stored_is_read : (m : Mapping) (device : List History) (state : Stored) (used : List Place) → DeviceStores m device state used
     → MayBeReadAs state.root.geometry state None device

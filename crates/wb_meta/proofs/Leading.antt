@@ -23,7 +23,7 @@ use Rattle.wb_meta.proofs.Crashing.{come_crash, early_crash, failed_crash, done_
 use Rattle.wb_meta.proofs.Imaging.{have_places, may_commit}
 use Rattle.wb_meta.proofs.Reopening.{opening_places, opening_may, opening_stores}
 use Rattle.wb_meta.proofs.Round.{next_planned, stored_committed}
-use Rattle.wb_roots.specs.Roots.{AreOneOf, MayBeReadAs, Commit, CanBeMade, commit_of, opening_of}
+use Rattle.wb_meta.specs.Roots.{AreOneOf, MayBeReadAs, Commit, CanBeMade, commit_of, opening_of}
 
 -- no node is wanted yet
 none_wanted : (image : Image) (device : List History) → Newest (FitsNodes image.nodes.items 0) device

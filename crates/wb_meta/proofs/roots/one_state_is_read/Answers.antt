@@ -1,5 +1,5 @@
-use Rattle.wb_roots.proofs.Deciding.{stored_is_read, crash_decides, sync_decides, failed_sync_leaves, read_is_committed, nothing_is_refused}
-use Rattle.wb_roots.proofs.one_state_is_read.Goals as goal
+use Rattle.wb_meta.proofs.Deciding.{stored_is_read, crash_decides, sync_decides, failed_sync_leaves, read_is_committed, nothing_is_refused}
+use Rattle.wb_meta.proofs.roots.one_state_is_read.Goals as goal
 
 pub returns-clause-stored : goal.returns-clause-stored
 returns-clause-stored g = stored_is_read

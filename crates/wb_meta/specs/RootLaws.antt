@@ -17,7 +17,7 @@ use Rattle.wb_meta.specs.Imaging.{DeviceStores, IsPlanned, Follows}
 use Rattle.wb_meta.specs.Openings.{IsOpening}
 use Rattle.wb_meta.specs.Reads.{FitsDevice}
 use Rattle.wb_meta.specs.States.{RepresentsState, SpeaksOfSectors, IsRefusedBy}
-use Rattle.wb_roots.specs.Roots.{MayBeReadAs, IsSettled, Commit, CanBeMade, commit_of, opening_of}
+use Rattle.wb_meta.specs.Roots.{MayBeReadAs, IsSettled, Commit, CanBeMade, commit_of, opening_of}
 
 -- ---- commits
 

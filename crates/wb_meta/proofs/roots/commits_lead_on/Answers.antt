@@ -1,6 +1,6 @@
 use Rattle.wb_meta.proofs.Stepping.{goes_on, fails}
-use Rattle.wb_roots.proofs.Leading.{commit_begins, opening_begins, during, early, after_failure, after_failed_node, when_done}
-use Rattle.wb_roots.proofs.commits_lead_on.Goals as goal
+use Rattle.wb_meta.proofs.Leading.{commit_begins, opening_begins, during, early, after_failure, after_failed_node, when_done}
+use Rattle.wb_meta.proofs.roots.commits_lead_on.Goals as goal
 
 pub returns-clause-begins : goal.returns-clause-begins
 returns-clause-begins g = commit_begins

@@ -1,2 +1,0 @@
-pub mod Roots
-pub mod Laws
