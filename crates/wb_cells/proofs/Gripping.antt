@@ -145,10 +145,6 @@ on_the_way access block card grip next now after result way s more fits =
       reached = subst (λ (z : GripStage). Reached access block z card after) (sym stage_now) (goes_on access block card now after s.found grip.stage way.reached is went);
     }
 
-pub nearer : {blocks : ℕ} {alone : Type 0} (grip next : Grip) (now after : Card) (result : Gripped) → GripStep blocks alone grip now result next after → IsMore result → stages_left next.stage < stages_left grip.stage
-nearer grip next now after result s more = subst (λ (z : GripStage). stages_left z < stages_left grip.stage) (sym (ap (λ (g : Grip). g.stage) s.next_is))
-    (fewer grip.access grip.block now now now s.found grip.stage (subst IsMore s.told more))
-
 -- where it ends
 pub way_ends : {blocks : ℕ} {alone : Type 0} (access : Access) (block : OBlock) (card : Card) (grip next : Grip) (now after : Card) (result : Gripped) → OnTheWay access block card grip now → GripStep blocks alone grip now result next after
     → (IsMore result → ⊥) → EndsAs access block result card after

@@ -61,9 +61,6 @@ crowd vs m id v j u at some_part other there all = let two = total_two (view_pie
 pub whole_sum : (vs : List View) (m : MakeWhole vs) (id : ℕ) (v : View) → get_elem? vs id ≡ some v → IsWhole v.fraction → total (view_pieces m.depth) vs ≡ view_pieces m.depth v
 whole_sum vs m id v at all = m.sum ∙ sym (whole_is m.depth v.fraction (m.deep id v at) all)
 
-pub whole_has : (p : Fraction) → IsWhole p → p.pieces ≢ 0
-whole_has p all z = let l = doubled-le 1 p.halvings in omega arith
-
 pub same_parts : (vs : List View) (id : ℕ) (v w : View) → get_elem? vs id ≡ some v → w.fraction ≡ v.fraction → MakeWhole vs → MakeWhole (set vs id w)
 same_parts vs id v w at same m = record {
   depth = m.depth;

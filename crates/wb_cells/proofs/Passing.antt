@@ -15,7 +15,7 @@ use Rattle.wb_words.specs.declared.card.Card.{Card}
 use Rattle.wb_cells.specs.declared.view.View.{View}
 use Rattle.wb_words.specs.SharedWords.{IsWord, HasBits, fail_word}
 use Rattle.wb_cells.specs.Flat.{decode}
-use Rattle.wb_words.specs.Cards.{blank_card, total, is_block, is_write, is_count, is_share, is_own, seal_times, seal_count, is_newest, is_bit, shares, owns, sharers, owners, writes_on, counts_of, shared_of, owned_of, stores, seals_on, ends, times_set, looked, merged}
+use Rattle.wb_words.specs.Cards.{blank_card, total, is_block, is_write, is_count, is_share, is_own, seal_times, seal_count, is_newest, is_bit, shares, owns, sharers, owners, writes_on, counts_of, shared_of, owned_of, stores, seals_on, ends, times_set, merged}
 use Rattle.wb_words.specs.Rule.{block, AllSawNoMore, Knows, LooksAllowed, LossesAllowed, NotesWhatWas, LockRule, IsLock}
 use Rattle.wb_words.specs.Moments.{Moment}
 use Rattle.wb_types.specs.declared.number.OBlock.{OBlock}
@@ -24,7 +24,6 @@ use Rattle.wb_words.specs.declared.word.FailBit.TheVariants.{Failed, Suspended}
 use Rattle.wb_cells.specs.declared.view.Fraction.{Fraction}
 use Rattle.wb_cells.specs.Fractions.{IsWhole, together}
 use Rattle.wb_cells.specs.Views.{Ruled, AllHaveParts, MakeWhole, all_cards, cut_left, cut_right, merged_cards, joined, spent}
-use Rattle.wb_words.specs.Looks.{Finds}
 use Rattle.wb_cells.specs.Moves.{card_at, SeatMoves}
 use Rattle.wb_cells.specs.Passes.{pass_state, IsPass, IsSum}
 use Rattle.wb_words.proofs.Totals.{total-append}
@@ -58,12 +57,6 @@ sum_of n w c Fail inside r = r.logs.fail ∙ (λ j. fail_word (alone_sum (times_
   where
     alone_sum : (f : Card → ℕ) → total f (c ∷ []) ≡ f c
     alone_sum f = omega arith
-
-pub look_sums : (words n : ℕ) (m after : Me ℕ View) (word : WordName) (x : ℕ) → IsPass words m → words ≡ 3 * n + 5 → IsWord n word
-    → SeatMoves [] 0 (λ c d. (d ≡ looked word x c) × Finds word x c × (word ≡ Fail → HasBits x m.0.fail)) (λ was now. (x ≡ value_of was word) × (now ≡ was)) m after → IsWhole m.0.fraction → IsSum word x (card_at 0 m.0)
-look_sums words n m after word x p sized inside s all = let told = s.0.words all in let z = p.sized in let same : m.0.blocks ≡ n = omega arith in
-    subst (λ (y : ℕ). IsSum word y (card_at 0 m.0)) (sym told.changed.0)
-    (sum_of n told.was (card_at 0 m.0) word inside (subst (λ (z : ℕ × List Card). LockRule z.0 told.was z.1) (λ i. (same i, p.one i)) told.rule_was))
 
 -- the moment of a step
 pub moment_of : {bits : List FailBit} {how : Card → Card → Type 0} {change : Words → Words → Type 0} (words n : ℕ) (m after : Me ℕ View) → IsPass words m → words ≡ 3 * n + 5 → SeatMoves bits 0 how change m after

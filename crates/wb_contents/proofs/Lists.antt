@@ -1,7 +1,7 @@
 -- What a list has after one of its elements was set, and one that has an element many times.
 use Rattle.std.proofs.Common.{◌≡◌, ◌≢◌, ◌<◌, ℕ, zero, suc, List, [], ◌∷◌, Option, Some, None, refl, sym, ap, arith, length, slice_get, slice_set, replicate}
 -- what was put in is there
-pub use Rattle.wb_disk.proofs.Sectors.{slice_get-set as set_there}
+pub use Rattle.wb_types.proofs.Lists.{slice_get-set as set_there}
 
 -- there is an element before the end
 pub there_is : {X : Type 0} (xs : List X) (i : ℕ) → i < length xs → (x : X) × (slice_get xs i ≡ Some x)

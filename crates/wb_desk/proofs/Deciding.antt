@@ -14,12 +14,12 @@ use Rattle.wb_policy.specs.Recency.{AgreesWith, least_recent, is_idle, is_dirty_
 use Rattle.wb_policy.specs.TinyLfu.{Knowledge, WasTold, after_access, ordered, decided, may_come_in, way_in, promotion, replacement, is_mapped, write_back, cleaned as written_back}
 use Rattle.wb_policy.specs.Cleaner.{Progress, chosen, next_in_turn, cleaned, ticked}
 use Rattle.wb_policy.proofs.Laws.{uses, least_recent-mapped}
-use Rattle.wb_policy.proofs.Lawful.{both}
 use Rattle.wb_policy.proofs.Turns.{lawful-chosen}
 use Rattle.wb_desk.specs.Desks.{DeskState, holdings}
 use Rattle.wb_desk.specs.Settling.{Fits, IsAccess, IsGiven, IsTick, NoneFits}
 use Rattle.wb_desk.specs.Decisions.{IsInService, IsWaiting, DecisionsAreGiven, TicksEndWithoutOrder, CleanerEndsWithoutOrder}
 use Rattle.wb_desk.proofs.Leaving.{mapped_within}
+use Rattle.wb_types.proofs.Truth.{and_true}
 
 if_so : (b : Bool) (o : Order) (X : Order → Type 0) → (b ≡ true → X o) → IfSome (cond b (Some o) None) X
 if_so true o X h = h refl
@@ -55,7 +55,7 @@ module _ (d : DeskState Knowledge) (b : OBlock) (a : Settled) (k : Knowledge) (s
       record {
         first = (mapped_within WasTold d v.0 v.1 service.desk at.0).1;
         second = inside;
-        room = omega (arith, leb-true (2 * k.block_sectors) a.room (both _ _ h).1, same, service.sectors, access.room, d.geometry.within.block_from);
+        room = omega (arith, leb-true (2 * k.block_sectors) a.room (and_true _ _ h).1, same, service.sectors, access.room, d.geometry.within.block_from);
         countable = service.countable;
       })
 

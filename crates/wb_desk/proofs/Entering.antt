@@ -19,7 +19,7 @@ use Rattle.wb_tree.proofs.Stored.EntryChanges.{set-mapping}
 use Rattle.wb_policy.specs.declared.order.Order.{Order}
 use Rattle.wb_policy.specs.declared.order.Order.TheVariants.{Promote, Replace, Demote, Clean}
 use Rattle.wb_policy.specs.Law.{Holdings, origins, IsMappedAt, IsUnmapped}
-use Rattle.wb_policy.proofs.Laws.{slice_get-set_same, slice_get-set_other}
+use Rattle.wb_policy.proofs.Laws.{slice_get-set_other}
 use Rattle.wb_space.specs.declared.block.Block.{Block}
 use Rattle.wb_space.specs.declared.block.Block.TheVariants.{Free, Mapped, Reserved}
 use Rattle.wb_space.specs.Places.{HaveLeft, PlacesInUse, noted_known}
@@ -36,6 +36,7 @@ use Rattle.wb_desk.specs.Entries.{MayMap, Brings, entry_of, mapped}
 use Rattle.wb_tree.specs.Edits.{IsChangedAt}
 use Rattle.wb_desk.proofs.Index.{mapped_there}
 use Rattle.wb_desk.proofs.Kept.{Each, length_unmarked}
+use Rattle.wb_types.proofs.Lists.{slice_get-set}
 
 -- one cache block changes its entry, its state and its order
 pub one_entry_changes : (mapping mapping' : Holdings) (entries : List (Option Entry)) (blocks : List Block) (slots : List (Option LiveOrder)) (n c : ℕ) (e : Option Entry) (b : Block) (s : Option LiveOrder)
@@ -70,7 +71,7 @@ some_block a b e = cc
 
 pub unmapped_after : (m : Holdings) (b c x : ℕ) → slice_get m c ≡ Some None → (b ≡ x → ⊥) → IsUnmapped m x → IsUnmapped (set m c (Some b)) x
 unmapped_after m b c x vacant n u at e = elim (cases_eq at c) [
-  | inl same ↦ n (some_block b x (sym (slice_get-set_same m c (Some b) None vacant) ∙ ap (λ (k : ℕ). slice_get (set m c (Some b)) k) (sym same) ∙ e))
+  | inl same ↦ n (some_block b x (sym (slice_get-set m c None (Some b) vacant) ∙ ap (λ (k : ℕ). slice_get (set m c (Some b)) k) (sym same) ∙ e))
   | inr other ↦ u at (sym (slice_get-set_other m c at (Some b) other) ∙ e)
 ]
 
@@ -195,7 +196,7 @@ index_mapped n m cached b c i l vacant = record {
     | inl same ↦
         let is = one_cache c k (some_cache (Some c) (Some k) (sym there ∙ ap (λ (y : ℕ). slice_get (set cached b (Some c)) y) (sym same) ∙ e)) in
         subst (λ (y : ℕ). IsMappedAt (set m c.0 (Some b)) y k.0) (sym same)
-        (subst (λ (y : CBlock). IsMappedAt (set m c.0 (Some b)) b y.0) is (slice_get-set_same m c.0 (Some b) None vacant))
+        (subst (λ (y : CBlock). IsMappedAt (set m c.0 (Some b)) b y.0) is (slice_get-set m c.0 None (Some b) vacant))
     | inr other ↦
         let at = i.found x k (sym (slice_get-set_other cached b x (Some c) other) ∙ e) in
         mapped_elsewhere m x c.0 k.0 (Some b) (λ same. none_mapped x (sym vacant ∙ ap (λ (y : ℕ). slice_get m y) (sym same) ∙ at)) at

@@ -15,7 +15,7 @@ use Rattle.wb_tree.proofs.Stored.EntryChanges.{clear-mapping}
 use Rattle.wb_policy.specs.declared.order.Order.{Order}
 use Rattle.wb_policy.specs.declared.order.Order.TheVariants.{Promote, Replace, Demote, Clean}
 use Rattle.wb_policy.specs.Law.{Holdings, origins, IsMappedAt, IsUnmapped}
-use Rattle.wb_policy.proofs.Laws.{slice_get-set_same, slice_get-set_other}
+use Rattle.wb_policy.proofs.Laws.{slice_get-set_other}
 use Rattle.wb_space.specs.declared.block.Block.{Block}
 use Rattle.wb_space.specs.declared.block.Block.TheVariants.{Free, Mapped, Reserved, Quarantined}
 use Rattle.wb_space.specs.Blocks.{state, IsClaimed}
@@ -29,6 +29,7 @@ use Rattle.wb_tree.specs.Edits.{IsChangedAt}
 use Rattle.wb_desk.proofs.Index.{entry_for, mapped_once, same_cache}
 use Rattle.wb_desk.proofs.Kept.{Each, length_unmarked}
 use Rattle.wb_desk.proofs.Entering.{one_entry_changes, mapped_elsewhere, set_origin, set_there, places_edited, left_above}
+use Rattle.wb_types.proofs.Lists.{slice_get-set}
 
 pub entry_there : (entries : List (Option Entry)) (b c : ℕ) → IsMappedAt (origins entries) b c → IsSome (get_or entries c None)
 entry_there entries b c at = subst (λ (x : Option Entry). IsSome x) (sym (entry_for entries b c at).there) refl
@@ -46,14 +47,14 @@ some_block a b e = cc
 
 unmapped_still : (m : Holdings) (b c x : ℕ) → IsMappedAt m b c → IsUnmapped m x → IsUnmapped (set m c None) x
 unmapped_still m b c x there u at e = elim (cases_eq at c) [
-  | inl same ↦ nothing x (sym (slice_get-set_same m c None (Some b) there) ∙ ap (λ (k : ℕ). slice_get (set m c None) k) (sym same) ∙ e)
+  | inl same ↦ nothing x (sym (slice_get-set m c (Some b) None there) ∙ ap (λ (k : ℕ). slice_get (set m c None) k) (sym same) ∙ e)
   | inr other ↦ u at (sym (slice_get-set_other m c at None other) ∙ e)
 ]
 
 -- a block that stood there and nowhere else stands nowhere
 unmapped_now : (m : Holdings) (b c : ℕ) → IsMappedAt m b c → ((k : ℕ) → IsMappedAt m b k → k ≡ c) → IsUnmapped (set m c None) b
 unmapped_now m b c there once at e = elim (cases_eq at c) [
-  | inl same ↦ nothing b (sym (slice_get-set_same m c None (Some b) there) ∙ ap (λ (k : ℕ). slice_get (set m c None) k) (sym same) ∙ e)
+  | inl same ↦ nothing b (sym (slice_get-set m c (Some b) None there) ∙ ap (λ (k : ℕ). slice_get (set m c None) k) (sym same) ∙ e)
   | inr other ↦ other (once at (sym (slice_get-set_other m c at None other) ∙ e))
 ]
 

@@ -17,9 +17,6 @@ pub record AreSeen (mapping : Holdings) (c : ℕ) (seen : List (CBlock × OBlock
   pub rising : IsNonDecreasingBy (λ (e : CBlock × OBlock). e.0.0) seen
   pub below : (d : CBlock × OBlock) (i : ℕ) → i < length seen → (get_or seen i d).0.0 < c
 
-pub none_seen : (mapping : Holdings) (c : ℕ) → AreSeen mapping c []
-none_seen mapping c = record { mapped = λ at b k. absurd (omega (arith, k.1)); rising = λ i j d l m. absurd (omega (arith, m)); below = λ d i l. absurd (omega (arith, l)) }
-
 pub seen_later : (mapping : Holdings) (c : ℕ) (seen : List (CBlock × OBlock)) → AreSeen mapping c seen → AreSeen mapping (c + 1) seen
 seen_later mapping c seen s = record { mapped = s.mapped; rising = s.rising; below = λ d i l. omega (arith, s.below d i l) }
 

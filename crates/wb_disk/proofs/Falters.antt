@@ -1,13 +1,11 @@
 -- How a write to a disk in memory fails.
-use Rattle.std.proofs.Common.{◌≡◌, ◌<◌, ◌+◌, ◌∙◌, ℕ, zero, suc, drop, slice_index_or, Bool, true, false, if◌then◌else◌, List, [], ◌∷◌, Option, Some, None, length, arith, subst, refl, sym, ap}
-use Rattle.std.proofs.lemmas.List.{length-set}
+use Rattle.std.proofs.Common.{◌≡◌, ◌<◌, ◌+◌, ◌∙◌, ℕ, zero, suc, drop, slice_index_or, Bool, true, false, if◌then◌else◌, List, [], ◌∷◌, length, arith, subst, refl, sym, ap}
 use Rattle.wb_types.specs.declared.mode.Dev.{Dev}
 use Rattle.std.specs.Prelude.{Result, Ok, Err, OnErr, OnOk, IsOk}
-use Rattle.wb_disk.specs.Device.{Content, History, grown, written}
+use Rattle.wb_disk.specs.Device.{Content, History, written}
 use Rattle.wb_disk.specs.Crash.{Choice}
 use Rattle.wb_disk.specs.Failing.{lands}
 use Rattle.wb_disk.specs.Faltering.{falters_as}
-use Rattle.std.specs.List.{slice_get}
 use Rattle.wb_disk.specs.Extents.{Writing, WrittenSo, written_where}
 use Rattle.wb_disk.specs.Memory.{Memory, HasRoom, HasRoomFor, FrontWritten, memory_falters}
 use Rattle.wb_disk.proofs.Neighbours.{partly_front}
@@ -40,29 +38,17 @@ pub failed_so : {T E : Type 0} (r : Result T E) (may : (ℕ → Bool) → Type 0
 failed_so (Ok x) may old new first cs w = tt
 failed_so (Err e) may old new first cs w = w
 
-grown_length : (o : Option History) (device : List History) (at : ℕ) (c : Content) → length (grown o c device at) ≡ length device
-grown_length None device at c = refl
-grown_length (Some h) device at c = length-set device at _
-
-landed_length : (landed : Bool) (device : List History) (at : ℕ) (c : Content) → length (if landed then written device at c else device) ≡ length device
-landed_length true device at c = grown_length (slice_get device at) device at c
-landed_length false device at c = refl
-
-pub length_where : (landed : ℕ → Bool) (device : List History) (at : ℕ) (cs : List Content) → length (written_where landed device at cs) ≡ length device
-length_where landed device at [] = refl
-length_where landed device at (c ∷ cs) = length_where landed (if landed at then written device at c else device) (suc at) cs ∙ landed_length (landed at) device at c
-
 pub lands_so : (disk : Memory) (device : Dev) (choice : Choice) (new : List History) (first : ℕ) (cs : List Content) → new ≡ written_where (lands device choice) disk.contents first cs →
     WrittenSo (falters_as disk device choice (Writing first (length cs))) disk.contents first cs new
 lands_so disk device choice new first cs e = (lands device choice, (λ has. refl), e)
 
-nothing : (device : List History) (at : ℕ) (cs : List Content) → written_where (λ at. false) device at cs ≡ device
-nothing device at [] = refl
-nothing device at (c ∷ cs) = nothing device (suc at) cs
+pub nothing_written : (device : List History) (at : ℕ) (cs : List Content) → written_where (λ at. false) device at cs ≡ device
+nothing_written device at [] = refl
+nothing_written device at (c ∷ cs) = nothing_written device (suc at) cs
 
 pub lands_nowhere : (disk : Memory) (device : Dev) (choice : Choice) (new : List History) (first : ℕ) (cs : List Content) → new ≡ disk.contents → (HasRoomFor disk first (length cs) → ⊥) →
     WrittenSo (falters_as disk device choice (Writing first (length cs))) disk.contents first cs new
-lands_nowhere disk device choice new first cs e none = ((λ at. false), (λ has. absurd (none has)), e ∙ sym (nothing disk.contents first cs))
+lands_nowhere disk device choice new first cs e none = ((λ at. false), (λ has. absurd (none has)), e ∙ sym (nothing_written disk.contents first cs))
 
 -- ---- contents, one for each sector
 

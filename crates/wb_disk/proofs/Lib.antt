@@ -5,4 +5,5 @@ pub mod Crashes
 pub mod FailedSyncs
 pub mod Leaving
 pub mod Noting
+pub mod Lengths
 pub mod Falters

@@ -2,7 +2,6 @@
 use Rattle.std.proofs.Common.{◌≡◌, ◌≢◌, ◌<◌, ◌+◌, ◌-◌, inl, inr, ℕ, zero, suc, Bool, true, false, if◌then◌else◌, List, [], ◌∷◌, Option, Some, None, length, map, take, refl, sym, ap, subst, ◌∙◌, arith, nat_lt, slice_index, get_or-set_other}
 use Rattle.std.specs.List.{slice_get, slice_set}
 use Rattle.std.proofs.Math.Seq.{take-nil}
-use Rattle.std.specs.Prelude.{Result, Ok, Err, OnErr}
 use Rattle.std.proofs.lemmas.Bool.{cases_lt}
 use Rattle.std.proofs.lemmas.List.{map-set}
 use Rattle.wb_disk.specs.Device.{Content, History, Gives, added, grown, written}
@@ -59,7 +58,3 @@ room_stays old new i k c wrote same n had =
     ap (λ d. slice_index (map later_count d) k) wrote ∙ later_count-grown_other (slice_get old.contents i) old.contents i k c n in
     let most : slice_index new.capacity k ≡ slice_index old.capacity k = ap (λ numbers. slice_index numbers k) same in
     omega arith
-
-pub on_err : {T E P : Type 0} (r : Result T E) → P → OnErr r P
-on_err (Ok x) p = tt
-on_err (Err e) p = p

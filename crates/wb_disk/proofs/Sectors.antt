@@ -9,6 +9,7 @@ use Rattle.wb_disk.specs.Device.{Content, History, newest, added, written, grown
 use Rattle.wb_disk.specs.Memory.{Memory, HasRoom, DiffersOnlyAt, later_count}
 use Rattle.wb_disk.specs.Stored.{history, histories, capacity_of, capacities}
 use Rattle.wb_disk.specs.declared.pending.Pending.{Pending}
+use Rattle.wb_types.proofs.Lists.{slice_get-set}
 
 -- a list that shows the same after one of its elements changed
 pub map-set_same : {X Y : Type 0} (f : X → Y) (xs : List X) (i : ℕ) (x y : X) → slice_get xs i ≡ Some x → f y ≡ f x → map f (slice_set xs i y) ≡ map f xs
@@ -38,12 +39,6 @@ pub slice_index-later_count : (ps : List Pending) (i : ℕ) (p : Pending) → sl
 slice_index-later_count [] i p e = absurd (cc)
 slice_index-later_count (q ∷ ps) zero p e = let g : q ≡ p = cc in ap (λ s. later_count (history s)) g
 slice_index-later_count (q ∷ ps) (suc i) p e = slice_index-later_count ps i p e
-
--- what was put at a place stands there
-pub slice_get-set : {X : Type 0} (xs : List X) (i : ℕ) (x y : X) → slice_get xs i ≡ Some x → slice_get (slice_set xs i y) i ≡ Some y
-slice_get-set [] i x y e = absurd (cc)
-slice_get-set (z ∷ xs) zero x y e = refl
-slice_get-set (z ∷ xs) (suc i) x y e = slice_get-set xs i x y e
 
 -- a change of one element changes one number
 pub DiffersOnlyAt-set : {X : Type 0} (f : X → ℕ) (xs : List X) (i : ℕ) (x y : X) → slice_get xs i ≡ Some x → DiffersOnlyAt i (map f xs) (map f (slice_set xs i y))

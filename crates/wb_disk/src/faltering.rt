@@ -111,7 +111,7 @@ pub fn make_room(disk: &mut MemDisk, first: u64, count: u64) -> Result<(), Refus
 }
 
 /// A write that fails, and lands where the choice says so; nowhere, where there is no room for all of it.
-#[tactic(auto, using(crate::proofs::Falters::length_where, crate::proofs::Falters::lands_so, crate::proofs::Falters::lands_nowhere))]
+#[tactic(auto, using(crate::proofs::Lengths::length_written_where, crate::proofs::Falters::lands_so, crate::proofs::Falters::lands_nowhere))]
 fn fail_write(
     disk: &mut MemDisk,
     device: Dev,

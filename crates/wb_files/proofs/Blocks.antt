@@ -1,6 +1,6 @@
 -- Devices of whole blocks.
 use Rattle.std.proofs.Common.{◌≡◌, ◌<◌, ◌≤◌, ◌*◌, ◌/◌, ◌%◌, ℕ, subst}
-use Rattle.std.proofs.Math.Nat.{mul-mod_left, mul-div_cancel, mul-le-mul_left}
+use Rattle.std.proofs.Math.Nat.{mul-mod_left, mul-div_cancel}
 use Rattle.wb_types.specs.Limits.{IsWithinLimits}
 
 -- a device of so many blocks has no sectors past its last block
@@ -15,7 +15,3 @@ div-whole blocks block sectors h e = subst (λ s. s / block ≡ blocks) e (mul-d
 pub IsWithinLimits-whole : (block cache origin metadata cache_blocks origin_blocks : ℕ) → 0 < block → cache_blocks * block ≡ cache → origin_blocks * block ≡ origin → IsWithinLimits block cache_blocks origin_blocks metadata → IsWithinLimits block (cache / block) (origin / block) metadata
 IsWithinLimits-whole block cache origin metadata cache_blocks origin_blocks h c o w =
     rw (div-whole cache_blocks block cache h c, div-whole origin_blocks block origin h o) w
-
--- the sectors of an origin of at most 2 ^ 20 blocks
-pub origin-le : (block blocks : ℕ) → blocks ≤ 1048576 → block * blocks ≤ block * 1048576
-origin-le block blocks h = mul-le-mul_left block h

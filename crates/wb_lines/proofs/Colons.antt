@@ -1,7 +1,7 @@
 -- The parts of a word round its first colon.
-use Rattle.std.proofs.Common.{◌≡◌, ◌<◌, ℕ, Bool, List, [], ◌∷◌, length, eqb, ap, arith}
+use Rattle.std.proofs.Common.{◌≡◌, ◌<◌, ℕ, Bool, List, [], ◌∷◌, length, eqb, arith}
 use Rattle.std.specs.List.{position_or_len, before_first, after_first}
-use Rattle.std.proofs.lemmas.List.Splits.{slice_split_first, slice_split_none, length-slice_split}
+use Rattle.std.proofs.lemmas.List.Splits.{slice_split_first, slice_split_none}
 use Rattle.std.proofs.lemmas.List.Sums.{fails_before_first}
 use Rattle.wb_lines.specs.Lines.{parts_of}
 
@@ -15,10 +15,3 @@ parts_of-cut word first rest h f r = rw (f, r) (slice_split_first is_colon word 
 -- no colon
 pub parts_of-whole : (word : List ℕ) → position_or_len is_colon word ≡ length word → parts_of word ≡ word ∷ []
 parts_of-whole word e = slice_split_none is_colon word (λ k d h. fails_before_first is_colon word k d (omega arith))
-
--- there is a part
-pub parts_of-some : (word : List ℕ) → parts_of word ≡ [] → ⊥
-parts_of-some word e =
-    let none : length (parts_of word) ≡ 0 = ap length e in
-    let one = length-slice_split is_colon word in
-    omega (arith, none, one)

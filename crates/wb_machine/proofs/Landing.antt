@@ -3,7 +3,7 @@ use Rattle.std.proofs.Common.{◌≡◌, ◌≤◌, ◌⊎◌, ◌+◌, inl, inr
 use Rattle.std.proofs.lemmas.Option.{slice_get_past}
 use Rattle.wb_disk.specs.Device.{Content as Bytes, History, grown, written}
 use Rattle.wb_disk.specs.Extents.{written_where}
-use Rattle.wb_contents.proofs.Lengths.{length-landed}
+use Rattle.wb_disk.proofs.Lengths.{length_landed}
 
 landed_past : (landed : Bool) (device : List History) (at : ℕ) (c : Bytes) → length device ≤ at → (if landed then written device at c else device) ≡ device
 landed_past true device at c l = ap (λ (o : Option History). grown o c device at) (slice_get_past device at l)
@@ -21,4 +21,4 @@ written_inside lands device at zero (c ∷ cs) few (inl e) = absurd (omega (arit
 written_inside lands device at zero (c ∷ cs) few (inr l) = sym (written_past lands device at (c ∷ cs) (omega (arith, l)))
 written_inside lands device at (suc count) [] few all = absurd (omega (arith, few))
 written_inside lands device at (suc count) (c ∷ cs) few (inl e) = written_inside lands (if lands at then written device at c else device) (suc at) count cs (omega (arith, few)) (inl (omega (arith, e)))
-written_inside lands device at (suc count) (c ∷ cs) few (inr l) = written_inside lands (if lands at then written device at c else device) (suc at) count cs (omega (arith, few)) (inr (omega (arith, l, length-landed (lands at) device at c)))
+written_inside lands device at (suc count) (c ∷ cs) few (inr l) = written_inside lands (if lands at then written device at c else device) (suc at) count cs (omega (arith, few)) (inr (omega (arith, l, length_landed (lands at) device at c)))

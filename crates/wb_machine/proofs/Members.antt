@@ -1,6 +1,5 @@
 -- Members and their cards.
 use Rattle.std.proofs.Common.{◌≡◌, ◌≤◌, ℕ, zero, suc, true, false, List, [], ◌∷◌, Option, Some, None, refl, ap, ◌∙◌, arith, slice_get, slice_set, slice_index_or, length, replicate, is_some}
-use Rattle.std.proofs.Common.{Result, Ok, Err, OnErr}
 use Rattle.wb_words.specs.declared.card.Card.{Card}
 use Rattle.wb_words.specs.Cards.{blank_card}
 use Rattle.wb_tasks.specs.Plan.{Plan}
@@ -13,10 +12,6 @@ use Rattle.wb_contents.proofs.Lists.{set_same}
 -- what was lent out and comes back as it was
 pub put_back : {X : Type 0} (xs : List X) (i : ℕ) (x y : X) → slice_get xs i ≡ Some x → y ≡ x → slice_set xs i y ≡ xs
 put_back xs i x y e same = ap (λ z. slice_set xs i z) same ∙ set_same xs i x e
-
-pub on_err : {T E P : Type 0} (r : Result T E) → P → OnErr r P
-on_err (Ok x) p = tt
-on_err (Err e) p = p
 
 pub length_seated : (members : List Member) (cards : List Card) → length members ≡ length cards → length (seated members cards) ≡ length cards
 length_seated [] [] e = refl

@@ -10,22 +10,19 @@ use Rattle.wb_disk.specs.Device.{Content as Bytes}
 use Rattle.wb_promise.specs.States.{Shape, block_size, sector_count}
 use Rattle.wb_promise.specs.Headline.{content_of, place_of, shown_by}
 use Rattle.wb_contents.proofs.Lists.{there_is as there}
+use Rattle.wb_types.proofs.Cutting.{length_rising}
 
 rising_at : (first n i : ℕ) → i < n → slice_get (rising first n) i ≡ Some (first + i)
 rising_at first zero i l = absurd (omega (arith, l))
 rising_at first (suc n) zero l = let same : first ≡ first + 0 = omega arith in ap (λ (v : ℕ). Some v) same
 rising_at first (suc n) (suc i) l = rising_at (first + 1) n i (omega (arith, l)) ∙ (let same : first + 1 + i ≡ first + suc i = omega arith in ap (λ (v : ℕ). Some v) same)
 
-length-rising : (first n : ℕ) → length (rising first n) ≡ n
-length-rising first zero = refl
-length-rising first (suc n) = ap suc (length-rising (first + 1) n)
-
 module _ (shape : Shape) (entries : List (Option Entry)) (cache origin : List Bytes) (at : ℕ) where
   abbrev f : ℕ → Bytes
   f = λ k. unwrap_or (content_of shape (place_of entries (k / block_size shape)) cache origin k) []
 
   pub past_all : sector_count shape ≤ at → None ≡ slice_get (shown_by shape entries cache origin) at
-  past_all l = sym (slice_get_past (map f (rising 0 (sector_count shape))) at (let many = length-map (rising 0 (sector_count shape)) f ∙ length-rising 0 (sector_count shape) in omega (arith, many, l)))
+  past_all l = sym (slice_get_past (map f (rising 0 (sector_count shape))) at (let many = length-map (rising 0 (sector_count shape)) f ∙ length_rising 0 (sector_count shape) in omega (arith, many, l)))
 
   -- a content that is there
   shows : at < sector_count shape → (content : Option Bytes) → content ≡ content_of shape (place_of entries (at / block_size shape)) cache origin at → (x : Bytes) → content_of shape (place_of entries (at / block_size shape)) cache origin at ≡ Some x → content ≡ slice_get (shown_by shape entries cache origin) at

@@ -1,16 +1,15 @@
 -- In every run the cache and the origin keep their sizes.
-use Rattle.std.proofs.Common.{◌≡◌, ◌∙◌, ℕ, suc, Bool, true, false, List, [], ◌∷◌, Option, Some, None, refl, ap, if◌then◌else◌, length, slice_get, slice_set}
+use Rattle.std.proofs.Common.{◌≡◌, ◌∙◌, ℕ, suc, true, List, [], ◌∷◌, Option, Some, None, refl, ap, if◌then◌else◌, length, slice_get, slice_set}
 use Rattle.std.proofs.lemmas.List.{length-replicate, length-map}
 use Rattle.std.specs.declared.alloc.Global.{Global}
 use Rattle.wb_types.specs.declared.mode.Dev.{Dev}
 use Rattle.wb_types.specs.declared.mode.Dev.TheVariants.{Metadata, Cache, Origin}
 use Rattle.wb_disk.specs.Crash.{Choice, crashed_from}
-use Rattle.wb_disk.specs.Device.{Content as Bytes, History, synced}
-use Rattle.wb_disk.specs.Extents.{written_where}
+use Rattle.wb_disk.specs.Device.{Content as Bytes, History}
 use Rattle.wb_disk.specs.Failing.{lands}
 use Rattle.wb_disk.specs.Memory.{blank}
 use Rattle.wb_disk.proofs.FailedSyncs.{length-synced_from}
-use Rattle.wb_meta.proofs.Histories.{length-written}
+use Rattle.wb_disk.proofs.Lengths.{length_written_where}
 use Rattle.wb_policy.specs.declared.quiet.Quiet.{Quiet}
 use Rattle.wb_tasks.specs.Plan.{Plan, device_of}
 use Rattle.wb_tasks.specs.declared.step.DeviceStep.{DeviceStep}
@@ -44,14 +43,6 @@ then_size a b c s t = record { cache = t.cache ∙ s.cache; origin = t.origin �
 length-crashed : (device : Dev) (choice : Choice) (at : ℕ) (sectors : List History) → length (crashed_from device choice at sectors) ≡ length sectors
 length-crashed device choice at [] = refl
 length-crashed device choice at (h ∷ hs) = ap suc (length-crashed device choice (suc at) hs)
-
-length-landed : (b : Bool) (device : List History) (at : ℕ) (content : Bytes) → length (if b then Rattle.wb_disk.specs.Device.written device at content else device) ≡ length device
-length-landed true device at content = length-written device at content
-length-landed false device at content = refl
-
-length-written_where : (landed : ℕ → Bool) (device : List History) (at : ℕ) (contents : List Bytes) → length (written_where landed device at contents) ≡ length device
-length-written_where landed device at [] = refl
-length-written_where landed device at (c ∷ cs) = length-written_where landed (if landed at then Rattle.wb_disk.specs.Device.written device at c else device) (suc at) cs ∙ length-landed (landed at) device at c
 
 -- ---- a step on a device
 
@@ -89,7 +80,7 @@ module _ (shape : Shape) (w : Now) (actor : Actor) (got : Got) (read : List Byte
   done_size job (Desk step) g = same_size w.devices
   done_size job (End answer) g = same_size w.devices
   done_size job (Device (ReadExtent device e)) g = by_device (done job) (ReadExtent device e) w.devices device refl (λ d. ap (λ (c : Chosen Quiet Global). length (put_by c d)) (read_plain job device e g))
-  done_size job (Device (WriteExtent device e)) g = by_device (done job) (WriteExtent device e) w.devices device refl (λ d. length-written_where (λ at. true) d e.first (contents_for job buffer e.count))
+  done_size job (Device (WriteExtent device e)) g = by_device (done job) (WriteExtent device e) w.devices device refl (λ d. length_written_where (λ at. true) d e.first (contents_for job buffer e.count))
   done_size job (Device (Sync device)) g = by_device (done job) (Sync device) w.devices device refl (λ d. length-map d _)
   done_size job (Device (ReadMetadata left)) g = on_metadata (done job) (ReadMetadata left) w.devices refl
   done_size job (Device (WriteNode number)) g = on_metadata (done job) (WriteNode number) w.devices refl
@@ -104,7 +95,7 @@ module _ (shape : Shape) (w : Now) (actor : Actor) (got : Got) (read : List Byte
     failed_size job (Desk step) g = absurd g
     failed_size job (End answer) g = absurd g
     failed_size job (Device (ReadExtent device e)) g = by_device (failed job) (ReadExtent device e) w.devices device refl (λ d. ap (λ (c : Chosen Quiet Global). length (put_by c d)) g.0)
-    failed_size job (Device (WriteExtent device e)) g = by_device (failed job) (WriteExtent device e) w.devices device refl (λ d. length-written_where (lands device choice) d e.first (contents_for job buffer e.count))
+    failed_size job (Device (WriteExtent device e)) g = by_device (failed job) (WriteExtent device e) w.devices device refl (λ d. length_written_where (lands device choice) d e.first (contents_for job buffer e.count))
     failed_size job (Device (Sync device)) g = by_device (failed job) (Sync device) w.devices device refl (λ d. length-synced_from (lands device choice) 0 d)
     failed_size job (Device (ReadMetadata left)) g = on_metadata (failed job) (ReadMetadata left) w.devices refl
     failed_size job (Device (WriteNode number)) g = on_metadata (failed job) (WriteNode number) w.devices refl

@@ -5,12 +5,12 @@ use Rattle.std.specs.List.{slice_get}
 use Rattle.std.proofs.lemmas.List.{length-map}
 use Rattle.std.proofs.lemmas.List.Elements.{Contains-append_cases}
 use Rattle.std.proofs.lemmas.Option.{slice_get_cases}
-use Rattle.std.proofs.lemmas.Grind.{common_steps}
 use Rattle.wb_disk.specs.Device.{Content, History, entries, newest, last_of, added, only, written, grown, synced, PartlySynced}
 use Rattle.wb_disk.specs.Crashes.{MayLeave}
 use Rattle.wb_disk.proofs.Leaving.{newest_there}
 use Rattle.wb_meta.specs.Commits.{Every, Newest, WasThere, Grew}
 use Rattle.wb_types.proofs.Lists.{element_beside, set_cases, map_there, Contains-one}
+use Rattle.wb_disk.proofs.Lengths.{length_grown}
 
 last_pushed : (c : Content) (ds : List Content) (d : Content) → last_of c (ds ++ d ∷ []) ≡ d
 last_pushed c [] d = refl
@@ -54,14 +54,8 @@ written_cases device at content i g e = elim (slice_get_cases device at).1 [
       inr (λ f. absurd (let none : Some g ≡ slice_get device at = sym there ∙ ap (λ n. slice_get device n) f in cc), there)
 ]
 
-length-grown : (device : List History) (at : ℕ) (content : Content) (h : History) → length (slice_set device at (added h content)) ≡ length device
-length-grown device at content h = grind (arith, common_steps)
-
 pub length-written : (device : List History) (at : ℕ) (content : Content) → length (written device at content) ≡ length device
-length-written device at content = elim (slice_get_cases device at).1 [
-  | inl w ↦ ap (λ found. length (grown found content device at)) w.2 ∙ length-grown device at content w.0
-  | inr w ↦ ap (λ found. length (grown found content device at)) w.1
-]
+length-written device at content = length_grown (slice_get device at) device at content
 
 pub Newest-every : (Is : ℕ → Content → Type 0) (device : List History) → Every Is device → Newest Is device
 Newest-every Is device every at h e = every at h (newest h) e (newest_there h)

@@ -1,11 +1,9 @@
 -- Commits that can be made: how they begin, go on, fail and end.
-use Rattle.std.proofs.Common.{◌≡◌, ◌∙◌, sym, ap, subst, refl, ℕ, List, Some, None, length, slice_get, arith, inl, inr}
-use Rattle.std.proofs.lemmas.Option.{slice_get_within}
+use Rattle.std.proofs.Common.{◌≡◌, ◌∙◌, sym, ap, subst, refl, ℕ, List, Some, None, length, arith, inl, inr}
 use Rattle.wb_types.specs.declared.geometry.Geometry.{Geometry}
 use Rattle.wb_types.specs.declared.number.Place.{Place}
 use Rattle.wb_disk.specs.Device.{Content, History}
 use Rattle.wb_disk.specs.Crashes.{AfterEveryCrash}
-use Rattle.wb_format.specs.declared.node.Node.{Node}
 use Rattle.wb_format.specs.declared.root.Root.{Root}
 use Rattle.wb_tree.specs.declared.image.Image.{Image}
 use Rattle.wb_tree.specs.Mapping.{Mapping}
@@ -21,7 +19,7 @@ use Rattle.wb_meta.specs.Openings.{IsOpening}
 use Rattle.wb_meta.proofs.Histories.{Grew-none}
 use Rattle.wb_meta.proofs.Crashing.{come_crash, early_crash, failed_crash, done_crash, nodes_crash}
 use Rattle.wb_meta.proofs.Imaging.{have_places, may_commit}
-use Rattle.wb_meta.proofs.Reopening.{opening_places, opening_may, opening_stores}
+use Rattle.wb_meta.proofs.Reopening.{opening_places, opening_may, opening_stores, no_node}
 use Rattle.wb_meta.proofs.Round.{next_planned, stored_committed}
 use Rattle.wb_meta.specs.Roots.{AreOneOf, MayBeReadAs, Commit, CanBeMade, commit_of, opening_of}
 
@@ -44,13 +42,6 @@ commit_begins m n plan image device old used stores planned follows =
       },
       record { grew = Grew-none (IsNodeHere image.nodes.items) device; nodes = none_wanted image device },
     )
-
--- an opening's image has no node
-no_node : (image : Image) (root : Root) → IsOpening image root → (i : ℕ) (node : Place × Node) → slice_get image.nodes.items i ≡ Some node → ⊥
-no_node image root opening i node listed =
-    let w = slice_get_within image.nodes.items i node listed in
-    let none : length image.nodes.items ≡ 0 = ap (λ (ns : List (Place × Node)). length ns) opening.no_nodes in
-    omega (arith, w, none)
 
 pub opening_begins : (tree : Mapping) (image : Image) (device : List History) (old : Stored) (used : List Place) → DeviceStores tree device old used
     → IsOpening image old.root → CanBeMade (opening_of image tree used old device) × HasCome image device NodesSynced device

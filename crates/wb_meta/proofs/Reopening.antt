@@ -51,7 +51,7 @@ sector_there sectors at inside = elim (slice_get_cases sectors at).1 [
   | inr past ↦ absurd (let none = past.0 in omega (arith, none, inside))
 ]
 
-no_node : (image : Image) (root : Root) → IsOpening image root → (i : ℕ) (node : Place × Node) → slice_get image.nodes.items i ≡ Some node → ⊥
+pub no_node : (image : Image) (root : Root) → IsOpening image root → (i : ℕ) (node : Place × Node) → slice_get image.nodes.items i ≡ Some node → ⊥
 no_node image root opening i node listed =
     let w = slice_get_within image.nodes.items i node listed in
     let none : length image.nodes.items ≡ 0 = ap (λ (ns : List (Place × Node)). length ns) opening.no_nodes in

@@ -151,9 +151,6 @@ unused_for_changed m geometry used free size unused =
       unused = unused.unused;
     }
 
-pub free_of_used : (m : Mapping) (geometry : Geometry) (used free : List Place) → length m.entries ≡ geometry.cache_blocks → ((place : Place) → IsPlaceOf m place → Contains used place) → AreUnused geometry used free → AreFree m geometry free
-free_of_used m geometry used free size known unused = free_of_unused m geometry used free known (unused_for_changed m geometry used free size unused)
-
 pub unused_free : (m : Mapping) (device : List History) (old : Stored) (used free : List Place) → DeviceStores m device old used → AreUnusedFor m old.root.geometry used free → AreFree m old.root.geometry free
 unused_free m device old used free stores unused = free_of_unused m old.root.geometry used free stores.known_used unused
 

@@ -2,7 +2,6 @@
 use Rattle.std.proofs.Common.{◌≡◌, ◌≢◌, ◌≤◌, ◌<◌, ◌+◌, ◌%◌, ℕ, List, Option, Some, None, length, refl, sym, ◌∙◌, ap, arith, subst, inl, inr}
 use Rattle.std.specs.List.{slice_get}
 use Rattle.std.proofs.lemmas.Option.{slice_get_cases}
-use Rattle.std.specs.Prelude.{Result, Ok, Err, OnErr}
 use Rattle.wb_types.specs.declared.number.Place.{Place}
 use Rattle.wb_disk.specs.Device.{Content, History, written, synced, PartlySynced}
 use Rattle.wb_format.specs.declared.node.Node.{Node}
@@ -20,11 +19,6 @@ none_listed nodes count none = elim (slice_get_cases nodes count).1 [
   | inl there ↦ absurd (let both : Some there.0 ≡ None = sym there.2 ∙ none in cc)
   | inr past ↦ past.0
 ]
-
--- what holds anyhow holds of an error
-pub OnErr-always : {T E P : Type 0} (r : Result T E) → P → OnErr r P
-OnErr-always (Ok x) p = tt
-OnErr-always (Err e) p = p
 
 same_node : (nodes : List (Place × Node)) (i j : ℕ) (node other : Place × Node) → slice_get nodes i ≡ Some node → slice_get nodes j ≡ Some other → i ≡ j → node ≡ other
 same_node nodes i j node other e f same =

@@ -13,10 +13,7 @@ use Rattle.wb_policy.specs.Situations.{is_busy, is_passthrough}
 use Rattle.wb_policy.specs.Recency.{least_recent, is_idle, is_dirty_and_idle}
 use Rattle.wb_policy.specs.TinyLfu.{Knowledge, WasTold, may_come_in, replacement, way_in, decided, write_back, cleaned}
 use Rattle.wb_policy.proofs.Laws.{least_recent-mapped}
-
-pub both : (a b : Bool) → (a && b) ≡ true → (a ≡ true) × (b ≡ true)
-both true b h = (refl, h)
-both false b h = cc
+use Rattle.wb_types.proofs.Truth.{and_true}
 
 pub not_so : (a : Bool) → not a ≡ true → a ≡ false
 not_so true h = cc
@@ -49,8 +46,8 @@ lawful-decided m k a knows new = by (may_come_in k a) refl
   where
     by : (b : Bool) → may_come_in k a ≡ b → IfSome (cond b (way_in k a a.least_free) None) (IsLawful a.mode m a.least_free a.busy.now)
     by true h =
-        let parts = both _ _ h in
-        let others = both _ _ parts.1 in
+        let parts = and_true _ _ h in
+        let others = and_true _ _ parts.1 in
         lawful-way_in m k a knows new (not_passthrough a.mode parts.0) (not_so _ others.0) a.least_free refl
     by false h = tt
 
@@ -60,7 +57,7 @@ lawful-write_back : (m : Holdings) (k : Knowledge) (t : Tick) → WasTold k m �
 lawful-write_back m k t knows allowed None found = tt
 lawful-write_back m k t knows allowed (Some e) found =
     let at = least_recent-mapped m k.recency (is_dirty_and_idle t.busy.now t.dirty.now) e knows found in
-    let passes = both _ _ at.1 in
+    let passes = and_true _ _ at.1 in
     by (nat_le k.block_sectors t.room) (record { allowed = allowed; names = (e.1, at.0); idle = not_so _ passes.1 })
   where
     by : (b : Bool) → IsLawful t.mode m None t.busy.now (Clean (record { 0 = e.0 })) → IfSome (cond b (Some (Clean (record { 0 = e.0 }))) None) (IsLawful t.mode m None t.busy.now)
@@ -72,5 +69,5 @@ lawful-cleaned m k t given knows = by (not (is_passthrough t.mode) && nat_eq giv
   where
     by : (b : Bool) → (not (is_passthrough t.mode) && nat_eq given 0) ≡ b
         → IfSome (cond b (write_back k t (least_recent (is_dirty_and_idle t.busy.now t.dirty.now) k.recency)) None) (IsLawful t.mode m None t.busy.now)
-    by true h = lawful-write_back m k t knows (not_passthrough t.mode (both _ _ h).0) _ refl
+    by true h = lawful-write_back m k t knows (not_passthrough t.mode (and_true _ _ h).0) _ refl
     by false h = tt

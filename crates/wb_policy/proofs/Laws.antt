@@ -16,19 +16,13 @@ use Rattle.lru.proofs.Splits.{Contains-head, Contains-tail}
 use Rattle.wb_policy.specs.Law.{Holdings, IsMappedAt, IsUnmapped}
 use Rattle.wb_policy.specs.Recency.{Recency, AgreesWith, used, newly_mapped, no_longer_mapped, least_recent}
 use Rattle.wb_policy.proofs.Uses.{unremoved}
+use Rattle.wb_types.proofs.Lists.{slice_get-set}
 
 pub eq_is : (a b : ℕ) → a ≡ b → nat_eq a b ≡ true
 eq_is a b e = grind (arith, nat_tests)
 
 pub eq_not : (a b : ℕ) → (a ≡ b → ⊥) → nat_eq a b ≡ false
 eq_not a b n = grind (arith, nat_tests)
-
--- a list that had an element set
-pub slice_get-set_same : {X : Type 0} (xs : List X) (i : ℕ) (x y : X) → slice_get xs i ≡ Some y → slice_get (slice_set xs i x) i ≡ Some x
-slice_get-set_same [] zero x y h = cc
-slice_get-set_same [] (suc i) x y h = cc
-slice_get-set_same (z ∷ xs) zero x y h = refl
-slice_get-set_same (z ∷ xs) (suc i) x y h = slice_get-set_same xs i x y h
 
 pub slice_get-set_other : {X : Type 0} (xs : List X) (i j : ℕ) (x : X) → (j ≡ i → ⊥) → slice_get (slice_set xs i x) j ≡ slice_get xs j
 slice_get-set_other [] i j x n = refl
@@ -103,7 +97,7 @@ learns m r b c agrees unmapped free = record {
   once = distinct-newly b c r agrees.once;
   has = λ q at here. elim (cases_eq at c) [
     | inl same ↦
-        let there : slice_get (slice_set m c (Some b)) at ≡ Some (Some b) = rw same (slice_get-set_same m c (Some b) None free) in
+        let there : slice_get (slice_set m c (Some b)) at ≡ Some (Some b) = rw same (slice_get-set m c None (Some b) free) in
         let block : b ≡ q = some_same _ _ (entry_same _ _ (sym there ∙ here)) in
         subst (λ p. lookup (nat_eq p) (newly_mapped b c r) ≡ Some at) block
         (subst (λ p. lookup (nat_eq b) (newly_mapped b c r) ≡ Some p) (sym same) (lookup-newly_same b c r))
@@ -116,7 +110,7 @@ learns m r b c agrees unmapped free = record {
         let moved : lookup (nat_eq b) (newly_mapped b c r) ≡ Some at = subst (λ p. lookup (nat_eq p) (newly_mapped b c r) ≡ Some at) same found in
         let place : c ≡ at = some_same _ _ (sym (lookup-newly_same b c r) ∙ moved) in
         subst (λ p. IsMappedAt (slice_set m c (Some b)) p at) (sym same)
-        (subst (λ p. IsMappedAt (slice_set m c (Some b)) b p) place (slice_get-set_same m c (Some b) None free))
+        (subst (λ p. IsMappedAt (slice_set m c (Some b)) b p) place (slice_get-set m c None (Some b) free))
     | inr other ↦
         let there = agrees.stands q at (sym (lookup-newly_other b c q r agrees.once other) ∙ found) in
         slice_get-set_other m c at (Some b) (λ e. none_some q (entry_same _ _ (sym free ∙ rw e at there))) ∙ there
@@ -127,7 +121,7 @@ pub forgets : (m : Holdings) (r : Recency) (b c : ℕ) → AgreesWith m r → Is
 forgets m r b c agrees mapped = record {
   once = distinct-removed (nat_eq b) r agrees.once;
   has = λ q at here. elim (cases_eq at c) [
-    | inl same ↦ absurd (none_some q (entry_same _ _ (sym (slice_get-set_same m c None (Some b) mapped) ∙ rw same at here)))
+    | inl same ↦ absurd (none_some q (entry_same _ _ (sym (slice_get-set m c (Some b) None mapped) ∙ rw same at here)))
     | inr other ↦
         let there : IsMappedAt m q at = sym (slice_get-set_other m c at None other) ∙ here in
         lookup-removed_other b q r agrees.once (λ e. other (some_same _ _ (sym (agrees.has b at (rw (← e) there)) ∙ agrees.has b c mapped))) ∙ agrees.has q at there

@@ -16,7 +16,8 @@ use Rattle.wb_policy.specs.Law.{Holdings, AreMapped, IsLawful}
 use Rattle.wb_policy.specs.Situations.{is_passthrough}
 use Rattle.wb_policy.specs.Cleaner.{Progress, in_turn, is_waiting, next_in_turn, chosen}
 use Rattle.wb_policy.proofs.Laws.{find_passes}
-use Rattle.wb_policy.proofs.Lawful.{both, not_so, not_passthrough}
+use Rattle.wb_policy.proofs.Lawful.{not_so, not_passthrough}
+use Rattle.wb_types.proofs.Truth.{and_true}
 
 abbrev Dirty : Type 0
 Dirty = List (CBlock × OBlock)
@@ -108,7 +109,7 @@ lawful-chosen m p t e mapped h = by (not (is_passthrough t.mode) && nat_le p.blo
     by true may found =
         let on = find_passes (is_waiting t.busy.now) (in_turn p.last t.dirty.now) e found in
         record {
-          allowed = not_passthrough t.mode (both _ _ may).0;
+          allowed = not_passthrough t.mode (and_true _ _ may).0;
           names = (e.0.0, mapped e.0 e.1 (turn_from p.last t.dirty.now e on.0));
           idle = not_so _ on.1;
         }

@@ -7,7 +7,7 @@ use Rattle.wb_contents.specs.Volume.{changed_at}
 use Rattle.wb_contents.proofs.Devices.{read_is_newest, write_is_act}
 use Rattle.wb_link.specs.World.{Shared, AreAlike, newest_at, put_sector, put_where, if_landed}
 use Rattle.wb_refines.specs.Data.{side, row, IsSide, SameBeside}
-use Rattle.wb_contents.proofs.Lengths.{length-grown}
+use Rattle.wb_disk.proofs.Lengths.{length_grown}
 
 newest_side : (to : Option ℕ) (s : Shared) (b o : ℕ) → newest_at s to b o ≡ newest (side to s (row to b) o)
 newest_side None s b o = refl
@@ -47,7 +47,7 @@ put_beside (Some j) s t b o c k = record { other = k.other; seals = k.seals; fai
 module _ (size : ℕ) (blank : Content) (to : Option ℕ) (b : ℕ) (contents : ℕ → Content) (lands : ℕ → Bool) where
   put_if : (t : Bool) (device : List History) (s : Shared) (o : ℕ) → o < size → row to b * size + o < length device → IsSide size blank to device s → let device' = if t then written device (row to b * size + o) (contents o) else device in
       IsSide size blank to device' (if_landed t (put_sector s to b o (contents o)) s) × (length device' ≡ length device)
-  put_if true device s o l m i = (put_is size blank to device s b o (contents o) l m i, length-grown (slice_get device (row to b * size + o)) device (row to b * size + o) (contents o))
+  put_if true device s o l m i = (put_is size blank to device s b o (contents o) l m i, length_grown (slice_get device (row to b * size + o)) device (row to b * size + o) (contents o))
   put_if false device s o l m i = (i, refl)
 
   pub put_where_is : (count : ℕ) (s : Shared) (device : List History) (o : ℕ) → IsSide size blank to device s → o + count ≤ size → row to b * size + o + count ≤ length device →

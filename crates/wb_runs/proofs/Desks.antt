@@ -1,9 +1,7 @@
 -- What is known of a desk and its metadata stays known when an order is given, given up, or ends since its block was mapped or unmapped.
 use Rattle.std.proofs.Common.{◌≡◌, ◌∙◌, inl, inr, if◌then◌else◌, ℕ, zero, suc, Bool, true, false, List, [], ◌∷◌, Option, Some, None, refl, sym, ap, subst, slice_set}
 use Rattle.std.specs.Prelude.{◌+◌}
-use Rattle.wb_types.specs.declared.entry.Entry.{Entry}
-use Rattle.wb_tree.proofs.Stored.Edited.{edited-once}
-use Rattle.wb_tree.proofs.Branching.Edits.{changed_at, changed-forgets, changed-sound, forgot_off}
+use Rattle.wb_tree.proofs.Branching.Edits.{changed_at}
 use Rattle.wb_policy.specs.Law.{Holdings, IsMappedAt}
 use Rattle.wb_desk.proofs.Leaving.{unmapped_kept, found_there}
 use Rattle.std.proofs.lemmas.Bool.{cases_eq, cases_Bool}
@@ -160,14 +158,6 @@ is_unmappable desk b = elim (found_where (holdings desk) b.0 (λ c. IsRemoved (o
   | inr none ↦ inr (λ may. none (may.cache.0, may.mapped, may.removed))
 ]
 
--- an entry of a sound tree may come or go
-pub changed : (m : Mapping) (block : ℕ) (v : Option Entry) → IsSound m → IsChangedAt m (changed_at m block v) block v
-changed m block v sound = record {
-  entries = refl;
-  forgets = changed-forgets m block v;
-  others = λ level index off. forgot_off block m.known level index off;
-  edited = edited-once m (changed_at m block v) block v sound (changed-sound m block v sound) refl (changed-forgets m block v);
-  sound = changed-sound m block v sound;
 }
 
 -- so a desk can do what it is asked where a block is to lose its entry

@@ -1,5 +1,5 @@
 -- In every run each task's next step is on sectors that are there, and cache and origin keep their sizes.
-use Rattle.std.proofs.Common.{◌≡◌, ◌∙◌, ◌≤◌, ◌<◌, ◌+◌, ◌-◌, ◌*◌, ◌/◌, ◌%◌, ℕ, zero, suc, Bool, true, if◌then◌else◌, List, [], ◌∷◌, Option, Some, None, Contains, refl, sym, ap, subst, arith, length, slice_get, slice_set, mul_comm}
+use Rattle.std.proofs.Common.{◌≡◌, ◌∙◌, ◌≤◌, ◌<◌, ◌+◌, ◌-◌, ◌*◌, ◌/◌, ◌%◌, ℕ, zero, suc, true, if◌then◌else◌, List, [], ◌∷◌, Option, Some, None, Contains, refl, sym, ap, subst, arith, length, slice_get, slice_set, mul_comm}
 use Rattle.std.proofs.lemmas.List.{length-map, length-replicate}
 use Rattle.std.proofs.lemmas.Nat.{div-mul-add}
 use Rattle.std.proofs.Math.Nat.{div-add-mod, mod-lt}
@@ -9,8 +9,7 @@ use Rattle.wb_types.specs.declared.mode.Mode.{Mode}
 use Rattle.wb_types.specs.declared.mode.Dev.{Dev}
 use Rattle.wb_types.specs.declared.mode.Dev.TheVariants.{Metadata, Cache, Origin}
 use Rattle.wb_types.specs.declared.number.OBlock.{OBlock}
-use Rattle.wb_disk.specs.Device.{Content as Bytes, History, newest, only, written}
-use Rattle.wb_disk.specs.Extents.{written_where}
+use Rattle.wb_disk.specs.Device.{Content as Bytes, History, newest, only}
 use Rattle.wb_disk.specs.Failing.{lands}
 use Rattle.wb_disk.specs.Crash.{Choice}
 use Rattle.wb_disk.proofs.FailedSyncs.{length-synced_from}
@@ -45,7 +44,7 @@ use Rattle.wb_promise.specs.declared.event.Event.TheVariants.{Start, Step, Fault
 use Rattle.wb_promise.specs.declared.event.What.{What}
 use Rattle.wb_promise.specs.declared.event.What.TheVariants.{Skipped, Refused, Started, Stepped, Stopped}
 use Rattle.wb_promise.specs.States.{Shape, State, Actor, Phase, Stands, Gone, Opens, OfTarget, resting, with_device, block_size, sector_count, cache_sector_count, start}
-use Rattle.wb_promise.specs.Happenings.{Chosen, Plain, Cut, Orders, Opened, Happening, OfSome, Gives, Falters, MayFailAt, StartGives, MayBe, orders_in, order_for, task_job, extent_refusal, begun_as}
+use Rattle.wb_promise.specs.Happenings.{Chosen, Plain, Cut, Orders, Opened, Happening, OfSome, Gives, Falters, MayFailAt, StartGives, MayBe, orders_in, order_for, task_job, begun_as}
 use Rattle.wb_promise.specs.Effects.{put_by, contents_for, device_done, device_failed, devices_then, commit_then, phase_then, phase_opened, phase_given, task_then, actor_then, cut_of, stepped, with_actor, cleared, given, started, job_of, all_resting, after_what, after_happening, after_all, IsRun}
 use Rattle.wb_promise.specs.Clerk.{Notes, formatted}
 use Rattle.wb_promise.specs.Headline.{note_happening}
@@ -62,13 +61,9 @@ use Rattle.wb_runs.proofs.Using.{order_inside, replacement_inside}
 use Rattle.wb_runs.proofs.Bounds.{SealInside, SealsInside, seals_after, fresh_inside, sealed_inside, AllInside, PartInside, JobInside, MigrationInside, inside_after}
 use Rattle.wb_runs.proofs.LinkedRuns.{Base, base_after, base_start}
 use Rattle.wb_policy.specs.declared.order.Order.{Order}
-use Rattle.wb_contents.proofs.Lengths.{length-landed}
+use Rattle.wb_disk.proofs.Lengths.{length_written_where}
 
 -- ---- sizes
-
-pub length-written_where : (lands : ℕ → Bool) (device : List History) (at : ℕ) (cs : List Bytes) → length (written_where lands device at cs) ≡ length device
-length-written_where lands device at [] = refl
-length-written_where lands device at (c ∷ cs) = length-written_where lands (if lands at then written device at c else device) (suc at) cs ∙ length-landed (lands at) device at c
 
 -- cache and origin are as long as before
 abbrev SameSizes : Devices (List History) → Devices (List History) → Type 0
@@ -164,7 +159,7 @@ module _ (P A : Type 0) (shape : Shape) where
 
   done_sizes : (w : State P A) (actor : Actor) (got : Got) (read : List Bytes) (chosen : Chosen P A) (job : Job) (buffer : List Bytes) (next : Want) → Gives shape w actor job next got read chosen → SameSizes w.devices (devices_then (λ step. device_done job buffer step chosen) w.devices next)
   done_sizes w actor got read chosen job buffer (Device (ReadExtent d e)) g = same_with d w.devices _ (λ h. ap (λ (c : Chosen P A). length (put_by c (device_in d w.devices))) (plain_read w actor got read chosen job d e g))
-  done_sizes w actor got read chosen job buffer (Device (WriteExtent d e)) g = same_with d w.devices _ (λ h. length-written_where (λ at. true) (device_in d w.devices) e.first (contents_for job buffer e.count))
+  done_sizes w actor got read chosen job buffer (Device (WriteExtent d e)) g = same_with d w.devices _ (λ h. length_written_where (λ at. true) (device_in d w.devices) e.first (contents_for job buffer e.count))
   done_sizes w actor got read chosen job buffer (Device (Sync d)) g = same_with d w.devices _ (λ h. length-map (device_in d w.devices) (λ (h : History). only (newest h)))
   done_sizes w actor got read chosen job buffer (Device (ReadMetadata k)) g = (refl, refl)
   done_sizes w actor got read chosen job buffer (Device (WriteNode k)) g = (refl, refl)
@@ -175,7 +170,7 @@ module _ (P A : Type 0) (shape : Shape) where
 
   failed_sizes : (w : State P A) (choice : Choice) (chosen : Chosen P A) (job : Job) (buffer : List Bytes) (next : Want) → Falters w choice next chosen → SameSizes w.devices (devices_then (λ step. device_failed (lands (device_of step) choice) job buffer step chosen) w.devices next)
   failed_sizes w choice chosen job buffer (Device (ReadExtent d e)) g = same_with d w.devices _ (λ h. ap (λ (c : Chosen P A). length (put_by c (device_in d w.devices))) g.0)
-  failed_sizes w choice chosen job buffer (Device (WriteExtent d e)) g = same_with d w.devices _ (λ h. length-written_where (lands d choice) (device_in d w.devices) e.first (contents_for job buffer e.count))
+  failed_sizes w choice chosen job buffer (Device (WriteExtent d e)) g = same_with d w.devices _ (λ h. length_written_where (lands d choice) (device_in d w.devices) e.first (contents_for job buffer e.count))
   failed_sizes w choice chosen job buffer (Device (Sync d)) g = same_with d w.devices _ (λ h. length-synced_from (lands d choice) 0 (device_in d w.devices))
   failed_sizes w choice chosen job buffer (Device (ReadMetadata k)) g = (refl, refl)
   failed_sizes w choice chosen job buffer (Device (WriteNode k)) g = (refl, refl)

@@ -10,9 +10,10 @@ use Rattle.wb_sketch.specs.Alone.{EachBlock, LeavesRow, LeavesDoor, IsAloneInARo
 use Rattle.wb_sketch.proofs.Counters.{get_or-halved, length-halved}
 use Rattle.wb_sketch.proofs.Shapes.{length-raised_at}
 use Rattle.wb_sketch.proofs.Steps.{accessed-known, accessed-new, estimate-known, estimate-new}
-use Rattle.wb_sketch.proofs.Raising.{raised_at-other, raised_at-bounded, cleared-at}
+use Rattle.wb_sketch.proofs.Raising.{raised_at-other, raised_at-bounded}
 use Rattle.wb_sketch.proofs.Noting.{noted-other, noted-known, noted-rises, noted-bounded, noted-self, noted-member, noted-sample, exact-more, exact-full}
 use Rattle.wb_sketch.proofs.Covering.{IsRow, IsRow-1, IsRow-2, IsRow-3, IsRow-4, at_more, at_full, row_within, cache_raised, cache_admitted, cache_counted, cache_accessed, raised-door, admitted-door, member-parts, sample_raised, sample_admitted, sample_counted, Covers, Covers-accesses, least-covers, empty-cache}
+use Rattle.wb_types.proofs.Lists.{replicate_at}
 
 -- one of the doorkeeper's two places, by its constant
 abbrev IsDoor : ℕ → Type 0
@@ -114,7 +115,7 @@ Meets-counted door constant row x f e r h =
           record {
             places = rw (r.full_row f l, cache_counted f) (length-halved _ ∙ h.places);
             counter = rw (exact-full f.cache_blocks e l', r.full_row f l, cache_counted f, get_or-halved) (omega (arith, h.counter));
-            known = λ k. absurd (both_ways _ (cleared-at (length f.doorkeeper) (door_place door (counted f).cache_blocks x)) (rw bits at k));
+            known = λ k. absurd (both_ways _ (replicate_at (length f.doorkeeper) (door_place door (counted f).cache_blocks x) false) (rw bits at k));
             number = rw (exact-full f.cache_blocks e l') (omega (arith, h.number));
             sample = sample_counted f e h.sample;
           }
@@ -160,7 +161,7 @@ unfolding empty none
 Meets-empty door constant row x cache_blocks blank = record {
   places = rw blank (length-replicate _ _);
   counter = rw blank (omega (arith, zero-at (2 ^ row_bits cache_blocks) (row_place constant cache_blocks x)));
-  known = λ k. absurd (both_ways _ (cleared-at (2 ^ (row_bits cache_blocks + 3)) (door_place door cache_blocks x)) k);
+  known = λ k. absurd (both_ways _ (replicate_at (2 ^ (row_bits cache_blocks + 3)) (door_place door cache_blocks x) false) k);
   number = omega arith;
   sample = refl;
 }

@@ -1,6 +1,6 @@
 -- What raising, setting and halving do to what stands at one place.
-use Rattle.std.proofs.Common.{◌≡◌, ◌≤◌, ◌<◌, ◌≢◌, inl, inr, ◌+◌, ℕ, min, Bool, true, false, List, length, replicate, get_or, set, refl, ◌∙◌, arith}
-use Rattle.std.proofs.lemmas.List.{get_or-set_same, get_or-set_other, get_or-replicate, get_or_past, length-replicate}
+use Rattle.std.proofs.Common.{◌≡◌, ◌≤◌, ◌<◌, ◌≢◌, inl, inr, ◌+◌, ℕ, min, Bool, true, false, List, length, get_or, set, refl, ◌∙◌, arith}
+use Rattle.std.proofs.lemmas.List.{get_or-set_same, get_or-set_other}
 use Rattle.std.proofs.lemmas.Bool.{cases_eq, cases_lt}
 use Rattle.wb_sketch.specs.Frequencies.{raised_at}
 use Rattle.wb_sketch.proofs.Counters.{raised_at-yes, raised_at-more, raised_at-full}
@@ -58,11 +58,4 @@ set-keeps bits place other w h =
     elim (cases_eq other place) [
       | inl s ↦ rw s (set-at bits place w)
       | inr n ↦ get_or-set_other bits place other true false n ∙ h
-    ]
-
-pub cleared-at : (n k : ℕ) → get_or (replicate n false) k false ≡ false
-cleared-at n k =
-    elim (cases_lt k n) [
-      | inl l ↦ get_or-replicate n k false false l
-      | inr l ↦ get_or_past (replicate n false) k false (rw length-replicate l)
     ]

@@ -55,12 +55,6 @@ listed_next p n from at places inside less found l =
     next = used_skipped p (at - from) from (omega (arith, inside, found.onward)) (λ k onward before. found.least k onward (omega (arith, before, found.onward)))
         ∙ ap (free_from p) there ∙ first p at true inside found.holds
 
--- all are listed where there are enough, or no place is left
-pub all_listed : (p : PlacesInUse) (n at : ℕ) (places : List Place) → n ≤ length places → AreListed p n at places → places ≡ map place (take n (free_from p 2))
-all_listed p n at places enough l =
-    let none : n - length places ≡ 0 = omega arith in
-    sym (append-nil places) ∙ ap (λ m. places ++ map place (take m (free_from p at))) (sym none) ∙ l.are
-
 -- no place from there on is free
 none_from : (p : PlacesInUse) (from : ℕ) → ((at : ℕ) → from ≤ at → at < length p.committed → is_free_place p at ≡ false) → free_from p from ≡ []
 none_from p from none = elim (cases_lt from (length p.committed)) [

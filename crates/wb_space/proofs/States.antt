@@ -1,8 +1,7 @@
 -- Changes to a list of states.
-use Rattle.std.proofs.Common.{◌≡◌, ◌<◌, ◌≤◌, ◌+◌, ℕ, suc, List, Bool, true, false, Some, None, length, map, get_or, set, slice_get, replicate, refl, sym, ap, subst, ◌∙◌, arith, inl, inr, get_or-set_same, get_or-set_other}
+use Rattle.std.proofs.Common.{◌≡◌, ◌<◌, ◌≤◌, ◌+◌, ℕ, suc, List, Bool, true, false, Some, None, length, map, get_or, set, slice_get, replicate, refl, sym, ap, subst, ◌∙◌, arith}
 use Rattle.std.specs.List.{position}
-use Rattle.std.proofs.lemmas.Bool.{cases_eq}
-use Rattle.std.proofs.lemmas.List.{map-set, length-set, length-map, get_or-map, ext_get_or, get_or-replicate, length-replicate}
+use Rattle.std.proofs.lemmas.List.{map-set, length-map, get_or-map, ext_get_or, get_or-replicate, length-replicate}
 use Rattle.std.proofs.lemmas.List.Quantifiers.{position-Some}
 use Rattle.std.proofs.lemmas.Option.{get_or_from_slice_get}
 use Rattle.std.proofs.Math.Seq.{map-set_same}
@@ -102,16 +101,6 @@ pub record Opened (ms : List Bool) (blocks : List Block) (i : ℕ) : Type 0 wher
   pub size : length blocks ≡ length ms
   pub before : (k : ℕ) → k < i → get_or blocks k Free ≡ opened_block (get_or ms k false)
 
-pub opened_none : (ms : List Bool) (blocks : List Block) → length blocks ≡ length ms → Opened ms blocks 0
-opened_none ms blocks e = record { size = e; before = λ k l. absurd (omega arith) }
-
-pub opened_more : (ms : List Bool) (blocks : List Block) (i : ℕ) (b : Block) → i < length ms → b ≡ opened_block (get_or ms i false) → Opened ms blocks i → Opened ms (set blocks i b) (i + 1)
-opened_more ms blocks i b l s h = record {
-  size = length-set blocks i b ∙ h.size;
-  before = λ k less. elim (cases_eq k i) [
-    | inl e ↦ subst (λ (k : ℕ). get_or (set blocks i b) k Free ≡ opened_block (get_or ms k false)) (sym e) (get_or-set_same blocks i b Free (omega (arith, h.size)) ∙ s)
-    | inr n ↦ get_or-set_other blocks i k b Free n ∙ h.before k (omega arith)
-  ];
 }
 
 pub opened_all : (ms : List Bool) (blocks : List Block) (i : ℕ) → length ms ≤ i → Opened ms blocks i → blocks ≡ map opened_block ms

@@ -2,14 +2,14 @@
 use Rattle.std.proofs.Common.{◌≡◌, ◌≢◌, ◌≤◌, ◌+◌, ◌*◌, ◌-◌, ◌&&◌, ℕ, zero, suc, List, [], ◌∷◌, Bool, true, false, not, cond, length, get_or, set, refl, sym, ap, ◌∙◌, arith, inl, inr, get_or-set_other}
 use Rattle.std.specs.Prelude.{filter}
 use Rattle.std.specs.List.{range_with_len}
-use Rattle.std.proofs.lemmas.Bool.{cases_eq, cases_lt}
-use Rattle.std.proofs.lemmas.List.{get_or-replicate, length-replicate, get_or_past}
+use Rattle.std.proofs.lemmas.Bool.{cases_eq}
 use Rattle.std.proofs.lemmas.List.Sums.{length-filter}
 use Rattle.std.proofs.lemmas.List.Recursion.{is_count_by}
 use Rattle.wb_bits.proofs.Chosen.{chosen}
 use Rattle.wb_types.specs.declared.number.Place.{Place}
 use Rattle.wb_space.specs.Places.{PlacesInUse, noted, unused, is_free_place, free_places}
 use Rattle.wb_space.proofs.Noted.{length-noted_alone}
+use Rattle.wb_space.proofs.Differing.{get_or-unused}
 
 abbrev uses : List Bool → List Bool → PlacesInUse
 uses a b = record { committed = a; running = b }
@@ -55,16 +55,13 @@ after_running [] a b n = omega arith
 after_running (p ∷ ps) a b n = let one = one_fewer (is_free_place (uses a b)) (is_free_place (uses a (set b p.0 true))) p.0 2 n (λ k d. ap (λ (x : Bool). not (get_or a k false) && not x) (sym (get_or-set_other b p.0 k true false d))) in
     omega (arith, one, after_running ps a (set b p.0 true) n)
 
-none_in_use : (count k : ℕ) → get_or (unused count) k false ≡ false
-none_in_use count k = elim (cases_lt k count) [ inl l ↦ get_or-replicate {A = Bool} count k false false l | inr p ↦ get_or_past (unused count) k false (omega (arith, length-replicate {A = Bool} count false)) ]
-
 pub places_suffice : (n : ℕ) (committed running : List Place) → 2 * n ≤ length (free_places (uses (noted committed (unused (2 + 2 * n))) (noted running (unused (2 + 2 * n))))) + length committed + length running
 places_suffice n committed running =
     let none : List Bool = unused (2 + 2 * n) in
     let a : List Bool = noted committed none in
     let b : List Bool = noted running none in
     let all : chosen (is_free_place (uses none none)) (range_with_len 2 (2 * n)) ≡ 2 * n = all_count (is_free_place (uses none none)) 2 (2 * n)
-    (λ k. ap (λ (x : Bool). not x && not (get_or none k false)) (none_in_use (2 + 2 * n) k) ∙ ap (λ (x : Bool). not false && not x) (none_in_use (2 + 2 * n) k)) in
+    (λ k. ap (λ (x : Bool). not x && not (get_or none k false)) (get_or-unused (2 + 2 * n) k) ∙ ap (λ (x : Bool). not false && not x) (get_or-unused (2 + 2 * n) k)) in
     let size : length a - 2 ≡ 2 * n = omega (arith, length-noted_alone committed (2 + 2 * n)) in
     let counted : length (free_places (uses a b)) ≡ chosen (is_free_place (uses a b)) (range_with_len 2 (2 * n)) =
     length-chosen (is_free_place (uses a b)) (range_with_len 2 (length a - 2)) ∙ ap (λ (m : ℕ). chosen (is_free_place (uses a b)) (range_with_len 2 m)) size in

@@ -23,12 +23,6 @@ words_of-word text word rest h w r l =
     rw (w, r) (ap (filter is_filled) (slice_split_first is_space text 0 h)
     ∙ filter-filled (before_first is_space text) (slice_split is_space (after_first is_space text)) (rw w at l))
 
--- a space with nothing before it
-pub words_of-space : (text word rest : List ℕ) → position_or_len is_space text < length text → word ≡ before_first is_space text → rest ≡ after_first is_space text → length word ≤ 0 → words_of text ≡ words_of rest
-words_of-space text word rest h w r l =
-    rw r (ap (filter is_filled) (slice_split_first is_space text 0 h)
-    ∙ filter-empty (before_first is_space text) (slice_split is_space (after_first is_space text)) (rw w at l))
-
 -- a word with no space behind it
 pub words_of-last : (text : List ℕ) → position_or_len is_space text ≡ length text → 0 < length text → words_of text ≡ text ∷ []
 words_of-last text e l =

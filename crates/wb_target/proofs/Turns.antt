@@ -1,5 +1,5 @@
 -- What becomes of an order that is given up, and of a worker's turns.
-use Rattle.std.proofs.Common.{◌≡◌, ◌≢◌, ◌∙◌, ◌<◌, ◌⊎◌, inl, inr, ℕ, Bool, true, List, [], ◌∷◌, Some, Result, length, sym, ap, subst}
+use Rattle.std.proofs.Common.{◌≡◌, ◌≢◌, ◌∙◌, ◌<◌, ◌⊎◌, inl, inr, ℕ, Bool, true, List, ◌∷◌, Some, Result, length, sym, ap, subst}
 use Rattle.std.proofs.lemmas.Result.{IfErr-weaker}
 use Rattle.std.specs.Prelude.{IfErr}
 use Rattle.wb_types.specs.declared.geometry.Geometry.{Geometry}
@@ -45,13 +45,6 @@ module _ {D : Type 0} (runs : TaskJob → WorkState D → Answer → WorkState D
   pub refused_then : (refusal : Refusal) (old mid new last : WorkState D) → refusal ≢ Busy → Before runs job old mid → runs job mid (Refuses refusal) new → (word : ℕ) × (last ≡ looked_at_fail word new) → WasRefused runs job refusal old last
   refused_then refusal old mid new last not so run look = (not, (new, look.0, record { tries = so.0; before = mid; tried = so.1; ended = run }, look.1))
 
--- ---- an order of one job
-
-module _ {D A : Type 0} (runs : TaskJob → WorkState D → Answer → WorkState D → Type 0) (r : Result A Refusal) (job : TaskJob) (jobs : List TaskJob) (is : jobs ≡ job ∷ []) (old new : WorkState D) where
-  pub one_given_up : IfErr r (λ refusal. WasRefused runs job refusal old new) → IfErr r (λ refusal. GaveUpAmong runs jobs refusal old new)
-  one_given_up h = subst (λ (js : List TaskJob). IfErr r (λ refusal. GaveUpAmong runs js refusal old new)) (sym is)
-      (IfErr-weaker r (λ refusal. WasRefused runs job refusal old new) (λ refusal. GaveUpAmong runs (job ∷ []) refusal old new) (λ refusal w. inl w) h)
-
 -- ---- a replacement, in the sizes that stay
 
 module _ {D : Type 0} (tells : Type 0) (size : D → ℕ) (contents : D → List History) (faults : D → ℕ) (order : Order) (v x : OBlock) (to : CBlock) (first : Geometry) (is : order ≡ Replace v x to) where
@@ -63,9 +56,6 @@ module _ {D : Type 0} (tells : Type 0) (size : D → ℕ) (contents : D → List
 
   named : (refusal : Refusal) (old new : WorkState D) → GaveUpAmong (runs_in first) (jobs_of first (Replace v x to)) refusal old new → Among refusal old new
   named refusal old new h = subst (λ (o : Order). GaveUpAmong (runs_in first) (jobs_of first o) refusal old new) (sym is) h
-
-  pub demotion_given_up : (refusal : Refusal) (s0 s1 : WorkState D) → WasRefused (runs_in first) (migration_of first Demoting v) refusal s0 s1 → Among refusal s0 s1
-  demotion_given_up refusal s0 s1 h = named refusal s0 s1 (inl h)
 
   pub flush_given_up : (refusal : Refusal) (one : Geometry) (s0 s1 s2 : WorkState D) → one ≡ first → WasDone (runs_in first) (migration_of first Demoting v) s0 s1
       → WasRefused (runs_in one) (flush_of one (Some x)) refusal s1 s2 ⊎ DidNotBegin (runs_in one) (flush_of one (Some x)) refusal s1 s2 → Among refusal s0 s2

@@ -7,7 +7,7 @@ use Rattle.std.proofs.lemmas.List.Sorted.{length_permutation, IsPermutation-refl
 use Rattle.wb_types.specs.declared.extent.Extent.{Extent}
 use Rattle.wb_types.specs.Extents.{rising, sectors_in, sectors_of, IsCutInto, cut_by, pieces}
 
-length_rising : (first n : ℕ) → length (rising first n) ≡ n
+pub length_rising : (first n : ℕ) → length (rising first n) ≡ n
 length_rising first zero = refl
 length_rising first (suc n) = ap (λ k. suc k) (length_rising (first + 1) n)
 

@@ -2,17 +2,6 @@
 use Rattle.std.proofs.Common.{◌≤◌, ◌<◌, ◌^◌, ℕ, zero, suc, arith}
 use Rattle.wb_types.specs.Limits.{IsDepth}
 
-pub IsDepth-one : (blocks : ℕ) → blocks ≤ 32 → IsDepth blocks 1
-IsDepth-one blocks h = record { some = omega arith; enough = omega arith; least = λ level l e. l }
-
-least_two : (blocks level : ℕ) → 32 < blocks → 1 ≤ level → blocks ≤ 32 ^ level → 2 ≤ level
-least_two blocks zero b l e = omega arith
-least_two blocks (suc zero) b l e = let g : blocks ≤ 32 = e in omega arith
-least_two blocks (suc (suc level)) b l e = omega arith
-
-pub IsDepth-two : (blocks : ℕ) → 32 < blocks → blocks ≤ 1024 → IsDepth blocks 2
-IsDepth-two blocks b h = record { some = omega arith; enough = h; least = λ level l e. least_two blocks level b l e }
-
 least_three : (blocks level : ℕ) → 1024 < blocks → 1 ≤ level → blocks ≤ 32 ^ level → 3 ≤ level
 least_three blocks zero b l e = omega arith
 least_three blocks (suc zero) b l e = let g : blocks ≤ 32 = e in omega arith

@@ -1,5 +1,5 @@
 -- Lists beside one another, lists with one element changed, and what a list contains.
-use Rattle.std.proofs.Common.{◌≡◌, ◌≢◌, ◌<◌, ◌⊎◌, ℕ, zero, suc, List, [], ◌∷◌, Some, length, map, refl, sym, ap, arith, slice_set, inl, inr}
+use Rattle.std.proofs.Common.{◌≡◌, ◌≢◌, ◌<◌, ◌⊎◌, ℕ, zero, suc, List, [], ◌∷◌, Some, get_or, length, map, refl, replicate, sym, ap, arith, slice_set, inl, inr}
 use Rattle.std.specs.Prelude.{Contains, slice_index_or}
 use Rattle.std.specs.List.{slice_get}
 use Rattle.std.proofs.lemmas.List.Elements.{Contains-append_right}
@@ -41,3 +41,15 @@ Contains-first c xs = (0, omega arith, refl)
 
 pub Contains-behind : {X : Type 0} (c : X) (xs : List X) (x : X) → Contains xs x → Contains (c ∷ xs) x
 Contains-behind c xs x has = Contains-append_right (c ∷ []) xs x has
+
+-- what stands where an element was put over another
+pub slice_get-set : {X : Type 0} (xs : List X) (i : ℕ) (x y : X) → slice_get xs i ≡ Some x → slice_get (slice_set xs i y) i ≡ Some y
+slice_get-set [] i x y e = absurd (cc)
+slice_get-set (z ∷ xs) zero x y e = refl
+slice_get-set (z ∷ xs) (suc i) x y e = slice_get-set xs i x y e
+
+-- a list of one element many times has it everywhere, and nothing else behind its end
+pub replicate_at : {X : Type 0} (n k : ℕ) (x : X) → get_or (replicate n x) k x ≡ x
+replicate_at zero k x = refl
+replicate_at (suc n) zero x = refl
+replicate_at (suc n) (suc k) x = replicate_at n k x

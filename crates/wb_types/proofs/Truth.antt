@@ -1,6 +1,7 @@
 -- What a test says that came out one way.
 use Rattle.std.proofs.Common.{◌≡◌, ◌&&◌, ◌⊎◌, refl, ℕ, Bool, true, false, cond, nat_eq, arith, inl, inr}
 use Rattle.std.proofs.lemmas.Bool.Decides.{nat_tests}
+use Rattle.std.specs.Prelude.{Result, Ok, Err, OnErr}
 
 -- both of two tests
 pub and_true : (a b : Bool) → (a && b) ≡ true → (a ≡ true) × (b ≡ true)
@@ -23,3 +24,8 @@ either_false false b h = (refl, h)
 pub or_true : (a b : Bool) → b ≡ true → cond a true b ≡ true
 or_true true b h = refl
 or_true false b h = h
+
+-- what holds anyway holds where a call fails
+pub on_err : {T E P : Type 0} (r : Result T E) → P → OnErr r P
+on_err (Ok x) p = tt
+on_err (Err e) p = p

@@ -30,6 +30,7 @@ use Rattle.wb_words.specs.Ready.{IsReady}
 use Rattle.wb_words.proofs.Totals.{total-set, total_at, total_two, total-same, total-replicate, at_set}
 use Rattle.wb_words.proofs.LogsKept.{look_logs, loss_logs, hold_logs, seal_logs, finish_logs, count_logs, fail_logs, blank_notes}
 use Rattle.wb_words.proofs.Values.{word_at_is, word_at_set, word_at_else, put_count}
+use Rattle.wb_types.proofs.Truth.{and_true}
 
 is_same : (a : OBlock) → is_block a.0 a ≡ 1
 is_same a = ap (λ t. cond t 1 0) (eq-eqb a.0 a.0 refl)
@@ -139,11 +140,6 @@ fail_knows_at w u Nothing c seals numbers k = still w u c seals numbers k
 fail_knows_at w u (Held Shared b) c seals numbers k = still w u c seals numbers k
 fail_knows_at w u (Held Owned b) c seals numbers k = knows_none w u c (failing_at (Held Owned b) c) refl refl refl (λ b. let e = numbers b in omega arith) k
 
--- from a sum of tests
-pub both_of : (a b : Bool) → (a && b) ≡ true → (a ≡ true) × (b ≡ true)
-both_of true b e = (refl, e)
-both_of false b e = absurd (false≢true e)
-
 module _ (n : ℕ) (w : Words) (cs : List Card) (p : ℕ) (c : Card) (r : LockRule n w cs) (at : get_elem? cs p ≡ some c) where
   mine : Knows w c
   mine = r.knows p c at
@@ -221,7 +217,7 @@ module _ (n : ℕ) (w : Words) (cs : List Card) (p : ℕ) (c : Card) (r : LockRu
 
   -- an exchange that found the word that it expected
   pub take_keeps : (access : Access) (b : OBlock) (x : ℕ) → b.0 < n → c.hold ≡ Nothing → word_at w.cells b ≡ x → can_take access x ≡ true → LockRule n (with_cell w b (taken access x)) (set cs p (holding (Held access b) c))
-  take_keeps Shared b x inside idle is can = let t = both_of _ _ can in share_keeps b x inside idle is (eqb-true (x % 2) 0 t.0) (ltb-true x 2097150 t.1)
+  take_keeps Shared b x inside idle is can = let t = and_true _ _ can in share_keeps b x inside idle is (eqb-true (x % 2) 0 t.0) (ltb-true x 2097150 t.1)
   take_keeps Owned b x inside idle is can = own_keeps b inside idle (is ∙ eqb-true x 0 can)
 
   leave_keeps : (b : OBlock) → b.0 < n → c.hold ≡ Held Shared b → LockRule n (with_cell w b (word_at w.cells b - 2)) (set cs p (holding Nothing c)) × ((word_at w.cells b + (2 ^ 64 - 2)) % 2 ^ 64 ≡ word_at w.cells b - 2)

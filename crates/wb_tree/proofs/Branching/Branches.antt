@@ -1,6 +1,6 @@
 -- What a node holds, and what a change of one word or one entry leaves of it.
-use Rattle.std.proofs.Common.{Result, Ok, Err, ◌≡◌, ◌≤◌, ◌<◌, ◌+◌, ◌-◌, ◌*◌, ◌/◌, ◌%◌, ◌^◌, ◌∙◌, ◌==◌, sym, ap, subst, refl, ℕ, zero, suc, true, false, Option, Some, None, Box, List, [], ◌∷◌, ◌++◌, length, replicate, get_or, set, arith, inl, inr}
-use Rattle.std.specs.Prelude.{OnErr, is_some}
+use Rattle.std.proofs.Common.{◌≡◌, ◌≤◌, ◌<◌, ◌+◌, ◌-◌, ◌*◌, ◌/◌, ◌%◌, ◌^◌, ◌∙◌, ◌==◌, sym, ap, subst, refl, ℕ, zero, suc, true, false, Option, Some, None, Box, List, [], ◌∷◌, ◌++◌, length, replicate, get_or, set, arith, inl, inr}
+use Rattle.std.specs.Prelude.{is_some}
 use Rattle.std.specs.List.{list_any, flat_map, AllByRecursion}
 use Rattle.std.proofs.lemmas.Bool.{cases_Bool}
 use Rattle.std.proofs.lemmas.List.{set-get_or, length-replicate, length-set, replicate-append-replicate}
@@ -11,7 +11,8 @@ use Rattle.wb_types.specs.declared.entry.Entry.{Entry}
 use Rattle.wb_types.specs.declared.number.Place.{Place}
 use Rattle.wb_tree.specs.declared.placed.PlacedNode.{PlacedNode}
 use Rattle.wb_tree.specs.Branches.{Branch, IsBranch, IsKid, IsNode, IsSlot, IsUnder, branch_of, entries_below, entries_in, forget, known_below, known_in, placed_here, rewritten, sole_branch}
-use Rattle.wb_tree.proofs.Branching.Slots.{AreSlots, all_none, any_below, any_set, forget_below, get_below, not_same, nothing, set_below, slots_set}
+use Rattle.wb_tree.proofs.Branching.Slots.{AreSlots, all_none, any_below, any_set, forget_below, get_below, not_same, set_below, slots_set}
+use Rattle.wb_types.proofs.Lists.{replicate_at}
 
 -- ---- nodes
 
@@ -83,7 +84,7 @@ got_below level index place words kids offset node off less =
     ∙ (ap (λ i. get_or (entries_below (32 ^ (level - 1)) kids) i None) (sym s.whole)
     ∙ get_below (level - 1) (32 * index) kids (offset / 32 ^ (level - 1)) (offset % 32 ^ (level - 1)) node.slots s.low)
 
-same_branch : (l i : ℕ) (es fs : List (Option Entry)) (ks js : List PlacedNode) → es ≡ fs → ks ≡ js
+pub same_branch : (l i : ℕ) (es fs : List (Option Entry)) (ks js : List PlacedNode) → es ≡ fs → ks ≡ js
     → ◌≡◌ {A = Branch} (record { level = l; index = i; entries = es; known = ks }) (record { level = l; index = i; entries = fs; known = js })
 same_branch l i es fs ks js p q = cc
 
@@ -149,7 +150,7 @@ got_some level index place words kids offset w r kid v b node off view less word
 pub got_none : {A : Type 0} (level index : ℕ) (place : Option Place) (words : List (Option Entry)) (kids : List (Option (Box Branch A))) (offset w : ℕ) (v : Branch) → IsNode level index words kids → (level ≡ 1 → ⊥)
     → branch_of level index place words kids ≡ v → offset < 32 ^ v.level → w ≡ offset / 32 ^ (level - 1) → get_or kids w None ≡ None → ◌≡◌ {A = Option Entry} None (get_or v.entries offset None)
 got_none level index place words kids offset w v node off view less word there =
-    sym (nothing (32 ^ (level - 1)) (offset % 32 ^ (level - 1)))
+    sym (replicate_at (32 ^ (level - 1)) (offset % 32 ^ (level - 1)) None)
     ∙ (ap (λ o. get_or (entries_in (32 ^ (level - 1)) o) (offset % 32 ^ (level - 1)) None) (sym there ∙ ap (λ i. get_or kids i None) word)
     ∙ (sym (got_below level index place words kids offset node off (subst (λ (c : Branch). offset < 32 ^ c.level) (sym view) less))
     ∙ ap (λ (c : Branch). get_or c.entries offset None) view))
@@ -216,14 +217,6 @@ slot_sole level index offset entry new from to fits less e = record {
 
 -- ---- nodes after a change of a word
 
-pub node_words : {A : Type 0} (level index : ℕ) (words others : List (Option Entry)) (kids : List (Option (Box Branch A))) → IsNode level index words kids → IsNode level index others kids
-node_words level index words others kids node = record {
-  level_from = node.level_from;
-  level_to = node.level_to;
-  index_to = node.index_to;
-  leaf = node.leaf;
-  inner = node.inner;
-  slots = node.slots;
 }
 
 pub node_set : {A : Type 0} (level index : ℕ) (words : List (Option Entry)) (kids : List (Option (Box Branch A))) (w : ℕ) (o : Option (Box Branch A)) → IsNode level index words kids → (level ≡ 1 → ⊥) → w < 32 → IsSlot (level - 1) (32 * index + w) o → IsNode level index words (set kids w o)
@@ -238,14 +231,6 @@ node_set level index words kids w o node off less slot =
       slots = slots_set (level - 1) (32 * index) w kids o (omega (arith, long)) node.slots slot;
     }
 
-pub node_leaf : {A : Type 0} (level index : ℕ) (words : List (Option Entry)) (kids : List (Option (Box Branch A))) → kids ≡ [] → level ≡ 1 → (index + 1) * 32 ^ level ≤ 1048576 → IsNode level index words kids
-node_leaf {A} level index words kids none one fits = record {
-  level_from = omega arith;
-  level_to = omega arith;
-  index_to = fits;
-  leaf = λ _. none;
-  inner = λ from. absurd (omega arith);
-  slots = λ j. subst (λ (ks : List (Option (Box Branch A))). IsSlot (level - 1) (32 * index + j) (get_or ks j None)) (sym none) tt;
 }
 
 no_kid : {A : Type 0} (level index j : ℕ) (kids : List (Option (Box Branch A))) (n : ℕ) → kids ≡ replicate n None → IsSlot level index (get_or kids j None)
@@ -397,10 +382,6 @@ no_kid_at {X} xs n i e = ap (λ ys. get_or ys i None) e ∙ go n i
     go zero i = refl
     go (suc n) zero = refl
     go (suc n) (suc i) = go n i
-
-pub on_err : {T E P : Type 0} (r : Result T E) → P → OnErr r P
-on_err (Ok x) p = tt
-on_err (Err e) p = p
 
 -- a child that is taken out and put back as it was
 pub put_back : {X : Type 0} (xs : List (Option X)) (w : ℕ) (a : Option X) (x y : X) → get_or xs w None ≡ Some x → y ≡ x → set (set xs w a) w (Some y) ≡ xs

@@ -230,7 +230,7 @@ next_set depth kid new block entry slot less e =
 
 -- ---- what a change of one entry promises
 
-changed-edit : (m : Mapping) (block : ℕ) (v : Option Entry) → IsSound m → IsChangedAt m (changed_at m block v) block v
+pub changed-edit : (m : Mapping) (block : ℕ) (v : Option Entry) → IsSound m → IsChangedAt m (changed_at m block v) block v
 changed-edit m block v sound = record {
   entries = refl;
   forgets = changed-forgets m block v;
@@ -253,10 +253,6 @@ next-edit cache_blocks depth root next old block v are view less is =
 -- the entry is there already
 pub same-edit : (m : Mapping) (block : ℕ) (o v : Option Entry) → o ≡ get_or m.entries block None → o ≡ v → m.entries ≡ slice_set m.entries block v
 same-edit m block o v here same = sym (set-get_or m.entries block None) ∙ ap (λ e. set m.entries block e) (sym here ∙ same)
-
-pub no_entry_is : (o : Option Entry) → is_some o ≡ false → o ≡ None
-no_entry_is None h = refl
-no_entry_is (Some e) h = absurd cc
 
 pub some_entry_is : (o : Option Entry) → is_some o ≡ true → o ≡ None → ⊥
 some_entry_is None h none = absurd cc

@@ -8,19 +8,19 @@ use Rattle.std.proofs.Math.Nat.{pow-succ'}
 use Rattle.std.proofs.Math.Seq.{take-append_seam, drop-append_seam}
 use Rattle.wb_types.specs.Limits.{depth_of}
 use Rattle.wb_types.specs.declared.entry.Entry.{Entry}
-use Rattle.wb_tree.specs.declared.placed.PlacedNode.{PlacedNode}
 use Rattle.wb_tree.specs.Mapping.{IsSound, exists}
 use Rattle.wb_tree.specs.Fields.{AreApart}
 use Rattle.wb_tree.specs.Branches.{AreBoxes, Branch, IsBranch, IsNode, IsSlot, boxes_of, branch_of, entries_below, entries_in, known_below, known_in}
 use Rattle.wb_tree.specs.Filling.{IsFilled}
-use Rattle.wb_tree.proofs.Branching.Branches.{inner_is, leaf_is, split}
+use Rattle.wb_tree.proofs.Branching.Branches.{inner_is, leaf_is, split, same_branch}
 use Rattle.wb_tree.proofs.Branching.Edits.{unknown-sound}
-use Rattle.wb_tree.proofs.Branching.Slots.{AreSlots, all_none, get_below, length_below, length_in, nothing}
+use Rattle.wb_tree.proofs.Branching.Slots.{AreSlots, all_none, get_below, length_below, length_in}
+use Rattle.wb_types.proofs.Lists.{replicate_at}
 
 -- ---- whether an entry lies below a node
 
 some_at : (xs : List (Option Entry)) (i : ℕ) → list_any is_some xs ≡ false → get_or xs i None ≡ None
-some_at xs i none = ap (λ ys. get_or ys i None) (all_none xs none) ∙ nothing (length xs) i
+some_at xs i none = ap (λ ys. get_or ys i None) (all_none xs none) ∙ replicate_at (length xs) i None
 
 part_at : (entries : List (Option Entry)) (first size offset : ℕ) → offset < size → get_or (take size (drop first entries)) offset None ≡ get_or entries (first + offset) None
 part_at entries first size offset less = get_or-take size (drop first entries) offset None less ∙ get_or-drop first entries offset None
@@ -31,7 +31,7 @@ unfolding exists
 filled_none entries level index none = record {
   slot = tt;
   same = λ offset less.
-      nothing (32 ^ level) offset
+      replicate_at (32 ^ level) offset None
       ∙ (sym (some_at (take (32 ^ level) (drop (index * 32 ^ level) entries)) offset none) ∙ part_at entries (index * 32 ^ level) (32 ^ level) offset less);
   unknown = refl;
 }
@@ -72,10 +72,6 @@ filled_some entries es level index node is from to fits long same some =
       unknown = ap (λ (b : Branch). b.known) is;
     }
 
-same_branch : (l i : ℕ) (es fs : List (Option Entry)) (ks js : List PlacedNode) → es ≡ fs → ks ≡ js
-    → ◌≡◌ {A = Branch} (record { level = l; index = i; entries = es; known = ks }) (record { level = l; index = i; entries = fs; known = js })
-same_branch l i es fs ks js p q = cc
-
 pub filled_leaf : {A : Type 0} (entries words : List (Option Entry)) (level index : ℕ) (kids : List (Option (Box Branch A))) (node : Box Branch A) → node.value ≡ branch_of level index None words kids → level ≡ 1 → (index + 1) * 32 ^ level ≤ 1048576 → kids ≡ []
     → length words ≡ 32 → ((j : ℕ) → j < 32 → get_or words j None ≡ get_or entries (32 * index + j) None) → exists entries level index ≡ true → IsFilled entries level index (Some node)
 unfolding known_below
@@ -92,16 +88,11 @@ pub record AreCopied (entries : List (Option Entry)) (first count : ℕ) (words 
   pub each : (j : ℕ) → j < count → get_or words j None ≡ get_or entries (first + j) None
   pub rest : (j : ℕ) → count ≤ j → get_or words j None ≡ None
 
-none_at : (n j : ℕ) → get_or (replicate {A = Option Entry} n None) j None ≡ None
-none_at zero j = refl
-none_at (suc n) zero = refl
-none_at (suc n) (suc j) = none_at n j
-
 pub none_copied : (entries : List (Option Entry)) (first n : ℕ) (words : List (Option Entry)) → n ≡ 32 → words ≡ replicate n None → AreCopied entries first 0 words
 none_copied entries first n words many none = record {
   size = ap length none ∙ (length-replicate n None ∙ many);
   each = λ j less. absurd (omega arith);
-  rest = λ j _. ap (λ ws. get_or ws j None) none ∙ none_at n j;
+  rest = λ j _. ap (λ ws. get_or ws j None) none ∙ replicate_at n j None;
 }
 
 pub one_copied : (entries : List (Option Entry)) (first count : ℕ) (words : List (Option Entry)) (entry : Option Entry) → count < 32 → AreCopied entries first count words → entry ≡ get_or entries (first + count) None

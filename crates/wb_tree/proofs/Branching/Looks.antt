@@ -16,6 +16,7 @@ use Rattle.wb_tree.specs.Settling.{IsInserted, IsSettledAt}
 use Rattle.wb_tree.proofs.Nodes.Knowing.{places, same_names}
 use Rattle.wb_tree.proofs.Branching.Branches.{inner_is, kid_at, long_kids, split}
 use Rattle.wb_tree.proofs.Branching.Slots.{AreSlots, length_in, not_same, slots_head, slots_tail, under_in}
+use Rattle.wb_tree.proofs.Reading.PlacedLists.{place_in-append_none}
 
 -- ---- entries below a node
 
@@ -79,9 +80,6 @@ else_none (Some place) = refl
 pub place_left : (xs ys : List PlacedNode) (level index : ℕ) → place_in ys level index ≡ None → place_in (xs ++ ys) level index ≡ place_in xs level index
 place_left xs ys level index none = place_append xs ys level index ∙ (ap (λ o. else_place (place_in xs level index) o) none ∙ else_none (place_in xs level index))
 
-pub place_right : (xs ys : List PlacedNode) (level index : ℕ) → place_in xs level index ≡ None → place_in (xs ++ ys) level index ≡ place_in ys level index
-place_right xs ys level index none = place_append xs ys level index ∙ ap (λ o. else_place o (place_in ys level index)) none
-
 -- a node that is not below this one
 none_under : (level index l i : ℕ) (xs : List PlacedNode) → AllByRecursion (IsUnder level index) xs → (l ≤ level → i / 32 ^ (level - l) ≡ index → ⊥) → place_in xs l i ≡ None
 none_under level index l i [] under off = refl
@@ -96,7 +94,7 @@ none_beside : {A : Type 0} (level first l i : ℕ) (kids : List (Option (Box Bra
 unfolding known_below
 none_beside level first l i [] slots off = refl
 none_beside level first l i (kid ∷ kids) slots off =
-    place_right (known_in kid) (known_below kids) l i (none_under level first l i (known_in kid) (under_in level first kid (slots_head level first kid kids slots)) (λ to e. let less = off to in omega arith))
+    place_in-append_none (known_in kid) (known_below kids) l i (none_under level first l i (known_in kid) (under_in level first kid (slots_head level first kid kids slots)) (λ to e. let less = off to in omega arith))
     ∙ none_beside level (first + 1) l i kids (slots_tail level first kid kids slots) (λ to. let less = off to in omega arith)
 
 -- a node below one word
@@ -106,7 +104,7 @@ place_below level first l i w [] slots at = refl
 place_below level first l i zero (kid ∷ kids) slots at =
     place_left (known_in kid) (known_below kids) l i (none_beside level (first + 1) l i kids (slots_tail level first kid kids slots) (λ to. omega arith))
 place_below level first l i (suc w) (kid ∷ kids) slots at =
-    place_right (known_in kid) (known_below kids) l i (none_under level first l i (known_in kid) (under_in level first kid (slots_head level first kid kids slots)) (λ to e. omega arith))
+    place_in-append_none (known_in kid) (known_below kids) l i (none_under level first l i (known_in kid) (under_in level first kid (slots_head level first kid kids slots)) (λ to e. omega arith))
     ∙ place_below level (first + 1) l i w kids (slots_tail level first kid kids slots) (omega arith)
 
 none_here : (place : Option Place) (level index l i : ℕ) → (level ≡ l → ⊥) → place_in (placed_here place level index) l i ≡ None
@@ -167,7 +165,7 @@ pub place_is_below : {A : Type 0} (level index l k down w r : ℕ) (place : Opti
 place_is_below level index l k down w r place words kids node off way =
     let i = index * 32 ^ down + k in
     let gap : level - 1 - l ≡ down - 1 = (let g = way.gap in omega arith) in
-    place_right (placed_here place level index) (known_below kids) l i (none_here place level index l i off)
+    place_in-append_none (placed_here place level index) (known_below kids) l i (none_here place level index l i off)
     ∙ (place_below (level - 1) (32 * index) l i w kids node.slots (ap (λ e. i / 32 ^ e) gap ∙ way.below)
     ∙ ap (λ n. place_in (known_in (get_or kids w None)) l n) (sym way.name))
 
@@ -279,18 +277,6 @@ inserted_here : (xs : List PlacedNode) (level index : ℕ) (place : Option Place
 inserted_here xs level index None new none = record { front = []; back = xs; was = refl; is = refl }
 inserted_here xs level index (Some place) new none = absurd cc
 
-pub settled_itself : {A : Type 0} (level index l k : ℕ) (place : Option Place) (new : Place) (words : List (Option Entry)) (kids : List (Option (Box Branch A))) → IsNode level index words kids → level ≡ l → k < 32 ^ (level - l)
-    → place_in (branch_of level index place words kids).known l (index * 32 ^ (level - l) + k) ≡ None
-    → IsSettledAt (branch_of level index place words kids) (branch_of level index (Some new) words kids) (record { level = l; index = index * 32 ^ (level - l) + k; place = new })
-settled_itself level index l k place new words kids node same less none = record {
-  level_same = refl;
-  index_same = refl;
-  entries_same = refl;
-  known =
-      let at : (branch_of level index place words kids).known ≡ placed_here place level index ++ known_below kids = refl in
-      subst (λ i. IsInserted (placed_here place level index ++ known_below kids) (placed_here (Some new) level index ++ known_below kids) (record { level = l; index = i; place = new })) (sym (own_name level l index k same less))
-      (subst (λ n. IsInserted (placed_here place level index ++ known_below kids) (placed_here (Some new) level index ++ known_below kids) (record { level = n; index = index; place = new })) same
-      (inserted_here (known_below kids) level index place new (place_itself level index l k place words kids node same less ∙ none)));
 }
 
 -- a node below a word

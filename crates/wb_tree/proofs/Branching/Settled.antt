@@ -1,10 +1,9 @@
 -- Nodes of a tree of boxes that become known, one after the other.
-use Rattle.std.proofs.Common.{◌≡◌, ◌≤◌, ◌<◌, ◌+◌, ◌-◌, ◌*◌, ◌^◌, ◌&&◌, ◌==◌, ◌∙◌, sym, ap, subst, refl, ℕ, zero, suc, true, false, Option, Some, None, Box, List, [], ◌∷◌, ◌++◌, length, replicate, take, drop, get_or, append_assoc, arith, inl, inr}
+use Rattle.std.proofs.Common.{◌≡◌, ◌≤◌, ◌<◌, ◌+◌, ◌-◌, ◌*◌, ◌^◌, ◌&&◌, ◌==◌, ◌∙◌, sym, ap, subst, refl, ℕ, zero, suc, true, false, Option, Some, None, Box, List, [], ◌∷◌, ◌++◌, length, replicate, take, drop, append_assoc, arith, inl, inr}
 use Rattle.std.specs.Prelude.{is_some, slice_get}
 use Rattle.std.specs.List.{list_any}
 use Rattle.std.proofs.lemmas.Bool.{cases_Bool}
-use Rattle.std.proofs.lemmas.List.{append-nil, length-append, length-take, take-append-drop, take_more}
-use Rattle.std.proofs.lemmas.Option.{slice_get-get_or}
+use Rattle.std.proofs.lemmas.List.{append-nil, length-append, length-take, take-append-drop}
 use Rattle.std.proofs.Math.Nat.{lt_of_mul-lt-mul_right}
 use Rattle.wb_types.specs.Limits.{depth_of}
 use Rattle.wb_types.specs.declared.entry.Entry.{Entry}
@@ -15,12 +14,13 @@ use Rattle.wb_tree.specs.Mapping.{Mapping, IsSound, exists, place_in, place_of}
 use Rattle.wb_tree.specs.Fields.{AreApart}
 use Rattle.wb_tree.specs.Branches.{AreBoxes, Branch, boxes_of, entries_in, known_in}
 use Rattle.wb_tree.specs.Settling.{CanSettle, IsNamed, IsSettled, IsSettledAt}
-use Rattle.wb_tree.proofs.Nodes.Alike.{AreAlike, sound-alike}
+use Rattle.wb_tree.proofs.Nodes.Alike.{AreAlike}
 use Rattle.wb_tree.proofs.Nodes.Fronts.{begins_inside}
 use Rattle.wb_tree.proofs.Nodes.Knowing.{found_some, same_names}
 use Rattle.wb_tree.proofs.Nodes.Placing.{flip}
-use Rattle.wb_tree.proofs.Branching.Looks.{else_place, place_append, place_left, place_right, branch_settled, none_from, powers}
+use Rattle.wb_tree.proofs.Branching.Looks.{else_place, place_append, place_left, branch_settled, none_from, powers}
 use Rattle.wb_tree.proofs.Branching.Slots.{length_in}
+use Rattle.wb_tree.proofs.Reading.PlacedLists.{place_in-append_none}
 
 -- ---- nodes of which none comes twice
 
@@ -62,7 +62,7 @@ place_insert front back node level index none = elim (cases_Bool ((node.level ==
       let both = both_none (place_in front level index) (place_in back level index) (sym (place_append front back level index) ∙ none') in
       let first : place_in (node ∷ back) level index ≡ Some node.place = rw same refl in
       let last : place_in (node ∷ []) level index ≡ Some node.place = rw same refl in
-      place_right front (node ∷ back) level index both.0 ∙ (first ∙ (sym last ∙ sym (place_right (front ++ back) (node ∷ []) level index none')))
+      place_in-append_none front (node ∷ back) level index both.0 ∙ (first ∙ (sym last ∙ sym (place_in-append_none (front ++ back) (node ∷ []) level index none')))
   | inr other ↦
       let first : place_in (node ∷ back) level index ≡ place_in back level index = rw other refl in
       let last : place_in (node ∷ []) level index ≡ None = rw other refl in
@@ -152,12 +152,6 @@ next_unknown known nodes i node apart h =
     apart_before (known ++ take i nodes) (drop (suc i) nodes) node
     (subst AreApart (ap (λ (ns : List PlacedNode). known ++ ns) (split_at nodes i node h) ∙ sym (append_assoc known (take i nodes) (node ∷ drop (suc i) nodes))) apart)
 
-pub one_more_node : (nodes : List PlacedNode) (i : ℕ) (node : PlacedNode) → i < length nodes → node ≡ get_or nodes i node → take (i + 1) nodes ≡ take i nodes ++ node ∷ []
-one_more_node nodes i node less e = take_more nodes i node less ∙ ap (λ n. take i nodes ++ n ∷ []) (sym e)
-
-pub there_at : (nodes : List PlacedNode) (i : ℕ) (node : PlacedNode) → i < length nodes → node ≡ get_or nodes i node → slice_get nodes i ≡ Some node
-there_at nodes i node less e = slice_get-get_or nodes i node less ∙ ap Some (sym e)
-
 -- ---- a tree of which nodes become known
 
 -- an entry lies below a node of the boxes where one does of the tree
@@ -232,27 +226,6 @@ settled_alike cache_blocks depth kid new m nodes view settled = record {
   entries = ap (λ (es : List (Option Entry)). take cache_blocks es) settled.entries_same ∙ ap (λ (n : Mapping). n.entries) view;
   places = λ level index. settled.places level index ∙ ap (λ (n : Mapping). place_in (n.known ++ nodes) level index) view;
 }
-
-pub settled_boxes : {A : Type 0} (cache_blocks depth : ℕ) (kid new : Box Branch A) (m : Mapping) (nodes : List PlacedNode) → AreBoxes cache_blocks depth (Some kid) → boxes_of cache_blocks depth (Some kid) ≡ m
-    → IsSound (record { entries = m.entries; known = m.known ++ nodes }) → IsSettled kid.value new.value nodes → AreBoxes cache_blocks depth (Some new)
-settled_boxes cache_blocks depth kid new m nodes are view sound settled =
-    let top = are.top in
-    record {
-      few = are.few;
-      from = are.from;
-      to = are.to;
-      levels = are.levels;
-      enough = are.enough;
-      top = record {
-        level_is = settled.level_same ∙ top.level_is;
-        index_is = settled.index_same ∙ top.index_is;
-        branch = settled.branch top.branch;
-        some = ap (λ (es : List (Option Entry)). list_any is_some es) settled.entries_same ∙ top.some;
-      };
-      sound = sound-alike (record { entries = m.entries; known = m.known ++ nodes }) (boxes_of cache_blocks depth (Some new)) (settled_alike cache_blocks depth kid new m nodes view settled) sound;
-      once = settled.once;
-      ends = ap (λ (es : List (Option Entry)). drop cache_blocks es) settled.entries_same ∙ are.ends;
-    }
 
 -- without a box there is no entry
 pub nothing_there_at_all : {A : Type 0} (cache_blocks depth level index : ℕ) (root : Option (Box Branch A)) (m : Mapping) → root ≡ None → AreBoxes cache_blocks depth root → boxes_of cache_blocks depth root ≡ m → exists m.entries level index ≡ false

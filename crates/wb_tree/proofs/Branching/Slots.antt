@@ -9,6 +9,7 @@ use Rattle.std.proofs.Math.Nat.{mul_assoc, pow-succ', div-div-eq-div-mul}
 use Rattle.wb_types.specs.declared.entry.Entry.{Entry}
 use Rattle.wb_tree.specs.declared.placed.PlacedNode.{PlacedNode}
 use Rattle.wb_tree.specs.Branches.{Branch, IsSlot, IsUnder, entries_below, entries_in, forget, known_below, known_in}
+use Rattle.wb_types.proofs.Lists.{replicate_at}
 
 -- what stands at the words of a node whose first child has this index
 abbrev pub AreSlots : {A : Type 0} → ℕ → ℕ → List (Option (Box Branch A)) → Type 0
@@ -41,15 +42,10 @@ length_below level first (kid ∷ kids) slots =
     let rest = length_below level (first + 1) kids (slots_tail level first kid kids slots) in
     omega (arith, length-append (entries_in (32 ^ level) kid) (entries_below (32 ^ level) kids), here, rest)
 
-pub nothing : (n r : ℕ) → get_or (replicate {A = Option Entry} n None) r None ≡ None
-nothing zero r = refl
-nothing (suc n) zero = refl
-nothing (suc n) (suc r) = nothing n r
-
 pub get_below : {A : Type 0} (level first : ℕ) (kids : List (Option (Box Branch A))) (w r : ℕ) → AreSlots level first kids → r < 32 ^ level
     → get_or (entries_below (32 ^ level) kids) (w * 32 ^ level + r) None ≡ get_or (entries_in (32 ^ level) (get_or kids w None)) r None
 unfolding entries_below
-get_below level first [] w r slots less = sym (nothing (32 ^ level) r)
+get_below level first [] w r slots less = sym (replicate_at (32 ^ level) r None)
 get_below level first (kid ∷ kids) zero r slots less =
     let here = length_in level first kid (slots_head level first kid kids slots) in
     let e : 0 * 32 ^ level + r ≡ r = omega arith in

@@ -16,7 +16,8 @@ use Rattle.wb_tree.specs.Planning.{placed, planned, levels, changed_below, names
 use Rattle.wb_tree.proofs.Nodes.Names.{AreApart, has, has_not, nodes_below-exist, nodes_below-apart}
 use Rattle.wb_tree.proofs.Nodes.Placing.{placed-none, placed-is, placed-behind}
 use Rattle.wb_tree.proofs.Nodes.Listing.{each_from-more, each_from-split, nodes_below-open, nodes_below-shut, leaf-children}
-use Rattle.wb_tree.proofs.Branching.Looks.{else_place, place_append, place_right}
+use Rattle.wb_tree.proofs.Branching.Looks.{else_place, place_append}
+use Rattle.wb_tree.proofs.Reading.PlacedLists.{place_in-append_none}
 
 -- ---- the changed nodes among some
 
@@ -143,7 +144,7 @@ planned-known m free level index place h =
 -- another where it was placed
 pub planned-new : (m : Mapping) (free : List Place) (level index : ℕ) → place_of m level index ≡ None → place_of (planned m free) level index ≡ place_in (placed (changed m (levels m)) free) level index
 unfolding planned
-planned-new m free level index none = place_right m.known (placed (changed m (levels m)) free) level index none
+planned-new m free level index none = place_in-append_none m.known (placed (changed m (levels m)) free) level index none
 
 -- what does not exist has no place
 pub planned-none : (m : Mapping) (free : List Place) (level index : ℕ) → exists m.entries level index ≡ false → place_of m level index ≡ None → place_of (planned m free) level index ≡ None

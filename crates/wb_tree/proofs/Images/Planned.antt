@@ -20,12 +20,12 @@ use Rattle.wb_tree.proofs.Nodes.Alike.{AreAlike}
 use Rattle.wb_tree.proofs.Nodes.Few.{known-few}
 use Rattle.wb_tree.proofs.Nodes.Names.{IsBelow, has, same_name, nodes_below-below, nodes_below-exist}
 use Rattle.wb_tree.proofs.Nodes.Placing.{IsPlaced, placed-apart, placed-some, placed-had, placed-is, placed-none, placed-take}
-use Rattle.wb_tree.proofs.Nodes.Listed.{exists_listed, unknown_changed}
-use Rattle.wb_tree.proofs.Nodes.Knowing.{known-behind, same_names}
+use Rattle.wb_tree.proofs.Nodes.Listed.{unknown_changed}
+use Rattle.wb_tree.proofs.Nodes.Knowing.{same_names}
 use Rattle.wb_tree.proofs.Images.PlanSteps.{changed-apart, changed-exist, changed_of-all, planned-known, planned-new}
 use Rattle.wb_tree.proofs.Images.Imaging.{WritesChanged}
-use Rattle.wb_tree.proofs.Branching.Looks.{place_right}
-use Rattle.wb_types.proofs.Truth.{either_true, yes}
+use Rattle.wb_types.proofs.Truth.{either_true}
+use Rattle.wb_tree.proofs.Reading.PlacedLists.{names-append}
 
 -- what each of these nodes has, a listed one has
 each_had : (P : NodeName → Type 0) (nodes : List NodeName) (level index : ℕ) → AllByRecursion P nodes → has nodes level index ≡ true → P (record { level = level; index = index })
@@ -150,12 +150,6 @@ planned-inside m geometry free can place h = elim (planned-either m free h.level
 
 -- ---- no node comes twice, and they are few
 
-apart_both : (xs ys : List PlacedNode) → AreApart xs → AreApart ys → ((level index : ℕ) (place : Place) → place_in xs level index ≡ Some place → place_in ys level index ≡ None) → AreApart (xs ++ ys)
-apart_both [] ys p q off = q
-apart_both (x ∷ xs) ys p q off =
-    let here : place_in (x ∷ xs) x.level x.index ≡ Some x.place = rw (yes x.level, yes x.index) refl in
-    (place_right xs ys x.level x.index p.0 ∙ off x.level x.index x.place here, apart_both xs ys p.1 q (λ level index place h. off level index place (known-behind x xs level index place p.0 h)))
-
 known_not_new : (m : Mapping) (free : List Place) (level index : ℕ) (place : Place) → place_of m level index ≡ Some place → place_in (placed (changed m (levels m)) free) level index ≡ None
 known_not_new m free level index place known = placed-none (changed m (levels m)) free level index (not_changed (nodes_of m.entries (levels m)))
   where
@@ -175,7 +169,7 @@ known_not_new m free level index place known = placed-none (changed m (levels m)
 planned-once : (m : Mapping) (geometry : Geometry) (free : List Place) → CanPlace m geometry free → AreApart (planned m free).known
 unfolding planned
 planned-once m geometry free can =
-    apart_both m.known (placed (changed m (levels m)) free) can.once (placed-apart (changed m (levels m)) free (changed-apart m)) (λ level index place h. known_not_new m free level index place h)
+    names-append m.known (placed (changed m (levels m)) free) can.once (placed-apart (changed m (levels m)) free (changed-apart m)) (λ level index place h. known_not_new m free level index place h)
 
 -- where each of these nodes has a place none counts as changed
 nothing_new : (m : Mapping) (nodes : List NodeName) → AllByRecursion (λ node. IsSome (place_of m node.level node.index)) nodes → changed_of m nodes ≡ []

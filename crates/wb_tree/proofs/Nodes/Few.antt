@@ -1,5 +1,5 @@
 -- A tree has no more known nodes than one of its size can have.
-use Rattle.std.proofs.Common.{◌≡◌, ◌≤◌, ◌<◌, ◌+◌, ◌*◌, ◌^◌, ◌&&◌, ◌==◌, ◌∙◌, ap, subst, refl, ℕ, zero, suc, Bool, true, false, cond, nat_le, List, [], ◌∷◌, Option, Some, None, length, arith, inl, inr}
+use Rattle.std.proofs.Common.{◌≡◌, ◌≤◌, ◌<◌, ◌+◌, ◌*◌, ◌^◌, ◌&&◌, ◌==◌, ◌∙◌, ap, refl, ℕ, zero, suc, Bool, true, false, cond, nat_le, List, [], ◌∷◌, Some, None, length, arith, inl, inr}
 use Rattle.std.specs.Prelude.{if◌then◌else◌}
 use Rattle.std.proofs.lemmas.Bool.{cases_Bool}
 use Rattle.wb_types.specs.Limits.{depth_of, node_count, nodes_up_to}
@@ -10,7 +10,7 @@ use Rattle.wb_tree.specs.declared.placed.PlacedNode.{PlacedNode}
 use Rattle.wb_tree.specs.Mapping.{Mapping, NodeName, IsSound, nodes_of, place_in}
 use Rattle.wb_tree.specs.Fields.{AreApart}
 use Rattle.wb_tree.proofs.Nodes.Counting.{count-nodes}
-use Rattle.wb_tree.proofs.Nodes.Knowing.{known-behind, same_names}
+use Rattle.wb_tree.proofs.Nodes.Knowing.{known-behind, same_names, none_or_some}
 use Rattle.wb_tree.proofs.Nodes.Listed.{exists_listed}
 use Rattle.wb_tree.proofs.Nodes.Names.{has}
 
@@ -41,9 +41,6 @@ without-has (node ∷ nodes) level index l i off h = elim (cases_Bool ((node.lev
   ]
 ]
 
-some_or_none : (o : Option Place) (place : Place) → o ≡ None → o ≡ Some place → ⊥
-some_or_none o place a b = absurd cc
-
 -- nodes of which none comes twice are no more than the names among which they are
 few_known : (known : List PlacedNode) (nodes : List NodeName) → AreApart known → ((level index : ℕ) (place : Place) → place_in known level index ≡ Some place → has nodes level index ≡ true) → length known ≤ length nodes
 few_known [] nodes apart among = omega arith
@@ -59,7 +56,7 @@ few_known (x ∷ known) nodes apart among =
     differ x known level index place none h = elim (cases_Bool ((x.level == level) && (x.index == index))) [
       | inl same ↦
           let e = same_names x.level level x.index index same in
-          absurd (some_or_none (place_in known x.level x.index) place none (ap (λ l. place_in known l x.index) e.0 ∙ (ap (λ i. place_in known level i) e.1 ∙ h)))
+          absurd (none_or_some (place_in known x.level x.index) place none (ap (λ l. place_in known l x.index) e.0 ∙ (ap (λ i. place_in known level i) e.1 ∙ h)))
       | inr other ↦ other
     ]
 

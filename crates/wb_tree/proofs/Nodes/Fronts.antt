@@ -93,15 +93,9 @@ unmarked (suc count) (Some first ∷ entries) marks origin none h =
     unmarked count entries (set marks first.origin.0 true) origin (λ block entry below e same. none (suc block) entry (omega arith) e same)
     (get_or-set_other marks first.origin.0 origin true false (λ same. none 0 first (omega arith) refl (sym same)) ∙ h)
 
--- before any entry nothing is marked
-pub nothing_marked : (n i : ℕ) → get_or (replicate n false) i false ≡ false
-nothing_marked zero i = refl
-nothing_marked (suc n) zero = refl
-nothing_marked (suc n) (suc i) = nothing_marked n i
-
 -- ---- where no entry lies
 
-none_is : (o : Option Entry) → is_some o ≡ false → o ≡ None
+pub none_is : (o : Option Entry) → is_some o ≡ false → o ≡ None
 none_is None h = refl
 none_is (Some entry) h = absurd cc
 

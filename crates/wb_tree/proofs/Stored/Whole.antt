@@ -17,11 +17,12 @@ use Rattle.wb_tree.specs.Mapping.{Mapping, NodeName, IsSound, IsMapping, AreInsi
 use Rattle.wb_tree.specs.Reading.{Found, Reading, Nodes, ◌then◌, each_step, child_read, names_child, entry_read, entry_in, may_map, is_reached, is_node_of, reached_at, node_read, nothing_found, top_read, tree_read}
 use Rattle.wb_tree.specs.Images.{place_word, word_at, IsNodeOf, AreRead}
 use Rattle.wb_tree.specs.Whole.{node_first, reached_below, marked, found_of}
-use Rattle.wb_tree.proofs.Nodes.Fronts.{shown, shown-none, shown-all, shown-set, shown-skip, marks_to, marks_to-none, marks_to-all, marks_to-set, marks_to-skip, unmarked, nothing_marked, nothing_below, begins_inside}
+use Rattle.wb_tree.proofs.Nodes.Fronts.{shown, shown-none, shown-all, shown-set, shown-skip, marks_to, marks_to-none, marks_to-all, marks_to-set, marks_to-skip, unmarked, nothing_below, begins_inside}
 use Rattle.wb_tree.proofs.Images.WordSpelling.{entry_in-word}
 use Rattle.wb_tree.proofs.Reading.LoaderSteps.{found_same}
 use Rattle.wb_tree.proofs.Reading.Steps.{child_read-named, entry_read-some}
 use Rattle.wb_tree.proofs.Reading.NodeSteps.{read_above_leaves}
+use Rattle.wb_types.proofs.Lists.{replicate_at}
 
 -- a tree of which every node that is known is read as it is
 pub record IsReadable (m : Mapping) (root : Root) (nodes : Nodes) : Type 0 where
@@ -100,7 +101,7 @@ may_be root m block reached found entry mapping h e =
     ap (λ (marks : List Bool). get_or marks entry.origin.0 false) h.marks_are
     ∙ unmarked block m.entries (replicate root.geometry.origin_blocks false) entry.origin.0
     (λ other same below e' o. let b = mapping.once other block same entry e' e (same_origin same entry o) in absurd (omega arith))
-    (nothing_marked root.geometry.origin_blocks entry.origin.0) in
+    (replicate_at root.geometry.origin_blocks entry.origin.0 false) in
     rw (here, there, fresh) refl
 
 -- the entry of one cache block

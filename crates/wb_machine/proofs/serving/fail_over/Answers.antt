@@ -6,10 +6,11 @@ use Rattle.wb_machine.specs.declared.machine.TheConstants.{ACTORS}
 use Rattle.wb_machine.specs.declared.phase.Phase.TheVariants.{Standing}
 use Rattle.wb_devices.specs.declared.running.RunningCommit.{RunningCommit}
 use Rattle.wb_machine.specs.Life.{contents_of, shape_of, state_of}
-use Rattle.wb_machine.proofs.Members.{absent, on_err, put_back, somebody}
+use Rattle.wb_machine.proofs.Members.{absent, put_back, somebody}
 use Rattle.wb_machine.proofs.Openings.{passes}
 use Rattle.wb_machine.proofs.Served.{fault_happens, fault_roomy, nobody_there, roomy_set}
 use Rattle.wb_machine.proofs.serving.fail_over.Goals as goal
+use Rattle.wb_types.proofs.Truth.{on_err}
 
 pub returns-then-actor-len-clause-ok : goal.returns-then-actor-len-clause-ok
 returns-then-actor-len-clause-ok c =

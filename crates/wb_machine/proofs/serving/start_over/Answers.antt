@@ -7,10 +7,11 @@ use Rattle.wb_promise.specs.declared.event.Event.TheVariants.{Start}
 use Rattle.wb_machine.specs.declared.machine.TheConstants.{ACTORS}
 use Rattle.wb_machine.specs.declared.phase.Phase.TheVariants.{Standing}
 use Rattle.wb_machine.specs.Life.{contents_of, shape_of, state_of}
-use Rattle.wb_machine.proofs.Members.{absent, on_err, put_back}
+use Rattle.wb_machine.proofs.Members.{absent, put_back}
 use Rattle.wb_machine.proofs.Openings.{passes}
 use Rattle.wb_machine.proofs.Served.{roomy_set, start_happens, start_roomy, start_sizes}
 use Rattle.wb_machine.proofs.serving.start_over.Goals as goal
+use Rattle.wb_types.proofs.Truth.{on_err}
 
 pub returns-then-actor-len-clause-ok : goal.returns-then-actor-len-clause-ok
 returns-then-actor-len-clause-ok c =

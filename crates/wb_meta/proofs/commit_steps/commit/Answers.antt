@@ -3,10 +3,10 @@ use Rattle.wb_meta.specs.Laws.{Wanted}
 use Rattle.wb_meta.specs.Placing.{HavePlaces}
 use Rattle.wb_meta.specs.Commits.{HasCome, steps_left}
 use Rattle.wb_meta.specs.declared.commit_steps.CommitSteps.{CommitSteps}
-use Rattle.wb_meta.proofs.Stepping.{OnErr-always}
 use Rattle.wb_meta.proofs.Crashing.{failed_crash, done_crash}
 use Rattle.wb_meta.proofs.Imaging.{failed_next, done_next}
 use Rattle.wb_meta.proofs.commit_steps.commit.Goals as goal
+use Rattle.wb_types.proofs.Truth.{on_err}
 
 pub loop-steps-init : goal.loop-steps-init
 loop-steps-init g c = (refl, λ tells. c.new-steps.ensures.begins c.args.image.now (g.D.Disk.contents c.args.disk.now), λ tells. refl)
@@ -35,17 +35,17 @@ pub returns-in_err-next-clause-err : goal.returns-in_err-next-clause-err
 returns-in_err-next-clause-err g c tells =
     let before = g.D.Disk.contents c.args.disk.now in
     let failed = c.in_err-next.ensures.failed tells before (c.loop-steps.invariant.1 tells) in
-    OnErr-always c.from_residual.result (λ old found m may. failed_crash c.args.image.now (g.D.Disk.size c.args.disk.now) before (g.D.Disk.contents c.next.new.disk) c.loop-steps.steps old (Wanted c.args.image.now found m) c.requires may failed)
+    on_err c.from_residual.result (λ old found m may. failed_crash c.args.image.now (g.D.Disk.size c.args.disk.now) before (g.D.Disk.contents c.next.new.disk) c.loop-steps.steps old (Wanted c.args.image.now found m) c.requires may failed)
 
 pub returns-in_err-next-clause-cause : goal.returns-in_err-next-clause-cause
 returns-in_err-next-clause-cause g c tells =
-    OnErr-always c.from_residual.result (c.in_err-next.ensures.cause tells ∙ ap (λ n. (n + 1) % 2 ^ 64) (c.loop-steps.invariant.2 tells))
+    on_err c.from_residual.result (c.in_err-next.ensures.cause tells ∙ ap (λ n. (n + 1) % 2 ^ 64) (c.loop-steps.invariant.2 tells))
 
 pub returns-in_err-next-clause-tree_or_old : goal.returns-in_err-next-clause-tree_or_old
 returns-in_err-next-clause-tree_or_old g c tells =
     let before = g.D.Disk.contents c.args.disk.now in
     let failed = c.in_err-next.ensures.failed tells before (c.loop-steps.invariant.1 tells) in
-    OnErr-always c.from_residual.result (λ m n plan old next. failed_next m n plan c.args.image.now before old next (g.D.Disk.contents c.next.new.disk) c.loop-steps.steps failed)
+    on_err c.from_residual.result (λ m n plan old next. failed_next m n plan c.args.image.now before old next (g.D.Disk.contents c.next.new.disk) c.loop-steps.steps failed)
 
 pub returns-clause-size : goal.returns-clause-size
 returns-clause-size g c = c.loop-steps.invariant.0

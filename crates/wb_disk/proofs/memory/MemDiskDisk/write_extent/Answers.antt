@@ -3,8 +3,9 @@ use Rattle.std.specs.List.{slice_get}
 use Rattle.std.proofs.lemmas.Option.{slice_get-get_or}
 use Rattle.wb_disk.specs.Device.{History, written}
 use Rattle.wb_disk.specs.Memory.{FrontWritten}
-use Rattle.wb_disk.proofs.Neighbours.{each_more, room_stays, on_err}
+use Rattle.wb_disk.proofs.Neighbours.{each_more, room_stays}
 use Rattle.wb_disk.proofs.memory.MemDiskDisk.write_extent.Goals as goal
+use Rattle.wb_types.proofs.Truth.{on_err}
 
 pub loop-k-preserved : goal.loop-k-preserved
 loop-k-preserved c =

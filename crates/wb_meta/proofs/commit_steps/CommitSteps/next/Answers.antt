@@ -10,8 +10,9 @@ use Rattle.wb_disk.specs.Device.{History}
 use Rattle.wb_tree.specs.declared.image.Image.{Image}
 use Rattle.wb_meta.specs.Commits.{HasCome, HasFailed}
 use Rattle.wb_meta.specs.declared.commit_steps.CommitSteps.{CommitSteps}
-use Rattle.wb_meta.proofs.Stepping.{node_written, node_failed, nodes_synced, nodes_unsynced, root_written, root_failed, root_synced, root_unsynced, OnErr-always}
+use Rattle.wb_meta.proofs.Stepping.{node_written, node_failed, nodes_synced, nodes_unsynced, root_written, root_failed, root_synced, root_unsynced}
 use Rattle.wb_meta.proofs.commit_steps.CommitSteps.next.Goals as goal
+use Rattle.wb_types.proofs.Truth.{on_err}
 
 -- a failure where the steps stood
 failed_at : (image : Image) (before now : List History) (self steps : CommitSteps) → self ≡ steps → HasFailed image before steps now → HasFailed image before self now
@@ -19,7 +20,7 @@ failed_at image before now self steps is failed = subst (λ (s : CommitSteps). H
 
 pub returns-in_err-put_node-in-NodesWritten-clause-failed : goal.returns-in_err-put_node-in-NodesWritten-clause-failed
 returns-in_err-put_node-in-NodesWritten-clause-failed g c tells =
-    OnErr-always c.from_residual.result (λ before come.
+    on_err c.from_residual.result (λ before come.
     let now = g.D.Disk.contents c.args.disk.now in
     let P : CommitSteps → Type 0 = λ s. HasCome c.args.image.now before s now in
     let so_far = subst P c.in-NodesWritten.is come in
@@ -29,7 +30,7 @@ returns-in_err-put_node-in-NodesWritten-clause-failed g c tells =
 
 pub returns-in_err-sync-in-NodesWritten-clause-failed : goal.returns-in_err-sync-in-NodesWritten-clause-failed
 returns-in_err-sync-in-NodesWritten-clause-failed g c tells =
-    OnErr-always c.from_residual-in_err-sync-in-NodesWritten.result (λ before come.
+    on_err c.from_residual-in_err-sync-in-NodesWritten.result (λ before come.
     let now = g.D.Disk.contents c.args.disk.now in
     let P : CommitSteps → Type 0 = λ s. HasCome c.args.image.now before s now in
     let so_far = subst P c.in-NodesWritten.is come in
@@ -37,7 +38,7 @@ returns-in_err-sync-in-NodesWritten-clause-failed g c tells =
 
 pub returns-in_err-put_root-in-NodesSynced-clause-failed : goal.returns-in_err-put_root-in-NodesSynced-clause-failed
 returns-in_err-put_root-in-NodesSynced-clause-failed g c tells =
-    OnErr-always c.from_residual-in_err-put_root-in-NodesSynced.result (λ before come.
+    on_err c.from_residual-in_err-put_root-in-NodesSynced.result (λ before come.
     let now = g.D.Disk.contents c.args.disk.now in
     let P : CommitSteps → Type 0 = λ s. HasCome c.args.image.now before s now in
     let so_far = subst P c.in-NodesSynced.is come in
@@ -46,7 +47,7 @@ returns-in_err-put_root-in-NodesSynced-clause-failed g c tells =
 
 pub returns-in_err-sync-in-RootWritten-clause-failed : goal.returns-in_err-sync-in-RootWritten-clause-failed
 returns-in_err-sync-in-RootWritten-clause-failed g c tells =
-    OnErr-always c.from_residual-in_err-sync-in-RootWritten.result (λ before come.
+    on_err c.from_residual-in_err-sync-in-RootWritten.result (λ before come.
     let now = g.D.Disk.contents c.args.disk.now in
     let P : CommitSteps → Type 0 = λ s. HasCome c.args.image.now before s now in
     let so_far = subst P c.in-RootWritten.is come in

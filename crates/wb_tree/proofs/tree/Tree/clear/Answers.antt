@@ -2,13 +2,14 @@ use Rattle.std.proofs.Common.{◌-◌, ◌∙◌, Some, None, ap, sym, subst}
 use Rattle.std.specs.Box.{with_value}
 use Rattle.wb_tree.specs.Branches.{AreBoxes, IsSlot, IsTree, boxes_of, forget, known_in, rewritten}
 use Rattle.wb_tree.specs.Edits.{IsChangedAt}
-use Rattle.wb_tree.proofs.Branching.Edits.{inside-boxes, next-boxes, next-edit, next_gone, next_kid, no_entry_is, some_entry_is, same-edit}
+use Rattle.wb_tree.proofs.Branching.Edits.{inside-boxes, next-boxes, next-edit, next_gone, next_kid, some_entry_is, same-edit}
 use Rattle.wb_tree.proofs.Branching.Known.{counted-next}
 use Rattle.wb_tree.proofs.tree.Tree.clear.Goals as goal
+use Rattle.wb_tree.proofs.Nodes.Fronts.{none_is}
 
 pub returns-then-is_none-clause-entries : goal.returns-then-is_none-clause-entries
 returns-then-is_none-clause-entries g c =
-    same-edit c.args.self.now c.args.c.0 c.get.result None c.get.ensures.entry (no_entry_is c.get.result c.if-is_none.ensures)
+    same-edit c.args.self.now c.args.c.0 c.get.result None c.get.ensures.entry (none_is c.get.result c.if-is_none.ensures)
 
 pub invariant_of-self-2 : goal.invariant_of-self-2
 invariant_of-self-2 g c =

@@ -3,9 +3,10 @@ use Rattle.std.specs.Prelude.{is_some}
 use Rattle.std.specs.List.{list_any}
 use Rattle.std.specs.Box.{with_value}
 use Rattle.wb_tree.specs.Branches.{Branch, IsNode, branch_of, rewritten}
-use Rattle.wb_tree.proofs.Branching.Branches.{found_at, kid_at, kid_index, long_kids, node_set, not_one, on_err, put_back, set_again, set_kid, set_leaf, set_new, slot_rewritten, slot_sole}
+use Rattle.wb_tree.proofs.Branching.Branches.{found_at, kid_at, kid_index, long_kids, node_set, not_one, put_back, set_again, set_kid, set_leaf, set_new, slot_rewritten, slot_sole}
 use Rattle.wb_tree.proofs.Branching.Slots.{any_set}
 use Rattle.wb_tree.proofs.tree.node.Node.+set.Goals as goal
+use Rattle.wb_types.proofs.Truth.{on_err}
 
 pub returns-then-self-eq1-clause-ok : goal.returns-then-self-eq1-clause-ok
 returns-then-self-eq1-clause-ok g t c =
