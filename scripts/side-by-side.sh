@@ -301,7 +301,8 @@ one_job() { # job, command
 # Runs the jobs of a plan, a line each: its name, the seconds that it is known to take, and the jobs that it waits for. Those that the
 # longest chain of others waits for begin first. BEGIN is called with a name, with how many processors the job may use, and with how much it
 # is to give way, and calls `start`; END with a name and the job's status. The job with the longest chain may use all processors, and the
-# others give way to it: so the chain goes on as fast as it can, and they fill what it leaves.
+# others give way to it: so the chain goes on as fast as it can, and they fill what it leaves. The one behind it may use half of them,
+# since it is the longest once the first has gone faster than was known.
 side_by_side() { # plan, BEGIN, END
   in_order <"$1" >"$work/order"
   : >"$work/ended"
@@ -332,7 +333,9 @@ side_by_side() { # plan, BEGIN, END
 
 # The job to begin now, with the processors that it may use and how much it gives way, or nothing.
 next_job() {
-  awk -v lanes="$at_once" -v most="$(for_the_chain)" '
+  # shellcheck disable=SC2046 # two numbers
+  set -- $(for_the_chains)
+  awk -v lanes="$at_once" -v most="$1" -v half="$2" '
     FILENAME ~ /ended$/ { ended[$1] = 1; next }
     FILENAME ~ /running$/ { running[$1] = 1; taken++; next }
     $1 in ended { next }
@@ -340,17 +343,22 @@ next_job() {
     $1 in running || taken >= lanes { next }
     {
       for (i = 4; i <= NF; i++) if (!($i in ended)) next
-      print $1, rank == 1 ? most : 1, rank == 1 ? 0 : 10
+      print $1, rank == 1 ? most : rank == 2 ? half : 1, rank == 1 ? 0 : rank == 2 ? 5 : 10
       exit
     }' "$work/ended" "$work/running" "$work/order"
 }
 
-# How many processors the job with the longest chain may use: all, where there is memory for as many of its proofs beside the other jobs.
-for_the_chain() {
-  most=$((1 + ($(free_memory) - 2500 * at_once) / 1500))
+# How many processors the job with the longest chain may use, and the one behind it: all, and half of them, where there is memory for as
+# many of their proofs beside the other jobs.
+for_the_chains() {
+  room=$((1 + ($(free_memory) - 2500 * at_once) / 1500))
+  most=$room
   test "$most" -le "$(processors)" || most=$(processors)
   test "$most" -ge 1 || most=1
-  echo "$most"
+  half=$((1 + room - most))
+  test "$half" -le $((most / 2)) || half=$((most / 2))
+  test "$half" -ge 1 || half=1
+  echo "$most $half"
 }
 
 # How long a program is likely to take from nothing, by what is known of its crates.
@@ -365,7 +373,7 @@ how_long() { # program
 # How many jobs are left and how long they are likely to take: all of them by the lanes, or the longest chain, whichever is more. The pace is that of
 # the jobs that have ended, apart for those that might use several processors, which go twice as fast until one of them has ended.
 what_is_left() {
-  awk -v lanes="$at_once" -v now="$(date +%s)" -v most="$(for_the_chain)" '
+  awk -v lanes="$at_once" -v now="$(date +%s)" -v most="$(for_the_chains | cut -d ' ' -f 1)" '
     function pace(many) { return known[many] > 0 ? took[many] / known[many] : many && !known[0] ? 0.5 : many ? took[0] / known[0] / 2 : 1 }
     FILENAME ~ /ended$/ { ended[$1] = $2; many[$1] = $3 > 1; next }
     FILENAME ~ /running$/ { since[$1] = now - $3; many[$1] = $4 > 1; next }
