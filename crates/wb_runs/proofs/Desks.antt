@@ -158,8 +158,6 @@ is_unmappable desk b = elim (found_where (holdings desk) b.0 (λ c. IsRemoved (o
   | inr none ↦ inr (λ may. none (may.cache.0, may.mapped, may.removed))
 ]
 
-}
-
 -- so a desk can do what it is asked where a block is to lose its entry
 pub can_unmap : {P : Type 0} (desk : DeskState P) (b : OBlock) → DeskInvariant unknowing desk → IsSound desk.tree → (new : DeskState P) × DidUnmap (λ policy block. new.policy) b desk new
 can_unmap {P} desk b kept sound = elim (is_unmappable desk b) [

@@ -101,8 +101,6 @@ pub record Opened (ms : List Bool) (blocks : List Block) (i : ℕ) : Type 0 wher
   pub size : length blocks ≡ length ms
   pub before : (k : ℕ) → k < i → get_or blocks k Free ≡ opened_block (get_or ms k false)
 
-}
-
 pub opened_all : (ms : List Bool) (blocks : List Block) (i : ℕ) → length ms ≤ i → Opened ms blocks i → blocks ≡ map opened_block ms
 opened_all ms blocks i p h = ext_get_or Free blocks (map opened_block ms) (h.size ∙ sym (length-map ms opened_block))
     (λ k l. h.before k (omega (arith, h.size)) ∙ sym (get_or-map opened_block ms k false Free (omega (arith, h.size))))

@@ -217,8 +217,6 @@ slot_sole level index offset entry new from to fits less e = record {
 
 -- ---- nodes after a change of a word
 
-}
-
 pub node_set : {A : Type 0} (level index : ℕ) (words : List (Option Entry)) (kids : List (Option (Box Branch A))) (w : ℕ) (o : Option (Box Branch A)) → IsNode level index words kids → (level ≡ 1 → ⊥) → w < 32 → IsSlot (level - 1) (32 * index + w) o → IsNode level index words (set kids w o)
 node_set level index words kids w o node off less slot =
     let long = long_kids level index words kids node off in
@@ -230,8 +228,6 @@ node_set level index words kids w o node off less slot =
       inner = λ from. length-set kids w o ∙ long;
       slots = slots_set (level - 1) (32 * index) w kids o (omega (arith, long)) node.slots slot;
     }
-
-}
 
 no_kid : {A : Type 0} (level index j : ℕ) (kids : List (Option (Box Branch A))) (n : ℕ) → kids ≡ replicate n None → IsSlot level index (get_or kids j None)
 no_kid {A} level index j kids n e = subst (λ (ks : List (Option (Box Branch A))). IsSlot level index (get_or ks j None)) (sym e) (go n j)

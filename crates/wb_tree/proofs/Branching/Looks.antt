@@ -277,8 +277,6 @@ inserted_here : (xs : List PlacedNode) (level index : ℕ) (place : Option Place
 inserted_here xs level index None new none = record { front = []; back = xs; was = refl; is = refl }
 inserted_here xs level index (Some place) new none = absurd cc
 
-}
-
 -- a node below a word
 pub settled_below : {A : Type 0} (level index l k w r : ℕ) (place : Option Place) (there : Place) (words : List (Option Entry)) (kids : List (Option (Box Branch A))) (kid new : Box Branch A) → IsNode level index words kids → (level ≡ 1 → ⊥)
     → IsWay level index l k (level - l) w r → get_or kids w None ≡ Some kid → IsSettledAt kid.value new.value (record { level = l; index = kid.value.index * 32 ^ (kid.value.level - l) + r; place = there })
