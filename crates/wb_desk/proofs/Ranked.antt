@@ -4,7 +4,6 @@ use Rattle.std.proofs.lemmas.Bool.{cases_eq}
 use Rattle.std.proofs.lemmas.Bool.Decides.{eqb_tells}
 use Rattle.wb_desk.specs.Allocation.{LiveOrder, Apart, ApartAll, Shareless, cost, without, cache_at, HasOrder}
 use Rattle.wb_desk.specs.Acting.{order_in, rank_in}
-use Rattle.wb_orders.proofs.Kept.{same_order}
 
 abbrev Here : LiveOrder → List LiveOrder → ℕ → Type 0
 Here o os c = (order_in (o ∷ os) c ≡ Some o) × (rank_in (o ∷ os) c ≡ 0)
@@ -23,6 +22,9 @@ there o os c n = elim (eqb_tells o.cache c) [
   | inl h ↦ absurd (n h.1)
   | inr h ↦ (ap (λ (b : Bool). cond b (Some o) (order_in os c)) h.0, ap (λ (b : Bool). cond b 0 (suc (rank_in os c))) h.0)
 ]
+
+same_some : (o p : LiveOrder) → (let x : Option LiveOrder = Some o in x) ≡ Some p → o ≡ p
+same_some o p e = cc
 
 no_some : (o : LiveOrder) → (let x : Option LiveOrder = None in x) ≡ Some o → ⊥
 no_some o e = cc
@@ -91,7 +93,7 @@ in_without_same (o ∷ os) c s = elim (cases_eq o.cache c) [
 pub cost_without : (os : List LiveOrder) (c : ℕ) (p : LiveOrder) → order_in os c ≡ Some p → cost (without os (rank_in os c)) + p.sectors ≡ cost os
 cost_without [] c p e = absurd (no_some p e)
 cost_without (o ∷ os) c p e = elim (cases_eq o.cache c) [
-  | inl h ↦ omega (arith, ap (λ (i : ℕ). cost (without (o ∷ os) i)) (here o os c h).1, ap (λ (x : LiveOrder). x.sectors) (same_order o p (sym (here o os c h).0 ∙ e)))
+  | inl h ↦ omega (arith, ap (λ (i : ℕ). cost (without (o ∷ os) i)) (here o os c h).1, ap (λ (x : LiveOrder). x.sectors) (same_some o p (sym (here o os c h).0 ∙ e)))
   | inr n ↦ omega (arith, ap (λ (i : ℕ). cost (without (o ∷ os) i)) (there o os c n).1, cost_without os c p (sym (there o os c n).0 ∙ e))
 ]
 
