@@ -1,7 +1,7 @@
 -- What is known of a desk and its metadata stays known when an order is given, given up, or ends since its block was mapped or unmapped.
 use Rattle.std.proofs.Common.{◌≡◌, ◌∙◌, inl, inr, if◌then◌else◌, ℕ, zero, suc, Bool, true, false, List, [], ◌∷◌, Option, Some, None, refl, sym, ap, subst, slice_set}
 use Rattle.std.specs.Prelude.{◌+◌}
-use Rattle.wb_tree.proofs.Branching.Edits.{changed_at}
+use Rattle.wb_tree.proofs.Branching.Edits.{changed-edit, changed_at}
 use Rattle.wb_policy.specs.Law.{Holdings, IsMappedAt}
 use Rattle.wb_desk.proofs.Leaving.{unmapped_kept, found_there}
 use Rattle.std.proofs.lemmas.Bool.{cases_eq, cases_Bool}
@@ -163,7 +163,7 @@ pub can_unmap : {P : Type 0} (desk : DeskState P) (b : OBlock) → DeskInvariant
 can_unmap {P} desk b kept sound = elim (is_unmappable desk b) [
   | inl may ↦
       let new = unmapped desk may.cache (changed_at desk.tree may.cache.0 None) desk.policy in
-      (new, (λ other. subst (λ (c : CBlock). IsChangedAt desk.tree new.tree c.0 None × (new ≡ unmapped desk c new.tree new.policy)) (found_there unknowing desk b may.cache kept may.mapped other) (changed desk.tree may.cache.0 None sound, refl), λ not. absurd (not may)))
+      (new, (λ other. subst (λ (c : CBlock). IsChangedAt desk.tree new.tree c.0 None × (new ≡ unmapped desk c new.tree new.policy)) (found_there unknowing desk b may.cache kept may.mapped other) (changed-edit desk.tree may.cache.0 None sound, refl), λ not. absurd (not may)))
   | inr none ↦ (desk, (λ may. absurd (none may), λ not. refl))
 ]
 
