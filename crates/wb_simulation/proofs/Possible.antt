@@ -1,5 +1,5 @@
 -- A target that was just made agrees with the abstract world that begins.
-use Rattle.std.proofs.Common.{◌≡◌, ◌+◌, ◌*◌, ◌∙◌, inl, ℕ, zero, suc, Bool, true, false, cond, nat_lt, unwrap_or, Some, None, replicate, refl, sym, ap, subst, slice_get, []}
+use Rattle.std.proofs.Common.{◌≡◌, ◌+◌, ◌*◌, ◌∙◌, inl, ℕ, zero, suc, Bool, true, false, cond, nat_lt, unwrap_or, Some, None, replicate, refl, sym, ap, subst, slice_get}
 use Rattle.std.proofs.lemmas.List.{length-replicate}
 use Rattle.wb_disk.specs.Device.{Content, only}
 use Rattle.wb_contents.specs.Devices.{by_block}
@@ -44,7 +44,7 @@ can_agree size most blocks caches cache origin many = record {
   many = length-replicate many idle ∙ sym (length-replicate many resting);
   each = λ a x y e f. subst (λ (v : Actor). StandsFor size most (fresh_words blocks) v y) (replicated many a resting x e)
       (subst (λ (v : AbstractActor). StandsFor size most (fresh_words blocks) resting v) (replicated many a idle y f) (rests size most blocks));
-  orders_agree = no_orders size (fresh_words blocks) (record { metadata = []; cache = replicate cache (only zeros); origin = replicate origin (only zeros) }) (replicate many resting) caches many (world_begins many zeros).shared
+  orders_agree = no_orders size (fresh_words blocks) (replicate many resting) caches many (world_begins many zeros).shared
       (λ a x e. ap (λ (v : Actor). v.task) (sym (replicated many a resting x e)));
 }
   where
