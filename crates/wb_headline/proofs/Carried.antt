@@ -42,7 +42,7 @@ module _ (now : Situation) (blocks : ℕ) (s : World) (g : Agrees now s)
         let d = g.orders_agree.carried a x y.0 migration block plan ex y.1 xt in
         elim d.at [
           | inl k ↦ record { kind = migration; part = d.part; job = d.job; block_is = k.block_is; of_block = k.of_block }
-          | inr o ↦ absurd (elim o [ inl h ↦ never_over plan next (sym e) within h.0.over | inr l ↦ never_late now.words plan (OnBlock (Migrating migration d.part)) next y.0 d.job refl (sym e) within l ])
+          | inr o ↦ absurd (elim o [ inl h ↦ never_over plan next (sym e) within h.0.over | inr l ↦ never_late d.failed plan (OnBlock (Migrating migration d.part)) next y.0 d.job refl (sym e) within l ])
         ]
 
     -- so the step is one of its own

@@ -70,7 +70,7 @@ use Rattle.wb_simulation.specs.Noting.{NotesAgree}
 use Rattle.wb_simulation.specs.Noted.{told}
 use Rattle.wb_simulation.specs.Sites.{ImagesAgree, IsRunning, locations}
 use Rattle.wb_simulation.specs.Telling.{Quietly, Releases, Answers}
-use Rattle.wb_simulation.specs.Worlds.{TurnedTo, DeskTurnedTo, Turn, Stays, Begins, Puts, Ends, GivesUp, FollowsBy, Follows}
+use Rattle.wb_simulation.specs.Worlds.{TurnedTo, DeskTurnedTo, Turn, Stays, Begins, Puts, Ends, GivesUp, WorldFollowsBy, WorldFollows}
 use Rattle.wb_simulation.specs.Laws.{went, after_step, turn_of}
 use Rattle.wb_simulation.proofs.Flushes.{flush_steps_followed}
 use Rattle.wb_simulation.proofs.Noted.{notes_followed}
@@ -147,7 +147,7 @@ module _ (P A : Type 0) (shape : Shape) (images : Images) (t : Target P) (commit
   serving : (serves : List OBlock) × (plan.job ≡ Flushing serves (most P A shape))
   serving =
       let b = beside P A shape images t commit devices actors n known f a x ex in
-      let r : IsFlushAt (size P A shape) (most P A shape) t.words plan b.0 = doing_of (size P A shape) (most P A shape) t.words x b.0 Flush plan (f.phase.agrees.each a x b.0 ex b.1) xt in
+      let r : IsFlushAt (size P A shape) (most P A shape) _ plan b.0 = doing_of (size P A shape) (most P A shape) t.words x b.0 Flush plan (f.phase.agrees.each a x b.0 ex b.1) xt in
       (r.serves, r.job)
 
   abbrev s : Shared
@@ -164,7 +164,7 @@ module _ (P A : Type 0) (shape : Shape) (images : Images) (t : Target P) (commit
   noted_less : Rattle.std.proofs.Common.◌<◌ a (length n.doings)
   noted_less = noted_within P A shape images t commit devices actors n known f a x ex
 
-  quiet_notes : (turn : Turn) (words' : Words) (committing' : Bool) (orders' : List (Option Order)) (devices' : Devices (List History)) (y : Actor) (g : FollowsBy turn Quietly a f.site.world (record (situation shape t devices' actors) { words = words'; committing = committing'; orders = orders' }) y) →
+  quiet_notes : (turn : Turn) (words' : Words) (committing' : Bool) (orders' : List (Option Order)) (devices' : Devices (List History)) (y : Actor) (g : WorldFollowsBy turn Quietly a f.site.world (record (situation shape t devices' actors) { words = words'; committing = committing'; orders = orders' }) y) →
       NotesAgree (size P A shape) n (after_all f.site.world g.records) (told f.notes g.records)
   quiet_notes turn words' committing' orders' devices' y g =
       let b = beside P A shape images t commit devices actors n known f a x ex in
@@ -173,7 +173,7 @@ module _ (P A : Type 0) (shape : Shape) (images : Images) (t : Target P) (commit
   -- ---- steps on devices
 
   module _ (turn : Turn) (step : DeviceStep) (got : Got) (contents : List Bytes) (t' : Target P) (commit' : Option RunningCommit) (devices' : Devices (List History)) (images' : Images) (plain : Rattle.wb_promise.specs.Effects.buffer_then devices x.buffer (Device step) got Flush ≡ x.buffer) (next : Device step ≡ want plan)
-      (g : FollowsBy turn Quietly a f.site.world (situation shape t' devices' actors) (after_step Flush plan got x)) where
+      (g : WorldFollowsBy turn Quietly a f.site.world (situation shape t' devices' actors) (after_step Flush plan got x)) where
     device_notes : NotesAgree (size P A shape) (device_n step got) (after_all f.site.world g.records) (told f.notes g.records)
     device_notes = let e = failing_same doing step got in notes_followed.redone (size P A shape) n (after_all f.site.world g.records) (told f.notes g.records) a doing (failing doing step got) (quiet_notes turn t'.words t'.desk.space.committing (live_orders t'.desk) devices' (after_step Flush plan got x) g) noted e.0 e.1
 
@@ -186,7 +186,7 @@ module _ (P A : Type 0) (shape : Shape) (images : Images) (t : Target P) (commit
 
   -- cache and origin are synced, or fail to be
   module _ (device : Dev) (holds : HoldsBlocks device) (next : Device (Sync device) ≡ want plan) (contents : List Bytes) where
-    synced_so : (got : Got) → (list : List History) → Follows Quietly a f.site.world (situation shape t (with_device device devices list) actors) (after_step Flush plan got x) →
+    synced_so : (got : Got) → (list : List History) → WorldFollows Quietly a f.site.world (situation shape t (with_device device devices list) actors) (after_step Flush plan got x) →
         Goes P A shape (then_is t commit (with_device device devices list) (Device (Sync device)) got) (noted_step shape [] n a (Some (Some doing)) (Device (Sync device)) got contents)
     synced_so got list g =
         let known' = subst (λ (m : List History). AtDesk shape.geometry images t.desk commit m) (sym (data_device device holds devices list)) known in
@@ -336,7 +336,7 @@ module _ (P A : Type 0) (shape : Shape) (images : Images) (t : Target P) (commit
 
   -- ---- the shared words, and the answer
 
-  told_so : (step : CellStep) → Cell step ≡ want plan → Follows Quietly a f.site.world (record (situation shape t devices actors) { words = words_after t.words step }) (went t.words Flush plan step x) →
+  told_so : (step : CellStep) → Cell step ≡ want plan → WorldFollows Quietly a f.site.world (record (situation shape t devices actors) { words = words_after t.words step }) (went t.words Flush plan step x) →
       Goes P A shape (then_is (record { words = words_after t.words step; desk = t.desk }) commit devices (Cell step) (got_of (result_of t.words step))) n
   told_so step next g =
       let y = went t.words Flush plan step x in
@@ -359,11 +359,11 @@ module _ (P A : Type 0) (shape : Shape) (images : Images) (t : Target P) (commit
       b = beside P A shape images t commit devices actors n known f a x ex
 
       given : (v : Answer) (orders' awaiting' : List Order) → ((o : Order) → Contains (held_of x) o → Contains (orders' ++ awaiting') o) → End v ≡ want plan →
-          Follows (Answers (FlushingFor None) v) a f.site.world (situation shape t devices actors) (record x { task = None; orders = orders'; awaiting = awaiting' })
+          WorldFollows (Answers (FlushingFor None) v) a f.site.world (situation shape t devices actors) (record x { task = None; orders = orders'; awaiting = awaiting' })
       given v orders' awaiting' on e = flush_steps_followed.answers (situation shape t devices actors) v a x plan orders' awaiting' f.site.world ex xt (sym e) on f.phase.agrees
 
       finish : (v : Answer) (y : Actor) → record { task = None; card = x.card; orders = orders_then x.orders x.awaiting Flush (End v) Done; awaiting = awaiting_then x.orders x.awaiting Flush (End v) Done; buffer = x.buffer } ≡ y →
-          (n' : Notes) (g : Follows (Answers (FlushingFor None) v) a f.site.world (situation shape t devices actors) y) →
+          (n' : Notes) (g : WorldFollows (Answers (FlushingFor None) v) a f.site.world (situation shape t devices actors) y) →
           NotesAgree (size P A shape) n' (after_all f.site.world g.records) (told f.notes g.records) → length n'.doings ≡ length n.doings → length n'.histories ≡ length n.histories → Goes P A shape (then_is t commit devices (End v) Done) n'
       finish v y same n' g notes d h =
           subst (λ (y : Actor). Goes P A shape (record { devices = devices; commit = commit; phase = Stands t; actors = slice_set actors a y }) n') (sym (actor_is P A shape (Stands t) devices x Flush plan (End v) Done xt ∙ same))

@@ -279,7 +279,7 @@ module _ (P A : Type 0) (shape : Shape) (images : Images) (t : Target P) (commit
           z : (v : Rattle.wb_link.specs.World.Actor) × (slice_get f.site.world.actors a ≡ Some v)
           z = beside P A shape images t commit devices actors n known f a x ex
 
-          doing : (j : Job) → x.task ≡ Some (j, plan) → IsDoing (size P A shape) (most P A shape) t.words j plan x.card z.0
+          doing : (j : Job) → x.task ≡ Some (j, plan) → IsDoing (size P A shape) (most P A shape) (f.phase.agrees.each a x z.0 ex z.1).failed j plan x.card z.0
           doing j jt = doing_of (size P A shape) (most P A shape) t.words x z.0 j plan (f.phase.agrees.each a x z.0 ex z.1) jt
 
           is_seal : Cell (Seal b place dirty) ≡ want plan

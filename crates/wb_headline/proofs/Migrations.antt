@@ -39,7 +39,7 @@ use Rattle.wb_link.specs.World.{after_all, Shared, removed}
 use Rattle.wb_simulation.specs.Noting.{NotesAgree}
 use Rattle.wb_simulation.specs.Noted.{told}
 use Rattle.wb_simulation.specs.Telling.{Carries, Rests}
-use Rattle.wb_simulation.specs.Worlds.{Turn, Stays, FollowsBy, Follows, Agrees, Maps, Unmaps, GivesUp, TurnedTo}
+use Rattle.wb_simulation.specs.Worlds.{Turn, Stays, WorldFollowsBy, WorldFollows, Agrees, Maps, Unmaps, GivesUp, TurnedTo}
 use Rattle.wb_simulation.specs.Laws.{went, after_step}
 use Rattle.wb_simulation.specs.Migrating.{SeesWhere, EndsOrder}
 use Rattle.wb_simulation.proofs.Noted.{notes_followed}
@@ -105,7 +105,7 @@ module _ (P A : Type 0) (shape : Shape) (images : Images) (t : Target P) (commit
   noted_less = noted_within P A shape images t commit devices actors n known f a x ex
 
   -- a migration's steps are not noted
-  pub carried_notes : (turn : Turn) (words' : Words) (committing' : Bool) (orders' : List (Option Order)) (devices' : Devices (List History)) (y : Actor) (g : FollowsBy turn Carries a f.site.world (record (situation shape t devices' actors) { words = words'; committing = committing'; orders = orders' }) y) →
+  pub carried_notes : (turn : Turn) (words' : Words) (committing' : Bool) (orders' : List (Option Order)) (devices' : Devices (List History)) (y : Actor) (g : WorldFollowsBy turn Carries a f.site.world (record (situation shape t devices' actors) { words = words'; committing = committing'; orders = orders' }) y) →
       NotesAgree (size P A shape) n (after_all f.site.world g.records) (told f.notes g.records)
   carried_notes turn words' committing' orders' devices' y g =
       let b = beside P A shape images t commit devices actors n known f a x ex in
@@ -127,7 +127,7 @@ module _ (P A : Type 0) (shape : Shape) (images : Images) (t : Target P) (commit
 
     -- on a device
     module _ (step : DeviceStep) (got : Got) (contents : List Bytes) (devices' : Devices (List History)) (y : Actor) (is : actor_then {P = P} {A = A} shape (Stands t) devices x (Device step) got ≡ y)
-        (g : Follows Carries a f.site.world (situation shape t devices' actors) y) where
+        (g : WorldFollows Carries a f.site.world (situation shape t devices' actors) y) where
       on_device : devices'.metadata ≡ devices.metadata → Goes P A shape (record { devices = devices'; commit = commit; phase = Stands t; actors = slice_set actors a (actor_then {P = P} {A = A} shape (Stands t) devices x (Device step) got) }) (noted_step shape [] n a (Some (Some doing)) (Device step) got contents)
       on_device same =
           let mid = failing doing step got in
@@ -252,7 +252,7 @@ module _ (P A : Type 0) (shape : Shape) (t : Target P) (commit : Option RunningC
 
   -- the desk and its orders turn, and whatever is read of the metadata stays
   goes_to : (turn : Turn) (desk' : DeskState P) (y : Actor) (next : Want) (orders' : List (Option Order)) → actor_then {P = P} {A = A} shape (Stands t) devices x next Done ≡ y →
-      (g : FollowsBy turn Carries a f.site.world (record (situation shape t devices actors) { committing = desk'.space.committing; orders = orders' }) y) → (TurnedTo turn s (after_all f.site.world g.records).shared → TurnedTo Stays s (after_all f.site.world g.records).shared) →
+      (g : WorldFollowsBy turn Carries a f.site.world (record (situation shape t devices actors) { committing = desk'.space.committing; orders = orders' }) y) → (TurnedTo turn s (after_all f.site.world g.records).shared → TurnedTo Stays s (after_all f.site.world g.records).shared) →
       AtDesk shape.geometry b.goes.images desk' commit devices.metadata → orders' ≡ live_orders desk' → DeskAgrees desk' (after_all f.site.world g.records).shared →
       Goes P A shape (record { devices = devices; commit = commit; phase = Stands (record { words = t.words; desk = desk' }); actors = slice_set actors a (actor_then {P = P} {A = A} shape (Stands t) devices x next Done) }) n
   goes_to turn desk' y next orders' is g stays known' same desk =
@@ -273,7 +273,7 @@ module _ (P A : Type 0) (shape : Shape) (t : Target P) (commit : Option RunningC
       let free = ap (λ (m : Locations). m bl.0) f.phase.desk.mapping ∙ unmapped_there P t.desk kept bl.0 en.unmapped in
       let law = migrations_followed.maps (situation shape t devices actors) shape.geometry.origin_blocks a x migration block bl c plan f.site.world ex xt suits (sym next) free agrees in
       let over = law.2 in
-      let g = subst (λ (k : OBlock). FollowsBy (Maps k.0 c.0) Carries a f.site.world (record (situation shape t devices actors) { orders = slice_set slots c.0 None }) (then_actor bl x.awaiting)) (sym law.1) over.2.follows in
+      let g = subst (λ (k : OBlock). WorldFollowsBy (Maps k.0 c.0) Carries a f.site.world (record (situation shape t devices actors) { orders = slice_set slots c.0 None }) (then_actor bl x.awaiting)) (sym law.1) over.2.follows in
       let room = slice_get_within t.desk.space.blocks c.0 Reserved may.reserved in
       goes_to (Maps bl.0 c.0) desk' (then_actor bl x.awaiting) (Desk (Map bl c)) (slice_set slots c.0 None) (actor_is P A shape (Stands t) devices x job plan (Desk (Map bl c)) Done xt) g (λ d. d)
       (mapped_stands P shape.geometry b.goes.images t.desk commit devices.metadata bl c tree policy b.goes.known may changed) (sym (orders_set t.desk.orders.slots c.0 None))
@@ -286,13 +286,13 @@ module _ (P A : Type 0) (shape : Shape) (t : Target P) (commit : Option RunningC
 
     module _ (c : ℕ) (o : Order) (live : slice_get slots c ≡ Some (Some o)) (mine : Contains x.orders o) (removes : Removes o) (at : IsMappedAt (holdings t.desk) bl.0 c) (of : is_of bl o ≡ true) where
       leaves_to : (v : Bool) → is_replacement o ≡ v → (after_it : Option ℕ) → block_there (Quarantined v false) ≡ removed after_it → (orders' : List (Option Order)) → orders' ≡ orders_of (if v then t.desk.orders else without_order t.desk.orders (record { 0 = c })).slots →
-          FollowsBy (Unmaps block.0 c after_it) Carries a f.site.world (record (situation shape t devices actors) { orders = orders' }) (then_actor bl (replacing bl x.orders ++ x.awaiting)) → To (Desk (Unmap bl)) Done read (Asks new)
+          WorldFollowsBy (Unmaps block.0 c after_it) Carries a f.site.world (record (situation shape t devices actors) { orders = orders' }) (then_actor bl (replacing bl x.orders ++ x.awaiting)) → To (Desk (Unmap bl)) Done read (Asks new)
       leaves_to v r after_it there orders' orders_are follows =
           let parted = b.keeping.parted a x ex in
           let gone = left P t.desk kept actors are owned a x ex parted bl c o live mine removes at of new did in
           let alone = stands_alone P t.desk kept bl.0 c at in
           let desk' = unmapped t.desk (record { 0 = c }) new.tree new.policy in
-          let g = subst (λ (k : OBlock). FollowsBy (Unmaps k.0 c after_it) Carries a f.site.world (record (situation shape t devices actors) { orders = orders' }) away) (sym same) follows in
+          let g = subst (λ (k : OBlock). WorldFollowsBy (Unmaps k.0 c after_it) Carries a f.site.world (record (situation shape t devices actors) { orders = orders' }) away) (sym same) follows in
           let room = slice_get_within t.desk.space.blocks c Mapped (mapped_state unknowing t.desk bl.0 c kept at) in
           subst (λ (k : DeskState P). To (Desk (Unmap bl)) Done read (Asks k)) (sym gone.1)
           (goes_to (Unmaps bl.0 c after_it) desk' away (Desk (Unmap bl)) orders' (actor_is P A shape (Stands t) devices x job plan (Desk (Unmap bl)) Done xt) g (λ d. d)
@@ -314,7 +314,7 @@ module _ (P A : Type 0) (shape : Shape) (t : Target P) (commit : Option RunningC
             let of = for_block Demote block bl same in
             let none = none_waits P t.desk kept actors are owned a x ex parted bl c (DemoteOrder block) d.live d.mine tt at of refl in
             leaves_to bl read new next did same c (DemoteOrder block) d.live d.mine tt at of false refl None refl (slice_set slots c None) (sym (orders_set t.desk.orders.slots c None))
-            (subst (λ (os : List Order). FollowsBy (Unmaps block.0 c None) Carries a f.site.world (record (situation shape t devices actors) { orders = slice_set slots c None }) (then_actor bl (os ++ x.awaiting))) (sym none) d.follows))
+            (subst (λ (os : List Order). WorldFollowsBy (Unmaps block.0 c None) Carries a f.site.world (record (situation shape t devices actors) { orders = slice_set slots c None }) (then_actor bl (os ++ x.awaiting))) (sym none) d.follows))
         | inr d ↦ leaves_to bl read new next did same c (ReplaceOrder block d.new d.k) d.live d.mine tt (subst (λ (k : OBlock). IsMappedAt (holdings t.desk) k.0 c) (sym same) (stands_so P t.desk kept s f.phase.desk block.0 c d.stood))
             (subst (λ (k : OBlock). is_of k (ReplaceOrder block d.new d.k) ≡ true) (sym same) (of_order Demote block (Some d.new.0) (ReplaceOrder block d.new d.k) (inr (refl, refl)))) true refl (Some d.new.0) refl slots refl d.follows
       ]

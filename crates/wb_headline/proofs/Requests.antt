@@ -46,7 +46,7 @@ use Rattle.wb_simulation.specs.Noted.{told, AreNewest}
 use Rattle.wb_simulation.specs.Actors.{IsRequestAt}
 use Rattle.wb_simulation.specs.Steps.{AreOfBlock}
 use Rattle.wb_simulation.specs.Telling.{Quietly, Reads, Writes, Answers}
-use Rattle.wb_simulation.specs.Worlds.{Stays, Follows, zeros}
+use Rattle.wb_simulation.specs.Worlds.{Stays, WorldFollows, zeros}
 use Rattle.wb_simulation.specs.Laws.{IsRequestJob, went, after_step, content_of}
 use Rattle.wb_simulation.proofs.Followed.{begins_by, cell_steps_followed, doing_of}
 use Rattle.wb_simulation.proofs.Moving.{extent_steps_followed, same_device}
@@ -80,7 +80,7 @@ module _ (P A : Type 0) (shape : Shape) (images : Images) (t : Target P) (commit
 
   -- nothing is noted
   quietly : (words' : Words) (devices' : Devices (List History)) (y : Actor) →
-      Follows Quietly a f.site.world (record (situation shape t devices' actors) { words = words' }) y → devices'.metadata ≡ devices.metadata → Goes P A shape (after_it words' devices' y) n
+      WorldFollows Quietly a f.site.world (record (situation shape t devices' actors) { words = words' }) y → devices'.metadata ≡ devices.metadata → Goes P A shape (after_it words' devices' y) n
   quietly words' devices' y g same =
       let b = beside P A shape images t commit devices actors n known f a x ex in
       stays_on P A shape images t commit devices actors n known f a x ex Quietly words' devices' y n g tt
@@ -120,7 +120,7 @@ module _ (P A : Type 0) (shape : Shape) (images : Images) (t : Target P) (commit
 
     -- what it is told there
     pub read_follows : (contents : List Bytes) → length contents ≡ e.count → GivesEach (device_in device devices) e.first contents →
-        Follows (Reads part.block.0 (e.first % size P A shape) contents) a f.site.world (situation shape t devices actors) (after_step (Read extent) plan Done x)
+        WorldFollows (Reads part.block.0 (e.first % size P A shape) contents) a f.site.world (situation shape t devices actors) (after_step (Read extent) plan Done x)
     read_follows contents many gives = extent_steps_followed.read_done (situation shape t devices actors) shape.geometry.origin_blocks a x extent part plan device e contents f.site.world ex xt claim.is_job suits (sym next) holds many gives f.phase.agrees
 
     pub reads : (contents : List Bytes) → length contents ≡ e.count → GivesEach (device_in device devices) e.first contents →
@@ -167,7 +167,7 @@ module _ (P A : Type 0) (shape : Shape) (images : Images) (t : Target P) (commit
     in_block : e.first % size P A shape + e.count ≤ size P A shape
     in_block =
         let b = beside P A shape images t commit devices actors n known f a x ex in
-        let r : IsRequestAt (size P A shape) content t.words WritingPart plan x.card b.0 = doing_of (size P A shape) (most P A shape) t.words x b.0 (Write extent content) plan (f.phase.agrees.each a x b.0 ex b.1) xt in
+        let r : IsRequestAt (size P A shape) content _ WritingPart plan x.card b.0 = doing_of (size P A shape) (most P A shape) t.words x b.0 (Write extent content) plan (f.phase.agrees.each a x b.0 ex b.1) xt in
         let first = begins_by plan (Device (WriteExtent device e)) (sym next) (λ answer q. absurd (cc)) in
         (subst (λ (ws : List Want). AreOfBlock (size P A shape) r.part.block.0 ws) first.1 r.of_block).0.room
 
@@ -190,7 +190,7 @@ module _ (P A : Type 0) (shape : Shape) (images : Images) (t : Target P) (commit
         by (Some h) = length-set en.histories s (added h content)
 
     module _ (got : Got) (mid : Doing) (same_entered : mid.entered ≡ doing.entered) (same_then : mid.then_finished ≡ doing.then_finished) (list : List History)
-        (g : Follows (Writes written_part.block.0 (e.first % size P A shape) e.count content) a f.site.world (situation shape t (with_device device devices list) actors) (after_step (Write extent content) plan got x)) where
+        (g : WorldFollows (Writes written_part.block.0 (e.first % size P A shape) e.count content) a f.site.world (situation shape t (with_device device devices list) actors) (after_step (Write extent content) plan got x)) where
       abbrev n1 : Notes
       n1 = put n a (Some mid)
 
@@ -230,14 +230,14 @@ module _ (P A : Type 0) (shape : Shape) (images : Images) (t : Target P) (commit
   -- ---- answers
 
   module _ (job : Job) (request : IsRequestJob job) (plan : Plan) (xt : x.task ≡ Some (job, plan)) (suits : Suits shape.geometry.origin_blocks plan x.card) (job_is : doing.job ≡ job) (answer : Answer) (next : End answer ≡ want plan) where
-    answer_follows : Follows (Answers (job_for (size P A shape) (content_of job) plan.job) answer) a f.site.world (situation shape t devices actors) (record x { task = None })
+    answer_follows : WorldFollows (Answers (job_for (size P A shape) (content_of job) plan.job) answer) a f.site.world (situation shape t devices actors) (record x { task = None })
     answer_follows = answers_followed (situation shape t devices actors) shape.geometry.origin_blocks a x job plan answer f.site.world request ex xt suits (sym next) f.phase.agrees
 
     -- the state and notes then
     abbrev Answered : Notes → Type 0
     Answered n' = Goes P A shape (record { devices = devices; commit = commit; phase = Stands (record { words = t.words; desk = t.desk }); actors = slice_set actors a (actor_then {P = P} {A = A} shape (Stands t) devices x (End answer) Done) }) n'
 
-    answered_with : (there : Answer) (of : Rattle.wb_link.specs.Tables.Job) (n' : Notes) → length n'.doings ≡ length n.doings → length n'.histories ≡ length n.histories → (g : Follows (Answers of there) a f.site.world (situation shape t devices actors) (record x { task = None })) →
+    answered_with : (there : Answer) (of : Rattle.wb_link.specs.Tables.Job) (n' : Notes) → length n'.doings ≡ length n.doings → length n'.histories ≡ length n.histories → (g : WorldFollows (Answers of there) a f.site.world (situation shape t devices actors) (record x { task = None })) →
         NotesAgree (size P A shape) n' (after_all f.site.world g.records) (told f.notes g.records) → Answered n'
     answered_with there of n' d h g notes =
         subst (λ (y : Actor). Goes P A shape (record { devices = devices; commit = commit; phase = Stands (record { words = t.words; desk = t.desk }); actors = slice_set actors a y }) n') (sym (actor_is P A shape (Stands t) devices x job plan (End answer) Done xt ∙ (λ i. record { task = None; card = x.card; orders = orders_still x.orders x.awaiting job answer request i; awaiting = awaiting_still x.orders x.awaiting job answer request i; buffer = x.buffer })))
@@ -254,7 +254,7 @@ module _ (P A : Type 0) (shape : Shape) (images : Images) (t : Target P) (commit
   answers (Read extent) q plan xt suits job_is claim Finished next contents =
       let part = block_range shape extent claim.cut in
       let of = job_for (size P A shape) [] (OnBlock (ReadingPart part)) in
-      let g = subst (λ (k : TaskJob). Follows (Answers (job_for (size P A shape) [] k) Finished) a f.site.world (situation shape t devices actors) (record x { task = None })) claim.is_job (answer_follows (Read extent) q plan xt suits job_is Finished next) in
+      let g = subst (λ (k : TaskJob). WorldFollows (Answers (job_for (size P A shape) [] k) Finished) a f.site.world (situation shape t devices actors) (record x { task = None })) claim.is_job (answer_follows (Read extent) q plan xt suits job_is Finished next) in
       let b = beside P A shape images t commit devices actors n known f a x ex in
       subst (λ (k : Job). Goes P A shape (record { devices = devices; commit = commit; phase = Stands (record { words = t.words; desk = t.desk }); actors = slice_set actors a (actor_then {P = P} {A = A} shape (Stands t) devices x (End Finished) Done) }) (finished_note n a doing k shown)) (sym job_is)
       (answered_with (Read extent) q plan xt suits job_is Finished next Finished of (put n a None) (length-set n.doings a None) refl g
@@ -262,7 +262,7 @@ module _ (P A : Type 0) (shape : Shape) (images : Images) (t : Target P) (commit
   answers (Write extent content) q plan xt suits job_is claim Finished next contents =
       let part = block_range shape extent claim.cut in
       let of = job_for (size P A shape) content (OnBlock (WritingPart part)) in
-      let g = subst (λ (k : TaskJob). Follows (Answers (job_for (size P A shape) content k) Finished) a f.site.world (situation shape t devices actors) (record x { task = None })) claim.is_job (answer_follows (Write extent content) q plan xt suits job_is Finished next) in
+      let g = subst (λ (k : TaskJob). WorldFollows (Answers (job_for (size P A shape) content k) Finished) a f.site.world (situation shape t devices actors) (record x { task = None })) claim.is_job (answer_follows (Write extent content) q plan xt suits job_is Finished next) in
       let b = beside P A shape images t commit devices actors n known f a x ex in
       subst (λ (k : Job). Goes P A shape (record { devices = devices; commit = commit; phase = Stands (record { words = t.words; desk = t.desk }); actors = slice_set actors a (actor_then {P = P} {A = A} shape (Stands t) devices x (End Finished) Done) }) (finished_note n a doing k shown)) (sym job_is)
       (answered_with (Write extent content) q plan xt suits job_is Finished next Finished of (record n { finished = all_raised n.finished doing.entered; doings = slice_set n.doings a None }) (length-set n.doings a None) refl g
@@ -294,7 +294,7 @@ module _ (P A : Type 0) (shape : Shape) (images : Images) (t : Target P) (commit
       let part = block_range shape extent claim.cut in
       let right = is_right (size P A shape) (many P A shape) f.site f.notes f.reached _ (records_happen (size P A shape) f.site g.records f.phase.phase_is g.run) in
       let newest = notes_followed.newest_read Stays part.block.0 (e.first % size P A shape) contents a f.site.world _ _ g b.0 n f.notes b.1 less f.notes_agree right in
-      let r : IsRequestAt (size P A shape) [] t.words ReadingPart plan x.card b.0 = doing_of (size P A shape) (most P A shape) t.words x b.0 (Read extent) plan (f.phase.agrees.each a x b.0 ex b.1) xt in
+      let r : IsRequestAt (size P A shape) [] _ ReadingPart plan x.card b.0 = doing_of (size P A shape) (most P A shape) t.words x b.0 (Read extent) plan (f.phase.agrees.each a x b.0 ex b.1) xt in
       let first = begins_by plan (Device (ReadExtent device e)) (sym next) (λ answer q. absurd (cc)) in
       let room = (subst (λ (ws : List Want). AreOfBlock (size P A shape) r.part.block.0 ws) first.1 r.of_block).0.room in
       let m = may_start shape extent claim.inside in

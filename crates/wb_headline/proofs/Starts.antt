@@ -32,7 +32,7 @@ use Rattle.wb_refines.specs.Translation.{job_for}
 use Rattle.wb_simulation.specs.Actors.{IsBusyAt}
 use Rattle.wb_simulation.specs.Steps.{IsPart}
 use Rattle.wb_simulation.specs.Telling.{Quietly, Starts, Resumes}
-use Rattle.wb_simulation.specs.Worlds.{Stays, Turn, TurnedTo, DeskTurnedTo, FollowsBy}
+use Rattle.wb_simulation.specs.Worlds.{Stays, Turn, TurnedTo, DeskTurnedTo, WorldFollowsBy}
 use Rattle.wb_simulation.specs.Laws.{Begun}
 use Rattle.wb_simulation.proofs.Starting.{starts_followed}
 use Rattle.wb_simulation.proofs.Opening.{openings_followed, images_followed}
@@ -120,7 +120,7 @@ module _ (P A : Type 0) (shape : Shape) (images : Images) (t : Target P) (commit
       by (inl g) = stays_on P A shape images t commit devices actors n known f a x ex (Starts of) t.words devices (record x { task = Some (job, plan) }) (put n a (Some (begun n job))) g plain
           (notes_followed.starts of job Stays a f.site.world _ _ g y.0 n f.notes y.1 less f.notes_agree was.0 was.1) (length-set n.doings a (Some (begun n job))) refl refl
       by (inr g) =
-          let none = (subst (λ (q : Option (Job × Plan)). IsBusyAt (size P A shape) (most P A shape) t.words q x.card y.0) xt (f.phase.agrees.each a x y.0 ex y.1).at).0 in
+          let none = (subst (λ (q : Option (Job × Plan)). IsBusyAt (size P A shape) (most P A shape) (f.phase.agrees.each a x y.0 ex y.1).failed q x.card y.0) xt (f.phase.agrees.each a x y.0 ex y.1).at).0 in
           stays_on P A shape images t commit devices actors n known f a x ex Quietly t.words devices (record x { task = Some (job, plan) }) (put n a (Some (begun n job))) g tt
           (notes_followed.starts_late job Stays a f.site.world _ _ g y.0 n f.notes y.1 less f.notes_agree none) (length-set n.doings a (Some (begun n job))) refl refl
 
@@ -284,7 +284,7 @@ module _ (P A : Type 0) (shape : Shape) (t : Target P) (commit : Option RunningC
     small c l = let many = kept.slots in let limit = t.desk.geometry.within.cache_to in omega (arith, l, many, limit)
 
     -- it is noted to be at its job, while nobody is told of it there
-    notes_then : (turn : Turn) (orders' : List (Option Order)) (y : Actor) (h : FollowsBy turn Resumes a g.site.world (record (situation shape t devices actors) { orders = orders' }) y) → y.task ≡ Some (begun_job, begun_plan) →
+    notes_then : (turn : Turn) (orders' : List (Option Order)) (y : Actor) (h : WorldFollowsBy turn Resumes a g.site.world (record (situation shape t devices actors) { orders = orders' }) y) → y.task ≡ Some (begun_job, begun_plan) →
         NotesAgree (size P A shape) n' (after_all g.site.world h.records) (told g.notes h.records)
     notes_then turn orders' y h task =
         let at_it = beside P A shape b.goes.images t commit devices actors n b.goes.known g a x ex in

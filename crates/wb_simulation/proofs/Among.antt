@@ -26,9 +26,8 @@ use Rattle.wb_runs.specs.Holding.{cards_of}
 use Rattle.wb_simulation.specs.Actors.{StandsFor}
 use Rattle.wb_simulation.specs.Telling.{Telling, Quietly, IsTold}
 use Rattle.wb_simulation.specs.Carried.{held}
-use Rattle.wb_simulation.specs.Worlds.{zeros, Situation, Agrees, OrdersAgree, Turn, Stays, TurnedTo, DeskTurnedTo, FollowsBy, Follows, IsUnfinished}
+use Rattle.wb_simulation.specs.Worlds.{zeros, Situation, Agrees, OrdersAgree, Turn, Stays, TurnedTo, DeskTurnedTo, WorldFollowsBy, WorldFollows, IsUnfinished}
 use Rattle.wb_simulation.proofs.Cells.{Leading, shared_stays, gone_nowhere}
-use Rattle.wb_simulation.proofs.Kept.{stands_on}
 use Rattle.wb_simulation.proofs.Orders.{who, by_pair, IsDone, IsNoMigration, does_none, orders_on}
 use Rattle.wb_contents.proofs.Lists.{there_is}
 
@@ -99,7 +98,7 @@ module _ (now : Situation) (words' : Words) (up : flag now.words.fail ≡ true �
       whole = whole;
       one_leads = one;
       many = length-set s.actors a y' ∙ g.many ∙ sym (length-set now.actors a x');
-      each = by_pair now.actors s.actors a x x' y y' ex ey (λ b z v. StandsFor now.size now.most words' z v) st (λ b z v n ez ev. stands_on now.size now.most now.words words' up v z (g.each b z v ez ev));
+      each = by_pair now.actors s.actors a x x' y y' ex ey (λ b z v. StandsFor now.size now.most words' z v) st (λ b z v n ez ev. let st = g.each b z v ez ev in record { failed = st.failed; has_failed = λ e. up (st.has_failed e); at = st.at; below = st.below; among_others = st.among_others });
       orders_agree = ordered;
     }
 
@@ -114,7 +113,7 @@ module _ (now : Situation) (words' : Words) (up : flag now.words.fail ≡ true �
 
   -- the world goes on by these records, of which it is told, to where all agrees
   pub follows_by : (turn : Turn) (telling : Telling) (committing' : Bool) (orders' : List (Option Order)) (devices' : Devices (List History)) (rs : List Record) (w : World) → IsRun now.size s rs → after_all s rs ≡ w → IsTold telling a y.task rs → Agrees (then_at committing' orders' devices') w → TurnedTo turn s.shared w.shared → DeskTurnedTo turn s.shared w.shared →
-      FollowsBy turn telling a s (record now { words = words'; committing = committing'; orders = orders'; devices = devices' }) x'
+      WorldFollowsBy turn telling a s (record now { words = words'; committing = committing'; orders = orders'; devices = devices' }) x'
   follows_by turn telling committing' orders' devices' rs w run is told agrees turned desk = record {
     records = rs;
     run = run;
@@ -126,33 +125,33 @@ module _ (now : Situation) (words' : Words) (up : flag now.words.fail ≡ true �
 
   -- it goes on by these results, which lead to this
   goes_to : (turn : Turn) (telling : Telling) (committing' : Bool) (orders' : List (Option Order)) (devices' : Devices (List History)) (results : List Got) (t : Shared) → IsTold telling a y.task (records a y.task results) → MayGo s.actors a s.shared y y.task results → shared_after s.shared y y.task results ≡ t →
-      Agrees (then_at committing' orders' devices') (with_own s a t (gone y y.task results)) → TurnedTo turn s.shared t → DeskTurnedTo turn s.shared t → FollowsBy turn telling a s (record now { words = words'; committing = committing'; orders = orders'; devices = devices' }) x'
+      Agrees (then_at committing' orders' devices') (with_own s a t (gone y y.task results)) → TurnedTo turn s.shared t → DeskTurnedTo turn s.shared t → WorldFollowsBy turn telling a s (record now { words = words'; committing = committing'; orders = orders'; devices = devices' }) x'
   goes_to turn telling committing' orders' devices' results t told may is agrees turned desk =
       let went = goes now.size results s a y y.task ey refl may in
       follows_by turn telling committing' orders' devices' (records a y.task results) (with_own s a t (gone y y.task results)) went.run (went.is ∙ ap (λ (v : Shared). with_own s a v (gone y y.task results)) is) told agrees turned desk
 
   pub goes_with : (turn : Turn) (telling : Telling) (orders' : List (Option Order)) (devices' : Devices (List History)) (results : List Got) (t : Shared) → IsTold telling a y.task (records a y.task results) → MayGo s.actors a s.shared y y.task results → shared_after s.shared y y.task results ≡ t → StandsFor now.size now.most words' x' (gone y y.task results) → Leading y (gone y y.task results) → WordsAgree words' t →
       t.origin ≡ by_block now.size zeros devices'.origin → t.cache ≡ by_block now.size zeros devices'.cache → t.mode ≡ s.shared.mode → t.committing ≡ s.shared.committing → t.broken ≡ s.shared.broken → TurnedTo turn s.shared t → DeskTurnedTo turn s.shared t →
-      OrdersAgree now.size words' orders' (slice_set now.actors a x') (with_own s a t (gone y y.task results)) → FollowsBy turn telling a s (record now { words = words'; orders = orders'; devices = devices' }) x'
+      OrdersAgree now.size words' orders' (slice_set now.actors a x') (with_own s a t (gone y y.task results)) → WorldFollowsBy turn telling a s (record now { words = words'; orders = orders'; devices = devices' }) x'
   goes_with turn telling orders' devices' results t told may is st leading w o c m k b turned desk ordered = goes_to turn telling now.committing orders' devices' results t told may is (agrees_on orders' devices' s.waiting t (gone y y.task results) leading st w o c m k b ordered) turned desk
 
   -- its orders stay, and so do the desk's entries
   pub goes_by : (turn : Turn) (telling : Telling) (devices' : Devices (List History)) (results : List Got) (t : Shared) → IsTold telling a y.task (records a y.task results) → MayGo s.actors a s.shared y y.task results → shared_after s.shared y y.task results ≡ t → StandsFor now.size now.most words' x' (gone y y.task results) → Leading y (gone y y.task results) → WordsAgree words' t →
       t.origin ≡ by_block now.size zeros devices'.origin → t.cache ≡ by_block now.size zeros devices'.cache → t.mode ≡ s.shared.mode → t.committing ≡ s.shared.committing → t.broken ≡ s.shared.broken → TurnedTo turn s.shared t → DeskTurnedTo turn s.shared t →
-      (gone y y.task results).order ≡ y.order → ((o : Order) → Contains (held x) o → Contains (held x') o) → t.mapping ≡ s.shared.mapping → IsDone now.size words' now.orders x' (gone y y.task results) → FollowsBy turn telling a s (record now { words = words'; devices = devices' }) x'
+      (gone y y.task results).order ≡ y.order → ((o : Order) → Contains (held x) o → Contains (held x') o) → t.mapping ≡ s.shared.mapping → IsDone now.size words' now.orders x' (gone y y.task results) → WorldFollowsBy turn telling a s (record now { words = words'; devices = devices' }) x'
   goes_by turn telling devices' results t told may is st leading w o c m k b turned desk same own same_map its = goes_with turn telling now.orders devices' results t told may is st leading w o c m k b turned desk
       (orders_on now.size now.words words' up now.orders now.actors a x x' s y (gone y y.task results) t ex ey g.orders_agree same own same_map its)
 
   pub goes_on : (telling : Telling) (devices' : Devices (List History)) (results : List Got) (t : Shared) → IsTold telling a y.task (records a y.task results) → MayGo s.actors a s.shared y y.task results → shared_after s.shared y y.task results ≡ t → StandsFor now.size now.most words' x' (gone y y.task results) → Leading y (gone y y.task results) → WordsAgree words' t →
       t.origin ≡ by_block now.size zeros devices'.origin → t.cache ≡ by_block now.size zeros devices'.cache → t.mode ≡ s.shared.mode → t.committing ≡ s.shared.committing → t.broken ≡ s.shared.broken → TurnedTo Stays s.shared t → DeskTurnedTo Stays s.shared t →
-      (gone y y.task results).order ≡ y.order → ((o : Order) → Contains (held x) o → Contains (held x') o) → IsDone now.size words' now.orders x' (gone y y.task results) → Follows telling a s (record now { words = words'; devices = devices' }) x'
+      (gone y y.task results).order ≡ y.order → ((o : Order) → Contains (held x) o → Contains (held x') o) → IsDone now.size words' now.orders x' (gone y y.task results) → WorldFollows telling a s (record now { words = words'; devices = devices' }) x'
   goes_on telling devices' results t told may is st leading w o c m k b turned desk same own its = goes_by Stays telling devices' results t told may is st leading w o c m k b turned desk same own desk.0 its
 
   -- a commit of which it is told here begins, ends or is broken, and it alone leads one
   pub goes_leading : (turn : Turn) (committing' : Bool) (results : List Got) (t : Shared) → IsTold Quietly a y.task (records a y.task results) → MayGo s.actors a s.shared y y.task results → shared_after s.shared y y.task results ≡ t → StandsFor now.size now.most words' x' (gone y y.task results) → WordsAgree words' t →
       t.origin ≡ s.shared.origin → t.cache ≡ s.shared.cache → t.mode ≡ s.shared.mode → t.committing ≡ committing' → (t.broken ≡ true → t.committing ≡ true) → ((b : ℕ) (v : AbstractActor) → b ≢ a → slice_get s.actors b ≡ Some v → v.leads ≢ true) →
       ((gone y y.task results).leads ≡ true → (t.committing ≡ true) × (IsUnfinished (gone y y.task results).task → t.broken ≡ false)) → TurnedTo turn s.shared t → DeskTurnedTo turn s.shared t → (gone y y.task results).order ≡ y.order → held x ≡ held x' → t.mapping ≡ s.shared.mapping → IsNoMigration x'.task →
-      FollowsBy turn Quietly a s (record now { words = words'; committing = committing' }) x'
+      WorldFollowsBy turn Quietly a s (record now { words = words'; committing = committing' }) x'
   goes_leading turn committing' results t told may is st w o c m k b others here turned desk same own same_map other = goes_to turn Quietly committing' now.orders now.devices results t told may is
       (agrees_with committing' now.orders now.devices s.waiting t z st w (o ∙ g.origin) (c ∙ g.cache) m ordered k b (λ d v ev l. (this d v ev l).1.0) (λ d v ev l. (this d v ev l).1.1) (λ d e v u ev eu l n. (this d v ev l).0 ∙ sym (this e u eu n).0)) turned desk
     where
@@ -167,7 +166,7 @@ module _ (now : Situation) (words' : Words) (up : flag now.words.fail ≡ true �
 
 -- one does nothing there
 module _ (now : Situation) (a : ℕ) (x x' : Actor) (s : World) (y : AbstractActor) (g : Agrees now s) (ex : slice_get now.actors a ≡ Some x) (ey : slice_get s.actors a ≡ Some y) where
-  pub stays_there : (telling : Telling) → IsTold telling a y.task (records a y.task []) → StandsFor now.size now.most now.words x' y → ((o : Order) → Contains (held x) o → Contains (held x') o) → IsDone now.size now.words now.orders x' y → Follows telling a s now x'
+  pub stays_there : (telling : Telling) → IsTold telling a y.task (records a y.task []) → StandsFor now.size now.most now.words x' y → ((o : Order) → Contains (held x) o → Contains (held x') o) → IsDone now.size now.words now.orders x' y → WorldFollows telling a s now x'
   stays_there telling told st own its = goes_on now now.words (λ f. f) a x x' s y g ex ey telling now.devices [] s.shared told tt (shared_stays s.shared y y.task)
       (subst (λ (z : AbstractActor). StandsFor now.size now.most now.words x' z) (sym nowhere) st) (subst (Leading y) (sym nowhere) (λ l. (l, λ more. more))) g.words_agree g.origin g.cache refl refl refl (refl, refl, refl) (refl, refl) (ap (λ (v : AbstractActor). v.order) nowhere) own
       (subst (λ (z : AbstractActor). IsDone now.size now.words now.orders x' z) (sym nowhere) its)

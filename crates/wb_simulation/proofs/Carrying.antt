@@ -27,7 +27,7 @@ use Rattle.wb_promise.specs.States.{Actor}
 use Rattle.wb_simulation.specs.Actors.{IsLate, IsBusyAt, StandsFor}
 use Rattle.wb_simulation.specs.Carried.{held, is_at, replacement_there, order_there, IsOrderFor, IsCarried, IsAtMigration}
 use Rattle.wb_simulation.specs.Telling.{Carries, IsMigrating, IsNoEnd, AreCarried}
-use Rattle.wb_simulation.specs.Worlds.{zeros, Situation, Agrees, OrdersAgree, Turn, TurnedTo, DeskTurnedTo, FollowsBy, Follows}
+use Rattle.wb_simulation.specs.Worlds.{zeros, Situation, Agrees, OrdersAgree, Turn, TurnedTo, DeskTurnedTo, WorldFollowsBy, WorldFollows}
 use Rattle.wb_simulation.proofs.Orders.{IsDone}
 use Rattle.wb_link.proofs.Actors.{job_on}
 use Rattle.wb_simulation.proofs.Among.{goes_on, goes_with}
@@ -126,17 +126,19 @@ module _ (size : ℕ) (orders : List (Option Order)) (migration : Migration) (bl
 module _ (size : ℕ) (orders : List (Option Order)) (migration : Migration) (block : OBlock) (part : BlockRange) (plan : Plan) (x : Actor) (y : AbstractActor) (k : IsCarried size orders migration block part plan.steps plan.answer x y) (words : Words) (task : x.task ≡ Some (Migrate migration block, plan)) where
   pub carried_stands : (most : ℕ) → StandsFor size most words x y
   carried_stands most = record {
-    at = subst (λ (t : Option (Job × Plan)). IsBusyAt size most words t x.card y) (sym task) tt;
+    failed = false;
+    has_failed = λ e. absurd (cc);
+    at = subst (λ (t : Option (Job × Plan)). IsBusyAt size most false t x.card y) (sym task) tt;
     below = carried_below size orders migration block part plan.steps plan.answer x y k;
     among_others = carried_among size orders migration block part plan.steps plan.answer x y k;
   }
 
   pub is_done : plan.job ≡ OnBlock (Migrating migration part) → IsDone size words orders x y
-  is_done job m b p e = at_it size words orders x y migration block plan m b p (record { part = part; job = job; at = inl k }) (sym task ∙ e)
+  is_done job m b p e = at_it size words orders x y migration block plan m b p (record { part = part; job = job; failed = false; has_failed = λ e. absurd (cc); at = inl k }) (sym task ∙ e)
 
 -- who is late is so at what it is at now
-pub late_done : (size : ℕ) (words : Words) (orders : List (Option Order)) (migration : Migration) (block : OBlock) (part : BlockRange) (plan : Plan) (x : Actor) (y : AbstractActor) → plan.job ≡ OnBlock (Migrating migration part) → x.task ≡ Some (Migrate migration block, plan) → IsLate words plan y → IsDone size words orders x y
-late_done size words orders migration block part plan x y job task l m b p e = at_it size words orders x y migration block plan m b p (record { part = part; job = job; at = inr (inr l) }) (sym task ∙ e)
+pub late_done : (size : ℕ) (words : Words) (orders : List (Option Order)) (migration : Migration) (block : OBlock) (part : BlockRange) (plan : Plan) (x : Actor) (y : AbstractActor) → plan.job ≡ OnBlock (Migrating migration part) → x.task ≡ Some (Migrate migration block, plan) → (failed : Bool) → (failed ≡ true → flag words.fail ≡ true) → IsLate failed plan y → IsDone size words orders x y
+late_done size words orders migration block part plan x y job task failed has l m b p e = at_it size words orders x y migration block plan m b p (record { part = part; job = job; failed = failed; has_failed = has; at = inr (inr l) }) (sym task ∙ e)
 
 -- ---- it goes on
 
@@ -147,13 +149,13 @@ module _ (now : Situation) (words' : Words) (up : flag now.words.fail ≡ true �
   z = gone y y.task results
 
   -- under the order that it had
-  pub carry_on : IsCarried now.size now.orders migration block part plan.steps plan.answer x' z → z.order ≡ y.order → ((o : Order) → Contains (held x) o → Contains (held x') o) → SameImages s.shared t → Follows Carries a s (record now { words = words'; devices = devices' }) x'
+  pub carry_on : IsCarried now.size now.orders migration block part plan.steps plan.answer x' z → z.order ≡ y.order → ((o : Order) → Contains (held x) o → Contains (held x') o) → SameImages s.shared t → WorldFollows Carries a s (record now { words = words'; devices = devices' }) x'
   carry_on f same own k = goes_on now words' up a x x' s y g ex ey Carries devices' results t (results, going results y y.task (carried_task now.size now.orders migration block part plan.steps plan.answer x' z f) migrates, refl) may is
       (carried_stands now.size now.orders migration block part plan x' z f words' task now.most) (λ l. let bad : true ≡ false = sym l ∙ carried_leads now.size now.orders migration block part plan.steps plan.answer x' z f in absurd (cc)) words_agree origin cache k.mode k.committing k.broken (k.committed, k.running, k.root_written) (k.mapping, k.blocks)
       same own (is_done now.size now.orders migration block part plan x' z f words' task job)
 
   -- its order is over
   pub carry_over : (turn : Turn) (orders' : List (Option Order)) → IsCarried now.size orders' migration block part plan.steps plan.answer x' z → t.mode ≡ s.shared.mode → t.committing ≡ s.shared.committing → t.broken ≡ s.shared.broken → TurnedTo turn s.shared t → DeskTurnedTo turn s.shared t →
-      OrdersAgree now.size words' orders' (slice_set now.actors a x') (with_own s a t z) → FollowsBy turn Carries a s (record now { words = words'; orders = orders'; devices = devices' }) x'
+      OrdersAgree now.size words' orders' (slice_set now.actors a x') (with_own s a t z) → WorldFollowsBy turn Carries a s (record now { words = words'; orders = orders'; devices = devices' }) x'
   carry_over turn orders' f mode commits broken turned desk ordered = goes_with now words' up a x x' s y g ex ey turn Carries orders' devices' results t (results, going results y y.task (carried_task now.size orders' migration block part plan.steps plan.answer x' z f) migrates, refl) may is
       (carried_stands now.size orders' migration block part plan x' z f words' task now.most) (λ l. let bad : true ≡ false = sym l ∙ carried_leads now.size orders' migration block part plan.steps plan.answer x' z f in absurd (cc)) words_agree origin cache mode commits broken turned desk ordered

@@ -24,7 +24,7 @@ use Rattle.wb_promise.specs.declared.job.Job.TheVariants.{Flush}
 use Rattle.wb_promise.specs.States.{Actor, with_device}
 use Rattle.wb_simulation.specs.Actors.{IsLate, IsFlushAt, IsLeading, IsOfFlush, LeadsAt, StandsFor}
 use Rattle.wb_simulation.specs.Telling.{Quietly, Answers, Releases}
-use Rattle.wb_simulation.specs.Worlds.{Situation, Agrees, Begins, Puts, Ends, GivesUp, FollowsBy, Follows}
+use Rattle.wb_simulation.specs.Worlds.{Situation, Agrees, Begins, Puts, Ends, GivesUp, WorldFollowsBy, WorldFollows}
 use Rattle.wb_simulation.specs.Laws.{FlushStepsFollowed, after_step, turn_of, went}
 use Rattle.wb_types.specs.declared.number.OBlock.{OBlock}
 use Rattle.wb_simulation.specs.Carried.{held}
@@ -42,7 +42,7 @@ module _ (now : Situation) (a : ℕ) (x : Actor) (plan : Plan) (s : World) (ex :
   abbrev y : AbstractActor
   y = its.0
 
-  f : IsFlushAt now.size now.most now.words plan its.0
+  f : IsFlushAt now.size now.most its.2.failed plan its.0
   f = doing_of now.size now.most now.words x its.0 Flush plan its.2 task
 
   abbrev serves : List OBlock
@@ -50,7 +50,7 @@ module _ (now : Situation) (a : ℕ) (x : Actor) (plan : Plan) (s : World) (ex :
 
   -- what holds of what is left, with this step next, holds of it
   at_flush : (next : Want) → want plan ≡ next → IsWithin next → (P : Plan → Type 0) → ((later : List Want) (leads : Bool) → LeadsAt leads (next ∷ later) → IsOfFlush now.most (next ∷ later) → IsFlushing now.size [] (flushing serves now.most (next ∷ later) plan.answer) leads y → P (flushing serves now.most (next ∷ later) plan.answer)) → P plan
-  at_flush next e within P h = by_flush now.size now.most now.words plan next y e within f P h
+  at_flush next e within P h = by_flush now.size now.most its.2.failed plan next y e within f P h
 
   -- where it leads no commit, or does
   not_leading : (next : Want) (later : List Want) (leads : Bool) → leads ≡ false → IsFlushing now.size [] (flushing serves now.most (next ∷ later) plan.answer) leads y → IsFlushing now.size [] (flushing serves now.most (next ∷ later) plan.answer) false y
@@ -62,81 +62,81 @@ module _ (now : Situation) (a : ℕ) (x : Actor) (plan : Plan) (s : World) (ex :
       let same : flushing serves now.most (Desk (BeginCommit false now.most) ∷ []) plan.answer ≡ flushing serves now.most (Desk (BeginCommit clean allowed) ∷ later) plan.answer = (λ i. flushing serves now.most (Desk (BeginCommit (sym o.0 i) (sym o.1 i)) ∷ sym o.2 i) plan.answer) in
       subst P same (h (subst (λ (p : Plan). IsFlushing now.size [] p false y) (sym same) (not_leading (Desk (BeginCommit clean allowed)) later leads l is))))
 
-  look : want plan ≡ Cell (Look Fail) → Follows Quietly a s now (went now.words Flush plan (Look Fail) x)
-  look e = first plan (Flushing serves now.most) (Cell (Look Fail)) f.job e (λ p. IsOfFlush now.most p.steps → At p → Follows Quietly a s now (went now.words Flush p (Look Fail) x)) (λ later k o at. by later o at) (λ k q. absurd (cc)) f.steps f.at
+  look : want plan ≡ Cell (Look Fail) → WorldFollows Quietly a s now (went now.words Flush plan (Look Fail) x)
+  look e = first plan (Flushing serves now.most) (Cell (Look Fail)) f.job e (λ p. IsOfFlush now.most p.steps → At p → WorldFollows Quietly a s now (went now.words Flush p (Look Fail) x)) (λ later k o at. by later o at) (λ k q. absurd (cc)) f.steps f.at
     where
       At : Plan → Type 0
-      At p = IsLeading now.size now.words p y ⊎ IsLate now.words p y
+      At p = IsLeading now.size its.2.failed p y ⊎ IsLate its.2.failed p y
 
-      by : (later : List Want) → later ≡ Desk (BeginCommit false now.most) ∷ [] → At (flushing serves now.most (Cell (Look Fail) ∷ later) plan.answer) → Follows Quietly a s now (went now.words Flush (flushing serves now.most (Cell (Look Fail) ∷ later) plan.answer) (Look Fail) x)
+      by : (later : List Want) → later ≡ Desk (BeginCommit false now.most) ∷ [] → At (flushing serves now.most (Cell (Look Fail) ∷ later) plan.answer) → WorldFollows Quietly a s now (went now.words Flush (flushing serves now.most (Cell (Look Fail) ∷ later) plan.answer) (Look Fail) x)
       by later o (inl l) = looks now serves a x s y ex its.1 g later plan.answer o (not_leading (Cell (Look Fail)) later l.leads l.at l.is)
-      by later o (inr l) = late_looks now serves a x s y ex its.1 g later plan.answer l its.2
+      by later o (inr l) = late_looks now serves a x s y ex its.1 g later plan.answer its.2 l
 
   -- it answers; one that leads a commit still has failed
-  answered : (orders' awaiting' : List Order) → ((o : Order) → Contains (held x) o → Contains (orders' ++ awaiting') o) → (answer : Answer) → want plan ≡ End answer → Follows (Answers (FlushingFor None) answer) a s now (record x { task = None; orders = orders'; awaiting = awaiting' })
-  answered orders' awaiting' keeps answer e = answers_by plan (Flushing serves now.most) answer f.job e (λ later k. subst (λ (us : List Want). IsOfFlush now.most us) k f.steps) (λ p. IsLeading now.size now.words p y ⊎ IsLate now.words p y → Goal) by f.at
+  answered : (orders' awaiting' : List Order) → ((o : Order) → Contains (held x) o → Contains (orders' ++ awaiting') o) → (answer : Answer) → want plan ≡ End answer → WorldFollows (Answers (FlushingFor None) answer) a s now (record x { task = None; orders = orders'; awaiting = awaiting' })
+  answered orders' awaiting' keeps answer e = answers_by plan (Flushing serves now.most) answer f.job e (λ later k. subst (λ (us : List Want). IsOfFlush now.most us) k f.steps) (λ p. IsLeading now.size its.2.failed p y ⊎ IsLate its.2.failed p y → Goal) by f.at
     where
       p : Plan
       p = flushing serves now.most [] answer
 
       Goal : Type 0
-      Goal = Follows (Answers (FlushingFor None) answer) a s now (record x { task = None; orders = orders'; awaiting = awaiting' })
+      Goal = WorldFollows (Answers (FlushingFor None) answer) a s now (record x { task = None; orders = orders'; awaiting = awaiting' })
 
-      by : IsLeading now.size now.words p y ⊎ IsLate now.words p y → Goal
+      by : IsLeading now.size its.2.failed p y ⊎ IsLate its.2.failed p y → Goal
       by (inl l) = answers now a x s y ex its.1 g its.2 orders' awaiting' keeps (Answers (FlushingFor None) answer) (answers_at now.size [] (Flushing serves now.most) answer y (ap (λ (v : AbstractActor). v.task) l.is.is), refl)
           (record { steps = subst (λ (v : AbstractActor). IsNothingLeft v.task) (sym l.is.is) refl; free = by_lead l.leads refl })
         where
           by_lead : (b : Bool) → l.leads ≡ b → ((y.held ≡ Nothing) × (y.leads ≡ false)) ⊎ (flag now.words.fail ≡ true)
           by_lead false k = inl (ap (λ (v : AbstractActor). v.held) l.is.is, ap (λ (v : AbstractActor). v.leads) l.is.is ∙ k)
-          by_lead true k = inr (l.failed k refl)
-      by (inr l) = answers now a x s y ex its.1 g its.2 orders' awaiting' keeps (Answers (FlushingFor None) answer) (late_answers_so (FlushingFor None) now.words p answer y refl (λ t. let bad = ap (λ (q : Plan). q.steps) t in absurd (cc)) l, refl) (late_over now.words p y l)
+          by_lead true k = inr (its.2.has_failed (l.has_failed k refl))
+      by (inr l) = answers now a x s y ex its.1 g its.2 orders' awaiting' keeps (Answers (FlushingFor None) answer) (late_answers_so (FlushingFor None) its.2.failed p answer y refl (λ t. let bad = ap (λ (q : Plan). q.steps) t in absurd (cc)) l, refl) (late_over now.words its.2.failed its.2.has_failed p y l)
 
 pub flush_steps_followed : FlushStepsFollowed
 flush_steps_followed = record {
   looks = λ now a x plan s ex t e g. look now a x plan s ex t g e;
   begins = λ now nodes allowed clean a x plan s ex t e idle g.
       let u = its now a x plan s ex t g in let n = serves now a x plan s ex t g in
-      at_begin now a x plan s ex t g allowed clean e (λ p. FollowsBy Begins Quietly a s (record now { committing = true }) (after_step Flush p (Began nodes) x)) (λ is. begins now n a x s u.0 ex u.1 g nodes plan.answer idle is);
+      at_begin now a x plan s ex t g allowed clean e (λ p. WorldFollowsBy Begins Quietly a s (record now { committing = true }) (after_step Flush p (Began nodes) x)) (λ is. begins now n a x s u.0 ex u.1 g nodes plan.answer idle is);
   is_refused = λ now allowed clean refusal a x plan s no ex t e g.
       let u = its now a x plan s ex t g in let n = serves now a x plan s ex t g in
-      at_begin now a x plan s ex t g allowed clean e (λ p. Follows Quietly a s now (after_step Flush p (Refused refusal) x)) (λ is. is_refused now n a x s u.0 ex u.1 g refusal plan.answer no is);
+      at_begin now a x plan s ex t g allowed clean e (λ p. WorldFollows Quietly a s now (after_step Flush p (Refused refusal) x)) (λ is. is_refused now n a x s u.0 ex u.1 g refusal plan.answer no is);
   syncs = λ now device a x plan s h ex t e g.
       let u = its now a x plan s ex t g in let n = serves now a x plan s ex t g in
-      at_flush now a x plan s ex t g (Device (Sync device)) e tt (λ p. Follows Quietly a s (record now { devices = with_device device now.devices (synced (device_in device now.devices)) }) (after_step Flush p Done x))
+      at_flush now a x plan s ex t g (Device (Sync device)) e tt (λ p. WorldFollows Quietly a s (record now { devices = with_device device now.devices (synced (device_in device now.devices)) }) (after_step Flush p Done x))
       (λ later leads l o is. syncs now n a x s u.0 ex u.1 g device h later plan.answer o (leading now n a x s u.0 ex u.1 g (Device (Sync device)) later plan.answer leads l is));
   sync_fails = λ now device lands a x plan s h ex t e g.
       let u = its now a x plan s ex t g in let n = serves now a x plan s ex t g in
-      at_flush now a x plan s ex t g (Device (Sync device)) e tt (λ p. Follows Quietly a s (record now { devices = with_device device now.devices (synced_where lands (device_in device now.devices)) }) (after_step Flush p Fault x))
+      at_flush now a x plan s ex t g (Device (Sync device)) e tt (λ p. WorldFollows Quietly a s (record now { devices = with_device device now.devices (synced_where lands (device_in device now.devices)) }) (after_step Flush p Fault x))
       (λ later leads l o is. sync_falls now n a x s u.0 ex u.1 g lands device h later plan.answer (leading now n a x s u.0 ex u.1 g (Device (Sync device)) later plan.answer leads l is));
   on_metadata = λ now step metadata a x plan s d ex t e g.
       let u = its now a x plan s ex t g in let n = serves now a x plan s ex t g in
-      at_flush now a x plan s ex t g (Device step) e tt (λ p. FollowsBy (turn_of step) Quietly a s (record now { devices = with_device Metadata now.devices metadata }) (after_step Flush p Done x))
+      at_flush now a x plan s ex t g (Device step) e tt (λ p. WorldFollowsBy (turn_of step) Quietly a s (record now { devices = with_device Metadata now.devices metadata }) (after_step Flush p Done x))
       (λ later leads l o is. metadata_done now n a x s u.0 ex u.1 g metadata step later plan.answer d o (leading now n a x s u.0 ex u.1 g (Device step) later plan.answer leads l is));
   metadata_fails = λ now step metadata a x plan s d ex t e g.
       let u = its now a x plan s ex t g in let n = serves now a x plan s ex t g in
-      at_flush now a x plan s ex t g (Device step) e tt (λ p. (written : Bool) × IsWrittenAfter step s.shared.root_written written × FollowsBy (Puts written) Quietly a s (record now { devices = with_device Metadata now.devices metadata }) (after_step Flush p Fault x))
+      at_flush now a x plan s ex t g (Device step) e tt (λ p. (written : Bool) × IsWrittenAfter step s.shared.root_written written × WorldFollowsBy (Puts written) Quietly a s (record now { devices = with_device Metadata now.devices metadata }) (after_step Flush p Fault x))
       (λ later leads l o is. metadata_failed now n a x s u.0 ex u.1 g metadata step later plan.answer (is_on_metadata now n a x s u.0 ex u.1 g step later d o) (leading now n a x s u.0 ex u.1 g (Device step) later plan.answer leads l is));
   ends = λ now a x plan s ex t e g.
       let u = its now a x plan s ex t g in let n = serves now a x plan s ex t g in
-      at_flush now a x plan s ex t g (Desk EndCommit) e tt (λ p. FollowsBy Ends Quietly a s (record now { committing = false }) (after_step Flush p Done x))
+      at_flush now a x plan s ex t g (Desk EndCommit) e tt (λ p. WorldFollowsBy Ends Quietly a s (record now { committing = false }) (after_step Flush p Done x))
       (λ later leads l o is. last now n a x s u.0 ex u.1 g later plan.answer o (leading now n a x s u.0 ex u.1 g (Desk EndCommit) later plan.answer leads l is));
   releases = λ now block a x plan s ex t e g.
       let u = its now a x plan s ex t g in let n = serves now a x plan s ex t g in
-      at_flush now a x plan s ex t g (Desk (ReleaseOrder block)) e tt (λ p. Follows Quietly a s now (after_step Flush p Done x))
+      at_flush now a x plan s ex t g (Desk (ReleaseOrder block)) e tt (λ p. WorldFollows Quietly a s now (after_step Flush p Done x))
       (λ later leads l o is. releases now n a x s u.0 ex u.1 g block later plan.answer o (not_leading now a x plan s ex t g (Desk (ReleaseOrder block)) later leads l is));
   gives_up = λ now block a x plan c order awaiting' s ex t e slot only g.
       let u = its now a x plan s ex t g in let n = serves now a x plan s ex t g in
-      at_flush now a x plan s ex t g (Desk (ReleaseOrder block)) e tt (λ p. FollowsBy (GivesUp c) Releases a s (record now { orders = slice_set now.orders c None }) (record (after_step Flush p Done x) { awaiting = awaiting' }))
+      at_flush now a x plan s ex t g (Desk (ReleaseOrder block)) e tt (λ p. WorldFollowsBy (GivesUp c) Releases a s (record now { orders = slice_set now.orders c None }) (record (after_step Flush p Done x) { awaiting = awaiting' }))
       (λ later leads l o is. gives_up now n a x s u.0 ex u.1 g block later plan.answer o (not_leading now a x plan s ex t g (Desk (ReleaseOrder block)) later leads l is) c order awaiting' slot only);
   fails = λ now failures suspensions a x plan s w ex t e g.
       let u = its now a x plan s ex t g in let n = serves now a x plan s ex t g in
-      at_flush now a x plan s ex t g (Cell SetFailed) e tt (λ p. Follows Quietly a s (record now { words = words_after now.words SetFailed }) (went now.words Flush p SetFailed x))
-      (λ later leads l o is. let same : [] ≡ later = sym o in subst (λ (ws : List Want). Follows Quietly a s (record now { words = words_after now.words SetFailed }) (went now.words Flush (flushing n now.most (Cell SetFailed ∷ ws) plan.answer) SetFailed x)) same
+      at_flush now a x plan s ex t g (Cell SetFailed) e tt (λ p. WorldFollows Quietly a s (record now { words = words_after now.words SetFailed }) (went now.words Flush p SetFailed x))
+      (λ later leads l o is. let same : [] ≡ later = sym o in subst (λ (ws : List Want). WorldFollows Quietly a s (record now { words = words_after now.words SetFailed }) (went now.words Flush (flushing n now.most (Cell SetFailed ∷ ws) plan.answer) SetFailed x)) same
       (fails now n a x s u.0 ex u.1 g failures suspensions plan.answer w (subst (λ (ws : List Want). IsFlushing now.size [] (flushing n now.most (Cell SetFailed ∷ ws) plan.answer) true u.0) o (leading now n a x s u.0 ex u.1 g (Cell SetFailed) later plan.answer leads l is))));
   answers = λ now answer a x plan orders' awaiting' s ex t e keeps g. answered now a x plan s ex t g orders' awaiting' keeps answer e;
 }
   where
     last : (now : Situation) (blocks : List OBlock) (a : ℕ) (x : Actor) (s : World) (y : AbstractActor) (ex : slice_get now.actors a ≡ Some x) (ey : slice_get s.actors a ≡ Some y) (g : Agrees now s) → (later : List Want) (answer : Answer) →
-        IsOfFlush now.most (Desk EndCommit ∷ later) → IsFlushing now.size [] (flushing blocks now.most (Desk EndCommit ∷ later) answer) true y → FollowsBy Ends Quietly a s (record now { committing = false }) (after_step Flush (flushing blocks now.most (Desk EndCommit ∷ later) answer) Done x)
+        IsOfFlush now.most (Desk EndCommit ∷ later) → IsFlushing now.size [] (flushing blocks now.most (Desk EndCommit ∷ later) answer) true y → WorldFollowsBy Ends Quietly a s (record now { committing = false }) (after_step Flush (flushing blocks now.most (Desk EndCommit ∷ later) answer) Done x)
     last now blocks a x s v ex ev g [] answer o is = ends now blocks a x s v ex ev g answer is
     last now blocks a x s v ex ev g (next ∷ ws) answer o is = absurd o

@@ -39,7 +39,7 @@ use Rattle.wb_promise.specs.declared.job.Job.TheVariants.{Flush}
 use Rattle.wb_promise.specs.States.{Actor, with_device}
 use Rattle.wb_simulation.specs.Actors.{IsLate, IsOfFlush, LeadsAt, StandsFor, AreReleases}
 use Rattle.wb_simulation.specs.Telling.{Quietly, Releases}
-use Rattle.wb_simulation.specs.Worlds.{Situation, zeros, Agrees, Turn, Stays, Begins, Puts, Ends, GivesUp, TurnedTo, DeskTurnedTo, FollowsBy, Follows, IsUnfinished}
+use Rattle.wb_simulation.specs.Worlds.{Situation, zeros, Agrees, Turn, Stays, Begins, Puts, Ends, GivesUp, TurnedTo, DeskTurnedTo, WorldFollowsBy, WorldFollows, IsUnfinished}
 use Rattle.wb_simulation.specs.Laws.{turn_of, went, IsOnlyOf}
 use Rattle.wb_simulation.proofs.Telling.{unnoted_none, quiet_are_unnoted}
 use Rattle.wb_types.specs.declared.number.OBlock.{OBlock}
@@ -56,11 +56,11 @@ some_on (v ∷ ws) m = λ e. absurd (cc)
 module _ (now : Situation) (serves : List OBlock) (a : ℕ) (x : Actor) (s : World) (y : AbstractActor) (ex : slice_get now.actors a ≡ Some x) (ey : slice_get s.actors a ≡ Some y) (g : Agrees now s) where
   -- a step on a device, done, with this left
   abbrev OnBy : Turn → Devices (List History) → Plan → Type 0
-  OnBy turn devices' plan' = FollowsBy turn Quietly a s (record now { devices = devices' }) (record x { task = Some (Flush, plan') })
+  OnBy turn devices' plan' = WorldFollowsBy turn Quietly a s (record now { devices = devices' }) (record x { task = Some (Flush, plan') })
 
   -- and the images stay
   abbrev On : Devices (List History) → Plan → Type 0
-  On devices' plan' = Follows Quietly a s (record now { devices = devices' }) (record x { task = Some (Flush, plan') })
+  On devices' plan' = WorldFollows Quietly a s (record now { devices = devices' }) (record x { task = Some (Flush, plan') })
 
   -- who leads, where that is known of the step
   pub leading : (next : Want) (later : List Want) (answer : Answer) (leads : Bool) → leads ≡ true → IsFlushing now.size [] (flushing serves now.most (next ∷ later) answer) leads y → IsFlushing now.size [] (flushing serves now.most (next ∷ later) answer) true y
@@ -125,8 +125,8 @@ module _ (now : Situation) (serves : List OBlock) (a : ℕ) (x : Actor) (s : Wor
 
   -- the flush leads no commit before it and after it
   follows_alone : (devices' : Devices (List History)) (plan' : Plan) (card' : Card) → plan'.job ≡ Flushing serves now.most → IsOfFlush now.most plan'.steps → LeadsAt false plan'.steps → Leads now.size [] s.actors a s.shared y s.shared plan' false →
-      devices' ≡ now.devices → y.order ≡ None → Follows Quietly a s (record now { devices = devices' }) (record x { task = Some (Flush, plan'); card = card' })
-  follows_alone devices' plan' card' j o at l d own = subst (λ (ds : Devices (List History)). Follows Quietly a s (record now { devices = ds }) (record x { task = Some (Flush, plan'); card = card' })) (sym d)
+      devices' ≡ now.devices → y.order ≡ None → WorldFollows Quietly a s (record now { devices = devices' }) (record x { task = Some (Flush, plan'); card = card' })
+  follows_alone devices' plan' card' j o at l d own = subst (λ (ds : Devices (List History)). WorldFollows Quietly a s (record now { devices = ds }) (record x { task = Some (Flush, plan'); card = card' })) (sym d)
       (goes_on now now.words (λ f. f) a x (record x { task = Some (Flush, plan'); card = card' }) s y g ex ey Quietly now.devices l.results s.shared (l.results, quiet_are_unnoted y.task l.results l.quiet, refl) l.may l.shared
       (stands now serves a x s y ex ey g now.words plan' card' false (gone y y.task l.results) j o at (λ e n. absurd (cc)) l.at)
       (λ k. let bad : true ≡ false = sym k ∙ ap (λ (v : AbstractActor). v.leads) l.at.is in absurd (cc)) g.words_agree g.origin g.cache refl refl refl (refl, refl, refl) (refl, refl) (ap (λ (v : AbstractActor). v.order) l.at.is ∙ sym own) (λ o h. h) (does_none _ _ _ _ _ tt))
@@ -163,13 +163,13 @@ module _ (now : Situation) (serves : List OBlock) (a : ℕ) (x : Actor) (s : Wor
 
   -- an order that waits for it is given up there: it is aside
   pub gives_up : (block : OBlock) (later : List Want) (answer : Answer) → AreReleases later → IsFlushing now.size [] (flushing serves now.most (Desk (ReleaseOrder block) ∷ later) answer) false y → (c : ℕ) (order : Order) (awaiting' : List Order) → slice_get now.orders c ≡ Some (Some order) → IsOnlyOf now.actors a order →
-      FollowsBy (GivesUp c) Releases a s (record now { orders = slice_set now.orders c None }) (record x { task = Some (Flush, flushing serves now.most later answer); awaiting = awaiting' })
+      WorldFollowsBy (GivesUp c) Releases a s (record now { orders = slice_set now.orders c None }) (record x { task = Some (Flush, flushing serves now.most later answer); awaiting = awaiting' })
   gives_up block later answer are is c order awaiting' slot only = released_there now a x (record x { task = Some (Flush, flushing serves now.most later answer); awaiting = awaiting' }) s y ex ey g c order slot only (ap (λ (v : AbstractActor). v.order) is.is)
-      (let r = stands now serves a x s y ex ey g now.words (flushing serves now.most later answer) x.card false y refl (of_releases later are).0 (of_releases later are).1 (λ e n. absurd (cc)) (record { buffer = is.buffer; is = is.is }) in record { at = r.at; below = r.below; among_others = r.among_others }) tt
+      (let r = stands now serves a x s y ex ey g now.words (flushing serves now.most later answer) x.card false y refl (of_releases later are).0 (of_releases later are).1 (λ e n. absurd (cc)) (record { buffer = is.buffer; is = is.is }) in record { failed = r.failed; has_failed = r.has_failed; at = r.at; below = r.below; among_others = r.among_others }) tt
 
   -- a commit begins, which nobody has led
   pub begins : (nodes : ℕ) (answer : Answer) → now.committing ≡ false → IsFlushing now.size [] (flushing serves now.most (Desk (BeginCommit false now.most) ∷ []) answer) false y →
-      FollowsBy Begins Quietly a s (record now { committing = true }) (record x { task = Some (Flush, after (flushing serves now.most (Desk (BeginCommit false now.most) ∷ []) answer) (Began nodes)) })
+      WorldFollowsBy Begins Quietly a s (record now { committing = true }) (record x { task = Some (Flush, after (flushing serves now.most (Desk (BeginCommit false now.most) ∷ []) answer) (Began nodes)) })
   begins nodes answer quiet is =
       let plan' = after (flushing serves now.most (Desk (BeginCommit false now.most) ∷ []) answer) (Began nodes) in
       let none : s.shared.committing ≡ false = g.commits ∙ quiet in
@@ -186,7 +186,7 @@ module _ (now : Situation) (serves : List OBlock) (a : ℕ) (x : Actor) (s : Wor
       by_broken true e = absurd (runs (g.broken e))
 
   -- the commit ends, and nobody leads one
-  pub ends : (answer : Answer) → IsFlushing now.size [] (flushing serves now.most (Desk EndCommit ∷ []) answer) true y → FollowsBy Ends Quietly a s (record now { committing = false }) (record x { task = Some (Flush, after (flushing serves now.most (Desk EndCommit ∷ []) answer) Done) })
+  pub ends : (answer : Answer) → IsFlushing now.size [] (flushing serves now.most (Desk EndCommit ∷ []) answer) true y → WorldFollowsBy Ends Quietly a s (record now { committing = false }) (record x { task = Some (Flush, after (flushing serves now.most (Desk EndCommit ∷ []) answer) Done) })
   ends answer is =
       let plan' = after (flushing serves now.most (Desk EndCommit ∷ []) answer) Done in
       let l = followed_alone.ends now.size serves now.most [] s.actors a s.shared y answer is in
@@ -200,7 +200,7 @@ module _ (now : Situation) (serves : List OBlock) (a : ℕ) (x : Actor) (s : Wor
 
   -- the failed bit is set, and the commit is broken
   pub fails : (failures suspensions : ℕ) (answer : Answer) → now.words.fail ≡ fail_word failures suspensions → IsFlushing now.size [] (flushing serves now.most (Cell SetFailed ∷ []) answer) true y →
-      Follows Quietly a s (record now { words = words_after now.words SetFailed }) (record x { task = Some (Flush, after (flushing serves now.most (Cell SetFailed ∷ []) answer) Done); card = card_after now.words SetFailed x.card })
+      WorldFollows Quietly a s (record now { words = words_after now.words SetFailed }) (record x { task = Some (Flush, after (flushing serves now.most (Cell SetFailed ∷ []) answer) Done); card = card_after now.words SetFailed x.card })
   fails f z answer e is =
       let plan' = after (flushing serves now.most (Cell SetFailed ∷ []) answer) Done in
       let failed : flag (words_after now.words SetFailed).fail ≡ true = failed_flag now.words.fail f z e in
@@ -215,12 +215,12 @@ module _ (now : Situation) (serves : List OBlock) (a : ℕ) (x : Actor) (s : Wor
   -- ---- its look at the fail word, and its answer
 
   pub looks : (later : List Want) (answer : Answer) → later ≡ Desk (BeginCommit false now.most) ∷ [] → IsFlushing now.size [] (flushing serves now.most (Cell (Look Fail) ∷ later) answer) false y →
-      Follows Quietly a s now (went now.words Flush (flushing serves now.most (Cell (Look Fail) ∷ later) answer) (Look Fail) x)
+      WorldFollows Quietly a s now (went now.words Flush (flushing serves now.most (Cell (Look Fail) ∷ later) answer) (Look Fail) x)
   looks later answer n is = subst (λ (ws : List Want). Goal ws) (sym n)
       (let k = by_test (now.words.fail == 0) in follows_alone now.devices (after begun (Word now.words.fail)) _ k.2 k.0 k.1 (followed_alone.looks now.size serves now.most now.words.fail [] s.actors a s.shared y answer g.words_agree.fail is') refl (ap (λ (v : AbstractActor). v.order) is.is))
     where
       Goal : List Want → Type 0
-      Goal ws = Follows Quietly a s now (went now.words Flush (flushing serves now.most (Cell (Look Fail) ∷ ws) answer) (Look Fail) x)
+      Goal ws = WorldFollows Quietly a s now (went now.words Flush (flushing serves now.most (Cell (Look Fail) ∷ ws) answer) (Look Fail) x)
 
       begun : Plan
       begun = flushing serves now.most (Cell (Look Fail) ∷ Desk (BeginCommit false now.most) ∷ []) answer
@@ -237,7 +237,7 @@ module _ (now : Situation) (serves : List OBlock) (a : ℕ) (x : Actor) (s : Wor
 
 -- one that is late has no task there
 pub late_looks : (now : Situation) (serves : List OBlock) (a : ℕ) (x : Actor) (s : World) (y : AbstractActor) → slice_get now.actors a ≡ Some x → slice_get s.actors a ≡ Some y → Agrees now s →
-    (later : List Want) (answer : Answer) → IsLate now.words (flushing serves now.most (Cell (Look Fail) ∷ later) answer) y → StandsFor now.size now.most now.words x y → Follows Quietly a s now (went now.words Flush (flushing serves now.most (Cell (Look Fail) ∷ later) answer) (Look Fail) x)
-late_looks now serves a x s y ex ey g later answer l st = subst (λ (p : Plan). Follows Quietly a s now (record x { task = Some (Flush, p); card = card_after now.words (Look Fail) x.card })) (sym (finds_failed now.words (Flushing serves now.most) later answer l.failed))
+    (later : List Want) (answer : Answer) (st : StandsFor now.size now.most now.words x y) → IsLate st.failed (flushing serves now.most (Cell (Look Fail) ∷ later) answer) y → WorldFollows Quietly a s now (went now.words Flush (flushing serves now.most (Cell (Look Fail) ∷ later) answer) (Look Fail) x)
+late_looks now serves a x s y ex ey g later answer st l = subst (λ (p : Plan). WorldFollows Quietly a s now (record x { task = Some (Flush, p); card = card_after now.words (Look Fail) x.card })) (sym (finds_failed now.words (Flushing serves now.most) later answer (st.has_failed l.has_failed)))
     (stays_there now a x (record x { task = Some (Flush, flushing serves now.most [] (Refuses Failed)); card = card_after now.words (Look Fail) x.card }) s y g ex ey Quietly ([], unnoted_none y.task, refl)
-    (record { at = record { serves = serves; job = refl; steps = tt; at = inr (record { failed = l.failed; nothing = l.nothing; at = inr (refl, λ e. absurd (cc)) }) }; below = record { owned = st.below.owned; shared = st.below.shared }; among_others = st.among_others }) (λ o h. h) (does_none _ _ _ _ _ tt))
+    (record { failed = st.failed; has_failed = st.has_failed; at = record { serves = serves; job = refl; steps = tt; at = inr (record { has_failed = l.has_failed; nothing = l.nothing; at = inr (refl, λ e. absurd (cc)) }) }; below = record { owned = st.below.owned; shared = st.below.shared }; among_others = st.among_others }) (λ o h. h) (does_none _ _ _ _ _ tt))

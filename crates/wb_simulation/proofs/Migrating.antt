@@ -1,5 +1,5 @@
 -- A migration's steps on the shared words are followed.
-use Rattle.std.proofs.Common.{◌≡◌, ◌∙◌, ◌⊎◌, inl, inr, ℕ, List, ◌∷◌, Some, refl, sym, subst, arith, slice_get}
+use Rattle.std.proofs.Common.{Bool, ◌≡◌, ◌∙◌, ◌⊎◌, inl, inr, ℕ, List, ◌∷◌, Some, refl, sym, subst, arith, slice_get}
 use Rattle.wb_types.specs.declared.number.OBlock.{OBlock}
 use Rattle.wb_types.specs.declared.number.CBlock.{CBlock}
 use Rattle.wb_words.specs.SharedWords.{Words, word_at, place_in}
@@ -115,15 +115,15 @@ pub cells : (now : Situation) (blocks : ℕ) (a : ℕ) (x : Actor) (migration : 
 cells now blocks a x migration block plan step s rule ex task suits next sees g =
     let y = own_there now s g a x ex in
     let d = g.orders_agree.carried a x y.0 migration block plan ex y.1 task in
-    first plan (OnBlock (Migrating migration d.part)) (Cell step) d.job next (λ p. Suits blocks p x.card → At d.part y.0 p → Goal p) (λ rest k suits at. elim at [
+    first plan (OnBlock (Migrating migration d.part)) (Cell step) d.job next (λ p. Suits blocks p x.card → At d.failed d.part y.0 p → Goal p) (λ rest k suits at. elim at [
       | inl f ↦ goes d.part y.0 y.1 rest (acts now blocks a x step s y.0 g rule ex y.1 migration block d.part rest plan.answer f suits sees) (is_carried now blocks a x step s y.0 g rule ex y.1 migration block d.part rest plan.answer f suits sees)
           (carried_job now.size now.orders migration block d.part (Cell step ∷ rest) plan.answer x y.0 f)
-      | inr o ↦ goes d.part y.0 y.1 rest (acts_over (Migrating migration d.part) IsMigrating now.words s.actors a x.card s.shared y.0 plan.answer g.words_agree step rest y.2.below y.2.among_others o) (λ z (n : ⊥). absurd n)
+      | inr o ↦ goes d.part y.0 y.1 rest (acts_over (Migrating migration d.part) IsMigrating now.words s.actors a x.card s.shared y.0 plan.answer g.words_agree d.failed d.has_failed step rest y.2.below y.2.among_others o) (λ z (n : ⊥). absurd n)
           (elim o [ inl e ↦ subst IsMigratingOf (sym e.0.task) e.1 | inr l ↦ subst IsMigratingOf (sym l.nothing) tt ])
     ]) (λ k q. absurd (cc)) suits d.at
   where
-    At : BlockRange → AbstractActor → Plan → Type 0
-    At part y p = IsCarried now.size now.orders migration block part p.steps p.answer x y ⊎ HasEnded now.words p x y ⊎ IsLate now.words p y
+    At : Bool → BlockRange → AbstractActor → Plan → Type 0
+    At failed part y p = IsCarried now.size now.orders migration block part p.steps p.answer x y ⊎ HasEnded failed p x y ⊎ IsLate failed p y
 
     Goal : Plan → Type 0
     Goal p = Carried Stays a s (record now { words = words_after now.words step }) (went now.words (Migrate migration block) p step x)
@@ -134,4 +134,4 @@ cells now blocks a x migration block plan step s rule ex task suits next sees g 
     goes part y ey rest acted carried migrates =
         let of : Plan = plan_of (Migrating migration part) (Cell step ∷ rest) plan.answer in
         among_all now blocks a x (Migrate migration block) step s y rule ex ey g of Carries acted (acted.results, quiet_are_carried acted.results y.task migrates acted.quiet, refl) tt
-        (λ m b p e. at_it now.size (words_after now.words step) now.orders (went now.words (Migrate migration block) of step x) _ migration block (after of (got_of (result_of now.words step))) m b p (record { part = part; job = job_stays of (got_of (result_of now.words step)); at = elim acted.at [ inl i ↦ inl (carried _ i) | inr o ↦ inr o ] }) e)
+        (λ m b p e. at_it now.size (words_after now.words step) now.orders (went now.words (Migrate migration block) of step x) _ migration block (after of (got_of (result_of now.words step))) m b p (record { part = part; job = job_stays of (got_of (result_of now.words step)); failed = acted.failed; has_failed = acted.has_failed; at = elim acted.at [ inl i ↦ inl (carried _ i) | inr o ↦ inr o ] }) e)

@@ -27,7 +27,7 @@ use Rattle.wb_refines.specs.Migrations.{Fills, order_on}
 use Rattle.wb_promise.specs.declared.job.Job.TheVariants.{Migrate}
 use Rattle.wb_promise.specs.Effects.{contents_at, dropped, replacing}
 use Rattle.wb_promise.specs.States.{Actor, with_device}
-use Rattle.wb_simulation.specs.Worlds.{Situation, Agrees, Stays, Maps, Unmaps, GivesUp, Follows}
+use Rattle.wb_simulation.specs.Worlds.{Situation, Agrees, Stays, Maps, Unmaps, GivesUp, WorldFollows}
 use Rattle.wb_simulation.specs.Laws.{after_step}
 use Rattle.wb_simulation.specs.Migrating.{MigrationsFollowed, Carried, EndsOrder, TurnsOrder, LeavesFrom}
 use Rattle.wb_simulation.proofs.Followed.{first, answers_by, IsWithin, never_late, never_over}
@@ -59,7 +59,7 @@ module _ (now : Situation) (blocks : ℕ) (a : ℕ) (x : Actor) (migration : Mig
     | inl k ↦ first plan (OnBlock (Migrating migration at.part)) next at.job asked (λ p. IsCarried now.size now.orders migration block at.part p.steps p.answer x its.0 → Suits blocks p x.card → P p) (λ later is f has. h at.part later f has) (λ is end. absurd (subst IsWithin (sym end) within)) k suits
     | inr o ↦ elim o [
       | inl e ↦ absurd (never_over plan next asked within e.0.over)
-      | inr l ↦ absurd (never_late now.words plan (OnBlock (Migrating migration at.part)) next its.0 at.job refl asked within l)
+      | inr l ↦ absurd (never_late at.failed plan (OnBlock (Migrating migration at.part)) next its.0 at.job refl asked within l)
     ]
   ]
 
@@ -169,19 +169,19 @@ module _ (now : Situation) (blocks : ℕ) (a : ℕ) (x : Actor) (migration : Mig
 
   -- ---- its answer
 
-  answered : (answer : Answer) → want plan ≡ End answer → Follows Rests a s now (record x { task = None })
+  answered : (answer : Answer) → want plan ≡ End answer → WorldFollows Rests a s now (record x { task = None })
   answered answer asked = answers_by plan (OnBlock (Migrating migration at.part)) answer at.job asked (λ later k. (subst (λ (p : Plan). Suits blocks p x.card) (λ i. record { job = at.job i; steps = k i; answer = plan.answer }) suits).1.1.1)
-      (λ p. Suits blocks p x.card → IsCarried now.size now.orders migration block at.part p.steps p.answer x its.0 ⊎ HasEnded now.words p x its.0 ⊎ IsLate now.words p its.0 → Follows Rests a s now (record x { task = None })) (λ has on. by has.1 on) suits at.at
+      (λ p. Suits blocks p x.card → IsCarried now.size now.orders migration block at.part p.steps p.answer x its.0 ⊎ HasEnded at.failed p x its.0 ⊎ IsLate at.failed p its.0 → WorldFollows Rests a s now (record x { task = None })) (λ has on. by has.1 on) suits at.at
     where
-      rests : Rested its.0.task → IsOver now.words its.0 → Follows Rests a s now (record x { task = None })
+      rests : Rested its.0.task → IsOver now.words its.0 → WorldFollows Rests a s now (record x { task = None })
       rests rested over = answers now a x s its.0 ex its.1 g its.2 x.orders x.awaiting (λ o h. h) Rests (rested, refl) over
 
-      by : x.card.hold ≡ HoldsNothing → IsCarried now.size now.orders migration block at.part [] answer x its.0 ⊎ HasEnded now.words (plan_of (Migrating migration at.part) [] answer) x its.0 ⊎ IsLate now.words (plan_of (Migrating migration at.part) [] answer) its.0 → Follows Rests a s now (record x { task = None })
+      by : x.card.hold ≡ HoldsNothing → IsCarried now.size now.orders migration block at.part [] answer x its.0 ⊎ HasEnded at.failed (plan_of (Migrating migration at.part) [] answer) x its.0 ⊎ IsLate at.failed (plan_of (Migrating migration at.part) [] answer) its.0 → WorldFollows Rests a s now (record x { task = None })
       by h (inl k) =
           let is = ap (λ (v : AbstractActor). v.task) k.at.is in
           rests (subst Rested (sym is) (refl, under_migrates (order_on at.part k.c k.next) _ migration)) (record { steps = subst IsNothingLeft (sym is) refl; free = inl (ap (λ (v : AbstractActor). v.held) k.at.is ∙ ap held_of h, carried_leads now.size now.orders migration block at.part [] answer x its.0 k) })
-      by h (inr (inl e)) = rests (subst Rested (sym e.0.task) (e.0.nothing, e.1)) (stopped_over now.words (plan_of (Migrating migration at.part) [] answer) x.card its.0 refl e.0)
-      by h (inr (inr l)) = rests (subst Rested (sym l.nothing) tt) (late_over now.words (plan_of (Migrating migration at.part) [] answer) its.0 l)
+      by h (inr (inl e)) = rests (subst Rested (sym e.0.task) (e.0.nothing, e.1)) (stopped_over now.words at.failed at.has_failed (plan_of (Migrating migration at.part) [] answer) x.card its.0 refl e.0)
+      by h (inr (inr l)) = rests (subst Rested (sym l.nothing) tt) (late_over now.words at.failed at.has_failed (plan_of (Migrating migration at.part) [] answer) its.0 l)
 
 pub migrations_followed : MigrationsFollowed
 migrations_followed = record {

@@ -37,19 +37,19 @@ use Rattle.wb_types.specs.Extents.{rising}
 use Rattle.wb_simulation.specs.Steps.{IsPart, AreOfBlock}
 use Rattle.wb_simulation.specs.Actors.{IsLate, IsRequestAt, IsDoing, StandsFor}
 use Rattle.wb_simulation.specs.Telling.{Telling, IsTold, Quietly, Reads, Writes, reading as reading_script, AreUnnoted}
-use Rattle.wb_simulation.specs.Worlds.{Situation, zeros, Agrees, Follows}
+use Rattle.wb_simulation.specs.Worlds.{Situation, zeros, Agrees, WorldFollows}
 use Rattle.wb_simulation.specs.Laws.{ExtentStepsFollowed, after_step}
 use Rattle.wb_simulation.proofs.Orders.{MigratesNot, does_none}
 use Rattle.wb_simulation.proofs.Among.{own_there, goes_on}
 use Rattle.wb_simulation.proofs.Followed.{doing_of, begins_by}
 
 -- who has a step on a device to take is at its task there
-at_device : (size : ℕ) (content : Content) (words : Words) (job_on : BlockRange → BlockJob) (part : BlockRange) (step : DeviceStep) (ws : List Want) (answer : Answer) (card : Card) (y : AbstractActor) →
-    IsAt size content (plan_of (job_on part) (Device step ∷ ws) answer) card y ⊎ HasStopped words (plan_of (job_on part) (Device step ∷ ws) answer) card y ⊎ IsLate words (plan_of (job_on part) (Device step ∷ ws) answer) y →
+at_device : (size : ℕ) (content : Content) (failed : Bool) (job_on : BlockRange → BlockJob) (part : BlockRange) (step : DeviceStep) (ws : List Want) (answer : Answer) (card : Card) (y : AbstractActor) →
+    IsAt size content (plan_of (job_on part) (Device step ∷ ws) answer) card y ⊎ HasStopped failed (plan_of (job_on part) (Device step ∷ ws) answer) card y ⊎ IsLate failed (plan_of (job_on part) (Device step ∷ ws) answer) y →
     IsAt size content (plan_of (job_on part) (Device step ∷ ws) answer) card y
-at_device size content words job_on part step ws answer card y (inl i) = i
-at_device size content words job_on part step ws answer card y (inr (inl k)) = absurd k.over
-at_device size content words job_on part step ws answer card y (inr (inr l)) = elim l.at [
+at_device size content failed job_on part step ws answer card y (inl i) = i
+at_device size content failed job_on part step ws answer card y (inr (inl k)) = absurd k.over
+at_device size content failed job_on part step ws answer card y (inr (inr l)) = elim l.at [
   | inl e ↦ let steps = ap (λ (p : Plan). first_step p.steps p.answer) e in absurd (cc)
   | inr e ↦ let bad : Device step ∷ ws ≡ [] = e.0 in absurd (cc)
 ]
@@ -74,14 +74,14 @@ module _ (now : Situation) (a : ℕ) (x : Actor) (s : World) (y : AbstractActor)
 
   -- an actor of a request has moved an extent, and its device is this list now
   moved : (telling : Telling) (job : Job) (content : Content) (job_on : BlockRange → BlockJob) (plan : Plan) (device : Dev) (e : Extent) (got : AbstractGot) (list : List History) (z : AbstractActor) → IsTold telling a y.task (records a y.task (got ∷ [])) → HoldsBlocks device →
-      Moves now.size zeros s.actors a s.shared y y.task (location_at now.size device e) got list z → IsAt now.size content plan x.card z → is_alone z.task ≡ false → IsDoing now.size now.most now.words job plan x.card z →
-      y.order ≡ None → MigratesNot job → Follows telling a s (record now { devices = with_device device now.devices list }) (record x { task = Some (job, plan) })
+      Moves now.size zeros s.actors a s.shared y y.task (location_at now.size device e) got list z → IsAt now.size content plan x.card z → is_alone z.task ≡ false → IsDoing now.size now.most false job plan x.card z →
+      y.order ≡ None → MigratesNot job → WorldFollows telling a s (record now { devices = with_device device now.devices list }) (record x { task = Some (job, plan) })
   moved telling job content job_on plan device e got list z told h m at alone doing own other =
       let t = shared_after s.shared y y.task (got ∷ []) in
       let k = m.beside.images in
       let both = sides device e h list t m.side_is m.beside in
       goes_on now now.words (λ f. f) a x (record x { task = Some (job, plan) }) s y g ex ey telling (with_device device now.devices list) (got ∷ []) t told m.may refl
-      (subst (λ (v : AbstractActor). StandsFor now.size now.most now.words (record x { task = Some (job, plan) }) v) (sym m.is) (record { at = doing; below = has_no_more now.size content plan x.card z at; among_others = alone }))
+      (subst (λ (v : AbstractActor). StandsFor now.size now.most now.words (record x { task = Some (job, plan) }) v) (sym m.is) (record { failed = false; has_failed = λ e. absurd (cc); at = doing; below = has_no_more now.size content plan x.card z at; among_others = alone }))
       (λ l. let bad : true ≡ false = sym l ∙ ap (λ (v : AbstractActor). v.leads) (m.is ∙ at.is) in absurd (cc)) (words_beside now.words (location_at now.size device e) s.shared t m.beside g.words_agree)
       both.0 both.1 k.mode k.committing k.broken (k.committed, k.running, k.root_written) (k.mapping, k.blocks) (ap (λ (v : AbstractActor). v.order) (m.is ∙ at.is) ∙ sym own) (λ o h. h) (does_none _ _ _ _ _ other)
 
@@ -99,7 +99,7 @@ module _ (now : Situation) (blocks : ℕ) (a : ℕ) (x : Actor) (s : World) (y :
   writing = plan_of (Writing part) (Device (WriteExtent device e) ∷ ws) answer
 
   abbrev Then : Telling → Devices (List History) → Job → Plan → Got → Type 0
-  Then telling devices' job plan got = Follows telling a s (record now { devices = devices' }) (after_step job plan got x)
+  Then telling devices' job plan got = WorldFollows telling a s (record now { devices = devices' }) (after_step job plan got x)
 
   abbrev list : List History
   list = device_in device now.devices
@@ -171,7 +171,7 @@ module _ (now : Situation) (blocks : ℕ) (a : ℕ) (x : Actor) (s : World) (y :
       (record { part = part; job = refl; is_part = is_part; of_block = tt; at = inl at }) (ap (λ (v : AbstractActor). v.order) is.is) tt)
 
 -- a request of this part whose next step is on a device, as it is there
-pub record HasStep (size : ℕ) (content : Content) (words : Words) (job_on : BlockRange → BlockJob) (part : BlockRange) (step : DeviceStep) (plan : Plan) (card : Card) (y : AbstractActor) : Type 0 where
+pub record HasStep (size : ℕ) (content : Content) (job_on : BlockRange → BlockJob) (part : BlockRange) (step : DeviceStep) (plan : Plan) (card : Card) (y : AbstractActor) : Type 0 where
   pub is_part : IsPart size part
   pub later : List Want
   pub is : plan ≡ plan_of (job_on part) (Device step ∷ later) plan.answer
@@ -182,18 +182,18 @@ abbrev part_in : BlockRange → TaskJob → BlockRange
 part_in other (OnBlock job) = range_of job
 part_in other job = other
 
-has_step : (size : ℕ) (content : Content) (words : Words) (job_on : BlockRange → BlockJob) → ((part : BlockRange) → range_of (job_on part) ≡ part) → (part : BlockRange) (step : DeviceStep) (plan : Plan) (card : Card) (y : AbstractActor) → want plan ≡ Device step → plan.job ≡ OnBlock (job_on part) →
-    IsRequestAt size content words job_on plan card y → HasStep size content words job_on part step plan card y
-has_step size content words job_on range part step plan card y next of_part r = subst (λ (p : BlockRange). HasStep size content words job_on p step plan card y) same (record {
+has_step : (size : ℕ) (content : Content) (failed : Bool) (job_on : BlockRange → BlockJob) → ((part : BlockRange) → range_of (job_on part) ≡ part) → (part : BlockRange) (step : DeviceStep) (plan : Plan) (card : Card) (y : AbstractActor) → want plan ≡ Device step → plan.job ≡ OnBlock (job_on part) →
+    IsRequestAt size content failed job_on plan card y → HasStep size content job_on part step plan card y
+has_step size content failed job_on range part step plan card y next of_part r = subst (λ (p : BlockRange). HasStep size content job_on p step plan card y) same (record {
   is_part = r.is_part;
   later = b.0;
   is = is;
   of_block = subst (λ (ws : List Want). AreOfBlock size r.part.block.0 ws) b.1 r.of_block;
-  at = at_device size content words job_on r.part step b.0 plan.answer card y (subst At is r.at);
+  at = at_device size content failed job_on r.part step b.0 plan.answer card y (subst At is r.at);
 })
   where
     At : Plan → Type 0
-    At p = IsAt size content p card y ⊎ HasStopped words p card y ⊎ IsLate words p y
+    At p = IsAt size content p card y ⊎ HasStopped failed p card y ⊎ IsLate failed p y
 
     b : (ws : List Want) × (plan.steps ≡ Device step ∷ ws)
     b = begins_by plan (Device step) next (λ answer k. absurd (cc))
@@ -208,22 +208,22 @@ pub extent_steps_followed : ExtentStepsFollowed
 extent_steps_followed = record {
   read_done = λ now blocks a x extent part plan device e contents s ex task of_part suits next h n given g.
       let y = own_there now s g a x ex in
-      let k = has_step now.size [] now.words Reading (λ p. refl) part (ReadExtent device e) plan x.card y.0 next of_part (doing_of now.size now.most now.words x y.0 (Read extent) plan (g.each a x y.0 ex y.1) task) in
-      subst (λ (p : Plan). Follows (Reads part.block.0 (e.first % now.size) contents) a s now (after_step (Read extent) p Done x)) (sym k.is)
+      let k = has_step now.size [] _ Reading (λ p. refl) part (ReadExtent device e) plan x.card y.0 next of_part (doing_of now.size now.most now.words x y.0 (Read extent) plan (g.each a x y.0 ex y.1) task) in
+      subst (λ (p : Plan). WorldFollows (Reads part.block.0 (e.first % now.size) contents) a s now (after_step (Read extent) p Done x)) (sym k.is)
       (read_done now blocks a x s y.0 ex y.1 g part k.is_part device e k.later plan.answer h extent contents k.of_block (subst (λ (p : Plan). Suits blocks p x.card) k.is suits) n given k.at);
   read_fails = λ now blocks a x extent part plan device e s ex task of_part suits next h g.
       let y = own_there now s g a x ex in
-      let k = has_step now.size [] now.words Reading (λ p. refl) part (ReadExtent device e) plan x.card y.0 next of_part (doing_of now.size now.most now.words x y.0 (Read extent) plan (g.each a x y.0 ex y.1) task) in
-      subst (λ (p : Plan). Follows Quietly a s now (after_step (Read extent) p Fault x)) (sym k.is)
+      let k = has_step now.size [] _ Reading (λ p. refl) part (ReadExtent device e) plan x.card y.0 next of_part (doing_of now.size now.most now.words x y.0 (Read extent) plan (g.each a x y.0 ex y.1) task) in
+      subst (λ (p : Plan). WorldFollows Quietly a s now (after_step (Read extent) p Fault x)) (sym k.is)
       (read_fails now blocks a x s y.0 ex y.1 g part k.is_part device e k.later plan.answer h extent k.of_block k.at);
   write_done = λ now blocks a x extent content part plan device e s ex task of_part suits next h room g.
       let y = own_there now s g a x ex in
-      let k = has_step now.size content now.words Writing (λ p. refl) part (WriteExtent device e) plan x.card y.0 next of_part (doing_of now.size now.most now.words x y.0 (Write extent content) plan (g.each a x y.0 ex y.1) task) in
-      subst (λ (p : Plan). Follows (Writes part.block.0 (e.first % now.size) e.count content) a s (record now { devices = with_device device now.devices (written_each (device_in device now.devices) e.first (replicate e.count content)) }) (after_step (Write extent content) p Done x)) (sym k.is)
+      let k = has_step now.size content _ Writing (λ p. refl) part (WriteExtent device e) plan x.card y.0 next of_part (doing_of now.size now.most now.words x y.0 (Write extent content) plan (g.each a x y.0 ex y.1) task) in
+      subst (λ (p : Plan). WorldFollows (Writes part.block.0 (e.first % now.size) e.count content) a s (record now { devices = with_device device now.devices (written_each (device_in device now.devices) e.first (replicate e.count content)) }) (after_step (Write extent content) p Done x)) (sym k.is)
       (write_done now blocks a x s y.0 ex y.1 g part k.is_part device e k.later plan.answer h extent content k.of_block (subst (λ (p : Plan). Suits blocks p x.card) k.is suits) room k.at);
   write_fails = λ now blocks a x extent content part plan device e lands s ex task of_part suits next h room g.
       let y = own_there now s g a x ex in
-      let k = has_step now.size content now.words Writing (λ p. refl) part (WriteExtent device e) plan x.card y.0 next of_part (doing_of now.size now.most now.words x y.0 (Write extent content) plan (g.each a x y.0 ex y.1) task) in
-      subst (λ (p : Plan). Follows (Writes part.block.0 (e.first % now.size) e.count content) a s (record now { devices = with_device device now.devices (written_where lands (device_in device now.devices) e.first (replicate e.count content)) }) (after_step (Write extent content) p Fault x)) (sym k.is)
+      let k = has_step now.size content _ Writing (λ p. refl) part (WriteExtent device e) plan x.card y.0 next of_part (doing_of now.size now.most now.words x y.0 (Write extent content) plan (g.each a x y.0 ex y.1) task) in
+      subst (λ (p : Plan). WorldFollows (Writes part.block.0 (e.first % now.size) e.count content) a s (record now { devices = with_device device now.devices (written_where lands (device_in device now.devices) e.first (replicate e.count content)) }) (after_step (Write extent content) p Fault x)) (sym k.is)
       (write_fails now blocks a x s y.0 ex y.1 g part k.is_part device e k.later plan.answer h extent content lands k.of_block room k.at);
 }

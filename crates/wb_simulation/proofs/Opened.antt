@@ -237,7 +237,9 @@ opened_followed size most origin_blocks cache_blocks clean entries learnt blocks
   one_leads = λ a b y z e f l m. absurd (nobody a y e l);
   many = length-replicate (length actors) idle;
   each = λ a x y e f. subst (λ (v : AbstractActor). StandsFor size most words x v) (replicated (length actors) a idle y f) (record {
-    at = subst (λ t. IsBusyAt size most words t x.card idle) (sym (rest a x e)) (refl, inl (record { task = refl; held = refl; leads = refl }));
+    failed = false;
+    has_failed = λ e. absurd (cc);
+    at = subst (λ t. IsBusyAt size most false t x.card idle) (sym (rest a x e)) (refl, inl (record { task = refl; held = refl; leads = refl }));
     below = holds_nothing idle x.card refl;
     among_others = refl;
   });

@@ -35,7 +35,7 @@ use Rattle.wb_refines.proofs.Going.{goes}
 use Rattle.wb_simulation.specs.Steps.{IsPart}
 use Rattle.wb_simulation.specs.Carried.{held, order_there, live_there, IsOf, IsOrderFor, IsCarried}
 use Rattle.wb_simulation.specs.Telling.{Resumes, IsResumed, Given, Kept, Failing, Nowhere}
-use Rattle.wb_simulation.specs.Worlds.{Situation, Agrees, OrdersAgree, IsThere, Turn, Stays, FollowsBy, Follows}
+use Rattle.wb_simulation.specs.Worlds.{Situation, Agrees, OrdersAgree, IsThere, Turn, Stays, WorldFollowsBy, WorldFollows}
 use Rattle.wb_simulation.specs.Migrating.{order_of, IsUngiven, MayBeGiven, MayBeKept, given_by, migrates, begun}
 use Rattle.std.proofs.lemmas.List.Elements.{Contains-append_left}
 use Rattle.wb_simulation.specs.Laws.{IsOnlyOf}
@@ -183,7 +183,7 @@ module _ (now : Situation) (a : ℕ) (x : Actor) (migration : Migration) (block 
     done fills = is_done now.size orders' migration block part plan x' begun_there (carried_then orders' its slot mine fills) now.words refl refl
 
     -- it has begun there, and then this is shared
-    begins_there : (turn : Turn) (rs : List Record) → Fills migration c → IsRun now.size s rs → after_all s rs ≡ record { shared = t; actors = slice_set s.actors a begun_there; waiting = waiting } → IsResumed a y.task rs → IsGiven now.words turn s.shared t → FollowsBy turn Resumes a s (record now { orders = orders' }) x'
+    begins_there : (turn : Turn) (rs : List Record) → Fills migration c → IsRun now.size s rs → after_all s rs ≡ record { shared = t; actors = slice_set s.actors a begun_there; waiting = waiting } → IsResumed a y.task rs → IsGiven now.words turn s.shared t → WorldFollowsBy turn Resumes a s (record now { orders = orders' }) x'
     begins_there turn rs fills run is told i = begins now a x x' s y g ex ey turn Resumes orders' rs waiting t begun_there run is told i (λ l. let bad : false ≡ true = l in absurd (cc))
         (carried_stands now.size orders' migration block part plan x' begun_there (carried_then orders' its slot mine fills) now.words refl now.most) (ordered begun_there refl (done fills))
 
@@ -191,9 +191,9 @@ module _ (now : Situation) (a : ℕ) (x : Actor) (migration : Migration) (block 
     abbrev fallen : AbstractActor
     fallen = record y { task = None; order = Some own }
 
-    falls_there : (turn : Turn) (rs : List Record) → flag now.words.fail ≡ true → IsRun now.size s rs → after_all s rs ≡ record { shared = t; actors = slice_set s.actors a fallen; waiting = waiting } → IsResumed a y.task rs → IsGiven now.words turn s.shared t → FollowsBy turn Resumes a s (record now { orders = orders' }) x'
+    falls_there : (turn : Turn) (rs : List Record) → flag now.words.fail ≡ true → IsRun now.size s rs → after_all s rs ≡ record { shared = t; actors = slice_set s.actors a fallen; waiting = waiting } → IsResumed a y.task rs → IsGiven now.words turn s.shared t → WorldFollowsBy turn Resumes a s (record now { orders = orders' }) x'
     falls_there turn rs failed run is told i = begins now a x x' s y g ex ey turn Resumes orders' rs waiting t fallen run is told i (λ l. (l, λ more. absurd more))
-        (record { at = tt; below = record { owned = st.below.owned; shared = st.below.shared }; among_others = refl }) (ordered fallen refl (late_done now.size now.words orders' migration block part plan x' fallen refl refl (record { failed = failed; nothing = refl; at = inl refl })))
+        (record { failed = false; has_failed = λ e. absurd (cc); at = tt; below = record { owned = st.below.owned; shared = st.below.shared }; among_others = refl }) (ordered fallen refl (late_done now.size now.words orders' migration block part plan x' fallen refl refl true (λ e. failed) (record { has_failed = refl; nothing = refl; at = inl refl })))
 
   falls : (ys : List AbstractActor) (m : Migration) (u : Shared) (v : AbstractActor) → u.fail ≡ true → MayGo ys a u v (Some (table_there (job_under own (offsets now.size cut) m))) (Flag true ∷ DoneThere ∷ []) × (shared_after u v (Some (table_there (job_under own (offsets now.size cut) m))) (Flag true ∷ DoneThere ∷ []) ≡ u) × (gone v (Some (table_there (job_under own (offsets now.size cut) m))) (Flag true ∷ DoneThere ∷ []) ≡ record v { task = None })
   falls ys (Promote k) u v f = ((sym f, tt, (tt, tt, tt)), refl, refl)
@@ -207,7 +207,7 @@ module _ (now : Situation) (a : ℕ) (x : Actor) (migration : Migration) (block 
     starting = record x { task = Some (Migrate migration block, plan); orders = order ∷ x.orders }
 
     abbrev Goal : Type 0
-    Goal = FollowsBy (given_by migration c.0) Resumes a s (record now { orders = orders_then }) starting
+    Goal = WorldFollowsBy (given_by migration c.0) Resumes a s (record now { orders = orders_then }) starting
 
     free : Ungiven s own
     free = ungiven now s g own apart
@@ -251,12 +251,12 @@ module _ (now : Situation) (a : ℕ) (x : Actor) (migration : Migration) (block 
     resuming = begun (Migrate migration block) plan x
 
     abbrev Again_goal : Type 0
-    Again_goal = Follows Resumes a s now resuming
+    Again_goal = WorldFollows Resumes a s now resuming
 
     -- it has kept something at a failure, and nothing is begun there
     late : flag now.words.fail ≡ true → Again_goal
-    late failed = stays_there now a x resuming s y g ex ey Resumes (subst (λ (t : Option Script). IsResumed a t (records a t [])) (sym rest.0) (Nowhere refl refl)) (record { at = tt; below = st.below; among_others = st.among_others }) (λ o h. h)
-        (late_done now.size now.words now.orders migration block part plan resuming y refl refl (record { failed = failed; nothing = rest.0; at = inl refl }))
+    late failed = stays_there now a x resuming s y g ex ey Resumes (subst (λ (t : Option Script). IsResumed a t (records a t [])) (sym rest.0) (Nowhere refl refl)) (record { failed = false; has_failed = λ e. absurd (cc); at = tt; below = st.below; among_others = st.among_others }) (λ o h. h)
+        (late_done now.size now.words now.orders migration block part plan resuming y refl refl true (λ e. failed) (record { has_failed = refl; nothing = rest.0; at = inl refl }))
 
     -- no other actor has it
     nobody_else : (b : ℕ) (v : AbstractActor) (p : AbstractOrder) → b ≢ a → slice_get s.actors b ≡ Some v → v.order ≡ Some p → p.cache ≡ c.0 → ⊥

@@ -27,8 +27,6 @@ use Rattle.wb_promise.specs.States.{Actor}
 use Rattle.wb_simulation.specs.Steps.{AreOfBlock, ArePaired}
 use Rattle.wb_simulation.specs.Carried.{HasRead, IsUnder, held, is_at, replacement_there, order_there, live_there, IsOf, IsCarried, IsAtMigration}
 use Rattle.wb_simulation.specs.Worlds.{IsThere, OrdersAgree}
-use Rattle.wb_simulation.specs.Telling.{IsMigrating}
-use Rattle.wb_simulation.proofs.Kept.{late_on, ended_on}
 
 -- an order of the desk is on its cache block there too
 pub cache_there : (m : Locations) (c : ℕ) (o : Order) → (order_there m c o).cache ≡ c
@@ -176,9 +174,11 @@ module _ (size : ℕ) (words words' : Words) (up : flag words.fail ≡ true → 
     at_on migration block plan z u b n eu d = record {
       part = d.part;
       job = d.job;
+      failed = d.failed;
+      has_failed = λ e. up (d.has_failed e);
       at = elim d.at [
         | inl k ↦ inl (carried_beside size orders orders' migration block d.part plan.steps plan.answer z u (λ p e. beside p.cache (alone b u p n eu e)) k)
-        | inr o ↦ elim o [ inl e ↦ inr (inl (ended_on size size words words' up u IsMigrating plan z.card e)) | inr l ↦ inr (inr (late_on size size words words' up u plan l)) ]
+        | inr o ↦ inr o
       ];
     }
 

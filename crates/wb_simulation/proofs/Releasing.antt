@@ -11,7 +11,7 @@ use Rattle.wb_promise.specs.States.{Actor}
 use Rattle.wb_simulation.specs.Actors.{StandsFor}
 use Rattle.wb_simulation.specs.Carried.{held, live_there, order_there}
 use Rattle.wb_simulation.specs.Telling.{Releases}
-use Rattle.wb_simulation.specs.Worlds.{Situation, Agrees, OrdersAgree, GivesUp, FollowsBy}
+use Rattle.wb_simulation.specs.Worlds.{Situation, Agrees, OrdersAgree, GivesUp, WorldFollowsBy}
 use Rattle.wb_simulation.specs.Laws.{IsOnlyOf}
 use Rattle.wb_simulation.proofs.Starting.{begins}
 use Rattle.wb_simulation.proofs.Orders.{IsNoMigration, cache_there, does_none, begins_so}
@@ -57,6 +57,6 @@ module _ (now : Situation) (a : ℕ) (x x' : Actor) (s : World) (y : AbstractAct
       (λ d n. set_other now.orders c d None n) (λ d n. changed_other s.waiting c d None n ∙ sym (ap (λ (o : Option AbstractOrder). aside s.waiting o d) none))
       (λ d p e w. let bad : None ≡ Some p = sym (changed_same s.waiting c None) ∙ ap (changed s.waiting c None) (sym e) ∙ w in absurd (cc)) (λ b v p n ev e at. nobody b v p ev e at) t refl
 
-  pub released_there : FollowsBy (GivesUp c) Releases a s (record now { orders = over }) x'
+  pub released_there : WorldFollowsBy (GivesUp c) Releases a s (record now { orders = over }) x'
   released_there = begins now a x x' s y g ex ey (GivesUp c) Releases over (Release c ∷ []) (changed s.waiting c None) t y ((own, waits, nobody_alone now s g), tt) world_is (c, refl)
       (record { words_agree = record { fail = g.words_agree.fail; seals = g.words_agree.seals }; origin = refl; cache = refl; mode = refl; commits = refl; broken = refl; mapping = refl; turned = (refl, refl, refl); desk = (refl, refl) }) (λ l. (l, λ more. more)) st ordered

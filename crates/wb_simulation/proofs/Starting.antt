@@ -17,7 +17,7 @@ use Rattle.wb_promise.specs.States.{Actor}
 use Rattle.wb_simulation.specs.Steps.{IsPart}
 use Rattle.wb_simulation.specs.Actors.{IsLate, IsBusyAt, IsDoing, StandsFor}
 use Rattle.wb_simulation.specs.Telling.{Telling, Quietly, Starts, IsTold}
-use Rattle.wb_simulation.specs.Worlds.{Situation, Agrees, OrdersAgree, Turn, Stays, TurnedTo, DeskTurnedTo, FollowsBy}
+use Rattle.wb_simulation.specs.Worlds.{Situation, Agrees, OrdersAgree, Turn, Stays, TurnedTo, DeskTurnedTo, WorldFollowsBy}
 use Rattle.wb_simulation.specs.Laws.{StartsFollowed, Begun}
 use Rattle.wb_simulation.proofs.Telling.{unnoted_none}
 use Rattle.wb_simulation.proofs.Cells.{Leading}
@@ -42,12 +42,12 @@ given_nothing words s w = record { words_agree = w; origin = refl; cache = refl;
 module _ (now : Situation) (a : ℕ) (x x' : Actor) (s : World) (y : AbstractActor) (g : Agrees now s) (ex : slice_get now.actors a ≡ Some x) (ey : slice_get s.actors a ≡ Some y) where
   -- These records give it something to do, and its actor there is this one then.
   pub begins : (turn : Turn) (telling : Telling) (orders' : List (Option Order)) (rs : List Record) (waiting : ℕ → Option AbstractOrder) (t : Shared) (y' : AbstractActor) → IsRun now.size s rs → after_all s rs ≡ record { shared = t; actors = slice_set s.actors a y'; waiting = waiting } → IsTold telling a y.task rs → IsGiven now.words turn s.shared t → Leading y y' → StandsFor now.size now.most now.words x' y' →
-      OrdersAgree now.size now.words orders' (slice_set now.actors a x') (record { shared = t; actors = slice_set s.actors a y'; waiting = waiting }) → FollowsBy turn telling a s (record now { orders = orders' }) x'
+      OrdersAgree now.size now.words orders' (slice_set now.actors a x') (record { shared = t; actors = slice_set s.actors a y'; waiting = waiting }) → WorldFollowsBy turn telling a s (record now { orders = orders' }) x'
   begins turn telling orders' rs waiting t y' run is told i leading st ordered = follows_by now now.words (λ f. f) a x x' s y g ex ey turn telling now.committing orders' now.devices rs _ run is told
       (agrees_on now now.words (λ f. f) a x x' s y g ex ey orders' now.devices waiting t y' leading st i.words_agree (i.origin ∙ g.origin) (i.cache ∙ g.cache) i.mode i.commits i.broken ordered) i.turned i.desk
 
 pub rests : (size most : ℕ) (words : Words) (x : Actor) (y : AbstractActor) → StandsFor size most words x y → x.task ≡ None → (y.task ≡ None) × (IsResting y ⊎ (flag words.fail ≡ true))
-rests size most words x y st e = subst (λ t. IsBusyAt size most words t x.card y) e st.at
+rests size most words x y st e = let r = subst (λ t. IsBusyAt size most st.failed t x.card y) e st.at in (r.0, elim r.1 [ inl i ↦ inl i | inr f ↦ inr (st.has_failed f) ])
 
 module _ (now : Situation) (a : ℕ) (x : Actor) (s : World) (ex : slice_get now.actors a ≡ Some x) (none : x.task ≡ None) (g : Agrees now s) where
   its : (y : AbstractActor) × (slice_get s.actors a ≡ Some y) × StandsFor now.size now.most now.words x y
@@ -57,16 +57,16 @@ module _ (now : Situation) (a : ℕ) (x : Actor) (s : World) (ex : slice_get now
   y = its.0
 
   -- The same job is started there, or nothing is, since the actor has kept something.
-  starts : (job : Job) (plan : Plan) (there : AbstractJob) → MigratesNot job → MayStart now.size s there → reserved s.shared there ≡ s.shared → order_of there ≡ None → job_alone there ≡ false → plan ≡ table plan.job → (IsResting y → IsDoing now.size now.most now.words job plan x.card (given y there)) → (IsLate now.words plan y → IsDoing now.size now.most now.words job plan x.card y) →
+  starts : (job : Job) (plan : Plan) (there : AbstractJob) → MigratesNot job → MayStart now.size s there → reserved s.shared there ≡ s.shared → order_of there ≡ None → job_alone there ≡ false → plan ≡ table plan.job → (IsResting y → IsDoing now.size now.most (flag now.words.fail) job plan x.card (given y there)) → (IsLate (flag now.words.fail) plan y → IsDoing now.size now.most (flag now.words.fail) job plan x.card y) →
       Begun there a s now (record x { task = Some (job, plan) })
   starts job plan there other may same no_order among begun doing late = elim (rests now.size now.most now.words x y its.2 none).1 [
     | inl idle ↦ inl (begins now a x x' s y g ex its.1 Stays (Starts there) now.orders (Start a there ∷ []) (aside s.waiting y.order) s.shared (given y there)
         ((y, record { actor = its.1; task = idle.task; free = inl (idle.held, idle.leads); nobody_alone = nobody_alone now s g; may = may }), tt)
         (ap (λ (o : Option AbstractActor). start_actor s a o there) its.1 ∙ ap (λ (u : Shared). record { shared = u; actors = slice_set s.actors a (given y there); waiting = aside s.waiting y.order }) same) refl (given_nothing now.words s.shared g.words_agree)
-        (λ l. let bad : true ≡ false = sym l ∙ idle.leads in absurd (cc)) (record { at = doing idle; below = holds_nothing (given y there) x.card idle.held; among_others = among })
+        (λ l. let bad : true ≡ false = sym l ∙ idle.leads in absurd (cc)) (record { failed = flag now.words.fail; has_failed = λ e. e; at = doing idle; below = holds_nothing (given y there) x.card idle.held; among_others = among })
         (orders_begun now.size now.words now.orders now.actors a x x' s y (given y there) s.shared ex its.1 g.orders_agree no_order refl (does_none _ _ _ _ _ other)))
     | inr f ↦ inr (stays_there now a x x' s y g ex its.1 Quietly ([], unnoted_none y.task, refl)
-        (record { at = late (record { failed = f; nothing = (rests now.size now.most now.words x y its.2 none).0; at = inl begun }); below = its.2.below; among_others = its.2.among_others }) (λ o h. h) (does_none _ _ _ _ _ other))
+        (record { failed = flag now.words.fail; has_failed = λ e. e; at = late (record { has_failed = f; nothing = (rests now.size now.most now.words x y its.2 none).0; at = inl begun }); below = its.2.below; among_others = its.2.among_others }) (λ o h. h) (does_none _ _ _ _ _ other))
   ]
     where
       x' : Actor
@@ -93,6 +93,6 @@ starts_followed = record {
       let plan = table (Flushing serves now.most) in
       let u = y now a x s ex none g in
       starts now a x s ex none g Flush plan (FlushingFor None) tt refl refl refl refl refl
-      (λ idle. record { serves = serves; job = refl; steps = refl; at = inl (record { leads = false; at = refl; failed = λ e n. absurd (cc); is = record { buffer = u.buffer; is = λ i. record { task = Some (script_for now.size [] plan); held = idle.held i; order = None; leads = idle.leads i; buffer = u.buffer } } }) })
+      (λ idle. record { serves = serves; job = refl; steps = refl; at = inl (record { leads = false; at = refl; has_failed = λ e n. absurd (cc); is = record { buffer = u.buffer; is = λ i. record { task = Some (script_for now.size [] plan); held = idle.held i; order = None; leads = idle.leads i; buffer = u.buffer } } }) })
       (λ l. record { serves = serves; job = refl; steps = refl; at = inr l });
 }

@@ -4,7 +4,7 @@ use Rattle.wb_types.specs.declared.number.CBlock.{CBlock}
 use Rattle.wb_types.specs.declared.number.OBlock.{OBlock}
 use Rattle.wb_disk.specs.Device.{Content}
 use Rattle.wb_contents.specs.Volume.{Locations}
-use Rattle.wb_words.specs.SharedWords.{Words}
+use Rattle.wb_words.specs.SharedWords.{Words, flag}
 use Rattle.wb_policy.specs.declared.order.Order.{Order}
 use Rattle.wb_policy.specs.declared.order.Order.TheVariants.{Promote, Replace, Demote, Clean}
 use Rattle.wb_tasks.specs.Tables.{BlockRange, Migrating, OnBlock}
@@ -94,11 +94,13 @@ pub record IsCarried (size : ℕ) (orders : List (Option Order)) (migration : Mi
   pub read : HasRead size steps x.buffer y.buffer
 
 -- it has kept what it has at a failure, and has only to answer
-abbrev pub HasEnded : Words → Plan → Actor → AbstractActor → Type 0
-HasEnded words plan x y = (k : HasStopped words plan x.card y) × IsMigrating k.script.job
+abbrev pub HasEnded : Bool → Plan → Actor → AbstractActor → Type 0
+HasEnded failed plan x y = (k : HasStopped failed plan x.card y) × IsMigrating k.script.job
 
 -- a migration is at the same there, has kept what it has at a failure, or is late
 pub record IsAtMigration (size : ℕ) (words : Words) (orders : List (Option Order)) (migration : Migration) (block : OBlock) (plan : Plan) (x : Actor) (y : AbstractActor) : Type 0 where
   pub part : BlockRange
   pub job : plan.job ≡ OnBlock (Migrating migration part)
-  pub at : IsCarried size orders migration block part plan.steps plan.answer x y ⊎ HasEnded words plan x y ⊎ IsLate words plan y
+  pub failed : Bool
+  pub has_failed : failed ≡ true → flag words.fail ≡ true
+  pub at : IsCarried size orders migration block part plan.steps plan.answer x y ⊎ HasEnded failed plan x y ⊎ IsLate failed plan y

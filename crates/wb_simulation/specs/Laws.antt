@@ -38,7 +38,7 @@ use Rattle.wb_runs.specs.Holding.{cards_of}
 use Rattle.wb_simulation.specs.Carried.{held}
 use Rattle.wb_simulation.specs.Steps.{IsPart}
 use Rattle.wb_simulation.specs.Telling.{Quietly, Reads, Writes, Answers, Starts, Releases}
-use Rattle.wb_simulation.specs.Worlds.{zeros, Situation, Agrees, Turn, Stays, Begins, Puts, Ends, GivesUp, FollowsBy, Follows}
+use Rattle.wb_simulation.specs.Worlds.{zeros, Situation, Agrees, Turn, Stays, Begins, Puts, Ends, GivesUp, WorldFollowsBy, WorldFollows}
 
 abbrev pub IsRequestJob : Job → Type 0
 IsRequestJob (Read extent) = Unit {0}
@@ -53,7 +53,7 @@ went words job plan step x = record x { task = Some (job, after plan (got_of (re
 abbrev pub CellStepsFollowed : Type 0
 CellStepsFollowed = (now : Situation) (blocks : ℕ) (a : ℕ) (x : Actor) (job : Job) (plan : Plan) (step : CellStep) (s : World) →
     IsRequestJob job → LockRule blocks now.words (cards_of now.actors) → slice_get now.actors a ≡ Some x → x.task ≡ Some (job, plan) → Suits blocks plan x.card → want plan ≡ Cell step → Agrees now s →
-    Follows Quietly a s (record now { words = words_after now.words step }) (went now.words job plan step x)
+    WorldFollows Quietly a s (record now { words = words_after now.words step }) (went now.words job plan step x)
 
 -- an actor that has gone on with its task, and knows what it knew
 abbrev pub after_step : Job → Plan → Got → Actor → Actor
@@ -63,20 +63,20 @@ after_step job plan got x = record x { task = Some (job, after plan got) }
 pub record ExtentStepsFollowed : Type 0 where
   pub read_done : (now : Situation) (blocks : ℕ) (a : ℕ) (x : Actor) (extent : Extent) (part : BlockRange) (plan : Plan) (device : Dev) (e : Extent) (contents : List Content) (s : World) →
       slice_get now.actors a ≡ Some x → x.task ≡ Some (Read extent, plan) → plan.job ≡ OnBlock (Reading part) → Suits blocks plan x.card → want plan ≡ Device (ReadExtent device e) → HoldsBlocks device → length contents ≡ e.count → GivesEach (device_in device now.devices) e.first contents →
-      Agrees now s → Follows (Reads part.block.0 (e.first % now.size) contents) a s now (after_step (Read extent) plan Done x)
+      Agrees now s → WorldFollows (Reads part.block.0 (e.first % now.size) contents) a s now (after_step (Read extent) plan Done x)
   pub read_fails : (now : Situation) (blocks : ℕ) (a : ℕ) (x : Actor) (extent : Extent) (part : BlockRange) (plan : Plan) (device : Dev) (e : Extent) (s : World) →
       slice_get now.actors a ≡ Some x → x.task ≡ Some (Read extent, plan) → plan.job ≡ OnBlock (Reading part) → Suits blocks plan x.card → want plan ≡ Device (ReadExtent device e) → HoldsBlocks device →
-      Agrees now s → Follows Quietly a s now (after_step (Read extent) plan Fault x)
+      Agrees now s → WorldFollows Quietly a s now (after_step (Read extent) plan Fault x)
   pub write_done : (now : Situation) (blocks : ℕ) (a : ℕ) (x : Actor) (extent : Extent) (content : Content) (part : BlockRange) (plan : Plan) (device : Dev) (e : Extent) (s : World) →
       slice_get now.actors a ≡ Some x → x.task ≡ Some (Write extent content, plan) → plan.job ≡ OnBlock (Writing part) → Suits blocks plan x.card → want plan ≡ Device (WriteExtent device e) → HoldsBlocks device → e.first + e.count ≤ length (device_in device now.devices) →
-      Agrees now s → Follows (Writes part.block.0 (e.first % now.size) e.count content) a s (record now { devices = with_device device now.devices (written_each (device_in device now.devices) e.first (replicate e.count content)) }) (after_step (Write extent content) plan Done x)
+      Agrees now s → WorldFollows (Writes part.block.0 (e.first % now.size) e.count content) a s (record now { devices = with_device device now.devices (written_each (device_in device now.devices) e.first (replicate e.count content)) }) (after_step (Write extent content) plan Done x)
   pub write_fails : (now : Situation) (blocks : ℕ) (a : ℕ) (x : Actor) (extent : Extent) (content : Content) (part : BlockRange) (plan : Plan) (device : Dev) (e : Extent) (lands : ℕ → Bool) (s : World) →
       slice_get now.actors a ≡ Some x → x.task ≡ Some (Write extent content, plan) → plan.job ≡ OnBlock (Writing part) → Suits blocks plan x.card → want plan ≡ Device (WriteExtent device e) → HoldsBlocks device → e.first + e.count ≤ length (device_in device now.devices) →
-      Agrees now s → Follows (Writes part.block.0 (e.first % now.size) e.count content) a s (record now { devices = with_device device now.devices (written_where lands (device_in device now.devices) e.first (replicate e.count content)) }) (after_step (Write extent content) plan Fault x)
+      Agrees now s → WorldFollows (Writes part.block.0 (e.first % now.size) e.count content) a s (record now { devices = with_device device now.devices (written_where lands (device_in device now.devices) e.first (replicate e.count content)) }) (after_step (Write extent content) plan Fault x)
 
 -- The job is given to the actor there too, or to nobody, since the actor has kept something at a failure.
 abbrev pub Begun : AbstractJob → ℕ → World → Situation → Actor → Type 0
-Begun job a s now x = Follows (Starts job) a s now x ⊎ Follows Quietly a s now x
+Begun job a s now x = WorldFollows (Starts job) a s now x ⊎ WorldFollows Quietly a s now x
 
 -- A read or write of one part of a block, or a flush, begins, whether its actor has kept something at a failure or not.
 pub record StartsFollowed : Type 0 where
@@ -99,7 +99,7 @@ content_of job = []
 abbrev pub AnswersFollowed : Type 0
 AnswersFollowed = (now : Situation) (blocks : ℕ) (a : ℕ) (x : Actor) (job : Job) (plan : Plan) (answer : Answer) (s : World) →
     IsRequestJob job → slice_get now.actors a ≡ Some x → x.task ≡ Some (job, plan) → Suits blocks plan x.card → want plan ≡ End answer → Agrees now s →
-    Follows (Answers (job_for now.size (content_of job) plan.job) answer) a s now (record x { task = None })
+    WorldFollows (Answers (job_for now.size (content_of job) plan.job) answer) a s now (record x { task = None })
 
 -- a step of a commit on the metadata writes the root, or is nothing to the images
 abbrev pub turn_of : DeviceStep → Turn
@@ -114,42 +114,42 @@ IsOnlyOf actors a order = (b : ℕ) (z : Actor) → slice_get actors b ≡ Some 
 pub record FlushStepsFollowed : Type 0 where
   pub looks : (now : Situation) (a : ℕ) (x : Actor) (plan : Plan) (s : World) →
       slice_get now.actors a ≡ Some x → x.task ≡ Some (Flush, plan) → want plan ≡ Cell (Look Fail) → Agrees now s →
-      Follows Quietly a s now (went now.words Flush plan (Look Fail) x)
+      WorldFollows Quietly a s now (went now.words Flush plan (Look Fail) x)
   pub begins : (now : Situation) (nodes allowed : ℕ) (clean : Bool) (a : ℕ) (x : Actor) (plan : Plan) (s : World) →
       slice_get now.actors a ≡ Some x → x.task ≡ Some (Flush, plan) → want plan ≡ Desk (BeginCommit clean allowed) → now.committing ≡ false → Agrees now s →
-      FollowsBy Begins Quietly a s (record now { committing = true }) (after_step Flush plan (Began nodes) x)
+      WorldFollowsBy Begins Quietly a s (record now { committing = true }) (after_step Flush plan (Began nodes) x)
   pub is_refused : (now : Situation) (allowed : ℕ) (clean : Bool) (refusal : Refusal) (a : ℕ) (x : Actor) (plan : Plan) (s : World) → IsNoBegin refusal →
       slice_get now.actors a ≡ Some x → x.task ≡ Some (Flush, plan) → want plan ≡ Desk (BeginCommit clean allowed) → Agrees now s →
-      Follows Quietly a s now (after_step Flush plan (Refused refusal) x)
+      WorldFollows Quietly a s now (after_step Flush plan (Refused refusal) x)
   pub syncs : (now : Situation) (device : Dev) (a : ℕ) (x : Actor) (plan : Plan) (s : World) → HoldsBlocks device →
       slice_get now.actors a ≡ Some x → x.task ≡ Some (Flush, plan) → want plan ≡ Device (Sync device) → Agrees now s →
-      Follows Quietly a s (record now { devices = with_device device now.devices (synced (device_in device now.devices)) }) (after_step Flush plan Done x)
+      WorldFollows Quietly a s (record now { devices = with_device device now.devices (synced (device_in device now.devices)) }) (after_step Flush plan Done x)
   pub sync_fails : (now : Situation) (device : Dev) (lands : ℕ → Bool) (a : ℕ) (x : Actor) (plan : Plan) (s : World) → HoldsBlocks device →
       slice_get now.actors a ≡ Some x → x.task ≡ Some (Flush, plan) → want plan ≡ Device (Sync device) → Agrees now s →
-      Follows Quietly a s (record now { devices = with_device device now.devices (synced_where lands (device_in device now.devices)) }) (after_step Flush plan Fault x)
+      WorldFollows Quietly a s (record now { devices = with_device device now.devices (synced_where lands (device_in device now.devices)) }) (after_step Flush plan Fault x)
   -- whatever the step leaves of the metadata
   pub on_metadata : (now : Situation) (step : DeviceStep) (metadata : List History) (a : ℕ) (x : Actor) (plan : Plan) (s : World) → device_of step ≡ Metadata →
       slice_get now.actors a ≡ Some x → x.task ≡ Some (Flush, plan) → want plan ≡ Device step → Agrees now s →
-      FollowsBy (turn_of step) Quietly a s (record now { devices = with_device Metadata now.devices metadata }) (after_step Flush plan Done x)
+      WorldFollowsBy (turn_of step) Quietly a s (record now { devices = with_device Metadata now.devices metadata }) (after_step Flush plan Done x)
   pub metadata_fails : (now : Situation) (step : DeviceStep) (metadata : List History) (a : ℕ) (x : Actor) (plan : Plan) (s : World) → device_of step ≡ Metadata →
       slice_get now.actors a ≡ Some x → x.task ≡ Some (Flush, plan) → want plan ≡ Device step → Agrees now s →
-      (written : Bool) × IsWrittenAfter step s.shared.root_written written × FollowsBy (Puts written) Quietly a s (record now { devices = with_device Metadata now.devices metadata }) (after_step Flush plan Fault x)
+      (written : Bool) × IsWrittenAfter step s.shared.root_written written × WorldFollowsBy (Puts written) Quietly a s (record now { devices = with_device Metadata now.devices metadata }) (after_step Flush plan Fault x)
   pub ends : (now : Situation) (a : ℕ) (x : Actor) (plan : Plan) (s : World) →
       slice_get now.actors a ≡ Some x → x.task ≡ Some (Flush, plan) → want plan ≡ Desk EndCommit → Agrees now s →
-      FollowsBy Ends Quietly a s (record now { committing = false }) (after_step Flush plan Done x)
+      WorldFollowsBy Ends Quietly a s (record now { committing = false }) (after_step Flush plan Done x)
   -- an order that waits for it is given up, or none is
   pub gives_up : (now : Situation) (block : OBlock) (a : ℕ) (x : Actor) (plan : Plan) (c : ℕ) (order : Order) (awaiting' : List Order) (s : World) →
       slice_get now.actors a ≡ Some x → x.task ≡ Some (Flush, plan) → want plan ≡ Desk (ReleaseOrder block) → slice_get now.orders c ≡ Some (Some order) → IsOnlyOf now.actors a order → Agrees now s →
-      FollowsBy (GivesUp c) Releases a s (record now { orders = slice_set now.orders c None }) (record (after_step Flush plan Done x) { awaiting = awaiting' })
+      WorldFollowsBy (GivesUp c) Releases a s (record now { orders = slice_set now.orders c None }) (record (after_step Flush plan Done x) { awaiting = awaiting' })
   pub releases : (now : Situation) (block : OBlock) (a : ℕ) (x : Actor) (plan : Plan) (s : World) →
       slice_get now.actors a ≡ Some x → x.task ≡ Some (Flush, plan) → want plan ≡ Desk (ReleaseOrder block) → Agrees now s →
-      Follows Quietly a s now (after_step Flush plan Done x)
+      WorldFollows Quietly a s now (after_step Flush plan Done x)
   pub fails : (now : Situation) (failures suspensions : ℕ) (a : ℕ) (x : Actor) (plan : Plan) (s : World) → now.words.fail ≡ fail_word failures suspensions →
       slice_get now.actors a ≡ Some x → x.task ≡ Some (Flush, plan) → want plan ≡ Cell SetFailed → Agrees now s →
-      Follows Quietly a s (record now { words = words_after now.words SetFailed }) (went now.words Flush plan SetFailed x)
+      WorldFollows Quietly a s (record now { words = words_after now.words SetFailed }) (went now.words Flush plan SetFailed x)
   pub answers : (now : Situation) (answer : Answer) (a : ℕ) (x : Actor) (plan : Plan) (orders' awaiting' : List Order) (s : World) →
       slice_get now.actors a ≡ Some x → x.task ≡ Some (Flush, plan) → want plan ≡ End answer → ((o : Order) → Contains (held x) o → Contains (orders' ++ awaiting') o) → Agrees now s →
-      Follows (Answers (FlushingFor None) answer) a s now (record x { task = None; orders = orders'; awaiting = awaiting' })
+      WorldFollows (Answers (FlushingFor None) answer) a s now (record x { task = None; orders = orders'; awaiting = awaiting' })
 
 -- a target that was just made over empty devices of these sizes, with so many actors who have nothing to do, and no order
 abbrev pub CanAgree : Type 0

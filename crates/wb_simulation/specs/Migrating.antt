@@ -40,7 +40,7 @@ use Rattle.wb_promise.specs.Effects.{contents_at, dropped, replacing}
 use Rattle.wb_runs.specs.Holding.{cards_of}
 use Rattle.wb_contents.specs.Volume.{Locations}
 use Rattle.wb_simulation.specs.Carried.{order_there, IsOrderFor}
-use Rattle.wb_simulation.specs.Worlds.{Situation, Agrees, Turn, Stays, Reserves, Maps, Unmaps, GivesUp, FollowsBy, Follows}
+use Rattle.wb_simulation.specs.Worlds.{Situation, Agrees, Turn, Stays, Reserves, Maps, Unmaps, GivesUp, WorldFollowsBy, WorldFollows}
 
 -- no order that is live shares a block with this one
 abbrev pub IsUngiven : Locations → List (Option Order) → AbstractOrder → Type 0
@@ -89,7 +89,7 @@ migrates size migration block cut = table (OnBlock (Migrating migration (record 
 
 -- It goes on with a migration, to where the run stands now, with this actor.
 abbrev pub Carried : Turn → ℕ → World → Situation → Actor → Type 0
-Carried turn a s now x = FollowsBy turn Carries a s now x
+Carried turn a s now x = WorldFollowsBy turn Carries a s now x
 
 -- It ends its order, which is live on this cache block and its actor's, and goes on as this actor.
 pub record EndsOrder (turn : Turn) (c a : ℕ) (s : World) (now : Situation) (x y : Actor) (order : Order) : Type 0 where
@@ -111,13 +111,13 @@ pub record MigrationsFollowed : Type 0 where
   pub starts : (now : Situation) (a : ℕ) (x : Actor) (migration : Migration) (block : OBlock) (c : CBlock) (next : Option ℕ) (order : Order) (cut : List Extent) (s : World) →
       slice_get now.actors a ≡ Some x → x.task ≡ None → x.card.hold ≡ Nothing → 0 < now.size → c.0 < 2 ^ 32 → IsCutInto (whole_block now.size block) cut → slice_get now.orders c.0 ≡ Some None → IsOrderFor migration block next order → order_there s.shared.mapping c.0 order ≡ order_of block c next → IsUngiven s.shared.mapping now.orders (order_of block c next) → ((b : ℕ) → next ≡ Some b → s.shared.mapping b ≡ None) →
       MayBeGiven migration block.0 c.0 s.shared → Agrees now s →
-      FollowsBy (given_by migration c.0) Resumes a s (record now { orders = slice_set now.orders c.0 (Some order) })
+      WorldFollowsBy (given_by migration c.0) Resumes a s (record now { orders = slice_set now.orders c.0 (Some order) })
       (record x { task = Some (Migrate migration block, migrates now.size migration block cut); orders = order ∷ x.orders })
   -- under one that lives and is its actor's alone
   pub again : (now : Situation) (a : ℕ) (x : Actor) (migration : Migration) (block : OBlock) (c : CBlock) (next : Option ℕ) (order : Order) (cut : List Extent) (s : World) →
       slice_get now.actors a ≡ Some x → x.task ≡ None → x.card.hold ≡ Nothing → 0 < now.size → c.0 < 2 ^ 32 → IsCutInto (whole_block now.size block) cut → slice_get now.orders c.0 ≡ Some (Some order) → IsOrderFor migration block next order → order_there s.shared.mapping c.0 order ≡ order_of block c next → Contains x.orders order → IsOnlyOf now.actors a order →
       MayBeKept migration c.0 s.shared → Agrees now s →
-      Follows Resumes a s now (begun (Migrate migration block) (migrates now.size migration block cut) x)
+      WorldFollows Resumes a s now (begun (Migrate migration block) (migrates now.size migration block cut) x)
   pub cells : (now : Situation) (blocks : ℕ) (a : ℕ) (x : Actor) (migration : Migration) (block : OBlock) (plan : Plan) (step : CellStep) (s : World) →
       LockRule blocks now.words (cards_of now.actors) → slice_get now.actors a ≡ Some x → x.task ≡ Some (Migrate migration block, plan) → Suits blocks plan x.card → want plan ≡ Cell step → SeesWhere now.words now.orders s.shared.mapping migration block step → Agrees now s →
       Carried Stays a s (record now { words = words_after now.words step }) (went now.words (Migrate migration block) plan step x)
@@ -151,4 +151,4 @@ pub record MigrationsFollowed : Type 0 where
   -- whatever it is
   pub answers : (now : Situation) (blocks : ℕ) (a : ℕ) (x : Actor) (migration : Migration) (block : OBlock) (plan : Plan) (answer : Answer) (s : World) →
       slice_get now.actors a ≡ Some x → x.task ≡ Some (Migrate migration block, plan) → Suits blocks plan x.card → want plan ≡ End answer → Agrees now s →
-      Follows Rests a s now (record x { task = None })
+      WorldFollows Rests a s now (record x { task = None })

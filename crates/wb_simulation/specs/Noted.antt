@@ -14,7 +14,7 @@ use Rattle.wb_promise.specs.Clerk.{Notes, Doing, begins, begun, put, nobody, ent
 use Rattle.wb_promise.specs.States.{Actor}
 use Rattle.wb_simulation.specs.Noting.{NotesAgree}
 use Rattle.wb_simulation.specs.Telling.{Telling, Quietly, Reads, Writes, Answers, Starts, Resumes, Carries, Rests, Releases}
-use Rattle.wb_simulation.specs.Worlds.{zeros, Situation, Turn, FollowsBy}
+use Rattle.wb_simulation.specs.Worlds.{zeros, Situation, Turn, WorldFollowsBy}
 
 -- the abstract notes after these records
 abbrev pub told : AbstractNotes → List Record → AbstractNotes
@@ -27,7 +27,7 @@ AreNewest histories b o (c ∷ contents) = (c ≡ newest (histories b o)) × Are
 
 -- What a run of the abstract world that follows a happening makes of notes that agree, whose actor is this one there before it.
 abbrev pub Kept : Telling → ((size : ℕ) (n : Notes) (a : ℕ) (y : AbstractActor) → (Notes → Type 0) → Type 0) → Type 0
-Kept telling Premise = (turn : Turn) (a : ℕ) (s : World) (now : Situation) (x : Actor) (f : FollowsBy turn telling a s now x) (y : AbstractActor) (n : Notes) (m : AbstractNotes) →
+Kept telling Premise = (turn : Turn) (a : ℕ) (s : World) (now : Situation) (x : Actor) (f : WorldFollowsBy turn telling a s now x) (y : AbstractActor) (n : Notes) (m : AbstractNotes) →
     slice_get s.actors a ≡ Some y → a < length n.doings → NotesAgree now.size n s m → Premise now.size n a y (λ (n' : Notes). NotesAgree now.size n' (after_all s f.records) (told m f.records))
 
 pub record NotesFollowed : Type 0 where
@@ -59,5 +59,5 @@ pub record NotesFollowed : Type 0 where
   -- an opening that is answered done begins notes anew with what it shows
   pub anew : (size many : ℕ) (shown : List Content) (view : ℕ → ℕ → Content) (s : World) (t : Shared) → by_block size zeros (map only shown) ≡ (λ b o. only (view b o)) → NotesAgree size (begins many shown) (emptied s t) (opened view)
   -- where the records are right, what a read is given are the last entries of the histories
-  pub newest_read : (turn : Turn) (block offset : ℕ) (contents : List Content) (a : ℕ) (s : World) (now : Situation) (x : Actor) (f : FollowsBy turn (Reads block offset contents) a s now x) (y : AbstractActor) (n : Notes) (m : AbstractNotes) →
+  pub newest_read : (turn : Turn) (block offset : ℕ) (contents : List Content) (a : ℕ) (s : World) (now : Situation) (x : Actor) (f : WorldFollowsBy turn (Reads block offset contents) a s now x) (y : AbstractActor) (n : Notes) (m : AbstractNotes) →
       slice_get s.actors a ≡ Some y → a < length n.doings → NotesAgree now.size n s m → AllRight m (map (λ (r : Record). On r) f.records) → AreNewest (by_block now.size zeros n.histories) block offset contents

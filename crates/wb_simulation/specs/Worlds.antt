@@ -114,7 +114,7 @@ DeskTurnedTo turn s t = (t.mapping ≡ mapping_by turn s) × (t.blocks ≡ block
 
 -- The world can go on by some records of this actor, to where the run stands now with that actor as this one, and this comes of its desk and
 -- images.
-pub record FollowsBy (turn : Turn) (telling : Telling) (a : ℕ) (s : World) (now : Situation) (x : Actor) : Type 0 where
+pub record WorldFollowsBy (turn : Turn) (telling : Telling) (a : ℕ) (s : World) (now : Situation) (x : Actor) : Type 0 where
   pub records : List Record
   pub run : IsRun now.size s records
   pub agrees : Agrees (record now { actors = slice_set now.actors a x }) (after_all s records)
@@ -123,5 +123,5 @@ pub record FollowsBy (turn : Turn) (telling : Telling) (a : ℕ) (s : World) (no
   pub told : (y : AbstractActor) → slice_get s.actors a ≡ Some y → IsTold telling a y.task records
 
 -- the same, and desk and images stay
-abbrev pub Follows : Telling → ℕ → World → Situation → Actor → Type 0
-Follows telling a s now x = FollowsBy Stays telling a s now x
+abbrev pub WorldFollows : Telling → ℕ → World → Situation → Actor → Type 0
+WorldFollows telling a s now x = WorldFollowsBy Stays telling a s now x
