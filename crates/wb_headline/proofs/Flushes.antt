@@ -172,7 +172,7 @@ module _ (P A : Type 0) (shape : Shape) (images : Images) (t : Target P) (commit
 
   -- ---- steps on devices
 
-  module _ (turn : Turn) (step : DeviceStep) (got : Got) (contents : List Bytes) (t' : Target P) (commit' : Option RunningCommit) (devices' : Devices (List History)) (images' : Images) (plain : Rattle.wb_promise.specs.Effects.buffer_then devices x.buffer (Device step) got Flush ≡ x.buffer) (next : Device step ≡ want plan)
+  module _ (turn : Turn) (step : DeviceStep) (got : Got) (contents : List Bytes) (t' : Target P) (commit' : Option RunningCommit) (devices' : Devices (List History)) (images' : Images) (plain : Rattle.wb_promise.specs.Effects.buffer_then devices x.buffer (Device step) got Flush ≡ x.buffer)
       (g : WorldFollowsBy turn Quietly a f.site.world (situation shape t' devices' actors) (after_step Flush plan got x)) where
     device_notes : NotesAgree (size P A shape) (device_n step got) (after_all f.site.world g.records) (told f.notes g.records)
     device_notes = let e = failing_same doing step got in notes_followed.redone (size P A shape) n (after_all f.site.world g.records) (told f.notes g.records) a doing (failing doing step got) (quiet_notes turn t'.words t'.desk.space.committing (live_orders t'.desk) devices' (after_step Flush plan got x) g) noted e.0 e.1
@@ -192,7 +192,7 @@ module _ (P A : Type 0) (shape : Shape) (images : Images) (t : Target P) (commit
         let known' = subst (λ (m : List History). AtDesk shape.geometry images t.desk commit m) (sym (data_device device holds devices list)) known in
         let s' = (after_all f.site.world g.records).shared in
         let readable = kept_readable shape.geometry images (with_device device devices list).metadata P A (Stands t) commit known' in
-        on_device Stays (Sync device) got contents t commit (with_device device devices list) images refl next g known' (desk_stays P t.desk s s' f.phase.desk t.desk refl refl g.desk.0 g.desk.1)
+        on_device Stays (Sync device) got contents t commit (with_device device devices list) images refl g known' (desk_stays P t.desk s s' f.phase.desk t.desk refl refl g.desk.0 g.desk.1)
         (images_followed.stay shape.geometry images.committed (later_of images) devices.metadata (with_device device devices list).metadata s s' f.phase.images_agree g.turned readable.read) (λ state e. g.turned.1 ∙ f.phase.running state e)
 
     syncs : Goes P A shape (then_is t commit (with_device device devices (synced (device_in device devices))) (Device (Sync device)) Done) (noted_step shape [] n a (Some (Some doing)) (Device (Sync device)) Done contents)
@@ -242,7 +242,7 @@ module _ (P A : Type 0) (shape : Shape) (images : Images) (t : Target P) (commit
         let readable = kept_readable shape.geometry u.now new P A (Stands t) (Some c') known' in
         let there : s'.running ≡ locations l.of.new = so.3 ∙ f.phase.running l.of.new running_now in
         subst (λ (m : Option RunningCommit). Goes P A shape (then_is t m devices' (Device step) Done) (noted_step shape [] n a (Some (Some doing)) (Device step) Done contents)) (sym (ap (λ (m : Option RunningCommit). led m Done) runs))
-        (on_device (turn_of step) step Done contents t (Some c') devices' u.now plain next g known' (desk_stays P t.desk s s' f.phase.desk t.desk refl refl so.0 so.1)
+        (on_device (turn_of step) step Done contents t (Some c') devices' u.now plain g known' (desk_stays P t.desk s s' f.phase.desk t.desk refl refl so.0 so.1)
         (record {
           read = readable.read;
           committed_is = so.2 ∙ f.phase.images_agree.committed_is ∙ ap locations (sym same);
@@ -260,7 +260,7 @@ module _ (P A : Type 0) (shape : Shape) (images : Images) (t : Target P) (commit
         let readable = failed_read shape.geometry images c l.of devices.metadata new l.under bad in
         let there : s'.running ≡ locations l.of.new = g.turned.1 ∙ f.phase.running l.of.new running_now in
         subst (λ (m : Option RunningCommit). Goes P A shape (then_is t m devices' (Device step) Fault) (noted_step shape [] n a (Some (Some doing)) (Device step) Fault contents)) (sym (ap (λ (m : Option RunningCommit). led m Fault) runs))
-        (on_device (Puts written) step Fault contents t None devices' images' plain next g (record { is = k.is; stands = inr (record { readable = readable; busy = l.busy }) }) (desk_stays P t.desk s s' f.phase.desk t.desk refl refl g.desk.0 g.desk.1)
+        (on_device (Puts written) step Fault contents t None devices' images' plain g (record { is = k.is; stands = inr (record { readable = readable; busy = l.busy }) }) (desk_stays P t.desk s s' f.phase.desk t.desk refl refl g.desk.0 g.desk.1)
         (record {
           read = readable.read;
           committed_is = g.turned.0 ∙ f.phase.images_agree.committed_is ∙ ap locations (sym committed_now);

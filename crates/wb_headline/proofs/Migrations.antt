@@ -280,7 +280,7 @@ module _ (P A : Type 0) (shape : Shape) (t : Target P) (commit : Option RunningC
       (desk_maps P t.desk s (after_all f.site.world g.records).shared f.phase.desk bl c tree policy room (let l = en.inside in let m = kept.mapping.size in omega (arith, l, m)) (unmapped_there P t.desk kept bl.0 en.unmapped) en.none changed g.desk.0 g.desk.1)
 
   -- one that was demoted leaves, or one that another is to follow
-  module _ (bl : OBlock) (read : List Bytes) (new : DeskState P) (next : Desk (Unmap bl) ≡ want plan) (did : DidUnmap (λ policy o. new.policy) bl t.desk new) (same : bl ≡ block) where
+  module _ (bl : OBlock) (read : List Bytes) (new : DeskState P) (did : DidUnmap (λ policy o. new.policy) bl t.desk new) (same : bl ≡ block) where
     abbrev away : Actor
     away = then_actor bl (replacing bl x.orders ++ x.awaiting)
 
@@ -313,9 +313,9 @@ module _ (P A : Type 0) (shape : Shape) (t : Target P) (commit : Option RunningC
             let at = subst (λ (k : OBlock). IsMappedAt (holdings t.desk) k.0 c) (sym same) (stands_so P t.desk kept s f.phase.desk block.0 c (leaving block c None (DemoteOrder block) d.live (inl (refl, refl)) (λ no. absurd (no refl)))) in
             let of = for_block Demote block bl same in
             let none = none_waits P t.desk kept actors are owned a x ex parted bl c (DemoteOrder block) d.live d.mine tt at of refl in
-            leaves_to bl read new next did same c (DemoteOrder block) d.live d.mine tt at of false refl None refl (slice_set slots c None) (sym (orders_set t.desk.orders.slots c None))
+            leaves_to bl read new did same c (DemoteOrder block) d.live d.mine tt at of false refl None refl (slice_set slots c None) (sym (orders_set t.desk.orders.slots c None))
             (subst (λ (os : List Order). WorldFollowsBy (Unmaps block.0 c None) Carries a f.site.world (record (situation shape t devices actors) { orders = slice_set slots c None }) (then_actor bl (os ++ x.awaiting))) (sym none) d.follows))
-        | inr d ↦ leaves_to bl read new next did same c (ReplaceOrder block d.new d.k) d.live d.mine tt (subst (λ (k : OBlock). IsMappedAt (holdings t.desk) k.0 c) (sym same) (stands_so P t.desk kept s f.phase.desk block.0 c d.stood))
+        | inr d ↦ leaves_to bl read new did same c (ReplaceOrder block d.new d.k) d.live d.mine tt (subst (λ (k : OBlock). IsMappedAt (holdings t.desk) k.0 c) (sym same) (stands_so P t.desk kept s f.phase.desk block.0 c d.stood))
             (subst (λ (k : OBlock). is_of k (ReplaceOrder block d.new d.k) ≡ true) (sym same) (of_order Demote block (Some d.new.0) (ReplaceOrder block d.new d.k) (inr (refl, refl)))) true refl (Some d.new.0) refl slots refl d.follows
       ]
 

@@ -32,7 +32,7 @@ use Rattle.wb_promise.specs.declared.job.Job.TheVariants.{Read, Write}
 use Rattle.wb_promise.specs.States.{Shape, State, Actor, Target, Stands, with_device, Phase, block_size, sector_count}
 use Rattle.wb_promise.specs.Happenings.{block_range, Chosen, Gives, Falters, MayFailAt}
 use Rattle.wb_promise.specs.Effects.{actor_then, orders_then, awaiting_then, device_done, device_failed, stepped}
-use Rattle.wb_runs.specs.Holding.{cards_of, AllSuited}
+use Rattle.wb_runs.specs.Holding.{cards_of}
 use Rattle.wb_promise.specs.Clerk.{Notes, Doing, noted_step, device_note, failing, put, readings_from, sector_for, write_note, enter_each, entering, finished_note, all_raised, Entering, enter}
 use Rattle.wb_contents.proofs.Lists.{set_there}
 use Rattle.wb_runs.proofs.Images.{Images}
@@ -69,8 +69,7 @@ use Rattle.wb_runs.specs.Inside.{StepInside}
 use Rattle.wb_runs.proofs.Stepping.{data_device}
 
 module _ (P A : Type 0) (shape : Shape) (images : Images) (t : Target P) (commit : Option RunningCommit) (devices : Devices (List History)) (actors : List Actor) (n : Notes) (known : MetadataKept {P = P} {A = A} shape.geometry images (Stands t) commit devices.metadata)
-    (f : Followed P A shape images (standing P A shape images t commit devices actors n) n) (rule : LockRule shape.geometry.origin_blocks t.words (cards_of actors)) (all_suited : AllSuited shape.geometry.origin_blocks actors) (a : ℕ) (x : Actor) (ex : slice_get actors a ≡ Some x) (job : Job) (plan : Plan) (xt : x.task ≡ Some (job, plan)) (suits : Suits shape.geometry.origin_blocks plan x.card)
-    (shown : List Bytes) (doing : Doing) (noted : slice_get n.doings a ≡ Some (Some doing)) (job_is : doing.job ≡ job) where
+    (f : Followed P A shape images (standing P A shape images t commit devices actors n) n) (rule : LockRule shape.geometry.origin_blocks t.words (cards_of actors)) (a : ℕ) (x : Actor) (ex : slice_get actors a ≡ Some x) (job : Job) (plan : Plan) (xt : x.task ≡ Some (job, plan)) (suits : Suits shape.geometry.origin_blocks plan x.card) where
   abbrev slots : List (Option Order)
   slots = live_orders t.desk
 
@@ -108,7 +107,7 @@ awaiting_still orders awaiting job (Refuses refusal) q = refl
 awaiting_still orders awaiting job answer q = absurd q
 
 module _ (P A : Type 0) (shape : Shape) (images : Images) (t : Target P) (commit : Option RunningCommit) (devices : Devices (List History)) (actors : List Actor) (n : Notes) (known : MetadataKept {P = P} {A = A} shape.geometry images (Stands t) commit devices.metadata)
-    (f : Followed P A shape images (standing P A shape images t commit devices actors n) n) (rule : LockRule shape.geometry.origin_blocks t.words (cards_of actors)) (all_suited : AllSuited shape.geometry.origin_blocks actors) (a : ℕ) (x : Actor) (ex : slice_get actors a ≡ Some x) (shown : List Bytes) (doing : Doing) (noted : slice_get n.doings a ≡ Some (Some doing)) where
+    (f : Followed P A shape images (standing P A shape images t commit devices actors n) n) (a : ℕ) (x : Actor) (ex : slice_get actors a ≡ Some x) (shown : List Bytes) (doing : Doing) (noted : slice_get n.doings a ≡ Some (Some doing)) where
   abbrev slots_now : List (Option Order)
   slots_now = live_orders t.desk
 
@@ -229,7 +228,7 @@ module _ (P A : Type 0) (shape : Shape) (images : Images) (t : Target P) (commit
 
   -- ---- answers
 
-  module _ (job : Job) (request : IsRequestJob job) (plan : Plan) (xt : x.task ≡ Some (job, plan)) (suits : Suits shape.geometry.origin_blocks plan x.card) (job_is : doing.job ≡ job) (answer : Answer) (next : End answer ≡ want plan) where
+  module _ (job : Job) (request : IsRequestJob job) (plan : Plan) (xt : x.task ≡ Some (job, plan)) (suits : Suits shape.geometry.origin_blocks plan x.card) (answer : Answer) (next : End answer ≡ want plan) where
     answer_follows : WorldFollows (Answers (job_for (size P A shape) (content_of job) plan.job) answer) a f.site.world (situation shape t devices actors) (record x { task = None })
     answer_follows = answers_followed (situation shape t devices actors) shape.geometry.origin_blocks a x job plan answer f.site.world request ex xt suits (sym next) f.phase.agrees
 
@@ -247,25 +246,25 @@ module _ (P A : Type 0) (shape : Shape) (images : Images) (t : Target P) (commit
   pub answers : (job : Job) → IsRequestJob job → (plan : Plan) → x.task ≡ Some (job, plan) → Suits shape.geometry.origin_blocks plan x.card → doing.job ≡ job → JobClaim shape job plan doing → (answer : Answer) → End answer ≡ want plan → (contents : List Bytes) →
       Goes P A shape (record { devices = devices; commit = commit; phase = Stands (record { words = t.words; desk = t.desk }); actors = slice_set actors a (actor_then {P = P} {A = A} shape (Stands t) devices x (End answer) Done) }) (noted_step shape shown n a (Some (Some doing)) (End answer) Done contents)
   answers job q plan xt suits job_is claim (Refuses refusal) next contents =
-      let g = answer_follows job q plan xt suits job_is (Refuses refusal) next in
+      let g = answer_follows job q plan xt suits (Refuses refusal) next in
       let b = beside P A shape images t commit devices actors n known f a x ex in
-      answered_with job q plan xt suits job_is (Refuses refusal) next (Refuses refusal) _ (put n a None) (length-set n.doings a None) refl g
+      answered_with job q plan xt suits (Refuses refusal) next (Refuses refusal) _ (put n a None) (length-set n.doings a None) refl g
       (notes_followed.refused (job_for (size P A shape) (content_of job) plan.job) refusal Stays a f.site.world _ _ g b.0 n f.notes b.1 (noted_within P A shape images t commit devices actors n known f a x ex) f.notes_agree)
   answers (Read extent) q plan xt suits job_is claim Finished next contents =
       let part = block_range shape extent claim.cut in
       let of = job_for (size P A shape) [] (OnBlock (ReadingPart part)) in
-      let g = subst (λ (k : TaskJob). WorldFollows (Answers (job_for (size P A shape) [] k) Finished) a f.site.world (situation shape t devices actors) (record x { task = None })) claim.is_job (answer_follows (Read extent) q plan xt suits job_is Finished next) in
+      let g = subst (λ (k : TaskJob). WorldFollows (Answers (job_for (size P A shape) [] k) Finished) a f.site.world (situation shape t devices actors) (record x { task = None })) claim.is_job (answer_follows (Read extent) q plan xt suits Finished next) in
       let b = beside P A shape images t commit devices actors n known f a x ex in
       subst (λ (k : Job). Goes P A shape (record { devices = devices; commit = commit; phase = Stands (record { words = t.words; desk = t.desk }); actors = slice_set actors a (actor_then {P = P} {A = A} shape (Stands t) devices x (End Finished) Done) }) (finished_note n a doing k shown)) (sym job_is)
-      (answered_with (Read extent) q plan xt suits job_is Finished next Finished of (put n a None) (length-set n.doings a None) refl g
+      (answered_with (Read extent) q plan xt suits Finished next Finished of (put n a None) (length-set n.doings a None) refl g
       (notes_followed.read_answered part.block.0 _ Stays a f.site.world _ _ g b.0 n f.notes b.1 (noted_within P A shape images t commit devices actors n known f a x ex) f.notes_agree))
   answers (Write extent content) q plan xt suits job_is claim Finished next contents =
       let part = block_range shape extent claim.cut in
       let of = job_for (size P A shape) content (OnBlock (WritingPart part)) in
-      let g = subst (λ (k : TaskJob). WorldFollows (Answers (job_for (size P A shape) content k) Finished) a f.site.world (situation shape t devices actors) (record x { task = None })) claim.is_job (answer_follows (Write extent content) q plan xt suits job_is Finished next) in
+      let g = subst (λ (k : TaskJob). WorldFollows (Answers (job_for (size P A shape) content k) Finished) a f.site.world (situation shape t devices actors) (record x { task = None })) claim.is_job (answer_follows (Write extent content) q plan xt suits Finished next) in
       let b = beside P A shape images t commit devices actors n known f a x ex in
       subst (λ (k : Job). Goes P A shape (record { devices = devices; commit = commit; phase = Stands (record { words = t.words; desk = t.desk }); actors = slice_set actors a (actor_then {P = P} {A = A} shape (Stands t) devices x (End Finished) Done) }) (finished_note n a doing k shown)) (sym job_is)
-      (answered_with (Write extent content) q plan xt suits job_is Finished next Finished of (record n { finished = all_raised n.finished doing.entered; doings = slice_set n.doings a None }) (length-set n.doings a None) refl g
+      (answered_with (Write extent content) q plan xt suits Finished next Finished of (record n { finished = all_raised n.finished doing.entered; doings = slice_set n.doings a None }) (length-set n.doings a None) refl g
       (notes_followed.write_answered part.block.0 _ content Stays a f.site.world _ _ g b.0 n f.notes b.1 (noted_within P A shape images t commit devices actors n known f a x ex) f.notes_agree doing noted))
   answers job q plan xt suits job_is claim Finished next contents = absurd q
 
@@ -284,11 +283,11 @@ newest_latest sectors histories b o (c ∷ contents) room inside all =
         ap Rattle.wb_promise.specs.Clerk.latest_of h.1 ∙ ap (λ (g : History). Some (newest g)) (sym is) ∙ ap (λ (x : Bytes). Some x) (sym all.0)
 
 module _ (P A : Type 0) (shape : Shape) (images : Images) (t : Target P) (commit : Option RunningCommit) (devices : Devices (List History)) (actors : List Actor) (n : Notes) (known : MetadataKept {P = P} {A = A} shape.geometry images (Stands t) commit devices.metadata)
-    (f : Followed P A shape images (standing P A shape images t commit devices actors n) n) (rule : LockRule shape.geometry.origin_blocks t.words (cards_of actors)) (all_suited : AllSuited shape.geometry.origin_blocks actors) (a : ℕ) (x : Actor) (ex : slice_get actors a ≡ Some x) (plan : Plan) (suits : Suits shape.geometry.origin_blocks plan x.card)
+    (f : Followed P A shape images (standing P A shape images t commit devices actors n) n) (a : ℕ) (x : Actor) (ex : slice_get actors a ≡ Some x) (plan : Plan) (suits : Suits shape.geometry.origin_blocks plan x.card)
     (doing : Doing) (noted : slice_get n.doings a ≡ Some (Some doing)) (extent : Extent) (xt : x.task ≡ Some (Read extent, plan)) (job_is : doing.job ≡ Read extent) (claim : JobClaim shape (Read extent) plan doing) (device : Dev) (e : Extent) (next : Device (ReadExtent device e) ≡ want plan) (holds : HoldsBlocks device) where
   pub given_latest : (contents : List Bytes) → length contents ≡ e.count → GivesEach (device_in device devices) e.first contents → All IsLatest (readings_from n.histories (sector_for shape extent e) contents)
   given_latest contents many_read gives =
-      let g = read_follows P A shape images t commit devices actors n known f rule all_suited a x ex [] doing noted extent plan xt suits job_is claim device e next holds contents many_read gives in
+      let g = read_follows P A shape images t commit devices actors n known f a x ex [] doing noted extent plan xt suits job_is claim device e next holds contents many_read gives in
       let b = beside P A shape images t commit devices actors n known f a x ex in
       let less = noted_within P A shape images t commit devices actors n known f a x ex in
       let part = block_range shape extent claim.cut in
@@ -306,7 +305,7 @@ module _ (P A : Type 0) (shape : Shape) (images : Images) (t : Target P) (commit
 -- ---- any step
 
 module _ (P A : Type 0) (shape : Shape) (images : Images) (t : Target P) (commit : Option RunningCommit) (devices : Devices (List History)) (actors : List Actor) (n : Notes) (known : MetadataKept {P = P} {A = A} shape.geometry images (Stands t) commit devices.metadata)
-    (f : Followed P A shape images (standing P A shape images t commit devices actors n) n) (rule : LockRule shape.geometry.origin_blocks t.words (cards_of actors)) (all_suited : AllSuited shape.geometry.origin_blocks actors) (a : ℕ) (x : Actor) (ex : slice_get actors a ≡ Some x) (plan : Plan) (suits : Suits shape.geometry.origin_blocks plan x.card)
+    (f : Followed P A shape images (standing P A shape images t commit devices actors n) n) (rule : LockRule shape.geometry.origin_blocks t.words (cards_of actors)) (a : ℕ) (x : Actor) (ex : slice_get actors a ≡ Some x) (plan : Plan) (suits : Suits shape.geometry.origin_blocks plan x.card)
     (doing : Doing) (noted : slice_get n.doings a ≡ Some (Some doing)) where
   abbrev w : State P A
   w = standing P A shape images t commit devices actors n
@@ -330,20 +329,20 @@ module _ (P A : Type 0) (shape : Shape) (images : Images) (t : Target P) (commit
 
     pub read_steps : (next : Want) (got : Got) (read : List Bytes) (chosen : Chosen P A) → next ≡ want plan → Gives shape w x (Read extent) next got read chosen → Done_by (Read extent) next got read chosen
     read_steps (Cell step) got read chosen e g = subst (λ (v : Got). Done_by (Read extent) (Cell step) v read chosen) (sym g.1)
-        (on_words P A shape images t commit devices actors n known f rule all_suited a x ex (Read extent) plan xt suits [] doing noted job_is step tt e)
+        (on_words P A shape images t commit devices actors n known f rule a x ex (Read extent) plan xt suits step tt e)
     read_steps (Device (ReadExtent d ex')) got read chosen e g = subst (λ (v : Got). Done_by (Read extent) (Device (ReadExtent d ex')) v read chosen) (sym g.2)
         (subst (λ (c : Chosen P A). Done_by (Read extent) (Device (ReadExtent d ex')) Done read c) (sym g.1)
         (subst (λ (ds : Devices (List History)). Goes P A shape (record { devices = ds; commit = commit; phase = Stands t; actors = slice_set actors a (actor_then {P = P} {A = A} shape (Stands t) devices x (Device (ReadExtent d ex')) Done) }) (noted_step shape [] n a (Some (Some doing)) (Device (ReadExtent d ex')) Done read)) (sym (same_device d devices g.0))
-        (reads P A shape images t commit devices actors n known f rule all_suited a x ex [] doing noted extent plan xt suits job_is claim d ex' e g.0 read g.3 g.4)))
+        (reads P A shape images t commit devices actors n known f a x ex [] doing noted extent plan xt suits job_is claim d ex' e g.0 read g.3 g.4)))
     read_steps (End answer) got read chosen e g = subst (λ (v : Got). Done_by (Read extent) (End answer) v read chosen) (sym g.1) (subst (λ (c : Chosen P A). Done_by (Read extent) (End answer) Done read c) (sym g.0.1)
-        (answers P A shape images t commit devices actors n known f rule all_suited a x ex _ doing noted (Read extent) tt plan xt suits job_is claim answer e read))
+        (answers P A shape images t commit devices actors n known f a x ex _ doing noted (Read extent) tt plan xt suits job_is claim answer e read))
     read_steps (Device (WriteExtent d ex')) got read chosen e g = absurd g
     read_steps next got read chosen e g = absurd (own of_read next claim.is_job e)
 
     pub read_faults : (choice : Choice) (next : Want) (read : List Bytes) (chosen : Chosen P A) → next ≡ want plan → MayFailAt devices choice next → Falters w choice next chosen → Failed_by choice (Read extent) next read chosen
     read_faults choice (Device (ReadExtent d ex')) read chosen e m g = subst (λ (c : Chosen P A). Failed_by choice (Read extent) (Device (ReadExtent d ex')) read c) (sym g.0)
         (subst (λ (ds : Devices (List History)). Goes P A shape (record { devices = ds; commit = commit; phase = Stands t; actors = slice_set actors a (actor_then {P = P} {A = A} shape (Stands t) devices x (Device (ReadExtent d ex')) Fault) }) (noted_step shape [] n a (Some (Some doing)) (Device (ReadExtent d ex')) Fault read)) (sym (same_device d devices g.1))
-        (read_fails P A shape images t commit devices actors n known f rule all_suited a x ex [] doing noted extent plan xt suits job_is claim d ex' e g.1 read))
+        (read_fails P A shape images t commit devices actors n known f a x ex [] doing noted extent plan xt suits job_is claim d ex' e g.1 read))
     read_faults choice (Device step) read chosen e m g = absurd (own of_read (Device step) claim.is_job e)
     read_faults choice next read chosen e m g = absurd m
 
@@ -355,17 +354,17 @@ module _ (P A : Type 0) (shape : Shape) (images : Images) (t : Target P) (commit
 
     pub write_steps : (next : Want) (got : Got) (read : List Bytes) (chosen : Chosen P A) → next ≡ want plan → Gives shape w x (Write extent content) next got read chosen → Done_by (Write extent content) next got read chosen
     write_steps (Cell step) got read chosen e g = subst (λ (v : Got). Done_by (Write extent content) (Cell step) v read chosen) (sym g.1)
-        (on_words P A shape images t commit devices actors n known f rule all_suited a x ex (Write extent content) plan xt suits [] doing noted job_is step tt e)
+        (on_words P A shape images t commit devices actors n known f rule a x ex (Write extent content) plan xt suits step tt e)
     write_steps (Device (WriteExtent d ex')) got read chosen e g = subst (λ (v : Got). Done_by (Write extent content) (Device (WriteExtent d ex')) v read chosen) (sym g.2)
-        (writes P A shape images t commit devices actors n known f rule all_suited a x ex [] doing noted extent content plan xt suits job_is claim d ex' e g.0 read g.3)
+        (writes P A shape images t commit devices actors n known f a x ex [] doing noted extent content plan xt suits job_is claim d ex' e g.0 read g.3)
     write_steps (End answer) got read chosen e g = subst (λ (v : Got). Done_by (Write extent content) (End answer) v read chosen) (sym g.1) (subst (λ (c : Chosen P A). Done_by (Write extent content) (End answer) Done read c) (sym g.0.1)
-        (answers P A shape images t commit devices actors n known f rule all_suited a x ex _ doing noted (Write extent content) tt plan xt suits job_is claim answer e read))
+        (answers P A shape images t commit devices actors n known f a x ex _ doing noted (Write extent content) tt plan xt suits job_is claim answer e read))
     write_steps (Device (ReadExtent d ex')) got read chosen e g = absurd g
     write_steps next got read chosen e g = absurd (own of_write next claim.is_job e)
 
     pub write_faults : (choice : Choice) (next : Want) (read : List Bytes) (chosen : Chosen P A) → StepInside shape next → (length devices.cache ≡ Rattle.wb_promise.specs.States.cache_sector_count shape) → (length devices.origin ≡ sector_count shape) → next ≡ want plan → MayFailAt devices choice next → Falters w choice next chosen → Failed_by choice (Write extent content) next read chosen
     write_faults choice (Device (WriteExtent d ex')) read chosen inside cs os e m g = subst (λ (c : Chosen P A). Failed_by choice (Write extent content) (Device (WriteExtent d ex')) read c) (sym g.0)
-        (write_fails P A shape images t commit devices actors n known f rule all_suited a x ex [] doing noted extent content plan xt suits job_is claim d ex' e g.1 read (lands d choice) (by d g.1 inside))
+        (write_fails P A shape images t commit devices actors n known f a x ex [] doing noted extent content plan xt suits job_is claim d ex' e g.1 read (lands d choice) (by d g.1 inside))
       where
         by : (d : Dev) → HoldsBlocks d → StepInside shape (Device (WriteExtent d ex')) → ex'.first + ex'.count ≤ length (device_in d devices)
         by Cache h i = subst (λ (k : ℕ). ex'.first + ex'.count ≤ k) (sym cs) i

@@ -161,9 +161,9 @@ module _ (P A : Type 0) (shape : Shape) (images : Images) (w : State P A) (n : N
   in_writeback Passthrough not = absurd (not (λ e. absurd (cc)))
 
   -- an opening begins
-  pub opening_starts : (a : ℕ) (mode : Mode) (x y : Actor) → (OfTarget w.phase (λ t. t.words.fail ≡ 0) → ⊥) → ((mode ≢ Writeback) → ⊥) → y.task ≡ Some (Open mode, table (task_job shape y.awaiting (Open mode) [])) →
+  pub opening_starts : (a : ℕ) (mode : Mode) (y : Actor) → (OfTarget w.phase (λ t. t.words.fail ≡ 0) → ⊥) → ((mode ≢ Writeback) → ⊥) → y.task ≡ Some (Open mode, table (task_job shape y.awaiting (Open mode) [])) →
       Goes P A shape (record { devices = w.devices; commit = None; phase = Opens mode None; actors = slice_set (all_resting w.actors) a y }) (put (record n { doings = nobody n.doings }) a (Some (begun n (Open mode))))
-  opening_starts a mode x y not writeback yt =
+  opening_starts a mode y not writeback yt =
       let d = agreeing P A shape images w.phase w.commit w.devices w.actors f.site known f.phase in
       let l = openings_followed.begins shape.geometry (size P A shape) images.committed d.later Writeback f.site w.devices d.agree (may_open w.phase refl not) in
       let n' = put (record n { doings = nobody n.doings }) a (Some (begun n (Open mode))) in

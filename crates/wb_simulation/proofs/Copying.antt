@@ -82,7 +82,7 @@ writes_read : (order : AbstractOrder) (os : List (List ℕ)) (migration : Migrat
 writes_read order os (Promote c) buffer = refl
 writes_read order os migration buffer = refl
 
-module _ (now : Situation) (blocks : ℕ) (a : ℕ) (x : Actor) (s : World) (y : AbstractActor) (g : Agrees now s) (ex : slice_get now.actors a ≡ Some x) (ey : slice_get s.actors a ≡ Some y)
+module _ (now : Situation) (a : ℕ) (x : Actor) (s : World) (y : AbstractActor) (g : Agrees now s) (ex : slice_get now.actors a ≡ Some x) (ey : slice_get s.actors a ≡ Some y)
     (migration : Migration) (block : OBlock) (part : BlockRange) (next : Want) (ws : List Want) (answer : Answer) (f : IsCarried now.size now.orders migration block part (next ∷ ws) answer x y) where
   abbrev own : AbstractOrder
   own = order_on part f.c f.next
@@ -182,14 +182,14 @@ module _ (now : Situation) (blocks : ℕ) (a : ℕ) (x : Actor) (s : World) (y :
         held_for us x.card ≡ held_of x.card.hold → AnswersAlike then_answer told → SawSeal (plan_of (Migrating migration part) us then_answer) us x.card → GoesOn now.size part us buffer there →
         Carried Stays a s (record now { devices = with_device device now.devices after }) (record x { task = Some (Migrate migration block, plan_of (Migrating migration part) us then_answer); buffer = buffer })
     moves_on us told then_answer buffer there got after went held alike saw on =
-        let is = y_has now blocks a x s y g ex ey migration block part (Device step) ws answer f (λ n. n) (held_of x.card.hold) refl in
-        let live = live_is now blocks a x s y g ex ey migration block part (Device step) ws answer f (λ n. n) in
+        let is = y_has now a x s y g ex ey migration block part (Device step) ws answer f (λ n. n) (held_of x.card.hold) refl in
+        let live = live_is now a x s y g ex ey migration block part (Device step) ws answer f (λ n. n) in
         let m = subst (λ (task : Option Script). Went task got after (wants us) told there) (sym (ap (λ (v : AbstractActor). v.task) is)) went in
         let t = shared_after s.shared y y.task (got ∷ []) in
         let z = gone y y.task (got ∷ []) in
         let both = sides now a x s y ex ey g device e h after t m.side_is m.beside in
-        carry_so now blocks a x s y g ex ey migration block part (Device step) ws answer f (λ n. n) us then_answer buffer (with_device device now.devices after) (got ∷ []) t z m.may refl refl
-        (at_again now blocks a x s y g ex ey migration block part (Device step) ws answer f z us told there f.kept then_answer
+        carry_so now a x s y g ex ey migration block part (Device step) ws answer f (λ n. n) us then_answer buffer (with_device device now.devices after) (got ∷ []) t z m.may refl refl
+        (at_again now a x s y g ex ey migration block part (Device step) ws answer f z us told there f.kept then_answer
         (m.is ∙ ap (λ (v : AbstractActor). record (left_there v its_job (wants us) told) { buffer = there }) is ∙ (λ i. record (migrating now.size own_now all migration us told there) { held = sym held i; order = sym live i })) alike saw)
         (subst (λ (c : ℕ → Content). GoesOn now.size part us buffer c) (sym (ap (λ (v : AbstractActor). v.buffer) m.is)) on) (words_beside now.words (location_at now.size device e) s.shared t m.beside g.words_agree) both.0 both.1 m.beside.images
 

@@ -99,13 +99,13 @@ module _ (now : Situation) (blocks : ℕ) (a : ℕ) (x : Actor) (s : World) (y :
     over = slice_set now.orders f.c.0 None
 
     its : slice_get now.orders f.c.0 ≡ Some (Some f.order)
-    its = lives now blocks a x s y g ex ey migration block part next ws answer f no_tail
+    its = lives now a x s y g ex ey migration block part next ws answer f no_tail
 
     y_under : y.order ≡ Some own
-    y_under = carried_order now.size now.orders migration block part (next ∷ ws) answer x y f ∙ live_is now blocks a x s y g ex ey migration block part next ws answer f no_tail
+    y_under = carried_order now.size now.orders migration block part (next ∷ ws) answer x y f ∙ live_is now a x s y g ex ey migration block part next ws answer f no_tail
 
     pub mine : Contains x.orders f.order
-    mine = its_own now blocks a x s y g ex ey migration block part next ws answer f no_tail
+    mine = its_own now a x s y g ex ey migration block part next ws answer f no_tail
 
     -- no other actor has it, and it is not aside
     alone : (b : ℕ) (v : AbstractActor) (p : AbstractOrder) → b ≢ a → slice_get s.actors b ≡ Some v → v.order ≡ Some p → p.cache ≡ f.c.0 → ⊥
@@ -158,7 +158,7 @@ module _ (now : Situation) (blocks : ℕ) (a : ℕ) (x : Actor) (s : World) (y :
     own_map = order_on part f.c f.next
 
     y_there : y ≡ migrating now.size own_map os migration (Desk (Map part.block c) ∷ ws) f.at.answer f.at.buffer
-    y_there = y_is now blocks a x s y g ex ey migration block part (Desk (Map part.block c)) ws answer f (λ n. n) (ap held_of suits_now.0)
+    y_there = y_is now a x s y g ex ey migration block part (Desk (Map part.block c)) ws answer f (λ n. n) (ap held_of suits_now.0)
 
     -- without memory for the entry
     pub map_refused : (refusal : Refusal) → Carried Stays a s now (record x { task = Some (Migrate migration block, plan_of (Migrating migration part) (Cell (Release Owned part.block) ∷ Desk (ReleaseOrder part.block) ∷ []) (Refuses refusal)) })
@@ -168,10 +168,10 @@ module _ (now : Situation) (blocks : ℕ) (a : ℕ) (x : Actor) (s : World) (y :
         (carrying_followed.has_no_room now.size s.actors a s.shared own_map os c part.block ws f.at.answer f.at.buffer refl) in
         let goes = subst (λ (v : AbstractActor). GoesTo s.actors a s.shared v (Short ∷ []) s.shared (migrating now.size own_map os migration back AnsweredFailed f.at.buffer)) (sym y_there) to in
         let z = migrating now.size own_map os migration back AnsweredFailed f.at.buffer in
-        carry_so now blocks a x s y g ex ey migration block part (Desk (Map part.block c)) ws answer f (λ n. n) back (Refuses refusal) x.buffer now.devices (Short ∷ []) s.shared z
+        carry_so now a x s y g ex ey migration block part (Desk (Map part.block c)) ws answer f (λ n. n) back (Refuses refusal) x.buffer now.devices (Short ∷ []) s.shared z
         goes.may goes.shared goes.is
-        (at_again now blocks a x s y g ex ey migration block part (Desk (Map part.block c)) ws answer f z back AnsweredFailed f.at.buffer f.kept (Refuses refusal)
-        (λ i. record z { held = sym (ap held_of suits_now.0) i; order = sym (live_is now blocks a x s y g ex ey migration block part (Desk (Map part.block c)) ws answer f (λ n. n)) i }) (λ n. absurd (cc)) tt)
+        (at_again now a x s y g ex ey migration block part (Desk (Map part.block c)) ws answer f z back AnsweredFailed f.at.buffer f.kept (Refuses refusal)
+        (λ i. record z { held = sym (ap held_of suits_now.0) i; order = sym (live_is now a x s y g ex ey migration block part (Desk (Map part.block c)) ws answer f (λ n. n)) i }) (λ n. absurd (cc)) tt)
         (record { of_block = tt; paired = (tt, (tt, tt)); read = tt })
         g.words_agree g.origin g.cache (same_images s.shared)
 
@@ -186,7 +186,7 @@ module _ (now : Situation) (blocks : ℕ) (a : ℕ) (x : Actor) (s : World) (y :
         let plain = rest_plain (Migrating migration part) suits_now.1.0 ws rest in
         ends_order (Desk (Map part.block c)) f (λ n. n) (Maps part.block.0 f.c.0) (DoneThere ∷ DoneThere ∷ []) t z goes
         (record { fail = g.words_agree.fail; seals = g.words_agree.seals }) refl refl refl refl refl (refl, refl, refl) (refl, refl) (λ d o n e. map_elsewhere s.shared.mapping part.block.0 f.c.0 d o n free)
-        (at_again now blocks a x s y g ex ey migration block part (Desk (Map part.block c)) ws answer f z ws f.at.answer f.at.buffer None answer
+        (at_again now a x s y g ex ey migration block part (Desk (Map part.block c)) ws answer f z ws f.at.answer f.at.buffer None answer
         (λ i. record z { held = sym (held_plain ws x.card plain ∙ ap held_of suits_now.0) i }) f.at.alike (saw_plain left ws x.card plain))
         f.paired.0 (record { of_block = f.of_block; paired = f.paired.2; read = no_write_read now.size ws x.buffer _ f.paired.1 })
 
@@ -204,7 +204,7 @@ module _ (now : Situation) (blocks : ℕ) (a : ℕ) (x : Actor) (s : World) (y :
     own_away = order_on part f.c f.next
 
     y_away : y ≡ migrating now.size own_away os migration (Desk (Unmap part.block) ∷ ws) f.at.answer f.at.buffer
-    y_away = y_is now blocks a x s y g ex ey migration block part (Desk (Unmap part.block)) ws answer f (λ n. n) (ap held_of suits_away.0)
+    y_away = y_is now a x s y g ex ey migration block part (Desk (Unmap part.block)) ws answer f (λ n. n) (ap held_of suits_away.0)
 
     abbrev t_away : Shared
     t_away = effect s.shared (Returning true own_away os) f.at.buffer (Unmap_from own_away) DoneThere
@@ -221,7 +221,7 @@ module _ (now : Situation) (blocks : ℕ) (a : ℕ) (x : Actor) (s : World) (y :
     at_away : (kept : Option AbstractOrder) → following f.c.0 f.next ≡ kept → IsMigrationAt part f.c f.next migration kept left x.card z_away
     at_away kept e =
         let plain = rest_plain (Migrating migration part) suits_away.1.0 ws leaves in
-        at_again now blocks a x s y g ex ey migration block part (Desk (Unmap part.block)) ws answer f z_away ws f.at.answer f.at.buffer kept answer
+        at_again now a x s y g ex ey migration block part (Desk (Unmap part.block)) ws answer f z_away ws f.at.answer f.at.buffer kept answer
         (λ i. record z_away { held = sym (held_plain ws x.card plain ∙ ap held_of suits_away.0) i; order = e i }) f.at.alike (saw_plain left ws x.card plain)
 
     on_away : GoesOn now.size part ws x.buffer z_away.buffer
@@ -230,7 +230,7 @@ module _ (now : Situation) (blocks : ℕ) (a : ℕ) (x : Actor) (s : World) (y :
     -- it stands there
     stood_away : LeavesFrom now.orders s.shared.mapping block → s.shared.mapping part.block.0 ≡ Some f.c.0
     stood_away leaving =
-        let same = order_is now blocks a x s y g ex ey migration block part (Desk (Unmap part.block)) ws answer f (λ n. n) in
+        let same = order_is now a x s y g ex ey migration block part (Desk (Unmap part.block)) ws answer f (λ n. n) in
         ap (λ (v : OBlock). s.shared.mapping v.0) f.block_is ∙ leaving f.c.0 f.next f.order (its (Desk (Unmap part.block)) f (λ n. n)) (subst (λ (m : Migration). IsOrderFor m block f.next f.order) demotes f.of) (λ n. stands_there s.shared.mapping f.c.0 f.order migration block f.next own_away f.of same refl n)
 
     -- the block is nowhere, its cache block quarantined, and the order is over
@@ -276,11 +276,11 @@ module _ (now : Situation) (blocks : ℕ) (a : ℕ) (x : Actor) (s : World) (y :
     given_up =
         let t = effect s.shared (job_under own_here os migration) f.at.buffer (Give_up own_here) DoneThere in
         let z = without_block (under None (migrating now.size own_here os migration ws f.at.answer f.at.buffer)) in
-        let is = y_has now blocks a x s y g ex ey migration block part (Desk (ReleaseOrder part.block)) ws answer f (λ n. n) Nothing (ap held_of suits.1.0) in
+        let is = y_has now a x s y g ex ey migration block part (Desk (ReleaseOrder part.block)) ws answer f (λ n. n) Nothing (ap held_of suits.1.0) in
         let goes = subst (λ (v : AbstractActor). GoesTo s.actors a s.shared v (DoneThere ∷ []) t z) (sym is) (carrying_followed.gives_up now.size s.actors a s.shared own_here os migration part.block ws f.at.answer f.at.buffer) in
         let nothing : ws ≡ [] = suits.1.2 in
         ends_order (Desk (ReleaseOrder part.block)) f (λ n. n) (GivesUp f.c.0) (DoneThere ∷ []) t z goes
         (record { fail = g.words_agree.fail; seals = g.words_agree.seals }) refl refl refl refl refl (refl, refl, refl) (refl, refl) (λ d o n e. refl)
-        (at_again now blocks a x s y g ex ey migration block part (Desk (ReleaseOrder part.block)) ws answer f z ws f.at.answer f.at.buffer None answer
+        (at_again now a x s y g ex ey migration block part (Desk (ReleaseOrder part.block)) ws answer f z ws f.at.answer f.at.buffer None answer
         (λ i. record z { held = sym (ap (λ (us : List Want). held_for us x.card) nothing ∙ ap held_of suits.1.0) i }) f.at.alike (subst (λ (us : List Want). SawSeal left us x.card) (sym nothing) tt))
         (subst (λ (us : List Want). IsTail us) (sym nothing) tt) (record { of_block = f.of_block; paired = f.paired.1; read = no_write_read now.size ws x.buffer _ f.paired.0 })

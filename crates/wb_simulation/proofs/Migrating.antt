@@ -74,8 +74,8 @@ module _ (now : Situation) (blocks : ℕ) (a : ℕ) (x : Actor) (step : CellStep
   -- its seal tells where its order, which is live unless it only seals its block and gives it back, has the block
   tells_where : ¬ IsTail (Cell step ∷ ws) → SealTells now.words now.orders s.shared.mapping m block → (b : OBlock) → b ≡ block → IsWhere m cache (place_in (word_at now.words.seals b))
   tells_where no_tail seen b e =
-      let same = order_is now blocks a x s y g ex ey m block part (Cell step) ws answer f no_tail in
-      subst (λ (v : OBlock). IsWhere m cache (place_in (word_at now.words.seals v))) (sym e) (seen f.c f.next f.order (lives now blocks a x s y g ex ey m block part (Cell step) ws answer f no_tail) f.of (λ n. stands_there s.shared.mapping f.c.0 f.order m block f.next (order_on part cache f.next) f.of same refl n))
+      let same = order_is now a x s y g ex ey m block part (Cell step) ws answer f no_tail in
+      subst (λ (v : OBlock). IsWhere m cache (place_in (word_at now.words.seals v))) (sym e) (seen f.c f.next f.order (lives now a x s y g ex ey m block part (Cell step) ws answer f no_tail) f.of (λ n. stands_there s.shared.mapping f.c.0 f.order m block f.next (order_on part cache f.next) f.of same refl n))
 
   -- a seal that is looked at tells where its order says
   seen_where : (b : OBlock) → step ≡ Look (SealWord b) → IsWhere m cache (place_in (word_at now.words.seals b))

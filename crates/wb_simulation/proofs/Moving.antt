@@ -73,10 +73,10 @@ module _ (now : Situation) (a : ℕ) (x : Actor) (s : World) (y : AbstractActor)
   sides Metadata e h list t side beside = absurd h
 
   -- an actor of a request has moved an extent, and its device is this list now
-  moved : (telling : Telling) (job : Job) (content : Content) (job_on : BlockRange → BlockJob) (plan : Plan) (device : Dev) (e : Extent) (got : AbstractGot) (list : List History) (z : AbstractActor) → IsTold telling a y.task (records a y.task (got ∷ [])) → HoldsBlocks device →
+  moved : (telling : Telling) (job : Job) (content : Content) (plan : Plan) (device : Dev) (e : Extent) (got : AbstractGot) (list : List History) (z : AbstractActor) → IsTold telling a y.task (records a y.task (got ∷ [])) → HoldsBlocks device →
       Moves now.size zeros s.actors a s.shared y y.task (location_at now.size device e) got list z → IsAt now.size content plan x.card z → is_alone z.task ≡ false → IsDoing now.size now.most false job plan x.card z →
       y.order ≡ None → MigratesNot job → WorldFollows telling a s (record now { devices = with_device device now.devices list }) (record x { task = Some (job, plan) })
-  moved telling job content job_on plan device e got list z told h m at alone doing own other =
+  moved telling job content plan device e got list z told h m at alone doing own other =
       let t = shared_after s.shared y y.task (got ∷ []) in
       let k = m.beside.images in
       let both = sides device e h list t m.side_is m.beside in
@@ -116,13 +116,13 @@ module _ (now : Situation) (blocks : ℕ) (a : ℕ) (x : Actor) (s : World) (y :
       let there = newest_at s.shared (location_at now.size device e) part.block.0 in
       let at = goes_on_at now.size [] (Reading part) (ReadExtent device e) ws answer x.card y there (rest_plain (Reading part) suits.1.1.0 ws suits.1.1.1.1) is in
       subst (λ (ds : Devices (List History)). Then (Reads part.block.0 (e.first % now.size) contents) ds (Read extent) reading Done) (same_device device now.devices h)
-      (moved now a x s y ex ey g (Reads part.block.0 (e.first % now.size) contents) (Read extent) [] Reading (after reading Done) device e (Gave there) list _
-      (record { location = location_at now.size device e; all = offsets now.size part.extents; rest = wants_of now.size (job_for now.size [] (OnBlock (Reading part))) ws; answer = answer_for (job_for now.size [] (OnBlock (Reading part))) answer; there = there; given = told_so there; at = ap (λ (v : AbstractActor). v.task) is.is ∙ ap counted (sym n); told_is = refl })
+      (moved now a x s y ex ey g (Reads part.block.0 (e.first % now.size) contents) (Read extent) [] (after reading Done) device e (Gave there) list _
+      (record { location = location_at now.size device e; all = offsets now.size part.extents; rest = wants_of now.size (job_for now.size [] (OnBlock (Reading part))) ws; answer = answer_for (job_for now.size [] (OnBlock (Reading part))) answer; there = there; given = told_so; at = ap (λ (v : AbstractActor). v.task) is.is ∙ ap counted (sym n); told_is = refl })
       h (by_task [] reading (Gave there) list _ is (extents_followed.read_done now.size zeros s.actors a s.shared y _ (location_at now.size device e) part.block.0 (offsets_in now.size e) _ _ list side)) at refl
       (record { part = part; job = refl; is_part = is_part; of_block = o.1; at = inl at }) (ap (λ (v : AbstractActor). v.order) is.is) tt)
     where
-      told_so : (there : ℕ → Content) → contents ≡ map (newest_at s.shared (location_at now.size device e) part.block.0) (rising (e.first % now.size) (length contents))
-      told_so there = extents_followed.reads now.size zeros s.shared part.block.0 device e list contents o.0 side n given ∙ (λ i. map (newest_at s.shared (location_at now.size device e) part.block.0) (rising (e.first % now.size) (sym n i)))
+      told_so : contents ≡ map (newest_at s.shared (location_at now.size device e) part.block.0) (rising (e.first % now.size) (length contents))
+      told_so = extents_followed.reads now.size zeros s.shared part.block.0 device e list contents o.0 side n given ∙ (λ i. map (newest_at s.shared (location_at now.size device e) part.block.0) (rising (e.first % now.size) (sym n i)))
 
       counted : ℕ → Option Script
       counted k = Some (reading_script part.block.0 (offsets now.size part.extents) (Read_all (location_at now.size device e) part.block.0 (rising (e.first % now.size) k) ∷ wants_of now.size (job_for now.size [] (OnBlock (Reading part))) ws) (answer_for (job_for now.size [] (OnBlock (Reading part))) answer))
@@ -131,7 +131,7 @@ module _ (now : Situation) (blocks : ℕ) (a : ℕ) (x : Actor) (s : World) (y :
   read_fails extent o is =
       let at : IsAt now.size [] (after reading Fault) x.card (record y { task = Some (script_for now.size [] (after reading Fault)) }) = record { buffer = is.buffer; is = ap (λ (v : AbstractActor). record v { task = Some (script_for now.size [] (after reading Fault)) }) is.is; saw = tt } in
       subst (λ (ds : Devices (List History)). Then Quietly ds (Read extent) reading Fault) (same_device device now.devices h)
-      (moved now a x s y ex ey g Quietly (Read extent) [] Reading (after reading Fault) device e read_fault list _ (read_fault ∷ [], subst (λ (v : AbstractActor). AreUnnoted v.task (read_fault ∷ [])) (sym is.is) (tt, tt), refl)
+      (moved now a x s y ex ey g Quietly (Read extent) [] (after reading Fault) device e read_fault list _ (read_fault ∷ [], subst (λ (v : AbstractActor). AreUnnoted v.task (read_fault ∷ [])) (sym is.is) (tt, tt), refl)
       h (by_task [] reading read_fault list _ is (extents_followed.read_fails now.size zeros s.actors a s.shared y _ (location_at now.size device e) part.block.0 (offsets_in now.size e) _ _ list side)) at refl
       (record { part = part; job = refl; is_part = is_part; of_block = tt; at = inl at }) (ap (λ (v : AbstractActor). v.order) is.is) tt)
 
@@ -156,7 +156,7 @@ module _ (now : Situation) (blocks : ℕ) (a : ℕ) (x : Actor) (s : World) (y :
   write_done extent content o suits room is =
       let at = goes_on_at now.size content (Writing part) (WriteExtent device e) ws answer x.card y y.buffer (rest_plain (Writing part) suits.1.1.0 ws suits.1.1.1.1) is in
       subst (λ (cs : List Content). Then (Writes part.block.0 (e.first % now.size) e.count content) (with_device device now.devices (written_each list e.first cs)) (Write extent content) writing Done) (one_content content e.count (e.first % now.size))
-      (moved now a x s y ex ey g (Writes part.block.0 (e.first % now.size) e.count content) (Write extent content) content Writing (after writing Done) device e DoneThere _ _ (write_told content DoneThere is)
+      (moved now a x s y ex ey g (Writes part.block.0 (e.first % now.size) e.count content) (Write extent content) content (after writing Done) device e DoneThere _ _ (write_told content DoneThere is)
       h (by_task content writing DoneThere _ _ is (extents_followed.write_done now.size zeros s.actors a s.shared y _ part.block.0 device e _ _ list o.0 side room)) at refl
       (record { part = part; job = refl; is_part = is_part; of_block = o.1; at = inl at }) (ap (λ (v : AbstractActor). v.order) is.is) tt)
 
@@ -166,7 +166,7 @@ module _ (now : Situation) (blocks : ℕ) (a : ℕ) (x : Actor) (s : World) (y :
       let fault = write_fault now.size (location_at now.size device e) part.block.0 lands in
       let at : IsAt now.size content (after writing Fault) x.card (record y { task = Some (script_for now.size content (after writing Fault)) }) = record { buffer = is.buffer; is = ap (λ (v : AbstractActor). record v { task = Some (script_for now.size content (after writing Fault)) }) is.is; saw = (Io (device_of (WriteExtent device e)), refl) } in
       subst (λ (cs : List Content). Then (Writes part.block.0 (e.first % now.size) e.count content) (with_device device now.devices (written_where lands list e.first cs)) (Write extent content) writing Fault) (one_content content e.count (e.first % now.size))
-      (moved now a x s y ex ey g (Writes part.block.0 (e.first % now.size) e.count content) (Write extent content) content Writing (after writing Fault) device e fault _ _ (write_told content fault is)
+      (moved now a x s y ex ey g (Writes part.block.0 (e.first % now.size) e.count content) (Write extent content) content (after writing Fault) device e fault _ _ (write_told content fault is)
       h (by_task content writing fault _ _ is (extents_followed.write_fails now.size zeros s.actors a s.shared y _ part.block.0 device e _ _ list lands o.0 side room)) at refl
       (record { part = part; job = refl; is_part = is_part; of_block = tt; at = inl at }) (ap (λ (v : AbstractActor). v.order) is.is) tt)
 
