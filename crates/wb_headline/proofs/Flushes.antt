@@ -70,8 +70,8 @@ use Rattle.wb_simulation.specs.Noting.{NotesAgree}
 use Rattle.wb_simulation.specs.Noted.{told}
 use Rattle.wb_simulation.specs.Sites.{ImagesAgree, IsRunning, locations}
 use Rattle.wb_simulation.specs.Telling.{Quietly, Releases, Answers}
-use Rattle.wb_simulation.specs.Worlds.{TurnedTo, DeskTurnedTo, Turn, Stays, Begins, Puts, Ends, GivesUp, WorldFollowsBy, WorldFollows}
-use Rattle.wb_simulation.specs.Laws.{went, after_step, turn_of}
+use Rattle.wb_simulation.specs.Worlds.{Situation, TurnedTo, DeskTurnedTo, Turn, Stays, Begins, Puts, Ends, GivesUp, WorldFollowsBy, WorldFollows}
+use Rattle.wb_simulation.specs.Laws.{Wants, went, after_step, turn_of}
 use Rattle.wb_simulation.proofs.Flushes.{flush_steps_followed}
 use Rattle.wb_simulation.proofs.Noted.{notes_followed}
 use Rattle.wb_simulation.proofs.Opening.{images_followed}
@@ -143,6 +143,14 @@ module _ (P A : Type 0) (shape : Shape) (images : Images) (t : Target P) (commit
   abbrev slots : List (Option Order)
   slots = live_orders t.desk
 
+  -- where the machine stands
+  abbrev now : Situation
+  now = situation shape t devices actors
+
+  -- so its actor there is to do this next
+  wants : {next : Want} → next ≡ want plan → Wants now a x f.site.world Flush plan next
+  wants {next} e = record { here = ex; task = xt; asks = sym e; agrees = f.phase.agrees }
+
   -- it serves these blocks
   serving : (serves : List OBlock) × (plan.job ≡ Flushing serves (most P A shape))
   serving =
@@ -196,10 +204,10 @@ module _ (P A : Type 0) (shape : Shape) (images : Images) (t : Target P) (commit
         (images_followed.stay shape.geometry images.committed (later_of images) devices.metadata (with_device device devices list).metadata s s' f.phase.images_agree g.turned readable.read) (λ state e. g.turned.1 ∙ f.phase.running state e)
 
     syncs : Goes P A shape (then_is t commit (with_device device devices (synced (device_in device devices))) (Device (Sync device)) Done) (noted_step shape [] n a (Some (Some doing)) (Device (Sync device)) Done contents)
-    syncs = synced_so Done (synced (device_in device devices)) (flush_steps_followed.syncs (situation shape t devices actors) device a x plan f.site.world holds ex xt (sym next) f.phase.agrees)
+    syncs = synced_so Done (synced (device_in device devices)) (flush_steps_followed.syncs now device a x plan f.site.world holds (wants next))
 
     sync_fails : (lands : ℕ → Bool) → Goes P A shape (then_is t commit (with_device device devices (synced_where lands (device_in device devices))) (Device (Sync device)) Fault) (noted_step shape [] n a (Some (Some doing)) (Device (Sync device)) Fault contents)
-    sync_fails lands = synced_so Fault (synced_where lands (device_in device devices)) (flush_steps_followed.sync_fails (situation shape t devices actors) device lands a x plan f.site.world holds ex xt (sym next) f.phase.agrees)
+    sync_fails lands = synced_so Fault (synced_where lands (device_in device devices)) (flush_steps_followed.sync_fails now device lands a x plan f.site.world holds (wants next))
 
   -- ---- steps of the commit on the metadata
 
@@ -233,7 +241,7 @@ module _ (P A : Type 0) (shape : Shape) (images : Images) (t : Target P) (commit
 
     put_done : Rattle.wb_promise.specs.Effects.buffer_then devices x.buffer (Device step) Done Flush ≡ x.buffer → DoesStep c.image c.steps devices.metadata new → Goes P A shape (then_is t (led commit Done) devices' (Device step) Done) (noted_step shape [] n a (Some (Some doing)) (Device step) Done contents)
     put_done plain does =
-        let g = flush_steps_followed.on_metadata (situation shape t devices actors) step new a x plan f.site.world of_metadata ex xt (sym next) f.phase.agrees in
+        let g = flush_steps_followed.on_metadata now step new a x plan f.site.world of_metadata (wants next) in
         let s' = (after_all f.site.world g.records).shared in
         let so = parts step coming s' g.desk g.turned in
         let u = led_on shape.geometry images c l.of devices.metadata new l.under does in
@@ -252,7 +260,7 @@ module _ (P A : Type 0) (shape : Shape) (images : Images) (t : Target P) (commit
 
     put_failed : Rattle.wb_promise.specs.Effects.buffer_then devices x.buffer (Device step) Fault Flush ≡ x.buffer → FailsStep c.image c.steps devices.metadata new → Goes P A shape (then_is t (led commit Fault) devices' (Device step) Fault) (noted_step shape [] n a (Some (Some doing)) (Device step) Fault contents)
     put_failed plain bad =
-        let fails = flush_steps_followed.metadata_fails (situation shape t devices actors) step new a x plan f.site.world of_metadata ex xt (sym next) f.phase.agrees in
+        let fails = flush_steps_followed.metadata_fails now step new a x plan f.site.world of_metadata (wants next) in
         let written = fails.0 in
         let g = fails.2 in
         let images' = images_of l.of (failed_written c.steps) in
@@ -287,7 +295,7 @@ module _ (P A : Type 0) (shape : Shape) (images : Images) (t : Target P) (commit
       quiet : Quiet shape.geometry images t.desk devices.metadata → AtDesk shape.geometry images t.desk None devices.metadata → Goes P A shape (then_is (record { words = t.words; desk = commit_begun t.desk tree }) (Some c) devices (Desk (BeginCommit clean allowed)) (Began nodes)) n
       quiet q k =
           let b = begins_over P shape.geometry images t.desk devices.metadata c tree k.is q steps begun in
-          let g = flush_steps_followed.begins (situation shape t devices actors) nodes allowed clean a x plan f.site.world ex xt (sym next) idle f.phase.agrees in
+          let g = flush_steps_followed.begins now nodes allowed clean a x plan f.site.world (wants next) idle in
           let s' = (after_all f.site.world g.records).shared in
           let t' : Target P = record { words = t.words; desk = commit_begun t.desk tree } in
           let y = after_step Flush plan (Began nodes) x in
@@ -309,7 +317,7 @@ module _ (P A : Type 0) (shape : Shape) (images : Images) (t : Target P) (commit
   -- or none begins
   begin_refused : (refusal : Refusal) (allowed : ℕ) (clean : Bool) → Desk (BeginCommit clean allowed) ≡ want plan → IsBeginRefused t.desk refusal → Goes P A shape (then_is t commit devices (Desk (BeginCommit clean allowed)) (GotRefused refusal)) n
   begin_refused refusal allowed clean next r =
-      let g = flush_steps_followed.is_refused (situation shape t devices actors) allowed clean refusal a x plan f.site.world (no_begin refusal r) ex xt (sym next) f.phase.agrees in
+      let g = flush_steps_followed.is_refused now allowed clean refusal a x plan f.site.world (no_begin refusal r) (wants next) in
       let y = after_step Flush plan (GotRefused refusal) x in
       subst (λ (y : Actor). Goes P A shape (record { devices = devices; commit = commit; phase = Stands t; actors = slice_set actors a y }) n) (sym (actor_is P A shape (Stands t) devices x Flush plan (Desk (BeginCommit clean allowed)) (GotRefused refusal) xt))
       (stays_on P A shape images t commit devices actors n known f a x ex Quietly t.words devices y n g tt (quiet_notes Stays t.words t.desk.space.committing slots devices (after_step Flush plan (GotRefused refusal) x) g) refl refl refl)
@@ -319,7 +327,7 @@ module _ (P A : Type 0) (shape : Shape) (images : Images) (t : Target P) (commit
   ends c runs next done =
       let k = subst (λ (m : Option RunningCommit). AtDesk shape.geometry images t.desk m devices.metadata) runs known in
       let e = ends_over P shape.geometry images t.desk devices.metadata c k done in
-      let g = flush_steps_followed.ends (situation shape t devices actors) a x plan f.site.world ex xt (sym next) f.phase.agrees in
+      let g = flush_steps_followed.ends now a x plan f.site.world (wants next) in
       let s' = (after_all f.site.world g.records).shared in
       let y = after_step Flush plan Done x in
       let after = commit_ended t.desk in
@@ -336,7 +344,7 @@ module _ (P A : Type 0) (shape : Shape) (images : Images) (t : Target P) (commit
 
   -- ---- the shared words, and the answer
 
-  told_so : (step : CellStep) → Cell step ≡ want plan → WorldFollows Quietly a f.site.world (record (situation shape t devices actors) { words = words_after t.words step }) (went t.words Flush plan step x) →
+  told_so : (step : CellStep) → Cell step ≡ want plan → WorldFollows Quietly a f.site.world (record now { words = words_after t.words step }) (went t.words Flush plan step x) →
       Goes P A shape (then_is (record { words = words_after t.words step; desk = t.desk }) commit devices (Cell step) (got_of (result_of t.words step))) n
   told_so step next g =
       let y = went t.words Flush plan step x in
@@ -347,10 +355,10 @@ module _ (P A : Type 0) (shape : Shape) (images : Images) (t : Target P) (commit
   on_words : (step : CellStep) → (step ≡ Look Fail) ⊎ (step ≡ SetFailed) → Cell step ≡ want plan → Goes P A shape (then_is (record { words = words_after t.words step; desk = t.desk }) commit devices (Cell step) (got_of (result_of t.words step))) n
   on_words step (inl is) next = subst (λ (v : CellStep). Goes P A shape (then_is (record { words = words_after t.words v; desk = t.desk }) commit devices (Cell v) (got_of (result_of t.words v))) n) (sym is)
       (told_so (Look Fail) (ap (λ (v : CellStep). Cell v) (sym is) ∙ next)
-      (flush_steps_followed.looks (situation shape t devices actors) a x plan f.site.world ex xt (sym (ap (λ (v : CellStep). Cell v) (sym is) ∙ next)) f.phase.agrees))
+      (flush_steps_followed.looks now a x plan f.site.world (wants (ap (λ (v : CellStep). Cell v) (sym is) ∙ next))))
   on_words step (inr is) next = subst (λ (v : CellStep). Goes P A shape (then_is (record { words = words_after t.words v; desk = t.desk }) commit devices (Cell v) (got_of (result_of t.words v))) n) (sym is)
       (told_so SetFailed (ap (λ (v : CellStep). Cell v) (sym is) ∙ next)
-      (flush_steps_followed.fails (situation shape t devices actors) _ _ a x plan f.site.world rule.logs.fail ex xt (sym (ap (λ (v : CellStep). Cell v) (sym is) ∙ next)) f.phase.agrees))
+      (flush_steps_followed.fails now _ _ a x plan f.site.world rule.logs.fail (wants (ap (λ (v : CellStep). Cell v) (sym is) ∙ next))))
 
   answers : (answer : Answer) (shown contents : List Bytes) → End answer ≡ want plan → length doing.then_finished ≡ length n.floors → Goes P A shape (then_is t commit devices (End answer) Done) (noted_step shape shown n a (Some (Some doing)) (End answer) Done contents)
   answers answer shown contents next asked = by_answer answer next
@@ -359,11 +367,11 @@ module _ (P A : Type 0) (shape : Shape) (images : Images) (t : Target P) (commit
       b = beside P A shape images t commit devices actors n known f a x ex
 
       given : (v : Answer) (orders' awaiting' : List Order) → ((o : Order) → Contains (held_of x) o → Contains (orders' ++ awaiting') o) → End v ≡ want plan →
-          WorldFollows (Answers (FlushingFor None) v) a f.site.world (situation shape t devices actors) (record x { task = None; orders = orders'; awaiting = awaiting' })
-      given v orders' awaiting' on e = flush_steps_followed.answers (situation shape t devices actors) v a x plan orders' awaiting' f.site.world ex xt (sym e) on f.phase.agrees
+          WorldFollows (Answers (FlushingFor None) v) a f.site.world now (record x { task = None; orders = orders'; awaiting = awaiting' })
+      given v orders' awaiting' on e = flush_steps_followed.answers now v a x plan orders' awaiting' f.site.world (wants e) on
 
       finish : (v : Answer) (y : Actor) → record { task = None; card = x.card; orders = orders_then x.orders x.awaiting Flush (End v) Done; awaiting = awaiting_then x.orders x.awaiting Flush (End v) Done; buffer = x.buffer } ≡ y →
-          (n' : Notes) (g : WorldFollows (Answers (FlushingFor None) v) a f.site.world (situation shape t devices actors) y) →
+          (n' : Notes) (g : WorldFollows (Answers (FlushingFor None) v) a f.site.world now y) →
           NotesAgree (size P A shape) n' (after_all f.site.world g.records) (told f.notes g.records) → length n'.doings ≡ length n.doings → length n'.histories ≡ length n.histories → Goes P A shape (then_is t commit devices (End v) Done) n'
       finish v y same n' g notes d h =
           subst (λ (y : Actor). Goes P A shape (record { devices = devices; commit = commit; phase = Stands t; actors = slice_set actors a y }) n') (sym (actor_is P A shape (Stands t) devices x Flush plan (End v) Done xt ∙ same))
@@ -397,7 +405,7 @@ module _ (P A : Type 0) (shape : Shape) (images : Images) (t : Target P) (commit
 
       by_order : (o : Option Order) → Rattle.wb_stage.specs.Asking.order_of block x.awaiting ≡ o → IsGivenUp o t.desk new → To new
       by_order None e d =
-          let g = flush_steps_followed.releases (situation shape t devices actors) block a x plan f.site.world ex xt (sym next) f.phase.agrees in
+          let g = flush_steps_followed.releases now block a x plan f.site.world (wants next) in
           subst To (sym d) (subst (λ (os : List Order). Goes P A shape (record { devices = devices; commit = commit; phase = Stands t; actors = slice_set actors a (record x { task = Some (Flush, after plan Done); awaiting = os }) }) n) (sym (none_dropped block x.awaiting e))
           (stays_on P A shape images t commit devices actors n known f a x ex Quietly t.words devices (after_step Flush plan Done x) n g tt (quiet_notes Stays t.words t.desk.space.committing slots devices (after_step Flush plan Done x) g) refl refl refl))
       by_order (Some order) e d =
@@ -411,8 +419,8 @@ module _ (P A : Type 0) (shape : Shape) (images : Images) (t : Target P) (commit
           let many_slots = known.is.kept.slots in
           let many_blocks = known.is.kept.blocks in
           let b = beside P A shape images t commit devices actors n known f a x ex in
-          let g = flush_steps_followed.gives_up (situation shape t devices actors) block a x plan l.cache.0 order (dropped block x.awaiting) f.site.world ex xt (sym next) here
-          (λ c z ez h. owned.one c a z x order ez ex h had) f.phase.agrees in
+          let g = flush_steps_followed.gives_up now block a x plan l.cache.0 order (dropped block x.awaiting) f.site.world (wants next) here
+          (λ c z ez h. owned.one c a z x order ez ex h had) in
           let s' = (after_all f.site.world g.records).shared in
           let readable = kept_readable shape.geometry images devices.metadata P A (Stands t) commit known in
           subst To (sym is) (leads_on P A shape images t commit devices actors n known f a x ex (GivesUp l.cache.0) Releases (record { words = t.words; desk = released t.desk l.cache }) commit devices y n images (slice_set (live_orders t.desk) l.cache.0 None) g tt

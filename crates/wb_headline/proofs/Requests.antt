@@ -90,8 +90,7 @@ module _ (P A : Type 0) (shape : Shape) (images : Images) (t : Target P) (commit
   pub on_words : (step : CellStep) → IsRequestJob job → Cell step ≡ want plan → Goes P A shape (after_it (words_after t.words step) devices (actor_then {P = P} {A = A} shape (Stands t) devices x (Cell step) (got_of (result_of t.words step)))) n
   on_words step q e = subst (λ (y : Actor). Goes P A shape (after_it (words_after t.words step) devices y) n) (sym (actor_is P A shape (Stands t) devices x job plan (Cell step) (got_of (result_of t.words step)) xt))
       (quietly (words_after t.words step) devices (went t.words job plan step x)
-      (cell_steps_followed (situation shape t devices actors) shape.geometry.origin_blocks a x job plan step f.site.world q rule
-      ex xt suits (sym e) f.phase.agrees) refl)
+      (cell_steps_followed (situation shape t devices actors) shape.geometry.origin_blocks a x job plan step f.site.world q rule (record { here = ex; task = xt; asks = sym e; agrees = f.phase.agrees }) suits) refl)
 
 -- a read or write that is answered leaves its actor the orders that it has
 orders_still : (orders awaiting : List Order) (job : Job) (answer : Answer) → IsRequestJob job → orders_then orders awaiting job (End answer) Done ≡ orders
@@ -120,7 +119,7 @@ module _ (P A : Type 0) (shape : Shape) (images : Images) (t : Target P) (commit
     -- what it is told there
     pub read_follows : (contents : List Bytes) → length contents ≡ e.count → GivesEach (device_in device devices) e.first contents →
         WorldFollows (Reads part.block.0 (e.first % size P A shape) contents) a f.site.world (situation shape t devices actors) (after_step (Read extent) plan Done x)
-    read_follows contents many gives = extent_steps_followed.read_done (situation shape t devices actors) shape.geometry.origin_blocks a x extent part plan device e contents f.site.world ex xt claim.is_job suits (sym next) holds many gives f.phase.agrees
+    read_follows contents many gives = extent_steps_followed.read_done (situation shape t devices actors) shape.geometry.origin_blocks a x extent part plan device e contents f.site.world (record { here = ex; task = xt; asks = sym next; agrees = f.phase.agrees }) claim.is_job suits holds many gives
 
     pub reads : (contents : List Bytes) → length contents ≡ e.count → GivesEach (device_in device devices) e.first contents →
         Goes P A shape (record { devices = devices; commit = commit; phase = Stands (record { words = t.words; desk = t.desk }); actors = slice_set actors a (actor_then {P = P} {A = A} shape (Stands t) devices x (Device (ReadExtent device e)) Done) })
@@ -144,7 +143,7 @@ module _ (P A : Type 0) (shape : Shape) (images : Images) (t : Target P) (commit
         Goes P A shape (record { devices = devices; commit = commit; phase = Stands (record { words = t.words; desk = t.desk }); actors = slice_set actors a (actor_then {P = P} {A = A} shape (Stands t) devices x (Device (ReadExtent device e)) Fault) })
         (noted_step shape shown n a (Some (Some doing)) (Device (ReadExtent device e)) Fault contents)
     read_fails contents =
-        let g = extent_steps_followed.read_fails (situation shape t devices actors) shape.geometry.origin_blocks a x extent part plan device e f.site.world ex xt claim.is_job suits (sym next) holds f.phase.agrees in
+        let g = extent_steps_followed.read_fails (situation shape t devices actors) shape.geometry.origin_blocks a x extent part plan device e f.site.world (record { here = ex; task = xt; asks = sym next; agrees = f.phase.agrees }) claim.is_job suits holds in
         let b = beside P A shape images t commit devices actors n known f a x ex in
         let mid = failing doing (ReadExtent device e) Fault in
         let s' = after_all f.site.world g.records in
@@ -210,7 +209,7 @@ module _ (P A : Type 0) (shape : Shape) (images : Images) (t : Target P) (commit
         (noted_step shape shown n a (Some (Some doing)) (Device (WriteExtent device e)) Done contents)
     writes contents inside =
         let list = written_each (device_in device devices) e.first (replicate e.count content) in
-        let g = extent_steps_followed.write_done (situation shape t devices actors) shape.geometry.origin_blocks a x extent content written_part plan device e f.site.world ex xt claim.is_job suits (sym next) holds inside f.phase.agrees in
+        let g = extent_steps_followed.write_done (situation shape t devices actors) shape.geometry.origin_blocks a x extent content written_part plan device e f.site.world (record { here = ex; task = xt; asks = sym next; agrees = f.phase.agrees }) claim.is_job suits holds inside in
         subst (λ (q : Job). Goes P A shape (record { devices = with_device device devices list; commit = commit; phase = Stands (record { words = t.words; desk = t.desk }); actors = slice_set actors a (actor_then {P = P} {A = A} shape (Stands t) devices x (Device (WriteExtent device e)) Done) }) (device_note shape (put n a (Some doing)) a doing q (WriteExtent device e) Done contents)) (sym job_is)
         (subst (λ (y : Actor). Goes P A shape (record { devices = with_device device devices list; commit = commit; phase = Stands (record { words = t.words; desk = t.desk }); actors = slice_set actors a y }) (write_note (put n a (Some doing)) a doing (enter_each content (rising (sector_for shape extent e) e.count) (entering (put n a (Some doing)) doing))))
         (sym (actor_is P A shape (Stands t) devices x (Write extent content) plan (Device (WriteExtent device e)) Done xt)) (writes_on Done doing refl refl list g))
@@ -221,7 +220,7 @@ module _ (P A : Type 0) (shape : Shape) (images : Images) (t : Target P) (commit
     write_fails contents lands inside =
         let list = written_where lands (device_in device devices) e.first (replicate e.count content) in
         let mid = failing doing (WriteExtent device e) Fault in
-        let g = extent_steps_followed.write_fails (situation shape t devices actors) shape.geometry.origin_blocks a x extent content written_part plan device e lands f.site.world ex xt claim.is_job suits (sym next) holds inside f.phase.agrees in
+        let g = extent_steps_followed.write_fails (situation shape t devices actors) shape.geometry.origin_blocks a x extent content written_part plan device e lands f.site.world (record { here = ex; task = xt; asks = sym next; agrees = f.phase.agrees }) claim.is_job suits holds inside in
         subst (λ (q : Job). Goes P A shape (record { devices = with_device device devices list; commit = commit; phase = Stands (record { words = t.words; desk = t.desk }); actors = slice_set actors a (actor_then {P = P} {A = A} shape (Stands t) devices x (Device (WriteExtent device e)) Fault) }) (device_note shape (put n a (Some mid)) a mid q (WriteExtent device e) Fault contents)) (sym job_is)
         (subst (λ (y : Actor). Goes P A shape (record { devices = with_device device devices list; commit = commit; phase = Stands (record { words = t.words; desk = t.desk }); actors = slice_set actors a y }) (write_note (put n a (Some mid)) a mid (enter_each content (rising (sector_for shape extent e) e.count) (entering (put n a (Some mid)) mid))))
         (sym (actor_is P A shape (Stands t) devices x (Write extent content) plan (Device (WriteExtent device e)) Fault xt)) (writes_on Fault mid refl refl list g))
@@ -230,7 +229,7 @@ module _ (P A : Type 0) (shape : Shape) (images : Images) (t : Target P) (commit
 
   module _ (job : Job) (request : IsRequestJob job) (plan : Plan) (xt : x.task ≡ Some (job, plan)) (suits : Suits shape.geometry.origin_blocks plan x.card) (answer : Answer) (next : End answer ≡ want plan) where
     answer_follows : WorldFollows (Answers (job_for (size P A shape) (content_of job) plan.job) answer) a f.site.world (situation shape t devices actors) (record x { task = None })
-    answer_follows = answers_followed (situation shape t devices actors) shape.geometry.origin_blocks a x job plan answer f.site.world request ex xt suits (sym next) f.phase.agrees
+    answer_follows = answers_followed (situation shape t devices actors) shape.geometry.origin_blocks a x job plan answer f.site.world request (record { here = ex; task = xt; asks = sym next; agrees = f.phase.agrees }) suits
 
     -- the state and notes then
     abbrev Answered : Notes → Type 0

@@ -94,6 +94,6 @@ module _ (now : Situation) (a : ℕ) (x : Actor) (s : World) (y : AbstractActor)
   followed blocks job plan answer q next suits d = absurd q
 
 pub answers_followed : AnswersFollowed
-answers_followed now blocks a x job plan answer s q ex task suits next g =
-    let y = own_there now s g a x ex in
-    followed now a x s y.0 ex y.1 g y.2 blocks job plan answer q next suits (doing_of now.size now.most now.words x y.0 job plan y.2 task)
+answers_followed now blocks a x job plan answer s q wants suits =
+    let y = own_there now s wants.agrees a x wants.here in
+    followed now a x s y.0 wants.here y.1 wants.agrees y.2 blocks job plan answer q wants.asks suits (doing_of now.size now.most now.words x y.0 job plan y.2 wants.task)

@@ -93,47 +93,47 @@ module _ (now : Situation) (a : ℕ) (x : Actor) (plan : Plan) (s : World) (ex :
 
 pub flush_steps_followed : FlushStepsFollowed
 flush_steps_followed = record {
-  looks = λ now a x plan s ex t e g. look now a x plan s ex t g e;
-  begins = λ now nodes allowed clean a x plan s ex t e idle g.
-      let u = its now a x plan s ex t g in let n = serves now a x plan s ex t g in
-      at_begin now a x plan s ex t g allowed clean e (λ p. WorldFollowsBy Begins Quietly a s (record now { committing = true }) (after_step Flush p (Began nodes) x)) (λ is. begins now n a x s u.0 ex u.1 g nodes plan.answer idle is);
-  is_refused = λ now allowed clean refusal a x plan s no ex t e g.
-      let u = its now a x plan s ex t g in let n = serves now a x plan s ex t g in
-      at_begin now a x plan s ex t g allowed clean e (λ p. WorldFollows Quietly a s now (after_step Flush p (Refused refusal) x)) (λ is. is_refused now n a x s u.0 ex u.1 g refusal plan.answer no is);
-  syncs = λ now device a x plan s h ex t e g.
-      let u = its now a x plan s ex t g in let n = serves now a x plan s ex t g in
-      at_flush now a x plan s ex t g (Device (Sync device)) e tt (λ p. WorldFollows Quietly a s (record now { devices = with_device device now.devices (synced (device_in device now.devices)) }) (after_step Flush p Done x))
-      (λ later leads l o is. syncs now n a x s u.0 ex u.1 g device h later plan.answer o (leading now n a x s u.0 ex u.1 g (Device (Sync device)) later plan.answer leads l is));
-  sync_fails = λ now device lands a x plan s h ex t e g.
-      let u = its now a x plan s ex t g in let n = serves now a x plan s ex t g in
-      at_flush now a x plan s ex t g (Device (Sync device)) e tt (λ p. WorldFollows Quietly a s (record now { devices = with_device device now.devices (synced_where lands (device_in device now.devices)) }) (after_step Flush p Fault x))
-      (λ later leads l o is. sync_falls now n a x s u.0 ex u.1 g lands device h later plan.answer (leading now n a x s u.0 ex u.1 g (Device (Sync device)) later plan.answer leads l is));
-  on_metadata = λ now step metadata a x plan s d ex t e g.
-      let u = its now a x plan s ex t g in let n = serves now a x plan s ex t g in
-      at_flush now a x plan s ex t g (Device step) e tt (λ p. WorldFollowsBy (turn_of step) Quietly a s (record now { devices = with_device Metadata now.devices metadata }) (after_step Flush p Done x))
-      (λ later leads l o is. metadata_done now n a x s u.0 ex u.1 g metadata step later plan.answer d o (leading now n a x s u.0 ex u.1 g (Device step) later plan.answer leads l is));
-  metadata_fails = λ now step metadata a x plan s d ex t e g.
-      let u = its now a x plan s ex t g in let n = serves now a x plan s ex t g in
-      at_flush now a x plan s ex t g (Device step) e tt (λ p. (written : Bool) × IsWrittenAfter step s.shared.root_written written × WorldFollowsBy (Puts written) Quietly a s (record now { devices = with_device Metadata now.devices metadata }) (after_step Flush p Fault x))
-      (λ later leads l o is. metadata_failed now n a x s u.0 ex u.1 g metadata step later plan.answer (is_on_metadata now n a x s u.0 ex u.1 g step later d o) (leading now n a x s u.0 ex u.1 g (Device step) later plan.answer leads l is));
-  ends = λ now a x plan s ex t e g.
-      let u = its now a x plan s ex t g in let n = serves now a x plan s ex t g in
-      at_flush now a x plan s ex t g (Desk EndCommit) e tt (λ p. WorldFollowsBy Ends Quietly a s (record now { committing = false }) (after_step Flush p Done x))
-      (λ later leads l o is. last now n a x s u.0 ex u.1 g later plan.answer o (leading now n a x s u.0 ex u.1 g (Desk EndCommit) later plan.answer leads l is));
-  releases = λ now block a x plan s ex t e g.
-      let u = its now a x plan s ex t g in let n = serves now a x plan s ex t g in
-      at_flush now a x plan s ex t g (Desk (ReleaseOrder block)) e tt (λ p. WorldFollows Quietly a s now (after_step Flush p Done x))
-      (λ later leads l o is. releases now n a x s u.0 ex u.1 g block later plan.answer o (not_leading now a x plan s ex t g (Desk (ReleaseOrder block)) later leads l is));
-  gives_up = λ now block a x plan c order awaiting' s ex t e slot only g.
-      let u = its now a x plan s ex t g in let n = serves now a x plan s ex t g in
-      at_flush now a x plan s ex t g (Desk (ReleaseOrder block)) e tt (λ p. WorldFollowsBy (GivesUp c) Releases a s (record now { orders = slice_set now.orders c None }) (record (after_step Flush p Done x) { awaiting = awaiting' }))
-      (λ later leads l o is. gives_up now n a x s u.0 ex u.1 g block later plan.answer o (not_leading now a x plan s ex t g (Desk (ReleaseOrder block)) later leads l is) c order awaiting' slot only);
-  fails = λ now failures suspensions a x plan s w ex t e g.
-      let u = its now a x plan s ex t g in let n = serves now a x plan s ex t g in
-      at_flush now a x plan s ex t g (Cell SetFailed) e tt (λ p. WorldFollows Quietly a s (record now { words = words_after now.words SetFailed }) (went now.words Flush p SetFailed x))
+  looks = λ now a x plan s wants. look now a x plan s wants.here wants.task wants.agrees wants.asks;
+  begins = λ now nodes allowed clean a x plan s wants idle.
+      let u = its now a x plan s wants.here wants.task wants.agrees in let n = serves now a x plan s wants.here wants.task wants.agrees in
+      at_begin now a x plan s wants.here wants.task wants.agrees allowed clean wants.asks (λ p. WorldFollowsBy Begins Quietly a s (record now { committing = true }) (after_step Flush p (Began nodes) x)) (λ is. begins now n a x s u.0 wants.here u.1 wants.agrees nodes plan.answer idle is);
+  is_refused = λ now allowed clean refusal a x plan s no wants.
+      let u = its now a x plan s wants.here wants.task wants.agrees in let n = serves now a x plan s wants.here wants.task wants.agrees in
+      at_begin now a x plan s wants.here wants.task wants.agrees allowed clean wants.asks (λ p. WorldFollows Quietly a s now (after_step Flush p (Refused refusal) x)) (λ is. is_refused now n a x s u.0 wants.here u.1 wants.agrees refusal plan.answer no is);
+  syncs = λ now device a x plan s h wants.
+      let u = its now a x plan s wants.here wants.task wants.agrees in let n = serves now a x plan s wants.here wants.task wants.agrees in
+      at_flush now a x plan s wants.here wants.task wants.agrees (Device (Sync device)) wants.asks tt (λ p. WorldFollows Quietly a s (record now { devices = with_device device now.devices (synced (device_in device now.devices)) }) (after_step Flush p Done x))
+      (λ later leads l o is. syncs now n a x s u.0 wants.here u.1 wants.agrees device h later plan.answer o (leading now n a x s u.0 wants.here u.1 wants.agrees (Device (Sync device)) later plan.answer leads l is));
+  sync_fails = λ now device lands a x plan s h wants.
+      let u = its now a x plan s wants.here wants.task wants.agrees in let n = serves now a x plan s wants.here wants.task wants.agrees in
+      at_flush now a x plan s wants.here wants.task wants.agrees (Device (Sync device)) wants.asks tt (λ p. WorldFollows Quietly a s (record now { devices = with_device device now.devices (synced_where lands (device_in device now.devices)) }) (after_step Flush p Fault x))
+      (λ later leads l o is. sync_falls now n a x s u.0 wants.here u.1 wants.agrees lands device h later plan.answer (leading now n a x s u.0 wants.here u.1 wants.agrees (Device (Sync device)) later plan.answer leads l is));
+  on_metadata = λ now step metadata a x plan s d wants.
+      let u = its now a x plan s wants.here wants.task wants.agrees in let n = serves now a x plan s wants.here wants.task wants.agrees in
+      at_flush now a x plan s wants.here wants.task wants.agrees (Device step) wants.asks tt (λ p. WorldFollowsBy (turn_of step) Quietly a s (record now { devices = with_device Metadata now.devices metadata }) (after_step Flush p Done x))
+      (λ later leads l o is. metadata_done now n a x s u.0 wants.here u.1 wants.agrees metadata step later plan.answer d o (leading now n a x s u.0 wants.here u.1 wants.agrees (Device step) later plan.answer leads l is));
+  metadata_fails = λ now step metadata a x plan s d wants.
+      let u = its now a x plan s wants.here wants.task wants.agrees in let n = serves now a x plan s wants.here wants.task wants.agrees in
+      at_flush now a x plan s wants.here wants.task wants.agrees (Device step) wants.asks tt (λ p. (written : Bool) × IsWrittenAfter step s.shared.root_written written × WorldFollowsBy (Puts written) Quietly a s (record now { devices = with_device Metadata now.devices metadata }) (after_step Flush p Fault x))
+      (λ later leads l o is. metadata_failed now n a x s u.0 wants.here u.1 wants.agrees metadata step later plan.answer (is_on_metadata now n a x s u.0 wants.here u.1 wants.agrees step later d o) (leading now n a x s u.0 wants.here u.1 wants.agrees (Device step) later plan.answer leads l is));
+  ends = λ now a x plan s wants.
+      let u = its now a x plan s wants.here wants.task wants.agrees in let n = serves now a x plan s wants.here wants.task wants.agrees in
+      at_flush now a x plan s wants.here wants.task wants.agrees (Desk EndCommit) wants.asks tt (λ p. WorldFollowsBy Ends Quietly a s (record now { committing = false }) (after_step Flush p Done x))
+      (λ later leads l o is. last now n a x s u.0 wants.here u.1 wants.agrees later plan.answer o (leading now n a x s u.0 wants.here u.1 wants.agrees (Desk EndCommit) later plan.answer leads l is));
+  releases = λ now block a x plan s wants.
+      let u = its now a x plan s wants.here wants.task wants.agrees in let n = serves now a x plan s wants.here wants.task wants.agrees in
+      at_flush now a x plan s wants.here wants.task wants.agrees (Desk (ReleaseOrder block)) wants.asks tt (λ p. WorldFollows Quietly a s now (after_step Flush p Done x))
+      (λ later leads l o is. releases now n a x s u.0 wants.here u.1 wants.agrees block later plan.answer o (not_leading now a x plan s wants.here wants.task wants.agrees (Desk (ReleaseOrder block)) later leads l is));
+  gives_up = λ now block a x plan c order awaiting' s wants slot only.
+      let u = its now a x plan s wants.here wants.task wants.agrees in let n = serves now a x plan s wants.here wants.task wants.agrees in
+      at_flush now a x plan s wants.here wants.task wants.agrees (Desk (ReleaseOrder block)) wants.asks tt (λ p. WorldFollowsBy (GivesUp c) Releases a s (record now { orders = slice_set now.orders c None }) (record (after_step Flush p Done x) { awaiting = awaiting' }))
+      (λ later leads l o is. gives_up now n a x s u.0 wants.here u.1 wants.agrees block later plan.answer o (not_leading now a x plan s wants.here wants.task wants.agrees (Desk (ReleaseOrder block)) later leads l is) c order awaiting' slot only);
+  fails = λ now failures suspensions a x plan s w wants.
+      let u = its now a x plan s wants.here wants.task wants.agrees in let n = serves now a x plan s wants.here wants.task wants.agrees in
+      at_flush now a x plan s wants.here wants.task wants.agrees (Cell SetFailed) wants.asks tt (λ p. WorldFollows Quietly a s (record now { words = words_after now.words SetFailed }) (went now.words Flush p SetFailed x))
       (λ later leads l o is. let same : [] ≡ later = sym o in subst (λ (ws : List Want). WorldFollows Quietly a s (record now { words = words_after now.words SetFailed }) (went now.words Flush (flushing n now.most (Cell SetFailed ∷ ws) plan.answer) SetFailed x)) same
-      (fails now n a x s u.0 ex u.1 g failures suspensions plan.answer w (subst (λ (ws : List Want). IsFlushing now.size [] (flushing n now.most (Cell SetFailed ∷ ws) plan.answer) true u.0) o (leading now n a x s u.0 ex u.1 g (Cell SetFailed) later plan.answer leads l is))));
-  answers = λ now answer a x plan orders' awaiting' s ex t e keeps g. answered now a x plan s ex t g orders' awaiting' keeps answer e;
+      (fails now n a x s u.0 wants.here u.1 wants.agrees failures suspensions plan.answer w (subst (λ (ws : List Want). IsFlushing now.size [] (flushing n now.most (Cell SetFailed ∷ ws) plan.answer) true u.0) o (leading now n a x s u.0 wants.here u.1 wants.agrees (Cell SetFailed) later plan.answer leads l is))));
+  answers = λ now answer a x plan orders' awaiting' s wants keeps. answered now a x plan s wants.here wants.task wants.agrees orders' awaiting' keeps answer wants.asks;
 }
   where
     last : (now : Situation) (blocks : List OBlock) (a : ℕ) (x : Actor) (s : World) (y : AbstractActor) (ex : slice_get now.actors a ≡ Some x) (ey : slice_get s.actors a ≡ Some y) (g : Agrees now s) → (later : List Want) (answer : Answer) →

@@ -147,6 +147,6 @@ followed now blocks a x (Write extent content) plan step s y rule ex ey q suits 
 followed now blocks a x job plan step s y rule ex ey q suits next g st d = absurd q
 
 pub cell_steps_followed : CellStepsFollowed
-cell_steps_followed now blocks a x job plan step s q rule ex task suits next g =
-    let y = own_there now s g a x ex in
-    followed now blocks a x job plan step s y.0 rule ex y.1 q suits next g y.2 (doing_of now.size now.most now.words x y.0 job plan y.2 task)
+cell_steps_followed now blocks a x job plan step s q rule wants suits =
+    let y = own_there now s wants.agrees a x wants.here in
+    followed now blocks a x job plan step s y.0 rule wants.here y.1 q suits wants.asks wants.agrees y.2 (doing_of now.size now.most now.words x y.0 job plan y.2 wants.task)

@@ -11,7 +11,7 @@ use Rattle.wb_words.specs.declared.step.CellStep.{CellStep}
 use Rattle.wb_words.specs.declared.step.CellStep.TheVariants.{Look, Release, Seal}
 use Rattle.wb_words.specs.declared.word.Word.TheVariants.{Seal as SealWord, Number}
 use Rattle.wb_tasks.specs.Tables.{BlockRange, Migrating, OnBlock}
-use Rattle.wb_tasks.specs.Plan.{Plan, want, after, got_of}
+use Rattle.wb_tasks.specs.Plan.{Plan, after, got_of}
 use Rattle.wb_tasks.specs.Ready.{Has, Suits}
 use Rattle.wb_words.specs.declared.word.Access.TheVariants.{Owned}
 use Rattle.wb_tasks.proofs.Readiness.{job_stays}
@@ -32,7 +32,7 @@ use Rattle.wb_runs.specs.Holding.{cards_of}
 use Rattle.wb_simulation.specs.Steps.{IsTail}
 use Rattle.wb_simulation.specs.Carried.{IsCarried, HasEnded}
 use Rattle.wb_simulation.specs.Worlds.{Situation, Agrees, Stays}
-use Rattle.wb_simulation.specs.Laws.{went}
+use Rattle.wb_simulation.specs.Laws.{Wants, went}
 use Rattle.wb_simulation.specs.Migrating.{SealTells, SeesWhere, Carried}
 use Rattle.wb_simulation.proofs.Steps.{AreCopies, after_cell, migration_works}
 use Rattle.wb_simulation.proofs.Cells.{Acted, acts_in_role, acts_over, tells}
@@ -110,15 +110,15 @@ module _ (now : Situation) (blocks : ℕ) (a : ℕ) (x : Actor) (step : CellStep
 -- ---- any step of a migration on the words
 
 pub cells : (now : Situation) (blocks : ℕ) (a : ℕ) (x : Actor) (migration : Migration) (block : OBlock) (plan : Plan) (step : CellStep) (s : World) →
-    LockRule blocks now.words (cards_of now.actors) → slice_get now.actors a ≡ Some x → x.task ≡ Some (Migrate migration block, plan) → Suits blocks plan x.card → want plan ≡ Cell step → SeesWhere now.words now.orders s.shared.mapping migration block step → Agrees now s →
+    LockRule blocks now.words (cards_of now.actors) → Wants now a x s (Migrate migration block) plan (Cell step) → Suits blocks plan x.card → SeesWhere now.words now.orders s.shared.mapping migration block step →
     Carried Stays a s (record now { words = words_after now.words step }) (went now.words (Migrate migration block) plan step x)
-cells now blocks a x migration block plan step s rule ex task suits next sees g =
-    let y = own_there now s g a x ex in
-    let d = g.orders_agree.carried a x y.0 migration block plan ex y.1 task in
-    first plan (OnBlock (Migrating migration d.part)) (Cell step) d.job next (λ p. Suits blocks p x.card → At d.failed d.part y.0 p → Goal p) (λ rest k suits at. elim at [
-      | inl f ↦ goes d.part y.0 y.1 rest (acts now blocks a x step s y.0 g rule ex y.1 migration block d.part rest plan.answer f suits sees) (is_carried now blocks a x step s y.0 g rule ex y.1 migration block d.part rest plan.answer f suits sees)
+cells now blocks a x migration block plan step s rule wants suits sees =
+    let y = own_there now s wants.agrees a x wants.here in
+    let d = wants.agrees.orders_agree.carried a x y.0 migration block plan wants.here y.1 wants.task in
+    first plan (OnBlock (Migrating migration d.part)) (Cell step) d.job wants.asks (λ p. Suits blocks p x.card → At d.failed d.part y.0 p → Goal p) (λ rest k suits at. elim at [
+      | inl f ↦ goes d.part y.0 y.1 rest (acts now blocks a x step s y.0 wants.agrees rule wants.here y.1 migration block d.part rest plan.answer f suits sees) (is_carried now blocks a x step s y.0 wants.agrees rule wants.here y.1 migration block d.part rest plan.answer f suits sees)
           (carried_job now.size now.orders migration block d.part (Cell step ∷ rest) plan.answer x y.0 f)
-      | inr o ↦ goes d.part y.0 y.1 rest (acts_over (Migrating migration d.part) IsMigrating now.words s.actors a x.card s.shared y.0 plan.answer g.words_agree d.failed d.has_failed step rest y.2.below y.2.among_others o) (λ z (n : ⊥). absurd n)
+      | inr o ↦ goes d.part y.0 y.1 rest (acts_over (Migrating migration d.part) IsMigrating now.words s.actors a x.card s.shared y.0 plan.answer wants.agrees.words_agree d.failed d.has_failed step rest y.2.below y.2.among_others o) (λ z (n : ⊥). absurd n)
           (elim o [ inl e ↦ subst IsMigratingOf (sym e.0.task) e.1 | inr l ↦ subst IsMigratingOf (sym l.nothing) tt ])
     ]) (λ k q. absurd (cc)) suits d.at
   where
@@ -133,5 +133,5 @@ cells now blocks a x migration block plan step s rule ex task suits next sees g 
         IsMigratingOf y.task → Goal (plan_of (Migrating migration part) (Cell step ∷ rest) plan.answer)
     goes part y ey rest acted carried migrates =
         let of : Plan = plan_of (Migrating migration part) (Cell step ∷ rest) plan.answer in
-        among_all now blocks a x (Migrate migration block) step s y rule ex ey g of Carries acted (acted.results, quiet_are_carried acted.results y.task migrates acted.quiet, refl) tt
+        among_all now blocks a x (Migrate migration block) step s y rule wants.here ey wants.agrees of Carries acted (acted.results, quiet_are_carried acted.results y.task migrates acted.quiet, refl) tt
         (λ m b p e. at_it now.size (words_after now.words step) now.orders (went now.words (Migrate migration block) of step x) _ migration block (after of (got_of (result_of now.words step))) m b p (record { part = part; job = job_stays of (got_of (result_of now.words step)); failed = acted.failed; has_failed = acted.has_failed; at = elim acted.at [ inl i ↦ inl (carried _ i) | inr o ↦ inr o ] }) e)

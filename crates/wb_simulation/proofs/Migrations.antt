@@ -192,13 +192,13 @@ migrations_followed = record {
       let y = own_there now s g a x ex in
       again now a x migration block c next order cut s y.0 g ex y.1 none hold some small is_cut of is live mine only may;
   cells = cells;
-  read_done = λ now blocks a x migration block plan device e s ex task suits asked room g. read_is_done now blocks a x migration block plan s ex task suits g device e asked room;
-  read_fails = λ now blocks a x migration block plan device e s ex task suits asked g. read_has_failed now blocks a x migration block plan s ex task suits g device e asked;
-  write_done = λ now blocks a x migration block plan device e s ex task suits asked room g. write_is_done now blocks a x migration block plan s ex task suits g device e asked room;
-  write_fails = λ now blocks a x migration block plan device e lands s ex task suits asked room g. write_has_failed now blocks a x migration block plan s ex task suits g device e lands asked room;
-  maps = λ now blocks a x migration block b c plan s ex task suits asked free g. map_is_done now blocks a x migration block plan s ex task suits g b c asked free;
-  is_refused = λ now blocks a x migration block b c plan refusal s ex task suits asked g. map_is_refused now blocks a x migration block plan s ex task suits g b c refusal asked;
-  unmaps = λ now blocks a x migration block b plan s ex task suits asked leaving g. unmap_is_done now blocks a x migration block plan s ex task suits g b asked leaving;
-  gives_up = λ now blocks a x migration block b plan s ex task suits asked g. order_is_given_up now blocks a x migration block plan s ex task suits g b asked;
-  answers = λ now blocks a x migration block plan answer s ex task suits asked g. answered now blocks a x migration block plan s ex task suits g answer asked;
+  read_done = λ now blocks a x migration block plan device e s wants suits room. read_is_done now blocks a x migration block plan s wants.here wants.task suits wants.agrees device e wants.asks room;
+  read_fails = λ now blocks a x migration block plan device e s wants suits. read_has_failed now blocks a x migration block plan s wants.here wants.task suits wants.agrees device e wants.asks;
+  write_done = λ now blocks a x migration block plan device e s wants suits room. write_is_done now blocks a x migration block plan s wants.here wants.task suits wants.agrees device e wants.asks room;
+  write_fails = λ now blocks a x migration block plan device e lands s wants suits room. write_has_failed now blocks a x migration block plan s wants.here wants.task suits wants.agrees device e lands wants.asks room;
+  maps = λ now blocks a x migration block b c plan s wants suits free. map_is_done now blocks a x migration block plan s wants.here wants.task suits wants.agrees b c wants.asks free;
+  is_refused = λ now blocks a x migration block b c plan refusal s wants suits. map_is_refused now blocks a x migration block plan s wants.here wants.task suits wants.agrees b c refusal wants.asks;
+  unmaps = λ now blocks a x migration block b plan s wants suits leaving. unmap_is_done now blocks a x migration block plan s wants.here wants.task suits wants.agrees b wants.asks leaving;
+  gives_up = λ now blocks a x migration block b plan s wants suits. order_is_given_up now blocks a x migration block plan s wants.here wants.task suits wants.agrees b wants.asks;
+  answers = λ now blocks a x migration block plan answer s wants suits. answered now blocks a x migration block plan s wants.here wants.task suits wants.agrees answer wants.asks;
 }

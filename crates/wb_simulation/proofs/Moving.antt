@@ -206,24 +206,24 @@ has_step size content failed job_on range part step plan card y next of_part r =
 
 pub extent_steps_followed : ExtentStepsFollowed
 extent_steps_followed = record {
-  read_done = λ now blocks a x extent part plan device e contents s ex task of_part suits next h n given g.
-      let y = own_there now s g a x ex in
-      let k = has_step now.size [] _ Reading (λ p. refl) part (ReadExtent device e) plan x.card y.0 next of_part (doing_of now.size now.most now.words x y.0 (Read extent) plan (g.each a x y.0 ex y.1) task) in
+  read_done = λ now blocks a x extent part plan device e contents s wants of_part suits h n given.
+      let y = own_there now s wants.agrees a x wants.here in
+      let k = has_step now.size [] _ Reading (λ p. refl) part (ReadExtent device e) plan x.card y.0 wants.asks of_part (doing_of now.size now.most now.words x y.0 (Read extent) plan (wants.agrees.each a x y.0 wants.here y.1) wants.task) in
       subst (λ (p : Plan). WorldFollows (Reads part.block.0 (e.first % now.size) contents) a s now (after_step (Read extent) p Done x)) (sym k.is)
-      (read_done now blocks a x s y.0 ex y.1 g part k.is_part device e k.later plan.answer h extent contents k.of_block (subst (λ (p : Plan). Suits blocks p x.card) k.is suits) n given k.at);
-  read_fails = λ now blocks a x extent part plan device e s ex task of_part suits next h g.
-      let y = own_there now s g a x ex in
-      let k = has_step now.size [] _ Reading (λ p. refl) part (ReadExtent device e) plan x.card y.0 next of_part (doing_of now.size now.most now.words x y.0 (Read extent) plan (g.each a x y.0 ex y.1) task) in
+      (read_done now blocks a x s y.0 wants.here y.1 wants.agrees part k.is_part device e k.later plan.answer h extent contents k.of_block (subst (λ (p : Plan). Suits blocks p x.card) k.is suits) n given k.at);
+  read_fails = λ now blocks a x extent part plan device e s wants of_part suits h.
+      let y = own_there now s wants.agrees a x wants.here in
+      let k = has_step now.size [] _ Reading (λ p. refl) part (ReadExtent device e) plan x.card y.0 wants.asks of_part (doing_of now.size now.most now.words x y.0 (Read extent) plan (wants.agrees.each a x y.0 wants.here y.1) wants.task) in
       subst (λ (p : Plan). WorldFollows Quietly a s now (after_step (Read extent) p Fault x)) (sym k.is)
-      (read_fails now blocks a x s y.0 ex y.1 g part k.is_part device e k.later plan.answer h extent k.of_block k.at);
-  write_done = λ now blocks a x extent content part plan device e s ex task of_part suits next h room g.
-      let y = own_there now s g a x ex in
-      let k = has_step now.size content _ Writing (λ p. refl) part (WriteExtent device e) plan x.card y.0 next of_part (doing_of now.size now.most now.words x y.0 (Write extent content) plan (g.each a x y.0 ex y.1) task) in
+      (read_fails now blocks a x s y.0 wants.here y.1 wants.agrees part k.is_part device e k.later plan.answer h extent k.of_block k.at);
+  write_done = λ now blocks a x extent content part plan device e s wants of_part suits h room.
+      let y = own_there now s wants.agrees a x wants.here in
+      let k = has_step now.size content _ Writing (λ p. refl) part (WriteExtent device e) plan x.card y.0 wants.asks of_part (doing_of now.size now.most now.words x y.0 (Write extent content) plan (wants.agrees.each a x y.0 wants.here y.1) wants.task) in
       subst (λ (p : Plan). WorldFollows (Writes part.block.0 (e.first % now.size) e.count content) a s (record now { devices = with_device device now.devices (written_each (device_in device now.devices) e.first (replicate e.count content)) }) (after_step (Write extent content) p Done x)) (sym k.is)
-      (write_done now blocks a x s y.0 ex y.1 g part k.is_part device e k.later plan.answer h extent content k.of_block (subst (λ (p : Plan). Suits blocks p x.card) k.is suits) room k.at);
-  write_fails = λ now blocks a x extent content part plan device e lands s ex task of_part suits next h room g.
-      let y = own_there now s g a x ex in
-      let k = has_step now.size content _ Writing (λ p. refl) part (WriteExtent device e) plan x.card y.0 next of_part (doing_of now.size now.most now.words x y.0 (Write extent content) plan (g.each a x y.0 ex y.1) task) in
+      (write_done now blocks a x s y.0 wants.here y.1 wants.agrees part k.is_part device e k.later plan.answer h extent content k.of_block (subst (λ (p : Plan). Suits blocks p x.card) k.is suits) room k.at);
+  write_fails = λ now blocks a x extent content part plan device e lands s wants of_part suits h room.
+      let y = own_there now s wants.agrees a x wants.here in
+      let k = has_step now.size content _ Writing (λ p. refl) part (WriteExtent device e) plan x.card y.0 wants.asks of_part (doing_of now.size now.most now.words x y.0 (Write extent content) plan (wants.agrees.each a x y.0 wants.here y.1) wants.task) in
       subst (λ (p : Plan). WorldFollows (Writes part.block.0 (e.first % now.size) e.count content) a s (record now { devices = with_device device now.devices (written_where lands (device_in device now.devices) e.first (replicate e.count content)) }) (after_step (Write extent content) p Fault x)) (sym k.is)
-      (write_fails now blocks a x s y.0 ex y.1 g part k.is_part device e k.later plan.answer h extent content lands k.of_block room k.at);
+      (write_fails now blocks a x s y.0 wants.here y.1 wants.agrees part k.is_part device e k.later plan.answer h extent content lands k.of_block room k.at);
 }
