@@ -140,9 +140,6 @@ some_is a b e = ap (λ o. Rattle.std.proofs.Common.unwrap_or o a) e
 module _ (P A : Type 0) (shape : Shape) (images : Images) (t : Target P) (commit : Option RunningCommit) (devices : Devices (List History)) (actors : List Actor) (n : Notes) (known : MetadataKept {P = P} {A = A} shape.geometry images (Stands t) commit devices.metadata)
     (f : Followed P A shape images (standing P A shape images t commit devices actors n) n) (rule : LockRule shape.geometry.origin_blocks t.words (cards_of actors)) (a : ℕ) (x : Actor) (ex : slice_get actors a ≡ Some x) (plan : Plan) (xt : x.task ≡ Some (Flush, plan))
     (doing : Doing) (noted : slice_get n.doings a ≡ Some (Some doing)) (job_is : doing.job ≡ Flush) where
-  abbrev slots : List (Option Order)
-  slots = live_orders t.desk
-
   -- where the machine stands
   abbrev now : Situation
   now = situation shape t devices actors
@@ -172,9 +169,9 @@ module _ (P A : Type 0) (shape : Shape) (images : Images) (t : Target P) (commit
   noted_less : Rattle.std.proofs.Common.◌<◌ a (length n.doings)
   noted_less = noted_within P A shape images t commit devices actors n known f a x ex
 
-  quiet_notes : (turn : Turn) (words' : Words) (committing' : Bool) (orders' : List (Option Order)) (devices' : Devices (List History)) (y : Actor) (g : WorldFollowsBy turn Quietly a f.site.world (record (situation shape t devices' actors) { words = words'; committing = committing'; orders = orders' }) y) →
+  quiet_notes : {turn : Turn} {words' : Words} {committing' : Bool} {orders' : List (Option Order)} {devices' : Devices (List History)} {y : Actor} (g : WorldFollowsBy turn Quietly a f.site.world (record (situation shape t devices' actors) { words = words'; committing = committing'; orders = orders' }) y) →
       NotesAgree (size P A shape) n (after_all f.site.world g.records) (told f.notes g.records)
-  quiet_notes turn words' committing' orders' devices' y g =
+  quiet_notes {turn} {words'} {committing'} {orders'} {devices'} {y} g =
       let b = beside P A shape images t commit devices actors n known f a x ex in
       notes_followed.quiet turn a f.site.world _ _ g b.0 n f.notes b.1 noted_less f.notes_agree
 
@@ -183,7 +180,7 @@ module _ (P A : Type 0) (shape : Shape) (images : Images) (t : Target P) (commit
   module _ (turn : Turn) (step : DeviceStep) (got : Got) (contents : List Bytes) (t' : Target P) (commit' : Option RunningCommit) (devices' : Devices (List History)) (images' : Images) (plain : Rattle.wb_promise.specs.Effects.buffer_then devices x.buffer (Device step) got Flush ≡ x.buffer)
       (g : WorldFollowsBy turn Quietly a f.site.world (situation shape t' devices' actors) (after_step Flush plan got x)) where
     device_notes : NotesAgree (size P A shape) (device_n step got) (after_all f.site.world g.records) (told f.notes g.records)
-    device_notes = let e = failing_same doing step got in notes_followed.redone (size P A shape) n (after_all f.site.world g.records) (told f.notes g.records) a doing (failing doing step got) (quiet_notes turn t'.words t'.desk.space.committing (live_orders t'.desk) devices' (after_step Flush plan got x) g) noted e.0 e.1
+    device_notes = let e = failing_same doing step got in notes_followed.redone (size P A shape) n (after_all f.site.world g.records) (told f.notes g.records) a doing (failing doing step got) (quiet_notes g) noted e.0 e.1
 
     on_device : AtDesk shape.geometry images' t'.desk commit' devices'.metadata → DeskAgrees t'.desk (after_all f.site.world g.records).shared → ImagesAgree shape.geometry images'.committed (later_of images') devices'.metadata (after_all f.site.world g.records).shared →
         ((state : Stored) → images'.running ≡ Some state → (after_all f.site.world g.records).shared.running ≡ locations state) → Goes P A shape (then_is t' commit' devices' (Device step) got) (noted_step shape [] n a (Some (Some doing)) (Device step) got contents)
@@ -306,7 +303,7 @@ module _ (P A : Type 0) (shape : Shape) (images : Images) (t : Target P) (commit
           let same : b.now.committed ≡ images.committed = same_one b.turn images b.now (ap (λ (i : Images). i.running) q.are) b.turned in
           let later : later_of b.now ≡ None = ap later_of l.under.are ∙ ap (λ (v : CommitSteps). if is_written v then Some l.of.new else None) steps in
           subst (λ (y : Actor). Goes P A shape (record { devices = devices; commit = Some c; phase = Stands t'; actors = slice_set actors a y }) n) (sym (actor_is P A shape (Stands t) devices x Flush plan (Desk (BeginCommit clean allowed)) (Began nodes) xt))
-          (leads_on P A shape images t commit devices actors n known f a x ex Begins Quietly t' (Some c) devices y n b.now (live_orders t'.desk) g tt (quiet_notes Begins t.words true slots devices (after_step Flush plan (Began nodes) x) g) refl refl b.kept.0 refl (desk_begins P t.desk s s' f.phase.desk tree begun.image_is.same_entries g.desk.0 g.desk.1) (subst (λ (o : Option Stored). ImagesAgree shape.geometry b.now.committed o devices.metadata s') (sym later) (subst (λ (v : Stored). ImagesAgree shape.geometry v None devices.metadata s') (sym same) begun_there.0)) (λ state e. begun_there.1 ∙ f.phase.desk.mapping ∙ ap (λ es. Rattle.wb_simulation.specs.Opened.located es) (sym b.kept.1.2) ∙ ap locations (some_is b.kept.1.0 state (sym b.kept.1.1 ∙ e))))
+          (leads_on P A shape images t commit devices actors n known f a x ex Begins Quietly t' (Some c) devices y n b.now (live_orders t'.desk) g tt (quiet_notes g) refl refl b.kept.0 refl (desk_begins P t.desk s s' f.phase.desk tree begun.image_is.same_entries g.desk.0 g.desk.1) (subst (λ (o : Option Stored). ImagesAgree shape.geometry b.now.committed o devices.metadata s') (sym later) (subst (λ (v : Stored). ImagesAgree shape.geometry v None devices.metadata s') (sym same) begun_there.0)) (λ state e. begun_there.1 ∙ f.phase.desk.mapping ∙ ap (λ es. Rattle.wb_simulation.specs.Opened.located es) (sym b.kept.1.2) ∙ ap locations (some_is b.kept.1.0 state (sym b.kept.1.1 ∙ e))))
 
       by_commit : (o : Option RunningCommit) → commit ≡ o → AtDesk shape.geometry images t.desk commit devices.metadata → Goes P A shape (then_is (record { words = t.words; desk = commit_begun t.desk tree }) (Some c) devices (Desk (BeginCommit clean allowed)) (Began nodes)) n
       by_commit (Some d) e k = absurd (let k' = subst (λ (m : Option RunningCommit). AtDesk shape.geometry images t.desk m devices.metadata) e k in let busy = k'.stands.busy in let bad : false ≡ true = sym idle ∙ busy in cc)
@@ -320,7 +317,7 @@ module _ (P A : Type 0) (shape : Shape) (images : Images) (t : Target P) (commit
       let g = flush_steps_followed.is_refused now allowed clean refusal a x plan f.site.world (no_begin refusal r) (wants next) in
       let y = after_step Flush plan (GotRefused refusal) x in
       subst (λ (y : Actor). Goes P A shape (record { devices = devices; commit = commit; phase = Stands t; actors = slice_set actors a y }) n) (sym (actor_is P A shape (Stands t) devices x Flush plan (Desk (BeginCommit clean allowed)) (GotRefused refusal) xt))
-      (stays_on P A shape images t commit devices actors n known f a x ex Quietly t.words devices y n g tt (quiet_notes Stays t.words t.desk.space.committing slots devices (after_step Flush plan (GotRefused refusal) x) g) refl refl refl)
+      (stays_on P A shape images t commit devices actors n known f a x ex Quietly t.words devices y n g tt (quiet_notes g) refl refl refl)
 
   -- the commit ends
   ends : (c : RunningCommit) → commit ≡ Some c → Desk EndCommit ≡ want plan → is_committed c.steps ≡ true → Goes P A shape (then_is (record { words = t.words; desk = ended t.desk }) None devices (Desk EndCommit) Done) n
@@ -340,7 +337,7 @@ module _ (P A : Type 0) (shape : Shape) (images : Images) (t : Target P) (commit
       let agree = images_followed.end shape.geometry e.kept.1.0 devices.metadata s s' g.turned (f.phase.running e.kept.1.0 e.kept.1.1) read in
       subst (λ (d : DeskState P). Goes P A shape (then_is (record { words = t.words; desk = d }) None devices (Desk EndCommit) Done) n) (sym is)
       (subst (λ (y : Actor). Goes P A shape (record { devices = devices; commit = None; phase = Stands t'; actors = slice_set actors a y }) n) (sym (actor_is P A shape (Stands t) devices x Flush plan (Desk EndCommit) Done xt))
-      (leads_on P A shape images t commit devices actors n known f a x ex Ends Quietly t' None devices y n e.now (live_orders t'.desk) g tt (quiet_notes Ends t.words false slots devices (after_step Flush plan Done x) g) refl refl known' refl (desk_ends P t.desk s s' f.phase.desk g.desk.0 g.desk.1) (subst (λ (i : Images). ImagesAgree shape.geometry i.committed (later_of i) devices.metadata s') (sym one) agree) (λ state r. absurd (let bad : None ≡ Some state = sym (ap (λ (i : Images). i.running) one) ∙ r in cc))))
+      (leads_on P A shape images t commit devices actors n known f a x ex Ends Quietly t' None devices y n e.now (live_orders t'.desk) g tt (quiet_notes g) refl refl known' refl (desk_ends P t.desk s s' f.phase.desk g.desk.0 g.desk.1) (subst (λ (i : Images). ImagesAgree shape.geometry i.committed (later_of i) devices.metadata s') (sym one) agree) (λ state r. absurd (let bad : None ≡ Some state = sym (ap (λ (i : Images). i.running) one) ∙ r in cc))))
 
   -- ---- the shared words, and the answer
 
@@ -350,7 +347,7 @@ module _ (P A : Type 0) (shape : Shape) (images : Images) (t : Target P) (commit
       let y = went t.words Flush plan step x in
       subst (λ (y : Actor). Goes P A shape (record { devices = devices; commit = commit; phase = Stands (record { words = words_after t.words step; desk = t.desk }); actors = slice_set actors a y }) n) (sym (actor_is P A shape (Stands t) devices x Flush plan (Cell step) (got_of (result_of t.words step)) xt))
       (stays_on P A shape images t commit devices actors n known f a x ex Quietly (words_after t.words step) devices y n g tt
-      (quiet_notes Stays (words_after t.words step) t.desk.space.committing slots devices (went t.words Flush plan step x) g) refl refl refl)
+      (quiet_notes g) refl refl refl)
 
   on_words : (step : CellStep) → (step ≡ Look Fail) ⊎ (step ≡ SetFailed) → Cell step ≡ want plan → Goes P A shape (then_is (record { words = words_after t.words step; desk = t.desk }) commit devices (Cell step) (got_of (result_of t.words step))) n
   on_words step (inl is) next = subst (λ (v : CellStep). Goes P A shape (then_is (record { words = words_after t.words v; desk = t.desk }) commit devices (Cell v) (got_of (result_of t.words v))) n) (sym is)
@@ -407,7 +404,7 @@ module _ (P A : Type 0) (shape : Shape) (images : Images) (t : Target P) (commit
       by_order None e d =
           let g = flush_steps_followed.releases now block a x plan f.site.world (wants next) in
           subst To (sym d) (subst (λ (os : List Order). Goes P A shape (record { devices = devices; commit = commit; phase = Stands t; actors = slice_set actors a (record x { task = Some (Flush, after plan Done); awaiting = os }) }) n) (sym (none_dropped block x.awaiting e))
-          (stays_on P A shape images t commit devices actors n known f a x ex Quietly t.words devices (after_step Flush plan Done x) n g tt (quiet_notes Stays t.words t.desk.space.committing slots devices (after_step Flush plan Done x) g) refl refl refl))
+          (stays_on P A shape images t commit devices actors n known f a x ex Quietly t.words devices (after_step Flush plan Done x) n g tt (quiet_notes g) refl refl refl))
       by_order (Some order) e d =
           let y : Actor = record x { task = Some (Flush, after plan Done); awaiting = dropped block x.awaiting } in
           let mine = found_of block x.awaiting order e in

@@ -98,9 +98,6 @@ answered_still orders awaiting migration block (Refuses refusal) = (refl, refl)
 
 module _ (P A : Type 0) (shape : Shape) (images : Images) (t : Target P) (commit : Option RunningCommit) (devices : Devices (List History)) (actors : List Actor) (n : Notes) (known : MetadataKept {P = P} {A = A} shape.geometry images (Stands t) commit devices.metadata)
     (f : Followed P A shape images (standing P A shape images t commit devices actors n) n) (a : ℕ) (x : Actor) (ex : slice_get actors a ≡ Some x) where
-  abbrev live_now : List (Option Order)
-  live_now = live_orders t.desk
-
   -- where the machine stands
   abbrev now : Situation
   now = situation shape t devices actors
@@ -109,9 +106,9 @@ module _ (P A : Type 0) (shape : Shape) (images : Images) (t : Target P) (commit
   noted_less = noted_within P A shape images t commit devices actors n known f a x ex
 
   -- a migration's steps are not noted
-  pub carried_notes : (turn : Turn) (words' : Words) (committing' : Bool) (orders' : List (Option Order)) (devices' : Devices (List History)) (y : Actor) (g : WorldFollowsBy turn Carries a f.site.world (record (situation shape t devices' actors) { words = words'; committing = committing'; orders = orders' }) y) →
+  pub carried_notes : {turn : Turn} {words' : Words} {committing' : Bool} {orders' : List (Option Order)} {devices' : Devices (List History)} {y : Actor} (g : WorldFollowsBy turn Carries a f.site.world (record (situation shape t devices' actors) { words = words'; committing = committing'; orders = orders' }) y) →
       NotesAgree (size P A shape) n (after_all f.site.world g.records) (told f.notes g.records)
-  carried_notes turn words' committing' orders' devices' y g =
+  carried_notes {turn} {words'} {committing'} {orders'} {devices'} {y} g =
       let b = beside P A shape images t commit devices actors n known f a x ex in
       notes_followed.carries turn a f.site.world _ _ g b.0 n f.notes b.1 noted_less f.notes_agree
 
@@ -124,14 +121,14 @@ module _ (P A : Type 0) (shape : Shape) (images : Images) (t : Target P) (commit
     wants {next} e = record { here = ex; task = xt; asks = sym e; agrees = f.phase.agrees }
 
     -- on the shared words
-    pub cells : LockRule shape.geometry.origin_blocks t.words (cards_of actors) → (step : CellStep) → Cell step ≡ want plan → SeesWhere t.words live_now f.site.world.shared.mapping migration block step →
+    pub cells : LockRule shape.geometry.origin_blocks t.words (cards_of actors) → (step : CellStep) → Cell step ≡ want plan → SeesWhere t.words (live_orders t.desk) f.site.world.shared.mapping migration block step →
         Goes P A shape (record { devices = devices; commit = commit; phase = Stands (record { words = words_after t.words step; desk = t.desk }); actors = slice_set actors a (actor_then {P = P} {A = A} shape (Stands t) devices x (Cell step) (got_of (result_of t.words step))) }) n
     cells rule step next sees =
         let y = went t.words migrating_job plan step x in
         let g = migrations_followed.cells now shape.geometry.origin_blocks a x migration block plan step f.site.world rule (wants next) suits sees in
         subst (λ (y : Actor). Goes P A shape (record { devices = devices; commit = commit; phase = Stands (record { words = words_after t.words step; desk = t.desk }); actors = slice_set actors a y }) n) (sym (actor_is P A shape (Stands t) devices x migrating_job plan (Cell step) (got_of (result_of t.words step)) xt))
         (stays_on P A shape images t commit devices actors n known f a x ex Carries (words_after t.words step) devices y n g tt
-        (carried_notes Stays (words_after t.words step) t.desk.space.committing live_now devices (went t.words migrating_job plan step x) g) refl refl refl)
+        (carried_notes g) refl refl refl)
 
     -- on a device
     module _ (step : DeviceStep) (got : Got) (contents : List Bytes) (devices' : Devices (List History)) (y : Actor) (is : actor_then {P = P} {A = A} shape (Stands t) devices x (Device step) got ≡ y)
@@ -140,7 +137,7 @@ module _ (P A : Type 0) (shape : Shape) (images : Images) (t : Target P) (commit
       on_device same =
           let mid = failing doing step got in
           let e = failing_same doing step got in
-          let notes = notes_followed.redone (size P A shape) n (after_all f.site.world g.records) (told f.notes g.records) a doing mid (carried_notes Stays t.words t.desk.space.committing live_now devices' y g) noted e.0 e.1 in
+          let notes = notes_followed.redone (size P A shape) n (after_all f.site.world g.records) (told f.notes g.records) a doing mid (carried_notes g) noted e.0 e.1 in
           subst (λ (q : Job). Goes P A shape (record { devices = devices'; commit = commit; phase = Stands t; actors = slice_set actors a (actor_then {P = P} {A = A} shape (Stands t) devices x (Device step) got) }) (device_note shape (put n a (Some mid)) a mid q step got contents)) (sym job_is)
           (subst (λ (v : Actor). Goes P A shape (record { devices = devices'; commit = commit; phase = Stands t; actors = slice_set actors a v }) (put n a (Some mid))) (sym is)
           (stays_on P A shape images t commit devices actors n known f a x ex Carries t.words devices' y (put n a (Some mid)) g tt notes (length-set n.doings a (Some mid)) refl same))
@@ -180,7 +177,7 @@ module _ (P A : Type 0) (shape : Shape) (images : Images) (t : Target P) (commit
         let g = migrations_followed.is_refused now shape.geometry.origin_blocks a x migration block b c plan refusal f.site.world (wants next) suits in
         subst (λ (y : Actor). Goes P A shape (record { devices = devices; commit = commit; phase = Stands t; actors = slice_set actors a y }) n) (sym (actor_is P A shape (Stands t) devices x migrating_job plan (Desk (Map b c)) (GotRefused refusal) xt))
         (stays_on P A shape images t commit devices actors n known f a x ex Carries t.words devices y n g tt
-        (carried_notes Stays t.words t.desk.space.committing live_now devices (after_step migrating_job plan (GotRefused refusal) x) g) refl refl refl)
+        (carried_notes g) refl refl refl)
 
     -- it is answered
     pub answers : (answer : Answer) (shown contents : List Bytes) → End answer ≡ want plan →
@@ -274,7 +271,7 @@ module _ (P A : Type 0) (shape : Shape) (t : Target P) (commit : Option RunningC
       let readable = kept_readable shape.geometry b.goes.images devices.metadata P A (Stands t) commit b.goes.known in
       subst (λ (v : Actor). Goes P A shape (record { devices = devices; commit = commit; phase = Stands (record { words = t.words; desk = desk' }); actors = slice_set actors a v }) n) (sym is)
       (leads_on P A shape b.goes.images t commit devices actors n b.goes.known f a x ex turn Carries (record { words = t.words; desk = desk' }) commit devices y n b.goes.images orders' g tt
-      (carried_notes P A shape b.goes.images t commit devices actors n b.goes.known f a x ex turn t.words desk'.space.committing orders' devices y g) refl refl known' same desk
+      (carried_notes P A shape b.goes.images t commit devices actors n b.goes.known f a x ex g) refl refl known' same desk
       (images_followed.stay shape.geometry b.goes.images.committed (later_of b.goes.images) devices.metadata devices.metadata s s' f.phase.images_agree turned readable.read)
       (λ state e. turned.1 ∙ f.phase.running state e))
 

@@ -56,7 +56,6 @@ use Rattle.std.proofs.lemmas.List.Elements.{All-cons}
 use Rattle.wb_contents.specs.Devices.{by_block}
 use Rattle.wb_contents.proofs.Devices.{is_there}
 use Rattle.wb_promise.specs.Headline.{IsLatest, shown}
-use Rattle.wb_headline.specs.Desks.{live_orders}
 use Rattle.wb_headline.proofs.Following.{situation, size, most, Followed, Goes, many}
 use Rattle.wb_headline.proofs.Targets.{standing, actor_is, beside, noted_within, stays_on}
 use Rattle.wb_contents.proofs.Lists.{there_is as there}
@@ -70,9 +69,6 @@ use Rattle.wb_runs.proofs.Stepping.{data_device}
 
 module _ (P A : Type 0) (shape : Shape) (images : Images) (t : Target P) (commit : Option RunningCommit) (devices : Devices (List History)) (actors : List Actor) (n : Notes) (known : MetadataKept {P = P} {A = A} shape.geometry images (Stands t) commit devices.metadata)
     (f : Followed P A shape images (standing P A shape images t commit devices actors n) n) (rule : LockRule shape.geometry.origin_blocks t.words (cards_of actors)) (a : ℕ) (x : Actor) (ex : slice_get actors a ≡ Some x) (job : Job) (plan : Plan) (xt : x.task ≡ Some (job, plan)) (suits : Suits shape.geometry.origin_blocks plan x.card) where
-  abbrev slots : List (Option Order)
-  slots = live_orders t.desk
-
   -- the state after a step that leaves words, desk and metadata
   abbrev after_it : Words → Devices (List History) → Actor → State P A
   after_it words' devices' y = record { devices = devices'; commit = commit; phase = Stands (record { words = words'; desk = t.desk }); actors = slice_set actors a y }
@@ -107,9 +103,6 @@ awaiting_still orders awaiting job answer q = absurd q
 
 module _ (P A : Type 0) (shape : Shape) (images : Images) (t : Target P) (commit : Option RunningCommit) (devices : Devices (List History)) (actors : List Actor) (n : Notes) (known : MetadataKept {P = P} {A = A} shape.geometry images (Stands t) commit devices.metadata)
     (f : Followed P A shape images (standing P A shape images t commit devices actors n) n) (a : ℕ) (x : Actor) (ex : slice_get actors a ≡ Some x) (shown : List Bytes) (doing : Doing) (noted : slice_get n.doings a ≡ Some (Some doing)) where
-  abbrev slots_now : List (Option Order)
-  slots_now = live_orders t.desk
-
   -- ---- a read
 
   module _ (extent : Extent) (plan : Plan) (xt : x.task ≡ Some (Read extent, plan)) (suits : Suits shape.geometry.origin_blocks plan x.card) (job_is : doing.job ≡ Read extent) (claim : JobClaim shape (Read extent) plan doing) (device : Dev) (e : Extent) (next : Device (ReadExtent device e) ≡ want plan) (holds : HoldsBlocks device) where

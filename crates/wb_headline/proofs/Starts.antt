@@ -95,9 +95,6 @@ part_of shape extent cut inside cuts = record {
 
 module _ (P A : Type 0) (shape : Shape) (images : Images) (t : Target P) (commit : Option RunningCommit) (devices : Devices (List History)) (actors : List Actor) (n : Notes) (known : MetadataKept {P = P} {A = A} shape.geometry images (Stands t) commit devices.metadata)
     (f : Followed P A shape images (standing P A shape images t commit devices actors n) n) (a : ℕ) (x : Actor) (ex : slice_get actors a ≡ Some x) (xt : x.task ≡ None) where
-  abbrev slots : List (Option Order)
-  slots = live_orders t.desk
-
   -- an actor that has been given a job, there or not
   begins_so : (job : Job) (plan : Plan) (of : AbstractJob) → job_alone of ≡ false → Begun of a f.site.world (situation shape t devices actors) (record x { task = Some (job, plan) }) →
       Goes P A shape (record { devices = devices; commit = commit; phase = Stands (record { words = t.words; desk = t.desk }); actors = slice_set actors a (record x { task = Some (job, plan) }) }) (put n a (Some (begun n job)))
