@@ -35,7 +35,7 @@ use Rattle.wb_link.specs.World.{Shared, Held, Nothing, Actor}
 use Rattle.wb_refines.specs.Translation.{number_of, cell_wants}
 use Rattle.wb_refines.specs.Going.{WinsBeside}
 use Rattle.wb_refines.specs.Models.{SealAgrees, WordsAgree, HasStopped, TellsPlace, held_of, held_for, SawSeal, plan_of}
-use Rattle.wb_refines.specs.Roles.{Role, acting, IsAs, Plays, claim, Follows, TakesBeside, StepsFollowed}
+use Rattle.wb_refines.specs.Roles.{Role, acting, IsAs, Plays, claim, DoesToo, TakesBeside, StepsFollowed}
 use Rattle.wb_refines.proofs.Cells.{words_else, same_else, flag_of, own_seal, IsPlain, held_plain, saw_plain, failed_flag, counted_agree, sealed_agree}
 use Rattle.wb_refines.proofs.Holding.{holds_nothing, keeps_owned}
 use Rattle.wb_refines.proofs.Locks.{wins}
@@ -92,24 +92,24 @@ module _ (role : Role) (job : BlockJob) (plays : Plays role job) (actors : List 
   on steps held = acting role steps told held buffer
 
   abbrev Goal : CellStep → List Want → Type 0
-  Goal step ws = Follows role actors a s (on (role.wants (Cell step ∷ ws)) (held_for (Cell step ∷ ws) card)) (words_after words step) (after (plan_of job (Cell step ∷ ws) answer) (got_of (result_of words step))) (card_after words step card)
+  Goal step ws = DoesToo role actors a s (on (role.wants (Cell step ∷ ws)) (held_for (Cell step ∷ ws) card)) (words_after words step) (after (plan_of job (Cell step ∷ ws) answer) (got_of (result_of words step))) (card_after words step card)
 
   -- what its steps are there
-  by : {steps steps' : List AbstractWant} {held : Held} {words' : Words} {plan' : Plan} {card' : Card} → steps ≡ steps' → Follows role actors a s (on steps' held) words' plan' card' → Follows role actors a s (on steps held) words' plan' card'
-  by {steps} {steps'} {held} {words'} {plan'} {card'} e f = subst (λ (us : List AbstractWant). Follows role actors a s (on us held) words' plan' card') (sym e) f
+  by : {steps steps' : List AbstractWant} {held : Held} {words' : Words} {plan' : Plan} {card' : Card} → steps ≡ steps' → DoesToo role actors a s (on steps' held) words' plan' card' → DoesToo role actors a s (on steps held) words' plan' card'
+  by {steps} {steps'} {held} {words'} {plan'} {card'} e f = subst (λ (us : List AbstractWant). DoesToo role actors a s (on us held) words' plan' card') (sym e) f
 
   -- it does nothing there
-  still : {steps : List AbstractWant} {held : Held} (words' : Words) (ws' : List Want) (card' : Card) → WordsAgree words' s → steps ≡ role.wants ws' → held ≡ held_for ws' card' → SawSeal (plan_of job ws' answer) ws' card' → Follows role actors a s (on steps held) words' (plan_of job ws' answer) card'
+  still : {steps : List AbstractWant} {held : Held} (words' : Words) (ws' : List Want) (card' : Card) → WordsAgree words' s → steps ≡ role.wants ws' → held ≡ held_for ws' card' → SawSeal (plan_of job ws' answer) ws' card' → DoesToo role actors a s (on steps held) words' (plan_of job ws' answer) card'
   still words' ws' card' w' same holds saw = record { results = []; may = tt; quiet = tt; words_agree = w'; same = same_else s; order = refl; at = inl (record { answer = told; buffer = buffer; is = λ i. on (same i) (holds i); alike = alike; saw = saw }) }
 
   -- it is lost there, and stands so then
-  lost : (access : Access) (held : Held) (words' : Words) (plan' : Plan) (card' : Card) → WordsAgree words' s → IsAs role plan' card' (acting role [] AnsweredBusy held buffer) ⊎ ((k : HasStopped words' plan' card' (acting role [] AnsweredBusy held buffer)) × (k.script.job ≡ role.job)) →
-      Follows role actors a s (on (claim access block ∷ Look_seal block.0 ∷ []) held) words' plan' card'
+  lost : (access : Access) (held : Held) (words' : Words) (plan' : Plan) (card' : Card) → WordsAgree words' s → IsAs role plan' card' (acting role [] AnsweredBusy held buffer) ⊎ ((k : HasStopped (flag words'.fail) plan' card' (acting role [] AnsweredBusy held buffer)) × (k.script.job ≡ role.job)) →
+      DoesToo role actors a s (on (claim access block ∷ Look_seal block.0 ∷ []) held) words' plan' card'
   lost Sharing held words' plan' card' w' at = record { results = Lost ∷ []; may = (tt, tt, tt); quiet = (tt, tt); words_agree = w'; same = same_else s; order = refl; at = at }
   lost Owned held words' plan' card' w' at = record { results = Lost ∷ []; may = (tt, tt, tt); quiet = (tt, tt); words_agree = w'; same = same_else s; order = refl; at = at }
 
   -- so where it does not get its block
-  is_lost : {steps : List AbstractWant} (words' : Words) (card' : Card) → WordsAgree words' s → steps ≡ acquire role.job → card'.hold ≡ card.hold → Follows role actors a s (on steps (held_of card.hold)) words' (plan_of job [] (Refuses Busy)) card'
+  is_lost : {steps : List AbstractWant} (words' : Words) (card' : Card) → WordsAgree words' s → steps ≡ acquire role.job → card'.hold ≡ card.hold → DoesToo role actors a s (on steps (held_of card.hold)) words' (plan_of job [] (Refuses Busy)) card'
   is_lost words' card' w' e h = by (e ∙ plays.begins) (lost (access_of job) (held_of card.hold) words' (plan_of job [] (Refuses Busy)) card' w' (inl (record { answer = AnsweredBusy; buffer = buffer; is = λ i. acting role (sym plays.ends i) AnsweredBusy (held_of (sym h i)) buffer; alike = plays.busy; saw = tt })))
 
   -- the fail word is looked at
@@ -119,7 +119,7 @@ module _ (role : Role) (job : BlockJob) (plays : Plays role job) (actors : List 
       ws : List Want
       ws = Cell (Look (LockWord block)) ∷ []
 
-      by_test : (t : Bool) → flag words.fail ≡ cond t false true → Follows role actors a s (on (Look_fail ∷ role.wants ws) (held_of card.hold)) words (if t then plan_of job ws answer else plan_of job [] (Refuses Failed)) (looked Fail words.fail card)
+      by_test : (t : Bool) → flag words.fail ≡ cond t false true → DoesToo role actors a s (on (Look_fail ∷ role.wants ws) (held_of card.hold)) words (if t then plan_of job ws answer else plan_of job [] (Refuses Failed)) (looked Fail words.fail card)
       by_test true f = record { results = Flag false ∷ []; may = (sym (w.fail ∙ f), tt, tt); quiet = (tt, tt); words_agree = w; same = same_else s; order = refl; at = inl (record { answer = told; buffer = buffer; is = refl; alike = alike; saw = tt }) }
       by_test false f = record { results = Flag true ∷ []; may = (sym (w.fail ∙ f), tt, tt); quiet = (tt, tt); words_agree = w; same = same_else s; order = refl; at = inl (record { answer = AnsweredFailed; buffer = buffer; is = λ i. acting role (sym plays.ends i) AnsweredFailed (held_of card.hold) buffer; alike = plays.failed; saw = tt }) }
 
@@ -127,7 +127,7 @@ module _ (role : Role) (job : BlockJob) (plays : Plays role job) (actors : List 
   looks_lock : Goal (Look (LockWord block)) []
   looks_lock = by_test (may_take (OnBlock job) (word_at words.cells block))
     where
-      by_test : (t : Bool) → Follows role actors a s (on (role.wants (Cell (Look (LockWord block)) ∷ [])) (held_of card.hold)) words (if t then plan_of job (exchange (OnBlock job) (word_at words.cells block)) answer else plan_of job [] (Refuses Busy)) (looked (LockWord block) (word_at words.cells block) card)
+      by_test : (t : Bool) → DoesToo role actors a s (on (role.wants (Cell (Look (LockWord block)) ∷ [])) (held_of card.hold)) words (if t then plan_of job (exchange (OnBlock job) (word_at words.cells block)) answer else plan_of job [] (Refuses Busy)) (looked (LockWord block) (word_at words.cells block) card)
       by_test true = still words (exchange (OnBlock job) (word_at words.cells block)) (looked (LockWord block) (word_at words.cells block) card) w (plays.steps (Look (LockWord block)) [] ∙ sym (plays.steps (Take (access_of job) block (word_at words.cells block)) _ ∙ plays.steps (Look (SealWord block)) [])) refl tt
       by_test false = is_lost words (looked (LockWord block) (word_at words.cells block) card) w (plays.steps (Look (LockWord block)) []) refl
 
@@ -138,7 +138,7 @@ module _ (role : Role) (job : BlockJob) (plays : Plays role job) (actors : List 
       ws : List Want
       ws = Cell (Look (SealWord block)) ∷ []
 
-      by_test : (t : Bool) → Follows role actors a s (on (role.wants ws) (held_of card.hold)) (if t then with_cell words block (taken access seen) else words) (after (plan_of job (Cell (Take access block seen) ∷ ws) answer) (got_of (if t then Won else NotWon))) (if t then holding (HoldsBlock access block) card else losing block (word_at words.cells block) card)
+      by_test : (t : Bool) → DoesToo role actors a s (on (role.wants ws) (held_of card.hold)) (if t then with_cell words block (taken access seen) else words) (after (plan_of job (Cell (Take access block seen) ∷ ws) answer) (got_of (if t then Won else NotWon))) (if t then holding (HoldsBlock access block) card else losing block (word_at words.cells block) card)
       by_test true = still (with_cell words block (taken access seen)) ws (holding (HoldsBlock access block) card) (record { fail = w.fail; seals = w.seals }) refl (ap held_of h) tt
       by_test false = is_lost words (losing block (word_at words.cells block) card) w (plays.steps (Look (SealWord block)) []) refl
 
@@ -163,11 +163,11 @@ module _ (role : Role) (job : BlockJob) (plays : Plays role job) (actors : List 
       same_work : work_there role.job (s.seals block.0) ≡ role.wants ws
       same_work = plays.works seen (s.seals block.0) finds (subst (λ (n : ℕ). SealAgrees n (s.seals block.0)) k (w.seals block))
 
-      won : (access : Access) → card.hold ≡ HoldsBlock access block → WinsBeside actors a Nothing (claim access block) Done → Follows role actors a s (on (claim access block ∷ Look_seal block.0 ∷ []) Nothing) words (plan_of job ws answer) card'
+      won : (access : Access) → card.hold ≡ HoldsBlock access block → WinsBeside actors a Nothing (claim access block) Done → DoesToo role actors a s (on (claim access block ∷ Look_seal block.0 ∷ []) Nothing) words (plan_of job ws answer) card'
       won Sharing h wins = record { results = Done ∷ Seen (s.seals block.0) ∷ []; may = (tt, wins, (refl, tt, tt)); quiet = (tt, (tt, tt)); words_agree = w; same = same_else s; order = refl; at = inl (record { answer = told; buffer = buffer; is = λ i. on (same_work i) ((ap held_of (sym h) ∙ sym (held_plain ws card' plain)) i); alike = alike; saw = saw_plain (plan_of job ws answer) ws card' plain }) }
       won Owned h wins = record { results = Done ∷ Seen (s.seals block.0) ∷ []; may = (tt, wins, (refl, tt, tt)); quiet = (tt, (tt, tt)); words_agree = w; same = same_else s; order = refl; at = inl (record { answer = told; buffer = buffer; is = λ i. on (same_work i) ((ap held_of (sym h) ∙ sym (held_plain ws card' plain)) i); alike = alike; saw = saw_plain (plan_of job ws answer) ws card' plain }) }
 
-      by_test : (t : Bool) → Follows role actors a s (on (claim (access_of job) block ∷ Look_seal block.0 ∷ []) Nothing) words (if t then plan_of job (gives_back (OnBlock job)) (Refuses Worn) else plan_of job ws answer) card'
+      by_test : (t : Bool) → DoesToo role actors a s (on (claim (access_of job) block ∷ Look_seal block.0 ∷ []) Nothing) words (if t then plan_of job (gives_back (OnBlock job)) (Refuses Worn) else plan_of job ws answer) card'
       by_test true = lost (access_of job) Nothing words _ card' w (inr (record { over = tt; refused = λ f. absurd (cc); script = record { job = role.job; steps = []; answer = AnsweredBusy }; task = refl; nothing = refl; undone = λ f. absurd (cc); among_others = plays.among_others; leads = refl; below = holds_nothing _ _ refl; free = refl }, refl))
       by_test false = won (access_of job) h wins
 
@@ -190,7 +190,7 @@ module _ (role : Role) (job : BlockJob) (plays : Plays role job) (actors : List 
       its : IsAs role (plan_of job ws answer) (holding HoldsNothing card) (on (role.wants ws) Nothing)
       its = record { answer = told; buffer = buffer; is = λ i. on (role.wants ws) (sym (held_plain ws (holding HoldsNothing card) (parting_plain job ws p)) i); alike = alike; saw = saw_plain (plan_of job ws answer) ws _ (parting_plain job ws p) }
 
-      back : (access : Access) → Follows role actors a s (on (cell_wants role.job (Release access b) (role.wants ws)) (held_of card.hold)) (words_after words (Release access b)) (plan_of job ws answer) (holding HoldsNothing card)
+      back : (access : Access) → DoesToo role actors a s (on (cell_wants role.job (Release access b) (role.wants ws)) (held_of card.hold)) (words_after words (Release access b)) (plan_of job ws answer) (holding HoldsNothing card)
       back Sharing = record { results = Done ∷ []; may = (tt, tt, tt); quiet = (tt, tt); words_agree = record { fail = w.fail; seals = w.seals }; same = same_else s; order = refl; at = inl its }
       back Owned = record { results = Done ∷ []; may = (tt, tt, tt); quiet = (tt, tt); words_agree = record { fail = w.fail; seals = w.seals }; same = same_else s; order = refl; at = inl its }
 
@@ -231,5 +231,5 @@ module _ (role : Role) (job : BlockJob) (plays : Plays role job) (actors : List 
 
 pub cell_steps_followed : (role : Role) (job : BlockJob) → Plays role job → StepsFollowed role job
 cell_steps_followed role job plays blocks words cards actors a card s y step later answer rule here below w t suits is =
-    subst (λ (v : Actor). Follows role actors a s v (words_after words step) (after (plan_of job (Cell step ∷ later) answer) (got_of (result_of words step))) (card_after words step card)) (sym is.is)
+    subst (λ (v : Actor). DoesToo role actors a s v (words_after words step) (after (plan_of job (Cell step ∷ later) answer) (got_of (result_of words step))) (card_after words step card)) (sym is.is)
     (cell role job plays actors a s words card answer is.answer is.buffer is.alike w blocks cards rule here suits.0 step later below t suits.1 is.saw)
