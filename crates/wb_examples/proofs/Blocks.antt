@@ -25,11 +25,11 @@ use Rattle.wb_tasks.specs.declared.step.Got.TheVariants.{Done, Refused as GotRef
 use Rattle.wb_devices.specs.declared.devices.Devices.{Devices}
 use Rattle.wb_promise.specs.declared.job.Job.{Job}
 use Rattle.wb_promise.specs.declared.job.Job.TheVariants.{Write, Flush, Migrate, Replace}
-use Rattle.wb_promise.specs.States.{Shape, State, start}
+use Rattle.wb_promise.specs.States.{Shape, State}
 use Rattle.wb_promise.specs.Happenings.{Plain, Cut, Orders, Asks, task_job}
 use Rattle.wb_promise.specs.Effects.{contents_at}
-use Rattle.wb_promise.specs.Clerk.{Notes, formatted}
-use Rattle.wb_examples.specs.Possible.{first_block, second_block, first_cache_block, first_sector, replacement, PassesThrough, IsPromoted, IsWrittenTo, IsClaimed, to_demote, to_write_back, to_replace, to_give_up, to_start_again, CanPromote, CanDemote, CanWriteBack, CanReplace, CanGiveUp, CanStartAgain}
+use Rattle.wb_promise.specs.Clerk.{Notes}
+use Rattle.wb_examples.specs.Possible.{first_block, second_block, first_cache_block, first_sector, replacement, IsPromoted, IsWrittenTo, IsClaimed, to_demote, to_write_back, to_replace, to_give_up, to_start_again, CanPromote, CanDemote, CanWriteBack, CanReplace, CanGiveUp, CanStartAgain}
 use Rattle.wb_runs.proofs.InsideRuns.{length-written_where}
 use Rattle.wb_runs.proofs.Rooted.{rooted}
 use Rattle.wb_runs.proofs.MetadataRuns.{IsKnown}
@@ -38,7 +38,7 @@ use Rattle.wb_examples.proofs.Shown.{nowhere}
 use Rattle.wb_examples.proofs.Playing.{Move, Gets, Moves, Does, Fails, goes, ends, happens, may_move, ◌⨟◌}
 use Rattle.wb_examples.proofs.Opening.{Idle, flushing, flushing_may}
 use Rattle.wb_examples.proofs.Desks.{Setting, shape, stood, demoted, claimed, given_up, settled, followed, cleaned, leaving, may_promote, may_map, comes, may_demote, demotes, may_replace, leaves, lives, gives_up, may_follow, follows, may_clean, cleans}
-use Rattle.wb_examples.proofs.Scenes.{Scene, Formatted, at, over, card_in, Leads, From, done, stretch, on, opened_scene, setting, devices, cache_size, origin_size, known_now, from_opened, small_can, uncut, nothing_lands, may_fail, whole, next_whole}
+use Rattle.wb_examples.proofs.Scenes.{Scene, Formatted, at, over, card_in, Leads, From, done, stretch, on, opened_scene, setting, devices, cache_size, origin_size, known_at, Whole, from_opened, small_can, uncut, nothing_lands, may_fail, whole, next_whole}
 
 -- ---- contents of the first sector
 
@@ -83,7 +83,7 @@ abbrev filled : Devices (List History) → Devices (List History)
 filled d = record d { cache = written_each d.cache 0 (contents_at d.origin whole) }
 
 module _ (P A : Type 0) (more : ℕ) (s : Setting P more) where
-  open s use {global, threshold}
+  open s use {global, sizes.{threshold}}
 
   -- at the last step of a migration of it, which was cut into one extent
   abbrev migrated : Job → Option (Job × Plan)
@@ -122,14 +122,14 @@ pub can_promote : (P A : Type 0) → CanPromote P A
 can_promote P A = small_can P A 0 64 (λ shape. (λ w n. IsPromoted w) ∷ []) (λ f room.
     let s = setting P A 0 f in let d = devices P A 0 f in
     from_opened P A 0 f ((λ w n. IsPromoted w) ∷ []) (λ n e. stretch P A 0 s (opened_scene P A 0 s d) (came P A 0 s d) (promoting P A 0 s) ((λ w n. IsPromoted w) ∷ []) (λ card known. promoting_leads P A 0 s d (cache_size P A 0 f) (omega (arith, origin_size P A 0 f)) room card)
-    (λ card n. ((refl, refl), refl, refl)) (done P A 0 s (came P A 0 s d)) blank_card (known_now P A 0 f) n))
+    (λ card n. ((refl, refl), refl, refl)) (done P A 0 s (came P A 0 s d)) blank_card (known_at P A 0 f) n))
 
 pub can_demote : (P A : Type 0) → CanDemote P A
 can_demote P A = small_can P A 0 64 (λ shape. to_demote) (λ f room.
     let s = setting P A 0 f in let d = devices P A 0 f in
     from_opened P A 0 f to_demote (λ n e. stretch P A 0 s (opened_scene P A 0 s d) (came P A 0 s d) (promoting P A 0 s) to_demote (λ card known. promoting_leads P A 0 s d (cache_size P A 0 f) (omega (arith, origin_size P A 0 f)) room card)
     (λ card n. ((refl, refl), refl, refl))
-    (stretch P A 0 s (came P A 0 s d) (gone P A 0 s (came P A 0 s d)) (demoting P A 0 s) (drop 1 to_demote) (λ card known. demoting_leads P A 0 s d room card) (λ card n. ((refl, refl), nowhere 0 1 s.k, refl, refl)) (done P A 0 s (gone P A 0 s (came P A 0 s d)))) blank_card (known_now P A 0 f) n))
+    (stretch P A 0 s (came P A 0 s d) (gone P A 0 s (came P A 0 s d)) (demoting P A 0 s) (drop 1 to_demote) (λ card known. demoting_leads P A 0 s d room card) (λ card n. ((refl, refl), nowhere 0 1 f.sizes.k, refl, refl)) (done P A 0 s (gone P A 0 s (came P A 0 s d)))) blank_card (known_at P A 0 f) n))
 
 -- ---- of two blocks the first is written to, and written back or replaced
 
@@ -223,21 +223,21 @@ module _ (P A : Type 0) (s : Setting P 1) where
       is = refl;
     }
 
-    cleaning_leads : 64 ≤ s.threshold → (content : Bytes) (card : Card) → Leads P A 1 s (state (wrote d buffer content) card) cleaning (written_back home taken_home)
+    cleaning_leads : 64 ≤ s.sizes.threshold → (content : Bytes) (card : Card) → Leads P A 1 s (state (wrote d buffer content) card) cleaning (written_back home taken_home)
     cleaning_leads room content card = record {
       may = (uncut whole (omega arith), may_clean P 1 s room) ⨟ (tt, omega (arith, cache_size)) ⨟ (tt, omega (arith, origin_size)) ⨟ (refl, refl, cleans P 1 s) ⨟ tt;
       card = card_in (ends global shape1 (state (wrote d buffer content) card) cleaning).actors;
       is = refl;
     }
 
-    replacing_leads : 128 ≤ s.threshold → (content : Bytes) (card : Card) → Leads P A 1 s (state (wrote d buffer content) card) replacing (left home taken_home)
+    replacing_leads : 128 ≤ s.sizes.threshold → (content : Bytes) (card : Card) → Leads P A 1 s (state (wrote d buffer content) card) replacing (left home taken_home)
     replacing_leads room content card = record {
       may = (uncut whole (omega arith), may_replace P 1 s room refl) ⨟ (tt, omega (arith, cache_size)) ⨟ (tt, omega (arith, origin_size)) ⨟ (refl, refl, leaves P 1 s) ⨟ tt;
       card = card_in (ends global shape1 (state (wrote d buffer content) card) replacing).actors;
       is = refl;
     }
 
-    failing_leads : 128 ≤ s.threshold → (content : Bytes) (card : Card) → Leads P A 1 s (state (wrote d buffer content) card) failing (failed (record d { origin = written_where (lands Origin nothing_lands) d.origin 0 taken_home }) taken_home None)
+    failing_leads : 128 ≤ s.sizes.threshold → (content : Bytes) (card : Card) → Leads P A 1 s (state (wrote d buffer content) card) failing (failed (record d { origin = written_where (lands Origin nothing_lands) d.origin 0 taken_home }) taken_home None)
     failing_leads room content card = record {
       may = (uncut whole (omega arith), may_replace P 1 s room refl) ⨟ (tt, omega (arith, cache_size)) ⨟ (may_fail (length d.origin), (refl, tt)) ⨟ tt;
       card = card_in (ends global shape1 (state (wrote d buffer content) card) failing).actors;
@@ -282,7 +282,7 @@ module _ (P A : Type 0) (s : Setting P 1) where
 
 -- ---- the whole runs
 
-module _ (P A : Type 0) (f : Formatted P A 1) (room : 128 ≤ f.threshold) (content : Bytes) where
+module _ (P A : Type 0) (f : Formatted P A 1) (room : 128 ≤ f.sizes.threshold) (content : Bytes) where
   abbrev s : Setting P 1
   s = setting P A 1 f
 
@@ -345,33 +345,30 @@ module _ (P A : Type 0) (f : Formatted P A 1) (room : 128 ≤ f.threshold) (cont
   comes_unseen conditions behind = on P A 1 s (opened_scene P A 1 s d0) (came P A 1 s d0) (promoting P A 1 s) conditions (promoting_leads P A 1 s d0 (cache_size P A 1 f) (omega (arith, origin0)) (omega (arith, room)))
       (on P A 1 s (came P A 1 s d0) (wrote P A s d2 buffer content) (writing P A s content) conditions (writing_leads P A s d1 buffer cache1 origin0 content) behind)
 
-  abbrev Whole : List (State P A → Notes → Type 0) → Type 0
-  Whole conditions = PassesThrough (shape1 P A s) (start (shape1 P A s) f.metadata) (formatted (shape1 P A s)) conditions
-
-  whole_run : (conditions : List (State P A → Notes → Type 0)) → From1 (opened_scene P A 1 s d0) conditions → Whole conditions
-  whole_run conditions from = from_opened P A 1 f conditions (λ n e. from blank_card (known_now P A 1 f) n)
+  whole_run : (conditions : List (State P A → Notes → Type 0)) → From1 (opened_scene P A 1 s d0) conditions → Whole P A 1 f conditions
+  whole_run conditions from = from_opened P A 1 f conditions (λ n e. from blank_card (known_at P A 1 f) n)
 
   is_claimed : (card : Card) → IsClaimed (state P A s (left P A s d3 carried) card)
   is_claimed card = ((refl, refl), refl, lives P 1 s)
 
-  pub writes_back : Whole (to_write_back content)
+  pub writes_back : Whole P A 1 f (to_write_back content)
   writes_back = whole_run (to_write_back content) (comes_written (drop 2 (to_write_back content)) (
       stretch P A 1 s (wrote P A s d2 buffer content) (written_back P A s d3 carried) (cleaning P A s) (drop 2 (to_write_back content)) (λ card known. cleaning_leads P A s d2 buffer cache2 origin0 (omega (arith, room)) content card)
       (λ card n. ((refl, refl), (refl, refl), goes_home, refl, refl, refl)) (done P A 1 s (written_back P A s d3 carried))))
 
-  pub replaces_all : Whole (to_replace content)
+  pub replaces_all : Whole P A 1 f (to_replace content)
   replaces_all = whole_run (to_replace content) (comes_written (drop 2 (to_replace content)) (
       stretch P A 1 s (wrote P A s d2 buffer content) (left P A s d3 carried) (replacing P A s) (drop 2 (to_replace content)) (λ card known. replacing_leads P A s d2 buffer cache2 origin0 room content card) (λ card n. ((refl, refl), is_claimed card)) (
       stretch P A 1 s (left P A s d3 carried) (served P A s d4 carried) (flush P A s d3 carried cache2 origin3) (drop 3 (to_replace content)) (flush_leads P A s d3 carried cache2 origin3) (λ card n. ((refl, refl), (refl, refl), refl)) (
       stretch P A 1 s (served P A s d4 carried) (begun P A s d4 carried) (answering P A s) (drop 4 (to_replace content)) (λ card known. answering_leads P A s d4 carried cache4 origin4 card) (λ card n. (refl, (refl, refl))) (
       stretch P A 1 s (begun P A s d4 carried) (followed_there P A s (record d4 { cache = written_each d4.cache 0 (contents_at d4.origin next_whole) }) (contents_at d4.origin next_whole)) (following P A s) (drop 5 (to_replace content)) (λ card known. following_leads P A s d4 carried cache4 origin4 card)
-      (λ card n. ((refl, refl), (refl, refl), sync_gives d3.origin content goes_home, refl, nowhere 0 1 f.k, refl))
+      (λ card n. ((refl, refl), (refl, refl), sync_gives d3.origin content goes_home, refl, nowhere 0 1 f.sizes.k, refl))
       (done P A 1 s (followed_there P A s (record d4 { cache = written_each d4.cache 0 (contents_at d4.origin next_whole) }) (contents_at d4.origin next_whole))))))))
 
   abbrev to_refuse : Scene P
   to_refuse = record (left P A s d3 carried) { task = refused P A s d3 carried (Desk (ReleaseOrder first_block) ∷ []) }
 
-  pub gives_up_all : Whole (to_give_up (shape1 P A s))
+  pub gives_up_all : Whole P A 1 f (to_give_up (shape1 P A s))
   gives_up_all =
       let giving : Move P A = Does Done (Asks (given_up P 1 s)) in
       whole_run (to_give_up (shape1 P A s)) (comes_unseen (to_give_up (shape1 P A s)) (
@@ -383,7 +380,7 @@ module _ (P A : Type 0) (f : Formatted P A 1) (room : 128 ≤ f.threshold) (cont
   abbrev kept : Scene P
   kept = failed P A s (record d2 { origin = written_where (lands Origin nothing_lands) d2.origin 0 carried }) carried None
 
-  pub starts_again : Whole (to_start_again (shape1 P A s))
+  pub starts_again : Whole P A 1 f (to_start_again (shape1 P A s))
   starts_again =
       let again : Move P A = Gets replaces (Cut (whole ∷ [])) in
       whole_run (to_start_again (shape1 P A s)) (comes_unseen (to_start_again (shape1 P A s)) (

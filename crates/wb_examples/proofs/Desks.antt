@@ -27,18 +27,26 @@ use Rattle.wb_examples.specs.Possible.{first_block, second_block, first_cache_bl
 use Rattle.wb_runs.proofs.Desks.{changed}
 use Rattle.wb_examples.proofs.Completing.{empty_sound}
 
--- blocks of 64 sectors, so many behind the first on the cache and on the origin
-abbrev pub small : (k more meta_sectors : ℕ) → IsWithinLimits 64 (suc k) (suc more) meta_sectors → Geometry
-small k more meta_sectors within = record { block = 64; cache_blocks = suc k; origin_blocks = suc more; meta_sectors = meta_sectors; within = within }
-
--- such a shape, what the first desk was opened with, and the others, who are at nothing
-pub record Setting (P : Type 0) (more : ℕ) : Type 0 where
-  pub global : Global
+-- so many blocks of 64 sectors behind the first on the cache, so many metadata sectors, so many sectors for which orders may ask at once, and so
+-- many actors behind the first
+pub record Sizes (more : ℕ) : Type 0 where
   pub k : ℕ
   pub meta_sectors : ℕ
   pub within : IsWithinLimits 64 (suc k) (suc more) meta_sectors
   pub threshold : ℕ
   pub others : ℕ
+
+-- such a shape, with so many blocks behind the first on the origin
+abbrev pub geometry_of : (more : ℕ) → Sizes more → Geometry
+geometry_of more sizes = record { block = 64; cache_blocks = suc sizes.k; origin_blocks = suc more; meta_sectors = sizes.meta_sectors; within = sizes.within }
+
+abbrev pub shape_of : (more : ℕ) → Sizes more → Shape
+shape_of more sizes = record { geometry = geometry_of more sizes; threshold = sizes.threshold; actors = suc sizes.others }
+
+-- a target over it, what its desk was opened with, and the others, who are at nothing
+pub record Setting (P : Type 0) (more : ℕ) : Type 0 where
+  pub global : Global
+  pub sizes : Sizes more
   pub policy : P
   pub generation : ℕ
   pub later : generation + 3 < 2 ^ 64
@@ -75,10 +83,10 @@ lives_first k (suc at) here live e = absurd (nobody k at e)
 -- ---- the desk
 
 module _ (P : Type 0) (more : ℕ) (s : Setting P more) where
-  open s use {k, threshold, policy}
+  open s use {policy, sizes.{k, threshold}}
 
   abbrev pub shape : Shape
-  shape = record { geometry = small k more s.meta_sectors s.within; threshold = threshold; actors = suc s.others }
+  shape = shape_of more s.sizes
 
   -- as it was opened: nothing is cached
   abbrev pub desk : DeskState P

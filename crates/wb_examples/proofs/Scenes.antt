@@ -30,6 +30,7 @@ use Rattle.wb_tasks.specs.declared.step.Answer.TheVariants.{Done as Finished}
 use Rattle.wb_devices.specs.declared.devices.Devices.{Devices}
 use Rattle.wb_promise.specs.declared.job.Job.{Job}
 use Rattle.wb_promise.specs.States.{Shape, State, Actor, Stands, resting, start}
+use Rattle.wb_promise.specs.Happenings.{Happening}
 use Rattle.wb_promise.specs.Effects.{all_resting}
 use Rattle.wb_promise.specs.Clerk.{Notes, formatted}
 use Rattle.wb_promise.specs.Headline.{noted}
@@ -37,7 +38,7 @@ use Rattle.wb_examples.specs.Possible.{PassesThrough, CanPass, IsSmall}
 use Rattle.wb_runs.proofs.MetadataRuns.{IsKnown, known_always}
 use Rattle.wb_examples.proofs.Playing.{Move, played, ends, MayGo, goes_on}
 use Rattle.wb_examples.proofs.Opening.{Down, down, opening, opening_may, opened, opened_is, none_then, rooted_size, known as opened_known}
-use Rattle.wb_examples.proofs.Desks.{Setting, small, shape, desk}
+use Rattle.wb_examples.proofs.Desks.{Sizes, geometry_of, shape_of, Setting, shape, desk}
 use Rattle.wb_examples.proofs.Runs.{along, can_pass, first_down}
 
 -- ---- what is cut, and what fails
@@ -79,7 +80,7 @@ card_in [] = blank_card
 card_in (x ∷ xs) = x.card
 
 module _ (P A : Type 0) (more : ℕ) (s : Setting P more) where
-  open s use {global, threshold, rest}
+  open s use {global, rest}
 
   abbrev pub at : Scene P → Card → State P A
   at scene card = record {
@@ -144,43 +145,39 @@ module _ (P A : Type 0) (more : ℕ) (s : Setting P more) where
 
 -- ---- what an opening leads to
 
+-- formatted metadata for such a shape, and what an opening over them wants
 pub record Formatted (P A : Type 0) (more : ℕ) : Type 0 where
   pub policy : P
   pub alloc : A
   pub global : Global
-  pub k : ℕ
-  pub meta_sectors : ℕ
-  pub within : IsWithinLimits 64 (suc k) (suc more) meta_sectors
-  pub threshold : ℕ
-  pub others : ℕ
+  pub sizes : Sizes more
   pub metadata : List History
-  pub is_formatted : IsFormatted (small k more meta_sectors within) metadata
-  pub size : length metadata ≡ meta_sectors
+  pub is_formatted : IsFormatted (geometry_of more sizes) metadata
+  pub size : length metadata ≡ sizes.meta_sectors
 
 module _ (P A : Type 0) (more : ℕ) (f : Formatted P A more) where
-  open f use {global, k, within}
+  open f use {global, sizes.{k, others}}
 
   abbrev pub down_at : Down P A
-  down_at = first_down P A f.policy f.alloc global (small k more f.meta_sectors within) f.threshold f.others f.metadata f.is_formatted f.size
+  down_at = first_down P A f.policy f.alloc global (geometry_of more f.sizes) f.sizes.threshold others f.metadata f.is_formatted f.size
 
   abbrev pub setting : Setting P more
   setting = record {
     global = global;
-    k = k;
-    meta_sectors = f.meta_sectors;
-    within = within;
-    threshold = f.threshold;
-    others = f.others;
+    sizes = f.sizes;
     policy = f.policy;
     generation = (none_then P A down_at).root.generation + 1;
     later = omega (arith, f.is_formatted.first.generation);
-    rest = all_resting (replicate f.others resting);
+    rest = all_resting (replicate others resting);
   }
+
+  abbrev pub shape_at : Shape
+  shape_at = shape_of more f.sizes
 
   abbrev pub devices : Devices (List History)
   devices = (opened P A down_at).devices
 
-  pub devices_size : length devices.metadata ≡ f.meta_sectors
+  pub devices_size : length devices.metadata ≡ f.sizes.meta_sectors
   devices_size = rooted_size P A down_at
 
   pub cache_size : 64 ≤ length devices.cache
@@ -189,19 +186,26 @@ module _ (P A : Type 0) (more : ℕ) (f : Formatted P A more) where
   pub origin_size : length devices.origin ≡ 64 * suc more
   origin_size = length-map down_at.origin (λ (h : History). only (newest h)) ∙ length-replicate (64 * suc more) blank
 
-  pub now_is : opened P A down_at ≡ at P A more setting (opened_scene P A more setting devices) blank_card
-  now_is = ap (λ (g : Geometry). record (at P A more setting (opened_scene P A more setting devices) blank_card) {
-    phase = Stands (record { words = fresh_words (suc more); desk = opened_desk (small k more f.meta_sectors within) setting.generation (empty_mapping g.cache_blocks) [] Writeback f.policy f.threshold (count_by is_some (replicate {A = Option Entry} g.cache_blocks None)) });
+  abbrev pub opened_at : State P A
+  opened_at = at P A more setting (opened_scene P A more setting devices) blank_card
+
+  opened_there : opened P A down_at ≡ opened_at
+  opened_there = ap (λ (g : Geometry). record opened_at {
+    phase = Stands (record { words = fresh_words (suc more); desk = opened_desk (geometry_of more f.sizes) setting.generation (empty_mapping g.cache_blocks) [] Writeback f.policy f.sizes.threshold (count_by is_some (replicate {A = Option Entry} g.cache_blocks None)) });
   }) (none_then P A down_at).geometry_is
 
-  pub known_now : IsKnown P A (shape P more setting) (at P A more setting (opened_scene P A more setting devices) blank_card)
-  known_now = subst (λ (w : State P A). IsKnown P A (shape P more setting) w) now_is (opened_known P A down_at)
+  pub known_at : IsKnown P A shape_at opened_at
+  known_at = subst (λ (w : State P A). IsKnown P A shape_at w) opened_there (opened_known P A down_at)
+
+  abbrev pub opening_run : List (Happening P A)
+  opening_run = played global shape_at (down P A down_at) (opening P A down_at)
+
+  abbrev pub Whole : List (State P A → Notes → Type 0) → Type 0
+  Whole conditions = PassesThrough shape_at (start shape_at f.metadata) (formatted shape_at) conditions
 
   -- what goes on from there is a run from formatted metadata on
-  pub from_opened : (conditions : List (State P A → Notes → Type 0)) → ((n : Notes) → n ≡ noted (shape P more setting) (down P A down_at) (formatted (shape P more setting)) (played global (shape P more setting) (down P A down_at) (opening P A down_at)) → PassesThrough (shape P more setting) (at P A more setting (opened_scene P A more setting devices) blank_card) n conditions) →
-      PassesThrough (shape P more setting) (start (shape P more setting) f.metadata) (formatted (shape P more setting)) conditions
-  from_opened conditions passes = along (shape P more setting) (down P A down_at) (at P A more setting (opened_scene P A more setting devices) blank_card) (formatted (shape P more setting)) (played global (shape P more setting) (down P A down_at) (opening P A down_at)) conditions (opened_is P A down_at ∙ now_is)
-      (goes_on global (shape P more setting) (down P A down_at) (opening P A down_at) (opening_may P A down_at)) (passes _ refl)
+  pub from_opened : (conditions : List (State P A → Notes → Type 0)) → ((n : Notes) → n ≡ noted shape_at (down P A down_at) (formatted shape_at) opening_run → PassesThrough shape_at opened_at n conditions) → Whole conditions
+  from_opened conditions passes = along shape_at (down P A down_at) opened_at (formatted shape_at) opening_run conditions (opened_is P A down_at ∙ opened_there) (goes_on global shape_at (down P A down_at) (opening P A down_at) (opening_may P A down_at)) (passes _ refl)
 
 -- what is claimed of these sizes
 abbrev Claim : (P A : Type 0) → (Shape → List (State P A → Notes → Type 0)) → (b c o m : ℕ) → IsWithinLimits b c o m → (threshold others : ℕ) → List History → Type 0
@@ -209,15 +213,15 @@ Claim P A conditions b c o m w threshold others metadata = let geometry : Geomet
     let shape : Shape = record { geometry = geometry; threshold = threshold; actors = suc others } in
     IsFormatted geometry metadata → length metadata ≡ m → PassesThrough shape (start shape metadata) (formatted shape) (conditions shape)
 
-pub small_can : (P A : Type 0) (more asked : ℕ) (conditions : Shape → List (State P A → Notes → Type 0)) →
-    ((f : Formatted P A more) → asked ≤ f.threshold → PassesThrough (shape P more (setting P A more f)) (start (shape P more (setting P A more f)) f.metadata) (formatted (shape P more (setting P A more f))) (conditions (shape P more (setting P A more f)))) → CanPass P A (IsSmall (suc more) asked) conditions
+-- a small shape is one of such sizes
+pub small_can : (P A : Type 0) (more asked : ℕ) (conditions : Shape → List (State P A → Notes → Type 0)) → ((f : Formatted P A more) → asked ≤ f.sizes.threshold → Whole P A more f (conditions (shape_of more f.sizes))) → CanPass P A (IsSmall (suc more) asked) conditions
 small_can P A more asked conditions passes = can_pass P A (IsSmall (suc more) asked) conditions (λ shape suits. suits.actors) (λ policy alloc global g threshold others metadata suits is_formatted size.
     by_sizes policy alloc global g.block g.cache_blocks g.origin_blocks g.meta_sectors g.within threshold others metadata suits.block suits.origin suits.room is_formatted size)
   where
     by_cache : (policy : P) (alloc : A) (global : Global) (c m : ℕ) (w : IsWithinLimits 64 c (suc more) m) (threshold others : ℕ) (metadata : List History) → asked ≤ threshold → Claim P A conditions 64 c (suc more) m w threshold others metadata
     by_cache policy alloc global zero m w threshold others metadata room is_formatted size = absurd (omega (arith, w.cache_from))
     by_cache policy alloc global (suc k) m w threshold others metadata room is_formatted size =
-        passes (record { policy = policy; alloc = alloc; global = global; k = k; meta_sectors = m; within = w; threshold = threshold; others = others; metadata = metadata; is_formatted = is_formatted; size = size }) room
+        passes (record { policy = policy; alloc = alloc; global = global; sizes = record { k = k; meta_sectors = m; within = w; threshold = threshold; others = others }; metadata = metadata; is_formatted = is_formatted; size = size }) room
 
     by_sizes : (policy : P) (alloc : A) (global : Global) (b c o m : ℕ) (w : IsWithinLimits b c o m) (threshold others : ℕ) (metadata : List History) → b ≡ 64 → o ≡ suc more → asked ≤ threshold → Claim P A conditions b c o m w threshold others metadata
     by_sizes policy alloc global b c o m w threshold others metadata e f room =

@@ -29,8 +29,8 @@ use Rattle.wb_words.specs.declared.card.Card.{Card}
 use Rattle.wb_tasks.specs.Plan.{Plan}
 use Rattle.wb_promise.specs.declared.job.Job.{Job}
 use Rattle.wb_promise.specs.declared.job.Job.TheVariants.{Read, Write, Flush}
-use Rattle.wb_promise.specs.States.{Shape, State, start}
-use Rattle.wb_promise.specs.Happenings.{Cut, Happening, task_job}
+use Rattle.wb_promise.specs.States.{Shape, State}
+use Rattle.wb_promise.specs.Happenings.{Cut, task_job}
 use Rattle.wb_promise.specs.Effects.{all_resting}
 use Rattle.wb_promise.specs.Clerk.{Notes, Doing, Reading, Position, begins, nobody, formatted}
 use Rattle.wb_promise.specs.Headline.{shown, noted}
@@ -46,7 +46,7 @@ use Rattle.wb_examples.proofs.Shown.{written_same, origin_shown}
 use Rattle.wb_examples.proofs.Playing.{Move, Gets, Moves, Reads, Fails, Stops, goes, played, ends, MayGo, goes_on, ◌⨟◌}
 use Rattle.wb_examples.proofs.Opening.{Down, down, opening, opening_may, opened_is, target, bare, Idle, flushing, flushing_may}
 use Rattle.wb_examples.proofs.Desks.{Setting, shape, desk}
-use Rattle.wb_examples.proofs.Scenes.{Scene, Formatted, at, over, card_in, Leads, FromNoted, noted_stretch, opened_scene, down_at, setting, devices, devices_size, known_now, from_opened, small_can, uncut, nothing_lands, may_fail}
+use Rattle.wb_examples.proofs.Scenes.{Scene, Formatted, at, over, card_in, Leads, FromNoted, noted_stretch, opened_scene, down_at, setting, devices, devices_size, shape_at, opened_at, known_at, opening_run, Whole, from_opened, small_can, uncut, nothing_lands, may_fail}
 
 -- the root that was written last, if the newest root has its generation
 root_there : (m : List History) (r q : Root) → 2 ≤ length m → r.generation < 2 ^ 64 → q.generation ≡ r.generation → IsNewestRoot (map newest (synced (written (synced m) (r.generation % 2) (spelling r)))) q → q ≡ r
@@ -180,7 +180,7 @@ module _ (P A : Type 0) (policy : P) (alloc : A) (s : Setting P 0) (metadata cac
 
   -- ---- the second opening, which finds the root of the flush, and shows the origin, since nothing is cached
 
-  module _ (size : length metadata ≡ s.meta_sectors) (many : length sectors ≡ 63) (card : Card) (known : IsKnown P A shape0 (at P A 0 s durable card)) where
+  module _ (size : length metadata ≡ s.sizes.meta_sectors) (many : length sectors ≡ 63) (card : Card) (known : IsKnown P A shape0 (at P A 0 s durable card)) where
     abbrev settled : State P A
     settled = at P A 0 s durable card
 
@@ -191,7 +191,7 @@ module _ (P A : Type 0) (policy : P) (alloc : A) (s : Setting P 0) (metadata cac
     quiet = elim known.known.stands [ inl q ↦ q | inr broken ↦ absurd (let busy = broken.busy in cc) ]
 
     root_is : quiet.stored.root ≡ bare_root shape0.geometry (s.generation + 1)
-    root_is = root_there metadata (bare_root shape0.geometry (s.generation + 1)) quiet.stored.root (omega (arith, size, s.within.meta_from)) (omega (arith, s.later)) (sym quiet.generation)
+    root_is = root_there metadata (bare_root shape0.geometry (s.generation + 1)) quiet.stored.root (omega (arith, size, s.sizes.within.meta_from)) (omega (arith, s.later)) (sym quiet.generation)
         ((quiet.stores.represents (map newest settled.devices.metadata) (read-left settled.devices.metadata)).newest)
 
     crash_of : Crashed settled.devices.metadata down_again.devices.metadata
@@ -229,7 +229,7 @@ module _ (P A : Type 0) (policy : P) (alloc : A) (s : Setting P 0) (metadata cac
       ),
     )
 
-  pub survives : length metadata ≡ s.meta_sectors → length sectors ≡ 63 → FromNoted P A 0 s opened0 n0 conditions
+  pub survives : length metadata ≡ s.sizes.meta_sectors → length sectors ≡ 63 → FromNoted P A 0 s opened0 n0 conditions
   survives size many c0 known = noted_stretch P A 0 s opened0 wrote writing n0 n1 conditions c0 known (writing_leads c0) refl (λ c. (refl, refl)) (λ c1 known1.
       noted_stretch P A 0 s wrote was_read reading n1 n2 (drop 1 conditions) c1 known1 (reading_leads c1) refl (λ c. ((refl, refl), refl)) (λ c2 known2.
       noted_stretch P A 0 s was_read durable flush n2 n3 (drop 2 conditions) c2 known2 (flush_leads c2 known2) refl (λ c. ((refl, refl), refl, refl)) (last_stretches size many)))
@@ -242,28 +242,25 @@ module _ (P A : Type 0) (f : Formatted P A 0) where
   abbrev contents_then : List Bytes
   contents_then = map newest sectors_then
 
+  abbrev finished_then : List ℕ
+  finished_then = map (λ (c : Bytes). 0) contents_then
+
   abbrev nobody_else : List (Option Doing)
-  nobody_else = replicate (length (nobody (replicate f.others None))) None
+  nobody_else = replicate (length (nobody (replicate f.sizes.others None))) None
 
-  abbrev shape_at : Shape
-  shape_at = shape P 0 (setting P A 0 f)
+  abbrev down0 : Down P A
+  down0 = down_at P A 0 f
 
-  abbrev opening_run : List (Happening P A)
-  opening_run = played f.global shape_at (down P A (down_at P A 0 f)) (opening P A (down_at P A 0 f))
+  noted_then : noted (shape_at P A 0 f) (down P A down0) (formatted (shape_at P A 0 f)) (opening_run P A 0 f)
+      ≡ record { histories = only (newest blank) ∷ map only contents_then; finished = 0 ∷ finished_then; floors = 0 ∷ finished_then; doings = None ∷ nobody_else }
+  noted_then = ap (λ (ss : List Bytes). begins (suc (length (nobody (replicate f.sizes.others None)))) ss) (
+      ap (λ (w : State P A). shown (shape_at P A 0 f) w) (opened_is P A down0)
+      ∙ origin_shown (shape_at P A 0 f) (target P A down0).desk.tree.entries (map newest (devices P A 0 f).cache) (map newest (devices P A 0 f).origin) (suc f.sizes.k) (bare P A down0).entries refl)
 
-  noted_then : noted shape_at (down P A (down_at P A 0 f)) (formatted shape_at) opening_run
-      ≡ record { histories = only (newest blank) ∷ map only contents_then; finished = 0 ∷ map (λ (c : Bytes). 0) contents_then; floors = 0 ∷ map (λ (c : Bytes). 0) contents_then; doings = None ∷ nobody_else }
-  noted_then = ap (λ (ss : List Bytes). begins (suc (length (nobody (replicate f.others None)))) ss) (
-      ap (λ (w : State P A). shown shape_at w) (opened_is P A (down_at P A 0 f))
-      ∙ origin_shown shape_at (target P A (down_at P A 0 f)).desk.tree.entries (map newest (devices P A 0 f).cache) (map newest (devices P A 0 f).origin) (suc f.k) (bare P A (down_at P A 0 f)).entries refl)
-
-  abbrev stations : Bytes → Bytes → List (State P A → Notes → Type 0)
-  stations content other = to_survive shape_at content other
-
-  pub survives_from : (content other : Bytes) → PassesThrough shape_at (start shape_at f.metadata) (formatted shape_at) (stations content other)
-  survives_from content other = from_opened P A 0 f (stations content other) (λ n e.
-      subst (λ (m : Notes). PassesThrough shape_at (at P A 0 (setting P A 0 f) (opened_scene P A 0 (setting P A 0 f) (devices P A 0 f)) blank_card) m (stations content other)) (sym (e ∙ noted_then))
-      (survives P A f.policy f.alloc (setting P A 0 f) (devices P A 0 f).metadata (devices P A 0 f).cache sectors_then (map only contents_then) (newest blank) (map (λ (c : Bytes). 0) contents_then) (map (λ (c : Bytes). 0) contents_then) nobody_else content other (devices_size P A 0 f) refl blank_card (known_now P A 0 f)))
+  pub survives_from : (content other : Bytes) → Whole P A 0 f (to_survive (shape_at P A 0 f) content other)
+  survives_from content other = from_opened P A 0 f (to_survive (shape_at P A 0 f) content other) (λ n e.
+      subst (λ (m : Notes). PassesThrough (shape_at P A 0 f) (opened_at P A 0 f) m (to_survive (shape_at P A 0 f) content other)) (sym (e ∙ noted_then))
+      (survives P A f.policy f.alloc (setting P A 0 f) (devices P A 0 f).metadata (devices P A 0 f).cache sectors_then (map only contents_then) (newest blank) finished_then finished_then nobody_else content other (devices_size P A 0 f) refl blank_card (known_at P A 0 f)))
 
 pub can_survive : (P A : Type 0) → CanSurvive P A
 can_survive P A content other = small_can P A 0 0 (λ shape. to_survive shape content other) (λ f room. survives_from P A f content other)
