@@ -1,6 +1,6 @@
 -- Runs over small shapes, in which the first block comes into the first cache block, leaves it, is written to there, is written back, or is replaced
 -- by the second.
-use Rattle.std.proofs.Common.{◌≡◌, ◌∙◌, ◌≤◌, ◌+◌, inr, ℕ, suc, true, false, List, [], ◌∷◌, Option, Some, None, refl, ap, arith, length, slice_get}
+use Rattle.std.proofs.Common.{◌≡◌, ◌∙◌, ◌≤◌, ◌+◌, inr, ℕ, suc, true, List, [], ◌∷◌, Option, Some, None, refl, ap, arith, length, replicate, slice_get}
 use Rattle.std.specs.Prelude.{drop}
 use Rattle.std.proofs.lemmas.List.{length-map}
 use Rattle.std.specs.Int.Bits.{bit_or}
@@ -9,7 +9,7 @@ use Rattle.wb_types.specs.declared.refusal.Refusal.TheVariants.{Memory}
 use Rattle.wb_disk.specs.Device.{Content as Bytes, History, Gives, grown, only, newest, written, synced}
 use Rattle.wb_disk.specs.Extents.{written_each, written_where}
 use Rattle.wb_disk.specs.Failing.{lands}
-use Rattle.wb_words.specs.SharedWords.{Words}
+use Rattle.wb_words.specs.SharedWords.{Words, fresh_words}
 use Rattle.wb_words.specs.Cards.{blank_card}
 use Rattle.wb_words.specs.declared.card.Card.{Card}
 use Rattle.wb_meta.proofs.Histories.{newest-added}
@@ -29,16 +29,16 @@ use Rattle.wb_promise.specs.States.{Shape, State}
 use Rattle.wb_promise.specs.Happenings.{Plain, Cut, Orders, Asks, task_job}
 use Rattle.wb_promise.specs.Effects.{contents_at}
 use Rattle.wb_promise.specs.Clerk.{Notes}
-use Rattle.wb_examples.specs.Possible.{first_block, second_block, first_cache_block, first_sector, replacement, IsPromoted, IsWrittenTo, IsClaimed, to_demote, to_write_back, to_replace, to_give_up, to_start_again, CanPromote, CanDemote, CanWriteBack, CanReplace, CanGiveUp, CanStartAgain}
+use Rattle.wb_examples.specs.Possible.{first_block, second_block, first_cache_block, first_sector, replacement, IsPromoted, IsWrittenTo, IsHalfReplaced, to_demote, to_write_back, to_replace, to_give_up, to_start_again, CanPromote, CanDemote, CanWriteBack, CanReplace, CanGiveUp, CanStartAgain}
 use Rattle.wb_runs.proofs.InsideRuns.{length-written_where}
 use Rattle.wb_runs.proofs.Rooted.{rooted}
 use Rattle.wb_runs.proofs.MetadataRuns.{IsKnown}
 use Rattle.wb_examples.proofs.Beginning.{bare_commit}
 use Rattle.wb_examples.proofs.Shown.{nowhere}
-use Rattle.wb_examples.proofs.Playing.{Move, Gets, Moves, Does, Fails, goes, ends, happens, may_move, ◌⨟◌}
+use Rattle.wb_examples.proofs.Playing.{Move, Gets, Moves, Does, Fails, goes, happens, may_move, ◌⨟◌}
 use Rattle.wb_examples.proofs.Opening.{Idle, flushing, flushing_may}
 use Rattle.wb_examples.proofs.Desks.{Setting, shape, stood, demoted, claimed, given_up, settled, followed, cleaned, leaving, may_promote, may_map, comes, may_demote, demotes, may_replace, leaves, lives, gives_up, may_follow, follows, may_clean, cleans}
-use Rattle.wb_examples.proofs.Scenes.{Scene, Formatted, at, over, card_in, Leads, From, done, stretch, on, opened_scene, setting, devices, cache_size, origin_size, known_at, Whole, from_opened, small_can, uncut, nothing_lands, may_fail, whole, next_whole}
+use Rattle.wb_examples.proofs.Scenes.{Scene, Formatted, at, over, Leads, goes_to, From, done, stretch, on, opened_scene, setting, devices, cache_size, origin_size, known_at, Whole, from_opened, small_can, uncut, nothing_lands, may_fail, whole, next_whole}
 
 -- ---- contents of the first sector
 
@@ -89,34 +89,27 @@ module _ (P A : Type 0) (more : ℕ) (s : Setting P more) where
   abbrev migrated : Job → Option (Job × Plan)
   migrated job = over job (task_job (shape P more s) [] job (whole ∷ []))
 
-  abbrev words_then : ℕ → Words
-  words_then seal = record (opened_scene P A more s (record { metadata = []; cache = []; origin = [] })).words { seals = seal ∷ Rattle.std.proofs.Common.replicate more 0 }
+  -- once its seal was put
+  abbrev sealed : ℕ → Words
+  sealed seal = record (fresh_words (suc more)) { seals = seal ∷ replicate more 0 }
 
   abbrev came : Devices (List History) → Scene P
-  came d = record { devices = filled d; words = words_then 2; desk = stood P more s; task = migrated promotes; orders = []; awaiting = []; buffer = contents_at d.origin whole }
+  came d = record { devices = filled d; words = sealed 2; desk = stood P more s; task = migrated promotes; orders = []; awaiting = []; buffer = contents_at d.origin whole }
 
   abbrev promoting : List (Move P A)
   promoting = ordering promotes (Moves ∷ Moves ∷ Does Done (Asks (stood P more s)) ∷ goes 2 [])
 
   promoting_leads : (d : Devices (List History)) → 64 ≤ length d.cache → 64 ≤ length d.origin → 64 ≤ threshold → (card : Card) → Leads P A more s (at P A more s (opened_scene P A more s d) card) promoting (came d)
-  promoting_leads d cache_size origin_size room card = record {
-    may = (uncut whole (omega arith), may_promote P more s room) ⨟ (tt, omega (arith, origin_size)) ⨟ (tt, omega (arith, cache_size)) ⨟ (refl, (may_map P more s, comes P more s, refl)) ⨟ tt;
-    card = card_in (ends global (shape P more s) (at P A more s (opened_scene P A more s d) card) promoting).actors;
-    is = refl;
-  }
+  promoting_leads d cache_size origin_size room card = goes_to P A more s _ _ _ ((uncut whole (omega arith), may_promote P more s room) ⨟ (tt, omega (arith, origin_size)) ⨟ (tt, omega (arith, cache_size)) ⨟ (refl, (may_map P more s, comes P more s, refl)) ⨟ tt) refl
 
   abbrev gone : Scene P → Scene P
-  gone scene = record scene { words = words_then 0; desk = demoted P more s; task = migrated (Migrate Demote first_block) }
+  gone scene = record scene { words = sealed 0; desk = demoted P more s; task = migrated (Migrate Demote first_block) }
 
   abbrev demoting : List (Move P A)
   demoting = goes 1 (ordering (Migrate Demote first_block) (Does Done (Asks (demoted P more s)) ∷ goes 2 []))
 
   demoting_leads : (d : Devices (List History)) → 64 ≤ threshold → (card : Card) → Leads P A more s (at P A more s (came d) card) demoting (gone (came d))
-  demoting_leads d room card = record {
-    may = (uncut whole (omega arith), may_demote P more s room) ⨟ (refl, refl, demotes P more s) ⨟ tt;
-    card = card_in (ends global (shape P more s) (at P A more s (came d) card) demoting).actors;
-    is = refl;
-  }
+  demoting_leads d room card = goes_to P A more s _ _ _ ((uncut whole (omega arith), may_demote P more s room) ⨟ (refl, refl, demotes P more s) ⨟ tt) refl
 
 pub can_promote : (P A : Type 0) → CanPromote P A
 can_promote P A = small_can P A 0 64 (λ shape. (λ w n. IsPromoted w) ∷ []) (λ f room.
@@ -217,39 +210,19 @@ module _ (P A : Type 0) (s : Setting P 1) where
     home = record d { origin = written_each d.origin 0 taken_home }
 
     writing_leads : (content : Bytes) (card : Card) → Leads P A 1 s (state (here d buffer (words 2 0 0 0) (stood P 1 s) (migrated P A 1 s promotes) [] []) card) (writing content) (wrote (record d { cache = written d.cache 0 content }) buffer content)
-    writing_leads content card = record {
-      may = (refl, uncut first_sector (omega arith)) ⨟ (tt, omega (arith, cache_size)) ⨟ tt;
-      card = card_in (ends global shape1 (state (here d buffer (words 2 0 0 0) (stood P 1 s) (migrated P A 1 s promotes) [] []) card) (writing content)).actors;
-      is = refl;
-    }
+    writing_leads content card = goes_to P A 1 s _ _ _ ((refl, uncut first_sector (omega arith)) ⨟ (tt, omega (arith, cache_size)) ⨟ tt) refl
 
     cleaning_leads : 64 ≤ s.sizes.threshold → (content : Bytes) (card : Card) → Leads P A 1 s (state (wrote d buffer content) card) cleaning (written_back home taken_home)
-    cleaning_leads room content card = record {
-      may = (uncut whole (omega arith), may_clean P 1 s room) ⨟ (tt, omega (arith, cache_size)) ⨟ (tt, omega (arith, origin_size)) ⨟ (refl, refl, cleans P 1 s) ⨟ tt;
-      card = card_in (ends global shape1 (state (wrote d buffer content) card) cleaning).actors;
-      is = refl;
-    }
+    cleaning_leads room content card = goes_to P A 1 s _ _ _ ((uncut whole (omega arith), may_clean P 1 s room) ⨟ (tt, omega (arith, cache_size)) ⨟ (tt, omega (arith, origin_size)) ⨟ (refl, refl, cleans P 1 s) ⨟ tt) refl
 
     replacing_leads : 128 ≤ s.sizes.threshold → (content : Bytes) (card : Card) → Leads P A 1 s (state (wrote d buffer content) card) replacing (left home taken_home)
-    replacing_leads room content card = record {
-      may = (uncut whole (omega arith), may_replace P 1 s room refl) ⨟ (tt, omega (arith, cache_size)) ⨟ (tt, omega (arith, origin_size)) ⨟ (refl, refl, leaves P 1 s) ⨟ tt;
-      card = card_in (ends global shape1 (state (wrote d buffer content) card) replacing).actors;
-      is = refl;
-    }
+    replacing_leads room content card = goes_to P A 1 s _ _ _ ((uncut whole (omega arith), may_replace P 1 s room refl) ⨟ (tt, omega (arith, cache_size)) ⨟ (tt, omega (arith, origin_size)) ⨟ (refl, refl, leaves P 1 s) ⨟ tt) refl
 
     failing_leads : 128 ≤ s.sizes.threshold → (content : Bytes) (card : Card) → Leads P A 1 s (state (wrote d buffer content) card) failing (failed (record d { origin = written_where (lands Origin nothing_lands) d.origin 0 taken_home }) taken_home None)
-    failing_leads room content card = record {
-      may = (uncut whole (omega arith), may_replace P 1 s room refl) ⨟ (tt, omega (arith, cache_size)) ⨟ (may_fail (length d.origin), (refl, tt)) ⨟ tt;
-      card = card_in (ends global shape1 (state (wrote d buffer content) card) failing).actors;
-      is = refl;
-    }
+    failing_leads room content card = goes_to P A 1 s _ _ _ ((uncut whole (omega arith), may_replace P 1 s room refl) ⨟ (tt, omega (arith, cache_size)) ⨟ (may_fail (length d.origin), (refl, tt)) ⨟ tt) refl
 
     refusing_leads : (card : Card) → Leads P A 1 s (state (left d buffer) card) refusing (record (left d buffer) { task = refused d buffer (Desk (ReleaseOrder first_block) ∷ []) })
-    refusing_leads card = record {
-      may = tt ⨟ (refl, refl, record { idle = refl; next = omega (arith, s.later) }) ⨟ tt;
-      card = card_in (ends global shape1 (state (left d buffer) card) refusing).actors;
-      is = refl;
-    }
+    refusing_leads card = goes_to P A 1 s _ _ _ (tt ⨟ (refl, refl, record { idle = refl; next = omega (arith, s.later) }) ⨟ tt) refl
 
     abbrev idle_there : Card → Idle P
     idle_there card = record { global = global; shape = shape1; words = words 0 0 1 0; desk = claimed P 1 s; devices = d; actor = record { task = None; card = card; orders = []; awaiting = replacement ∷ []; buffer = buffer }; rest = s.rest }
@@ -261,24 +234,16 @@ module _ (P A : Type 0) (s : Setting P 1) where
     durable = record { metadata = synced (rooted (bare_commit global shape1.geometry (s.generation + 1)) (synced d.metadata)); cache = synced d.cache; origin = synced d.origin }
 
     flush_leads : (card : Card) → IsKnown P A shape1 (state (left d buffer) card) → Leads P A 1 s (state (left d buffer) card) flush (served durable buffer)
-    flush_leads card known = record {
-      may = flushing_may P A (idle_there card) (record { images = known.images; known = known.known; entries = refl }) (record { idle = refl; next = omega (arith, s.later) });
-      card = card_in (ends global shape1 (state (left d buffer) card) flush).actors;
-      is = refl;
-    }
+    flush_leads card known = goes_to P A 1 s _ _ _ (flushing_may P A (idle_there card) (record { images = known.images; known = known.known; entries = refl }) (record { idle = refl; next = omega (arith, s.later) })) refl
 
     answering_leads : (card : Card) → Leads P A 1 s (state (served d buffer) card) answering (begun d buffer)
-    answering_leads card = record { may = (uncut next_whole (omega arith), inr (first_block, (0, omega arith, refl), refl)) ⨟ tt; card = card; is = refl }
+    answering_leads card = goes_to P A 1 s _ _ _ ((uncut next_whole (omega arith), inr (first_block, (0, omega arith, refl), refl)) ⨟ tt) refl
 
     abbrev brought : List Bytes
     brought = contents_at d.origin next_whole
 
     following_leads : (card : Card) → Leads P A 1 s (state (begun d buffer) card) following (followed_there (record d { cache = written_each d.cache 0 brought }) brought)
-    following_leads card = record {
-      may = (tt, omega (arith, origin_size)) ⨟ (tt, omega (arith, cache_size)) ⨟ (refl, (may_follow P 1 s, follows P 1 s, refl)) ⨟ tt;
-      card = card_in (ends global shape1 (state (begun d buffer) card) following).actors;
-      is = refl;
-    }
+    following_leads card = goes_to P A 1 s _ _ _ ((tt, omega (arith, origin_size)) ⨟ (tt, omega (arith, cache_size)) ⨟ (refl, (may_follow P 1 s, follows P 1 s, refl)) ⨟ tt) refl
 
 -- ---- the whole runs
 
@@ -332,24 +297,21 @@ module _ (P A : Type 0) (f : Formatted P A 1) (room : 128 ≤ f.sizes.threshold)
   goes_home : Gives d3.origin 0 content
   goes_home = carried_gives d2.cache d2.origin content 63 has_content (omega (arith, origin0))
 
-  abbrev From1 : Scene P → List (State P A → Notes → Type 0) → Type 0
-  From1 scene conditions = From P A 1 s scene conditions
-
   -- the block comes, and is written to
-  comes_written : (conditions : List (State P A → Notes → Type 0)) → From1 (wrote P A s d2 buffer content) conditions → From1 (opened_scene P A 1 s d0) ((λ w n. IsPromoted w) ∷ (λ w n. IsWrittenTo content w) ∷ conditions)
+  comes_written : (conditions : List (State P A → Notes → Type 0)) → From P A 1 s (wrote P A s d2 buffer content) conditions → From P A 1 s (opened_scene P A 1 s d0) ((λ w n. IsPromoted w) ∷ (λ w n. IsWrittenTo content w) ∷ conditions)
   comes_written conditions behind = stretch P A 1 s (opened_scene P A 1 s d0) (came P A 1 s d0) (promoting P A 1 s) ((λ w n. IsPromoted w) ∷ (λ w n. IsWrittenTo content w) ∷ conditions)
       (λ card known. promoting_leads P A 1 s d0 (cache_size P A 1 f) (omega (arith, origin0)) (omega (arith, room)) card) (λ card n. ((refl, refl), refl, refl))
       (stretch P A 1 s (came P A 1 s d0) (wrote P A s d2 buffer content) (writing P A s content) ((λ w n. IsWrittenTo content w) ∷ conditions) (λ card known. writing_leads P A s d1 buffer cache1 origin0 content card) (λ card n. ((refl, refl), has_content)) behind)
 
-  comes_unseen : (conditions : List (State P A → Notes → Type 0)) → From1 (wrote P A s d2 buffer content) conditions → From1 (opened_scene P A 1 s d0) conditions
+  comes_unseen : (conditions : List (State P A → Notes → Type 0)) → From P A 1 s (wrote P A s d2 buffer content) conditions → From P A 1 s (opened_scene P A 1 s d0) conditions
   comes_unseen conditions behind = on P A 1 s (opened_scene P A 1 s d0) (came P A 1 s d0) (promoting P A 1 s) conditions (promoting_leads P A 1 s d0 (cache_size P A 1 f) (omega (arith, origin0)) (omega (arith, room)))
       (on P A 1 s (came P A 1 s d0) (wrote P A s d2 buffer content) (writing P A s content) conditions (writing_leads P A s d1 buffer cache1 origin0 content) behind)
 
-  whole_run : (conditions : List (State P A → Notes → Type 0)) → From1 (opened_scene P A 1 s d0) conditions → Whole P A 1 f conditions
+  whole_run : (conditions : List (State P A → Notes → Type 0)) → From P A 1 s (opened_scene P A 1 s d0) conditions → Whole P A 1 f conditions
   whole_run conditions from = from_opened P A 1 f conditions (λ n e. from blank_card (known_at P A 1 f) n)
 
-  is_claimed : (card : Card) → IsClaimed (state P A s (left P A s d3 carried) card)
-  is_claimed card = ((refl, refl), refl, lives P 1 s)
+  half_replaced : (card : Card) → IsHalfReplaced (state P A s (left P A s d3 carried) card)
+  half_replaced card = ((refl, refl), refl, lives P 1 s)
 
   pub writes_back : Whole P A 1 f (to_write_back content)
   writes_back = whole_run (to_write_back content) (comes_written (drop 2 (to_write_back content)) (
@@ -358,7 +320,7 @@ module _ (P A : Type 0) (f : Formatted P A 1) (room : 128 ≤ f.sizes.threshold)
 
   pub replaces_all : Whole P A 1 f (to_replace content)
   replaces_all = whole_run (to_replace content) (comes_written (drop 2 (to_replace content)) (
-      stretch P A 1 s (wrote P A s d2 buffer content) (left P A s d3 carried) (replacing P A s) (drop 2 (to_replace content)) (λ card known. replacing_leads P A s d2 buffer cache2 origin0 room content card) (λ card n. ((refl, refl), is_claimed card)) (
+      stretch P A 1 s (wrote P A s d2 buffer content) (left P A s d3 carried) (replacing P A s) (drop 2 (to_replace content)) (λ card known. replacing_leads P A s d2 buffer cache2 origin0 room content card) (λ card n. ((refl, refl), half_replaced card)) (
       stretch P A 1 s (left P A s d3 carried) (served P A s d4 carried) (flush P A s d3 carried cache2 origin3) (drop 3 (to_replace content)) (flush_leads P A s d3 carried cache2 origin3) (λ card n. ((refl, refl), (refl, refl), refl)) (
       stretch P A 1 s (served P A s d4 carried) (begun P A s d4 carried) (answering P A s) (drop 4 (to_replace content)) (λ card known. answering_leads P A s d4 carried cache4 origin4 card) (λ card n. (refl, (refl, refl))) (
       stretch P A 1 s (begun P A s d4 carried) (followed_there P A s (record d4 { cache = written_each d4.cache 0 (contents_at d4.origin next_whole) }) (contents_at d4.origin next_whole)) (following P A s) (drop 5 (to_replace content)) (λ card known. following_leads P A s d4 carried cache4 origin4 card)
@@ -372,7 +334,7 @@ module _ (P A : Type 0) (f : Formatted P A 1) (room : 128 ≤ f.sizes.threshold)
   gives_up_all =
       let giving : Move P A = Does Done (Asks (given_up P 1 s)) in
       whole_run (to_give_up (shape1 P A s)) (comes_unseen (to_give_up (shape1 P A s)) (
-      stretch P A 1 s (wrote P A s d2 buffer content) (left P A s d3 carried) (replacing P A s) (to_give_up (shape1 P A s)) (λ card known. replacing_leads P A s d2 buffer cache2 origin0 room content card) (λ card n. is_claimed card) (
+      stretch P A 1 s (wrote P A s d2 buffer content) (left P A s d3 carried) (replacing P A s) (to_give_up (shape1 P A s)) (λ card known. replacing_leads P A s d2 buffer cache2 origin0 room content card) (λ card n. half_replaced card) (
       stretch P A 1 s (left P A s d3 carried) to_refuse (refusing P A s) (drop 1 (to_give_up (shape1 P A s))) (λ card known. refusing_leads P A s d3 carried cache2 origin3 card)
       (λ card n. ((refl, refl), ((refl, refl), refl, lives P 1 s), (happens s.global (state P A s to_refuse card) giving, may_move s.global (shape1 P A s) (state P A s to_refuse card) giving (refl, refl, gives_up P 1 s), ((refl, refl), (refl, refl), refl, refl))))
       (done P A 1 s to_refuse))))

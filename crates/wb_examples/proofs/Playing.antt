@@ -5,6 +5,7 @@ use Rattle.wb_types.specs.declared.extent.Extent.{Extent}
 use Rattle.wb_types.specs.declared.mode.Dev.{Dev}
 use Rattle.wb_types.specs.declared.mode.Dev.TheVariants.{Metadata, Cache, Origin}
 use Rattle.wb_types.specs.declared.mode.Mode.TheVariants.{Writeback}
+use Rattle.wb_types.proofs.Truth.{and_true}
 use Rattle.wb_disk.specs.Device.{Content as Bytes}
 use Rattle.wb_disk.specs.Crash.{Choice}
 use Rattle.wb_words.specs.Effects.{result_of}
@@ -32,8 +33,8 @@ use denote.RawPtr.{null_ptr}
 
 -- ---- what happens
 
--- What comes next: the first actor is given a job; does a step on the shared words, a sync of cache or origin, or its answer; moves sectors; is
--- given this sector; does a step that gives this; fails at one; or power is lost.
+-- What comes next: the first actor is given a job; goes on by a step that gives what it must, which is one on the shared words, a sync of cache or
+-- origin, or its answer; moves sectors; is given this sector; does a step that gives this; fails at one; or power is lost.
 pub data Move (P A : Type 0) : Type 0 where
   Gets : Job → Chosen P A → Move P A
   Goes : Move P A
@@ -167,11 +168,6 @@ holds : (b : Bool) (X : Type 0) → If b X → (b ≡ true) × X
 holds true X h = (refl, h)
 holds false X h = absurd h
 
-both : (a b : Bool) → (a && b) ≡ true → (a ≡ true) × (b ≡ true)
-both true true e = (refl, refl)
-both true false e = absurd (cc)
-both false b e = absurd (cc)
-
 -- what holds where the first actor's task asks for something holds where that is what it wants next
 at_next : (o : Option Actor) (Q : Actor → Job → Want → Type 0) (R : Actor → Job → (next wanted : Want) → Type 0) → ((x : Actor) (job : Job) (next : Want) → Q x job next → R x job next next) →
     OfSome o (λ x. OfSome x.task (λ d. Q x d.0 (want d.1))) → OfSome o (λ x. OfSome x.task (λ d. R x d.0 (want_of (task_of o)) (want d.1)))
@@ -235,7 +231,7 @@ module _ {P A : Type 0} (global : Global) (shape : Shape) (w : State P A) where
   pub may_move : (move : Move P A) → Needs shape w move → May shape w (happens global w move)
   may_move (Gets job chosen) h =
       let r = holds (is_idle (slice_get w.actors 0) && is_in_place w.phase job) (StartGives shape w.phase (slice_get w.actors 0) job Started chosen) h in
-      let free = both (is_idle (slice_get w.actors 0)) (is_in_place w.phase job) r.0 in
+      let free = and_true (is_idle (slice_get w.actors 0)) (is_in_place w.phase job) r.0 in
       (refl, idle_applies (slice_get w.actors 0) w.phase job free.0 free.1, r.1)
   may_move Goes h = at_next (slice_get w.actors 0) (λ x job next. is_plain w.phase job next ≡ true) (λ x job next wanted. (next ≡ wanted) × Gives shape w x job next (given_by w.phase next) [] Plain) (λ x job next e. (refl, plain_gives w.phase x job next e)) (plain_task w.phase (slice_get w.actors 0) h)
   may_move Moves h = by_next (λ x job next. IfMoves job next (λ device e. HoldsBlocks device × (e.first + e.count ≤ length (device_in device w.devices)))) Done [] Plain moves_gives h

@@ -14,7 +14,7 @@ use Rattle.wb_promise.specs.Happenings.{Happening}
 use Rattle.wb_promise.specs.Effects.{after_all, all_resting, IsRun}
 use Rattle.wb_promise.specs.Clerk.{Notes, formatted}
 use Rattle.wb_promise.specs.Headline.{noted}
-use Rattle.wb_examples.specs.Possible.{PassesThrough, CanPass, HasActors, Standing, AboutToAnswer, CanOpen, CanFlush}
+use Rattle.wb_examples.specs.Possible.{PassesThrough, CanPass, HasActors, TargetHas, AboutToAnswer, CanOpen, CanFlush}
 use Rattle.wb_runs.proofs.Formatted.{formatted_none}
 use Rattle.wb_examples.proofs.Playing.{played, goes_on, run_append, after_append, noted_append}
 use Rattle.wb_examples.proofs.Opening.{Down, down, opening, opening_may, opened, opened_is, bare, may_begin, target, Idle, idle, flushing, flushing_may}
@@ -66,7 +66,7 @@ module _ (P A : Type 0) where
   }
 
   pub can_open : CanOpen P A
-  can_open = can_pass P A HasActors (λ shape. (λ w n. Standing w (λ target. Unit {0})) ∷ []) (λ shape some. some) (λ policy alloc global geometry threshold others metadata some f size.
+  can_open = can_pass P A HasActors (λ shape. (λ w n. TargetHas w (λ target. Unit {0})) ∷ []) (λ shape some. some) (λ policy alloc global geometry threshold others metadata some f size.
       let d = first_down policy alloc global geometry threshold others metadata f size in
       (played global d.shape (down P A d) (opening P A d), goes_on global d.shape (down P A d) (opening P A d) (opening_may P A d), tt, tt))
 

@@ -75,7 +75,7 @@ pub record Scene (P : Type 0) : Type 0 where
 abbrev pub over : Job → TaskJob → Option (Job × Plan)
 over job task = Some (job, record { job = task; steps = []; answer = Finished })
 
-abbrev pub card_in : List Actor → Card
+abbrev card_in : List Actor → Card
 card_in [] = blank_card
 card_in (x ∷ xs) = x.card
 
@@ -95,6 +95,9 @@ module _ (P A : Type 0) (more : ℕ) (s : Setting P more) where
     pub may : MayGo global (shape P more s) w moves
     pub card : Card
     pub is : ends global (shape P more s) w moves ≡ at to card
+
+  pub goes_to : (w : State P A) (moves : List (Move P A)) (to : Scene P) → MayGo global (shape P more s) w moves → ends global (shape P more s) w moves ≡ at to (card_in (ends global (shape P more s) w moves).actors) → Leads w moves to
+  goes_to w moves to may is = record { may = may; card = card_in (ends global (shape P more s) w moves).actors; is = is }
 
   -- the first of these conditions, and the others
   abbrev pub First : List (State P A → Notes → Type 0) → State P A → Notes → Type 0

@@ -46,7 +46,7 @@ use Rattle.wb_examples.proofs.Shown.{written_same, origin_shown}
 use Rattle.wb_examples.proofs.Playing.{Move, Gets, Moves, Reads, Fails, Stops, goes, played, ends, MayGo, goes_on, ◌⨟◌}
 use Rattle.wb_examples.proofs.Opening.{Down, down, opening, opening_may, opened_is, target, bare, Idle, flushing, flushing_may}
 use Rattle.wb_examples.proofs.Desks.{Setting, shape, desk}
-use Rattle.wb_examples.proofs.Scenes.{Scene, Formatted, at, over, card_in, Leads, FromNoted, noted_stretch, opened_scene, down_at, setting, devices, devices_size, shape_at, opened_at, known_at, opening_run, Whole, from_opened, small_can, uncut, nothing_lands, may_fail}
+use Rattle.wb_examples.proofs.Scenes.{Scene, Formatted, at, over, Leads, goes_to, FromNoted, noted_stretch, opened_scene, down_at, setting, devices, devices_size, shape_at, opened_at, known_at, opening_run, Whole, from_opened, small_can, uncut, nothing_lands, may_fail}
 
 -- the root that was written last, if the newest root has its generation
 root_there : (m : List History) (r q : Root) → 2 ≤ length m → r.generation < 2 ^ 64 → q.generation ≡ r.generation → IsNewestRoot (map newest (synced (written (synced m) (r.generation % 2) (spelling r)))) q → q ≡ r
@@ -160,17 +160,13 @@ module _ (P A : Type 0) (policy : P) (alloc : A) (s : Setting P 0) (metadata cac
   crash = Stops nothing_lands ∷ []
 
   writing_leads : (card : Card) → Leads P A 0 s (at P A 0 s opened0 card) writing wrote
-  writing_leads card = record { may = (refl, uncut first_sector (omega arith)) ⨟ (tt, omega arith) ⨟ tt; card = card_in (lead (at P A 0 s opened0 card) writing).actors; is = refl }
+  writing_leads card = goes_to P A 0 s _ _ _ ((refl, uncut first_sector (omega arith)) ⨟ (tt, omega arith) ⨟ tt) refl
 
   reading_leads : (card : Card) → Leads P A 0 s (at P A 0 s wrote card) reading was_read
-  reading_leads card = record { may = (refl, uncut first_sector (omega arith)) ⨟ (tt, refl, refl, refl, ((_, refl, refl), tt)) ⨟ tt; card = card_in (lead (at P A 0 s wrote card) reading).actors; is = refl }
+  reading_leads card = goes_to P A 0 s _ _ _ ((refl, uncut first_sector (omega arith)) ⨟ (tt, refl, refl, refl, ((_, refl, refl), tt)) ⨟ tt) refl
 
   flush_leads : (card : Card) → IsKnown P A shape0 (at P A 0 s was_read card) → Leads P A 0 s (at P A 0 s was_read card) flush durable
-  flush_leads card known = record {
-    may = flushing_may P A (idle_there card) (record { images = known.images; known = known.known; entries = refl }) (record { idle = refl; next = omega (arith, s.later) });
-    card = card_in (lead (at P A 0 s was_read card) flush).actors;
-    is = refl;
-  }
+  flush_leads card known = goes_to P A 0 s _ _ _ (flushing_may P A (idle_there card) (record { images = known.images; known = known.known; entries = refl }) (record { idle = refl; next = omega (arith, s.later) })) refl
 
   failing_may : (card : Card) → MayGo global shape0 (at P A 0 s durable card) failing
   failing_may card = (refl, uncut first_sector (omega arith)) ⨟ (may_fail _, (refl, tt)) ⨟ tt

@@ -78,8 +78,8 @@ abbrev pub replacement : Order
 replacement = ReplaceOrder first_block second_block first_cache_block
 
 -- a target stands, of which this holds
-abbrev pub Standing : {P A : Type 0} → State P A → (Target P → Type 0) → Type 0
-Standing w on = OfTarget w.phase on
+abbrev pub TargetHas : {P A : Type 0} → State P A → (Target P → Type 0) → Type 0
+TargetHas w on = OfTarget w.phase on
 
 -- the first actor is at this job, and wants this next
 abbrev pub FirstWants : {P A : Type 0} → Job → Want → State P A → Type 0
@@ -103,25 +103,25 @@ FirstHas orders awaiting w = OfSome (slice_get w.actors 0) (λ x. (x.orders ≡ 
 
 -- the first cache block is in this state
 abbrev pub FirstCacheBlockIs : {P A : Type 0} → Block → State P A → Type 0
-FirstCacheBlockIs block w = Standing w (λ target. slice_get target.desk.space.blocks 0 ≡ Some block)
+FirstCacheBlockIs block w = TargetHas w (λ target. slice_get target.desk.space.blocks 0 ≡ Some block)
 
 -- no order lives there
 abbrev pub NoOrderLives : {P A : Type 0} → State P A → Type 0
-NoOrderLives w = Standing w (λ target. order_at target.desk.orders.slots 0 ≡ None)
+NoOrderLives w = TargetHas w (λ target. order_at target.desk.orders.slots 0 ≡ None)
 
 -- this block stands in the first cache block
 abbrev pub StandsCached : {P A : Type 0} → OBlock → State P A → Type 0
-StandsCached block w = Standing w (λ target. place_of target.desk.tree.entries block.0 ≡ Some 0)
+StandsCached block w = TargetHas w (λ target. place_of target.desk.tree.entries block.0 ≡ Some 0)
 
 -- this one stands in none
 abbrev pub StandsNowhere : {P A : Type 0} → OBlock → State P A → Type 0
-StandsNowhere block w = Standing w (λ target. place_of target.desk.tree.entries block.0 ≡ None)
+StandsNowhere block w = TargetHas w (λ target. place_of target.desk.tree.entries block.0 ≡ None)
 
 -- ---- what runs pass through, and that there are such runs
 
 -- an opening is answered done, and a target stands
 abbrev pub CanOpen : (P A : Type 0) → Type 0
-CanOpen P A = CanPass P A HasActors (λ shape. (λ w n. Standing w (λ target. Unit {0})) ∷ [])
+CanOpen P A = CanPass P A HasActors (λ shape. (λ w n. TargetHas w (λ target. Unit {0})) ∷ [])
 
 -- a flush over it comes to its answer, which is done
 abbrev pub CanFlush : (P A : Type 0) → Type 0
@@ -136,7 +136,7 @@ to_survive shape content other =
     ∷ (λ w n. AboutToAnswer Flush w × (slice_get n.finished 0 ≡ Some 1) × (slice_get n.floors 0 ≡ Some 0))
     ∷ (λ w n. FirstDoes n (λ doing. (doing.job ≡ Write first_sector other) × (doing.failed ≡ Origin ∷ [])) × (slice_get n.floors 0 ≡ Some 1))
     ∷ (λ w n. w.phase ≡ Gone)
-    ∷ (λ w n. Standing w (λ target. Unit {0}) × (slice_get (shown shape w) 0 ≡ Some content))
+    ∷ (λ w n. TargetHas w (λ target. Unit {0}) × (slice_get (shown shape w) 0 ≡ Some content))
     ∷ []
 
 abbrev pub CanSurvive : (P A : Type 0) → Type 0
@@ -171,15 +171,15 @@ to_write_back content =
     (λ w n. IsPromoted w)
     ∷ (λ w n. IsWrittenTo content w)
     ∷ (λ w n. AboutToAnswer (Migrate Clean first_block) w × FirstHas [] [] w × Gives w.devices.origin 0 content × StandsCached first_block w × NoOrderLives w
-    × Standing w (λ target. word_at target.words.seals first_block ≡ seal_word (Some first_cache_block) false))
+    × TargetHas w (λ target. word_at target.words.seals first_block ≡ seal_word (Some first_cache_block) false))
     ∷ []
 
 abbrev pub CanWriteBack : (P A : Type 0) → Type 0
 CanWriteBack P A = (content : Bytes) → CanPass P A (IsSmall 2 128) (λ shape. to_write_back content)
 
 -- the first block has left, its cache block is claimed, and its order lives on and waits for a flush
-abbrev pub IsClaimed : {P A : Type 0} → State P A → Type 0
-IsClaimed w = FirstHas [] (replacement ∷ []) w × FirstCacheBlockIs (Quarantined true false) w × Standing w (λ target. IsLive target.desk replacement)
+abbrev pub IsHalfReplaced : {P A : Type 0} → State P A → Type 0
+IsHalfReplaced w = FirstHas [] (replacement ∷ []) w × FirstCacheBlockIs (Quarantined true false) w × TargetHas w (λ target. IsLive target.desk replacement)
 
 -- The first block comes, is written to, and leaves by the first half of its replacement; a flush ends the quarantine; its answer gives the
 -- order back, under which a promotion of the second block starts; and by the rest of that the second block stands in the first cache block,
@@ -188,7 +188,7 @@ abbrev pub to_replace : {P A : Type 0} → Bytes → List (State P A → Notes �
 to_replace content =
     (λ w n. IsPromoted w)
     ∷ (λ w n. IsWrittenTo content w)
-    ∷ (λ w n. AboutToAnswer (Migrate Demote first_block) w × IsClaimed w)
+    ∷ (λ w n. AboutToAnswer (Migrate Demote first_block) w × IsHalfReplaced w)
     ∷ (λ w n. AboutToAnswer Flush w × FirstHas [] (replacement ∷ []) w × FirstCacheBlockIs Reserved w)
     ∷ (λ w n. FirstIsAt (Migrate (Promote first_cache_block) second_block) w × FirstHas (replacement ∷ []) [] w)
     ∷ (λ w n. AboutToAnswer (Migrate (Promote first_cache_block) second_block) w × FirstHas [] [] w × Gives w.devices.origin 0 content × StandsCached second_block w × StandsNowhere first_block w × NoOrderLives w)
@@ -201,8 +201,8 @@ CanReplace P A = (content : Bytes) → CanPass P A (IsSmall 2 128) (λ shape. to
 -- has: the order is over, and its cache block claimed no longer.
 abbrev pub to_give_up : {P A : Type 0} → Shape → List (State P A → Notes → Type 0)
 to_give_up shape =
-    (λ w n. IsClaimed w)
-    ∷ (λ w n. FirstWants Flush (Desk (ReleaseOrder first_block)) w × IsClaimed w
+    (λ w n. IsHalfReplaced w)
+    ∷ (λ w n. FirstWants Flush (Desk (ReleaseOrder first_block)) w × IsHalfReplaced w
     × NextMay shape w (λ v. FirstWants Flush (End (IsRefused Memory)) v × FirstHas [] [] v × FirstCacheBlockIs (Quarantined false false) v × NoOrderLives v))
     ∷ []
 
