@@ -28,7 +28,7 @@ use Rattle.wb_promise.specs.Happenings.{IsOutOfPlace, Plain, Chosen, Happening, 
 use Rattle.wb_promise.specs.Effects.{all_resting, stepped, with_actor, device_done, job_of, phase_then, after_what, after_happening, after_all, IsRun, device_failed, given, cleared, phase_given, started, actor_then}
 use Rattle.wb_promise.specs.Clerk.{Notes, Doing, formatted, noted_step, noted_what, put, begun, starting}
 use Rattle.wb_promise.specs.Headline.{IsLatest, shown, shown_in, note_happening, noted, ShowsAllowed, ShownBy, ShowsRightly, OpensRightly, AllOpenRightly, IsRightAnswer, DoingRightly, AnswersRightly, AllRight, CrashConsistent, Headline}
-use Rattle.wb_runs.specs.Laws.{IsCovered, DoingCovers, AnswerCovers, AllCover, RefusedBy, RefusedRightly, RefusesByCause, AllRefuseByCause}
+use Rattle.wb_runs.specs.Laws.{AllAlong, IsCovered, DoingCovers, AnswerCovers, RefusedBy, RefusedRightly, RefusesByCause}
 use Rattle.wb_promise.specs.Latest.{IsGiven, GivesLatest, ReadsRightly, AllReadRightly}
 use Rattle.wb_runs.specs.Holding.{TaskSuits}
 use Rattle.wb_runs.proofs.Claims.{Noted}
@@ -308,7 +308,7 @@ module _ (P A : Type 0) (shape : Shape) where
   record Kept_over (w : State P A) (n : Notes) (hs : List (Happening P A)) : Type 0 where
     pub reads : AllReadRightly shape w n hs
     pub opens : AllOpenRightly shape w n hs
-    pub answers : AllCover shape w n hs → AllRefuseByCause shape w n hs → AllRight shape w n hs
+    pub answers : AllAlong AnswerCovers shape w n hs → AllAlong RefusesByCause shape w n hs → AllRight shape w n hs
     pub last : Whole P A shape (after_all shape w hs) (noted shape w n hs)
 
   over_run : (w : State P A) (n : Notes) (hs : List (Happening P A)) → Whole P A shape w n → IsRun shape w hs → Kept_over w n hs
