@@ -124,13 +124,13 @@ writes_owned (Writing part) device e i = refl
 writes_owned (Migrating migration part) device e i = refl
 writes_owned (Reading part) device e i = absurd i
 
-abbrev IsExtentStep : DeviceStep → Type 0
+abbrev pub IsExtentStep : DeviceStep → Type 0
 IsExtentStep (Read device e) = Unit {0}
 IsExtentStep (Write device e) = Unit {0}
 IsExtentStep step = ⊥
 
 -- on the devices a job on a block reads and writes extents
-reads_or_writes : (job : BlockJob) (step : DeviceStep) → IsJobs job step → IsExtentStep step
+pub reads_or_writes : (job : BlockJob) (step : DeviceStep) → IsJobs job step → IsExtentStep step
 reads_or_writes job (Read device e) i = tt
 reads_or_writes job (Write device e) i = tt
 reads_or_writes (Reading part) step i = absurd i

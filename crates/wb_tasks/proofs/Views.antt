@@ -6,9 +6,9 @@ use Rattle.wb_types.specs.declared.refusal.Refusal.{Refusal}
 use Rattle.wb_types.specs.declared.refusal.Refusal.TheVariants.{Io}
 use Rattle.wb_words.specs.declared.grip.GripStage.{GripStage}
 use Rattle.wb_words.specs.declared.grip.GripStage.TheVariants.{LookFail, LookLock, Exchange, LookSeal, LookNumber}
-use Rattle.wb_tasks.specs.Tables.{BlockRange, device_at}
-use Rattle.wb_tasks.specs.Plan.{Plan, want, after, Fits}
-use Rattle.wb_tasks.specs.Phases.{left_in, has_order}
+use Rattle.wb_tasks.specs.Tables.{BlockRange, OnBlock, device_at, read_step, write_step}
+use Rattle.wb_tasks.specs.Plan.{Plan, want, after, later_steps, Fits}
+use Rattle.wb_tasks.specs.Phases.{job_of, steps_in, left_in, has_order}
 use Rattle.wb_tasks.specs.declared.block.Work.{Work}
 use Rattle.wb_tasks.specs.declared.block.Work.TheVariants.{Read as ToRead, Write as ToWrite, Migrate as ToMigrate}
 use Rattle.wb_tasks.specs.declared.block.Phase.{Phase}
@@ -18,7 +18,7 @@ use Rattle.wb_tasks.specs.declared.step.DeskStep.TheVariants.{BeginCommit}
 use Rattle.wb_tasks.specs.declared.step.DeviceStep.TheVariants.{ReadMetadata}
 use Rattle.wb_tasks.specs.declared.step.Want.{Want}
 use Rattle.wb_tasks.specs.declared.step.Want.TheVariants.{Device, Desk}
-use Rattle.wb_tasks.specs.declared.step.Answer.TheVariants.{Refused as Refuses}
+use Rattle.wb_tasks.specs.declared.step.Answer.TheVariants.{Done as Finished, Refused as Refuses}
 use Rattle.wb_tasks.specs.declared.step.Got.{Got}
 use Rattle.wb_tasks.specs.declared.step.Got.TheVariants.{Word, Fault, Refused, Began, More}
 
@@ -26,47 +26,47 @@ use Rattle.wb_tasks.specs.declared.step.Got.TheVariants.{Word, Fault, Refused, B
 pub by_view : (v old new : Plan) (got : Got) → v ≡ old → Fits (want old) got → (Fits (want v) got → new ≡ after v got) → new ≡ after old got
 by_view v old new got e h f = f (subst (λ (s : Plan). Fits (want s) got) (sym e) h) ∙ ap (λ s. after s got) e
 
--- what failed was read there
-pub after_failed_read : (work : Work) (part : BlockRange) (place : Option CBlock) (extents : List Extent) → Fits (want (left_in work part (Reads place) extents)) Fault → left_in work part (Releases (has_order work) (Refuses (Io (device_at place)))) extents ≡ after (left_in work part (Reads place) extents) Fault
-after_failed_read work part None [] h = absurd h
-after_failed_read work part (Some c) [] h = absurd h
-after_failed_read ToRead part None (e ∷ extents) h = refl
-after_failed_read ToRead part (Some c) (e ∷ extents) h = refl
-after_failed_read ToWrite part None (e ∷ extents) h = refl
-after_failed_read ToWrite part (Some c) (e ∷ extents) h = refl
-after_failed_read (ToMigrate migration) part None (e ∷ extents) h = refl
-after_failed_read (ToMigrate migration) part (Some c) (e ∷ extents) h = refl
+-- What a fault leaves of a job that reads at this place, and of one that writes there.
+after_failed_read : (work : Work) (part : BlockRange) (place : Option CBlock) (e : Extent) (ws : List Want) (extents : List Extent) →
+    left_in work part (Releases (has_order work) (Refuses (Io (device_at place)))) extents ≡ after (record { job = OnBlock (job_of work part); steps = read_step part place e ∷ ws; answer = Finished }) Fault
+after_failed_read ToRead part None e ws extents = refl
+after_failed_read ToRead part (Some c) e ws extents = refl
+after_failed_read ToWrite part None e ws extents = refl
+after_failed_read ToWrite part (Some c) e ws extents = refl
+after_failed_read (ToMigrate migration) part None e ws extents = refl
+after_failed_read (ToMigrate migration) part (Some c) e ws extents = refl
 
-pub after_failed_copy : (work : Work) (part : BlockRange) (from to : Option CBlock) (extents : List Extent) → Fits (want (left_in work part (Copies from to) extents)) Fault → left_in work part (Releases (has_order work) (Refuses (Io (device_at from)))) extents ≡ after (left_in work part (Copies from to) extents) Fault
-after_failed_copy ToRead part from to [] h = absurd h
-after_failed_copy ToWrite part from to [] h = absurd h
-after_failed_copy (ToMigrate (Promote c)) part from to [] h = absurd h
-after_failed_copy (ToMigrate Demote) part from to [] h = absurd h
-after_failed_copy (ToMigrate Clean) part from to [] h = absurd h
-after_failed_copy ToRead part None to (e ∷ extents) h = refl
-after_failed_copy ToRead part (Some c) to (e ∷ extents) h = refl
-after_failed_copy ToWrite part None to (e ∷ extents) h = refl
-after_failed_copy ToWrite part (Some c) to (e ∷ extents) h = refl
-after_failed_copy (ToMigrate migration) part None to (e ∷ extents) h = refl
-after_failed_copy (ToMigrate migration) part (Some c) to (e ∷ extents) h = refl
+after_failed_write : (work : Work) (part : BlockRange) (place : Option CBlock) (e : Extent) (ws : List Want) (extents : List Extent) →
+    left_in work part (SetsFailed (device_at place)) extents ≡ after (record { job = OnBlock (job_of work part); steps = write_step part place e ∷ ws; answer = Finished }) Fault
+after_failed_write work part None e ws extents = refl
+after_failed_write work part (Some c) e ws extents = refl
 
--- what failed was written there
-pub after_failed_write : (work : Work) (part : BlockRange) (place : Option CBlock) (extents : List Extent) → Fits (want (left_in work part (Writes place) extents)) Fault → left_in work part (SetsFailed (device_at place)) extents ≡ after (left_in work part (Writes place) extents) Fault
-after_failed_write work part place [] h = absurd h
-after_failed_write ToRead part None (e ∷ extents) h = refl
-after_failed_write ToRead part (Some c) (e ∷ extents) h = refl
-after_failed_write ToWrite part None (e ∷ extents) h = refl
-after_failed_write ToWrite part (Some c) (e ∷ extents) h = refl
-after_failed_write (ToMigrate migration) part None (e ∷ extents) h = refl
-after_failed_write (ToMigrate migration) part (Some c) (e ∷ extents) h = refl
+-- the phase that a fault in a phase leaves, where that has a step on a device
+abbrev pub FailsTo : Work → Phase → Phase → Type 0
+FailsTo work (Reads place) left = left ≡ Releases (has_order work) (Refuses (Io (device_at place)))
+FailsTo work (Copies from to) left = left ≡ Releases (has_order work) (Refuses (Io (device_at from)))
+FailsTo work (Writes place) left = left ≡ SetsFailed (device_at place)
+FailsTo work (Puts from to e) left = left ≡ SetsFailed (device_at to)
+FailsTo work phase left = ⊥
 
-pub after_failed_put : (work : Work) (part : BlockRange) (from to : Option CBlock) (e : Extent) (extents : List Extent) → Fits (want (left_in work part (Puts from to e) extents)) Fault → left_in work part (SetsFailed (device_at to)) extents ≡ after (left_in work part (Puts from to e) extents) Fault
-after_failed_put ToRead part from None e extents h = refl
-after_failed_put ToRead part from (Some c) e extents h = refl
-after_failed_put ToWrite part from None e extents h = refl
-after_failed_put ToWrite part from (Some c) e extents h = refl
-after_failed_put (ToMigrate migration) part from None e extents h = refl
-after_failed_put (ToMigrate migration) part from (Some c) e extents h = refl
+after_failed : (work : Work) (part : BlockRange) (phase left : Phase) (extents : List Extent) → FailsTo work phase left → Fits (want (left_in work part phase extents)) Fault → left_in work part left extents ≡ after (left_in work part phase extents) Fault
+after_failed work part (Reads None) left [] f h = absurd h
+after_failed work part (Reads (Some c)) left [] f h = absurd h
+after_failed work part (Reads place) left (e ∷ extents) f h = rw f (after_failed_read work part place e (later_steps (steps_in work part (Reads place) (e ∷ extents))) (e ∷ extents))
+after_failed ToRead part (Copies from to) left [] f h = absurd h
+after_failed ToWrite part (Copies from to) left [] f h = absurd h
+after_failed (ToMigrate (Promote c)) part (Copies from to) left [] f h = absurd h
+after_failed (ToMigrate Demote) part (Copies from to) left [] f h = absurd h
+after_failed (ToMigrate Clean) part (Copies from to) left [] f h = absurd h
+after_failed work part (Copies from to) left (e ∷ extents) f h = rw f (after_failed_read work part from e (later_steps (steps_in work part (Copies from to) (e ∷ extents))) (e ∷ extents))
+after_failed work part (Writes place) left [] f h = absurd h
+after_failed work part (Writes place) left (e ∷ extents) f h = rw f (after_failed_write work part place e (later_steps (steps_in work part (Writes place) (e ∷ extents))) (e ∷ extents))
+after_failed work part (Puts from to e) left extents f h = rw f (after_failed_write work part to e (later_steps (steps_in work part (Puts from to e) extents)) extents)
+after_failed work part phase left extents f h = absurd f
+
+-- so of a task in that phase
+pub left_by_fault : (work : Work) (part : BlockRange) (now phase left : Phase) (extents : List Extent) (old : Plan) → now ≡ phase → left_in work part now extents ≡ old → FailsTo work phase left → Fits (want old) Fault → left_in work part left extents ≡ after old Fault
+left_by_fault work part now phase left extents old e is f h = by_view _ _ _ Fault (ap (λ p. left_in work part p extents) (sym e) ∙ is) h (after_failed work part phase left extents f)
 
 -- what the desk refused was an entry
 pub after_refused_entry : (work : Work) (part : BlockRange) (phase : Phase) (extents : List Extent) (refusal : Refusal) → Fits (want (left_in work part phase extents)) (Refused refusal) →
