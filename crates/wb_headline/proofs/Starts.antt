@@ -79,6 +79,7 @@ use Rattle.wb_headline.proofs.Whole.{Whole, at_target}
 pub part_of : (shape : Shape) (extent : Extent) (cut : List Extent) → extent_refusal shape extent ≡ None → IsCutInto extent cut → IsPart (block_size shape) (block_range shape extent cut)
 part_of shape extent cut inside cuts = record {
   some = some_sectors shape extent m;
+  mode = refl;
   sized = refl;
   each = λ e c.
       let w = some_there extent cut all e c in

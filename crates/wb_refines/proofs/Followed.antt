@@ -2,6 +2,8 @@
 use Rattle.std.proofs.Common.{arith, length, ◌≡◌, ◌<◌, ◌==◌, ◌∙◌, ◌⊎◌, cond, inl, inr, ℕ, Bool, true, false, if◌then◌else◌, List, [], ◌∷◌, ◌++◌, map, Option, Some, None, refl, sym, ap, subst, slice_get}
 use Rattle.wb_types.specs.declared.number.OBlock.{OBlock}
 use Rattle.wb_types.specs.declared.number.CBlock.{CBlock}
+use Rattle.wb_types.specs.declared.mode.Mode.{Mode}
+use Rattle.wb_types.specs.declared.mode.Mode.TheVariants.{Writeback, Writethrough, Passthrough}
 use Rattle.wb_types.specs.declared.extent.Extent.{Extent}
 use Rattle.wb_types.specs.declared.refusal.Refusal.{Refusal}
 use Rattle.wb_types.specs.declared.refusal.Refusal.TheVariants.{Busy, Failed, Worn}
@@ -21,7 +23,7 @@ use Rattle.wb_words.specs.Rule.{LockRule}
 use Rattle.wb_words.specs.Cards.{looked, holding, losing, finishing, counting, sealing}
 use Rattle.wb_words.specs.Effects.{result_of, words_after, card_after}
 use Rattle.wb_words.proofs.Totals.{at_slice}
-use Rattle.wb_tasks.specs.Tables.{BlockJob, BlockRange, Reading, Writing, Migrating, OnBlock, access_of, work, read_step, read_count, write_step, write_count, dirtying, copies}
+use Rattle.wb_tasks.specs.Tables.{BlockJob, BlockRange, Reading, Writing, Migrating, OnBlock, access_of, work, place_read, places_written, read_step, read_count, write_count, writes, dirtying, copies}
 use Rattle.wb_tasks.specs.Plan.{Plan, after, got_of, may_take, exchange, is_worn, gives_back, work_of}
 use Rattle.wb_tasks.specs.Ready.{Has, IsRest, IsParting, block_of}
 use Rattle.wb_tasks.specs.declared.step.Answer.{Answer}
@@ -47,21 +49,26 @@ copies_plain part (Some c) to (e ∷ es) ws p = tt
 
 -- so it is where a job begins its work
 work_plain : (job : BlockJob) (place : Option CBlock) (dirty : Bool) → IsPlain (work job place dirty)
-work_plain (Reading part) place dirty = by_extents part.extents place
+work_plain (Reading part) place dirty = by_extents part.extents (place_read part.mode place)
   where
     by_extents : (es : List Extent) (place : Option CBlock) → IsPlain (map (read_step part place) es ++ read_count place ∷ Cell (Release Sharing part.block) ∷ [])
     by_extents [] None = tt
     by_extents [] (Some c) = tt
     by_extents (e ∷ es) None = tt
     by_extents (e ∷ es) (Some c) = tt
-work_plain (Writing part) place dirty = by_place part.extents place dirty
+work_plain (Writing part) place dirty = by_mode part.mode part.extents place dirty
   where
-    by_place : (es : List Extent) (place : Option CBlock) (dirty : Bool) → IsPlain (dirtying part.block place dirty ++ map (write_step part place) es ++ Cell (Finish part.block) ∷ write_count place ∷ Cell (Release Owned part.block) ∷ [])
-    by_place [] None dirty = tt
-    by_place (e ∷ es) None dirty = tt
-    by_place es (Some c) false = tt
-    by_place [] (Some c) true = tt
-    by_place (e ∷ es) (Some c) true = tt
+    by_mode : (mode : Mode) (es : List Extent) (place : Option CBlock) (dirty : Bool) → IsPlain (dirtying mode part.block place dirty ++ writes part (places_written mode place) es ++ Cell (Finish part.block) ∷ write_count place ∷ Cell (Release Owned part.block) ∷ [])
+    by_mode Writeback [] None dirty = tt
+    by_mode Writeback (e ∷ es) None dirty = tt
+    by_mode Writeback es (Some c) false = tt
+    by_mode Writeback [] (Some c) true = tt
+    by_mode Writeback (e ∷ es) (Some c) true = tt
+    by_mode Writethrough [] place dirty = tt
+    by_mode Writethrough (e ∷ es) None dirty = tt
+    by_mode Writethrough (e ∷ es) (Some c) dirty = tt
+    by_mode Passthrough [] place dirty = tt
+    by_mode Passthrough (e ∷ es) place dirty = tt
 work_plain (Migrating (Promote c) part) place dirty = copies_plain part None (Some c) part.extents _ tt
 work_plain (Migrating Demote part) (Some c) true = copies_plain part (Some c) None part.extents _ tt
 work_plain (Migrating Clean part) (Some c) true = copies_plain part (Some c) None part.extents _ tt

@@ -2,6 +2,7 @@
 use Rattle.std.proofs.Common.{◌++◌, false, ◌⊎◌, ◌≡◌, ◌≢◌, ◌<◌, ◌^◌, ◌∙◌, inl, inr, ℕ, true, List, [], ◌∷◌, Option, Some, None, refl, sym, ap, subst, slice_get, slice_set, Contains}
 use Rattle.std.proofs.lemmas.Bool.{cases_eq}
 use Rattle.wb_types.proofs.Lists.{Contains-first}
+use Rattle.wb_types.specs.declared.mode.Mode.TheVariants.{Writeback}
 use Rattle.wb_types.specs.declared.extent.Extent.{Extent}
 use Rattle.wb_types.specs.declared.number.OBlock.{OBlock}
 use Rattle.wb_types.specs.declared.number.CBlock.{CBlock}
@@ -82,7 +83,7 @@ module _ (now : Situation) (s : World) (g : Agrees now s) where
 module _ (now : Situation) (a : ℕ) (x : Actor) (migration : Migration) (block : OBlock) (c : CBlock) (next : Option ℕ) (order : Order) (cut : List Extent) (s : World) (y : AbstractActor) (g : Agrees now s) (ex : slice_get now.actors a ≡ Some x) (ey : slice_get s.actors a ≡ Some y) (none : x.task ≡ None)
     (hold : x.card.hold ≡ HoldsNothing) (some : 0 < now.size) (small : c.0 < 2 ^ 32) (is_cut : IsCutInto (whole_block now.size block) cut) (of : IsOrderFor migration block next order) (order_is : order_there s.shared.mapping c.0 order ≡ order_of block c next) where
   abbrev part : BlockRange
-  part = record { block_sectors = now.size; block = block; extents = cut }
+  part = record { mode = Writeback; block_sectors = now.size; block = block; extents = cut }
 
   abbrev own : AbstractOrder
   own = order_on part c next

@@ -2,6 +2,7 @@
 -- stands: its start, each of its steps, and its answer.
 use Rattle.std.specs.Prelude.{◌≢◌, ◌⊎◌, ◌++◌, ◌≡◌, ◌≤◌, ◌<◌, ◌+◌, ◌^◌, ℕ, Bool, List, ◌∷◌, Option, Some, None, Contains, length, slice_get, slice_set}
 use Rattle.wb_types.specs.declared.extent.Extent.{Extent}
+use Rattle.wb_types.specs.declared.mode.Mode.TheVariants.{Writeback}
 use Rattle.wb_types.specs.declared.mode.Dev.{Dev}
 use Rattle.wb_types.specs.declared.number.OBlock.{OBlock}
 use Rattle.wb_types.specs.declared.number.CBlock.{CBlock}
@@ -85,7 +86,7 @@ order_of block c next = record { block = block.0; cache = c.0; next = next }
 
 -- the plan of a migration of this block, whose sectors are cut so
 abbrev pub migrates : ℕ → Migration → OBlock → List Extent → Plan
-migrates size migration block cut = table (OnBlock (Migrating migration (record { block_sectors = size; block = block; extents = cut })))
+migrates size migration block cut = table (OnBlock (Migrating migration (record { mode = Writeback; block_sectors = size; block = block; extents = cut })))
 
 -- It goes on with a migration, to where the run stands now, with this actor.
 abbrev pub Carried : Turn → ℕ → World → Situation → Actor → Type 0

@@ -3,6 +3,7 @@ use Rattle.std.specs.Prelude.{◌≡◌, ◌<◌, ℕ, List, [], ◌∷◌, Opti
 use Rattle.wb_types.specs.Limits.{node_count}
 use Rattle.wb_types.specs.Extents.{pieces}
 use Rattle.wb_types.specs.declared.geometry.Geometry.{Geometry}
+use Rattle.wb_types.specs.declared.mode.Mode.TheVariants.{Writeback}
 use Rattle.wb_types.specs.declared.number.OBlock.{OBlock}
 use Rattle.wb_types.specs.declared.refusal.Refusal.TheVariants.{Busy}
 use Rattle.wb_disk.specs.Device.{History}
@@ -56,7 +57,7 @@ WereDone {D} runs (job ∷ jobs) old new = (mid : WorkState D) × WasDone runs j
 
 -- a migration of a whole block
 abbrev pub migration_of : Geometry → Migration → OBlock → TaskJob
-migration_of geometry migration block = OnBlock (Migrating migration (record { block_sectors = geometry.block; block = block; extents = pieces LONGEST (whole_block geometry.block block) }))
+migration_of geometry migration block = OnBlock (Migrating migration (record { mode = Writeback; block_sectors = geometry.block; block = block; extents = pieces LONGEST (whole_block geometry.block block) }))
 
 -- a flush that serves the order of this block, if any
 abbrev pub serving : Option OBlock → List OBlock
