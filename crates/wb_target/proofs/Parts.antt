@@ -14,13 +14,6 @@ ComeTo {H} came block_sectors first old slice done from now out =
     → InParts came block_sectors end (done + more) first old slice new slice'
 
 module _ {H : Type 0} (came : Option Refusal → Extent → H × List Content → H × List Content → Type 0) (block_sectors first : ℕ) (old : H) (slice : List Content) where
-  -- before the first part
-  pub not_yet : ComeTo came block_sectors first old slice 0 0 old slice
-  not_yet end more new slice' same h =
-      let at : first + 0 ≡ first = omega arith in
-      let many : more ≡ 0 + more = omega arith in
-      subst (λ (n : ℕ). InParts came block_sectors end n first old slice new slice') many (subst (λ (n : ℕ). InParts came block_sectors end more n old slice new slice') at h)
-
   module _ (done from : ℕ) (now : H) (out : List Content) (come : ComeTo came block_sectors first old slice done from now out)
       (mid : H) (out' : List Content) (k : ℕ) (fits : k ≡ min (block_sectors - (first + from) % block_sectors) (length (drop from out))) (some : 0 < length (drop from out))
       (before : take from out' ≡ take from out) (behind : drop (from + k) out' ≡ drop (from + k) out) where

@@ -11,7 +11,7 @@ use std::thread::{Threads, join};
 use wb_nbd::{Broken, Connection, Errno, Export, Terms};
 use wb_types::{Content, SECTOR_BYTES, Sector};
 
-/// Eight sectors of zeros, the first of which can be read only once something was replied.
+/// Eight sectors of zeros, the first of which can be read only once something was replied, and which can be flushed only before that.
 #[derive(Drop)]
 struct Gated<'a, C> {
     rt: &'a C,
@@ -47,7 +47,11 @@ impl<'a, C: Wait> Export for Gated<'a, C> {
     }
 
     fn flush(&mut self) -> Result<(), Errno> {
-        Ok(())
+        if *self.replied.lock(self.rt) {
+            Err(Errno::Io)
+        } else {
+            Ok(())
+        }
     }
 }
 
@@ -143,6 +147,7 @@ fn serve<R: Wait>(
     connection.serve(rt, alloc, &TERMS, &mut export)
 }
 
+/// The flush is made before it is answered, too.
 #[test]
 fn of_two_requests_in_flight_the_later_ends_first(rt: HostRuntime) -> Result<(), Fail> {
     let (one, other, told) = serve_by_two(&rt, rt.alloc(), usize::MAX);

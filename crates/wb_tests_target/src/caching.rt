@@ -7,8 +7,9 @@ use crate::questions::{Question, answered, answered_over};
 use std::alloc::Global;
 use std::sync::Wait;
 use std::test::Fail;
-use wb_policy::{Order, TinyLfu};
-use wb_target::{Flushed, Target};
+use wb_disk::Disk;
+use wb_policy::{Order, Policy, TinyLfu};
+use wb_target::{Client, Flushed, Target};
 use wb_types::{CBlock, OBlock, Refusal, Sector};
 
 /// Whether a block is cached at its second access, and then found there.
@@ -59,23 +60,24 @@ fn what_was_flushed_is_found_in_the_cache(rt: HostRuntime) -> Result<(), Fail> {
 }
 
 /// Caches the first four blocks, which is as many as there is room for.
-fn fill_cache(rt: &impl Wait, client: &mut Lent<'_>) -> bool {
+fn fill_cache<D: Disk + Drop, P: Policy>(rt: &impl Wait, client: &mut Client<'_, D, P>) -> bool {
     (0..4).all(|block| {
         write_and_read(rt, client, 64 * block, 0x10) && worked(rt, client).is_some()
     })
 }
 
+/// Has the cache filled, and a block accessed three times, for which one is to leave.
+pub fn order_replacement<D: Disk + Drop, P: Policy>(
+    rt: &impl Wait,
+    client: &mut Client<'_, D, P>,
+) -> bool {
+    fill_cache(rt, client) && (0..3).all(|_| write_and_read(rt, client, 320, 0x55))
+}
+
 /// Whether a block that is accessed three times replaces the least recent one.
 pub fn replaces(rt: &impl Wait, target: &Target<TinyLfu>, client: &mut Lent<'_>) -> bool {
-    if !fill_cache(rt, client) {
-        return false;
-    }
-    for _ in 0..3 {
-        if !write_and_read(rt, client, 320, 0x55) {
-            return false;
-        }
-    }
-    worked(rt, client) == Some(Order::Replace(OBlock(0), OBlock(5), CBlock(0)))
+    order_replacement(rt, client)
+        && worked(rt, client) == Some(Order::Replace(OBlock(0), OBlock(5), CBlock(0)))
         && target.counts(rt).demotions == 1
         && shows(rt, client, 320, 0x55)
         && shows(rt, client, 0, 0x10)

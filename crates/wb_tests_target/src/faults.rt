@@ -8,9 +8,9 @@ use std::test::Fail;
 use wb_devices::Devices;
 use wb_disk::{Base, CrashChoice, MemDisk};
 use wb_faults::FaultDisk;
-use wb_policy::TinyLfu;
+use wb_policy::{Order, TinyLfu};
 use wb_target::{Client, Target};
-use wb_types::{Dev, Mode, Refusal, SECTOR_BYTES, Sector};
+use wb_types::{CBlock, Dev, Mode, OBlock, Refusal, SECTOR_BYTES, Sector};
 
 type Failing = Devices<FaultDisk<MemDisk>>;
 
@@ -190,5 +190,65 @@ fn what_was_flushed_is_shown_whichever_call_failed(rt: HostRuntime) -> Result<()
             assert!(rt; borne >= Some(least));
         }
     }
+    Ok(())
+}
+
+/// What the order that waits longest came to, once block 0 was written thrice; nothing where that failed.
+fn ordered_by(
+    rt: &impl Wait,
+    client: &mut Client<'_, FaultDisk<MemDisk>, TinyLfu>,
+) -> Option<Result<Option<Order>, Refusal>> {
+    for _ in 0..3 {
+        client.write(rt, Sector(0), &[begun_with(0x11)]).ok()?;
+    }
+    Some(client.work_one(rt))
+}
+
+/// Whether a block whose promotion could not read the origin is promoted at its next order; nothing where no such read failed.
+fn is_ordered_again(
+    rt: &impl Wait,
+    client: &mut Client<'_, FaultDisk<MemDisk>, TinyLfu>,
+) -> Option<bool> {
+    if ordered_by(rt, client)? != Err(Refusal::Io(Dev::Origin)) {
+        return None;
+    }
+    let again = ordered_by(rt, client)?;
+    Some(again == Ok(Some(Order::Promote(OBlock(0), CBlock(0)))))
+}
+
+fn ordered_again_over(
+    rt: &impl Wait,
+    target: &Target<TinyLfu>,
+    devices: Failing,
+) -> Option<bool> {
+    match target.client(rt, devices) {
+        Ok(mut client) => is_ordered_again(rt, &mut client),
+        Err(_) => None,
+    }
+}
+
+/// The same of a target whose origin fails at its call of this number.
+fn ordered_again(rt: &impl Wait, alloc: Global, call: u64) -> Result<Option<bool>, Refusal> {
+    let devices = failing(alloc, Dev::Origin, call)?;
+    let (devices, target) = Target::<TinyLfu>::open(alloc, devices, 64, Mode::Writeback, &[]);
+    match target {
+        Ok(target) => Ok(ordered_again_over(rt, &target, devices)),
+        Err(_) => Ok(None),
+    }
+}
+
+#[test]
+fn an_order_that_failed_is_given_again(rt: HostRuntime) -> Result<(), Fail> {
+    let mut failed = 0;
+    for call in 0..8 {
+        match ordered_again(&rt, rt.alloc(), call)? {
+            None => {}
+            Some(again) => {
+                assert!(rt; again);
+                failed += 1;
+            }
+        }
+    }
+    assert!(rt; failed == 1);
     Ok(())
 }

@@ -26,4 +26,6 @@ mod ticks;
 #[cfg(test)]
 mod unclean;
 #[cfg(test)]
+mod waiting;
+#[cfg(test)]
 mod workers;

@@ -1,7 +1,7 @@
 //! Errands by clients on threads of their own, over files.
 
-use crate::files::{Names, images, target_over};
-use crate::fixture::begun_with;
+use crate::files::{Images, Names, client_over, images, target_over};
+use crate::fixture::{begun_with, shows};
 use crate::opening::tells;
 use std::alloc::AllocError;
 use std::sync::Wait;
@@ -10,7 +10,7 @@ use std::thread::Threads;
 use wb_disk::{Disk, FileDisk};
 use wb_policy::{Policy, TinyLfu};
 use wb_target::{Client, Errand, Sent, Target};
-use wb_types::{SECTOR_BYTES, Sector};
+use wb_types::{Refusal, SECTOR_BYTES, Sector};
 
 /// Reads a sector so many times, and tells whether each was answered.
 #[derive(Drop)]
@@ -143,5 +143,38 @@ fn clients_read_what_they_wrote_each_in_its_place(rt: HostRuntime) -> Result<(),
     let promotions = target.counts(&rt).promotions;
     drop(target);
     assert!(rt; promotions == 2 && written?);
+    Ok(())
+}
+
+const BACK: Names = ["back_m.img", "back_c.img", "back_o.img"];
+
+/// The devices that errands which wrote had, by one of them.
+fn back_from<R: Threads + Wait + Sync>(
+    rt: &R,
+    target: &Target<TinyLfu>,
+    errands: Vec<Sent<FileDisk, Writes>>,
+) -> Result<Option<Images>, AllocError> {
+    let mut returned = target.together(rt, errands)?;
+    Ok(returned.pop().map(|one| one.devices))
+}
+
+/// Whether a client over them reads what was written.
+fn shows_both(rt: &impl Wait, target: &Target<TinyLfu>, images: Images) -> Result<bool, Refusal> {
+    let mut client = client_over(rt, target, images)?;
+    Ok(WRITES
+        .iter()
+        .all(|written| shows(rt, &mut client, written.0, written.1)))
+}
+
+#[test]
+fn devices_come_back_each_in_its_place(rt: HostRuntime) -> Result<(), Fail> {
+    let target = target_over(&rt, &BACK)?;
+    let back = back_from(&rt, &target, writers(&rt, &BACK)?);
+    let shown = match back? {
+        Some(images) => shows_both(&rt, &target, images),
+        None => Ok(false),
+    };
+    drop(target);
+    assert!(rt; shown?);
     Ok(())
 }

@@ -100,13 +100,22 @@ fn a_worker_carries_out_all_orders_and_asks_where_none_waits(rt: HostRuntime) ->
 
 /// How far a worker and a client beside it have come: the worker stands before its first step on a device, and it may go on.
 #[derive(Drop)]
-struct Signals {
-    stands: AtomicU64,
-    goes: AtomicU64,
+pub struct Signals {
+    pub stands: AtomicU64,
+    pub goes: AtomicU64,
+}
+
+impl Signals {
+    pub fn new() -> Signals {
+        Signals {
+            stands: AtomicU64::new(0),
+            goes: AtomicU64::new(0),
+        }
+    }
 }
 
 /// Waits for a signal, at most 10,000 turns of one millisecond.
-fn await_signal(rt: &impl Clock, signal: &AtomicU64) -> bool {
+pub fn await_signal(rt: &impl Clock, signal: &AtomicU64) -> bool {
     for _ in 0..10_000 {
         if signal.load(Ordering::SeqCst) != 0 {
             return true;
@@ -223,10 +232,7 @@ const HELD_LINE: &str =
 #[test]
 fn a_worker_that_a_gate_holds_keeps_its_block_alone(rt: HostRuntime) -> Result<(), Fail> {
     let target = target_over(&rt, &HELD)?;
-    let signals = Signals {
-        stands: AtomicU64::new(0),
-        goes: AtomicU64::new(0),
-    };
+    let signals = Signals::new();
     let ordered = order_third(&rt, &target, images(&rt, &HELD)?);
     let ended = both_end(&rt, &target, both(&rt, &signals)?);
     let shown = shows_third(&rt, &target, images(&rt, &HELD)?);

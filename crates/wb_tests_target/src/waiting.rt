@@ -1,0 +1,187 @@
+//! A flush beside a commit that runs: it waits for it, and is told where it fails.
+
+use crate::caching::order_replacement;
+use crate::files::{Names, client_over, images, target_over};
+use crate::workers::{Signals, await_signal};
+use std::alloc::AllocError;
+use std::sync::Wait;
+use std::sync::atomic::{AtomicU64, Ordering};
+use std::test::Fail;
+use std::thread;
+use std::thread::Threads;
+use std::time::{Clock, Duration};
+use wb_devices::Devices;
+use wb_disk::{Disk, FileDisk};
+use wb_faults::FaultDisk;
+use wb_policy::{Policy, TinyLfu};
+use wb_target::{Client, Errand, Gate, Point, Sent, Target};
+use wb_types::{Dev, Refusal};
+
+/// Holds a worker before its first step on a device until it is told that it may go on, and ends it behind its order.
+#[derive(Drop)]
+struct Holding<'a, C> {
+    clock: &'a C,
+    signals: &'a Signals,
+}
+
+impl<'a, C: Clock> Gate for Holding<'a, C> {
+    ghost answers = { λ gate at go. Unit {0} };
+
+    fn go_on(&self, at: Point) -> bool {
+        match at {
+            Point::Order => true,
+            Point::Device => {
+                self.signals.stands.store(1, Ordering::SeqCst);
+                await_signal(self.clock, &self.signals.goes)
+            }
+            Point::Idle => false,
+        }
+    }
+}
+
+/// What is done beside one another, with how far it has come: whether the flush is answered is told by the last.
+#[derive(Drop)]
+enum Beside<'a, C> {
+    /// Carries out a replacement, whose flush begins a commit, and is held in it.
+    Replaces(&'a C, &'a Signals),
+    /// Flushes once that commit runs.
+    Flushes(&'a C, &'a Signals, &'a AtomicU64),
+    /// Lets the commit go on after a while, if the flush is not answered by then.
+    Watches(&'a C, &'a Signals, &'a AtomicU64),
+}
+
+impl<'a, C: Clock> Errand for Beside<'a, C> {
+    type Told = Result<(), Refusal>;
+
+    ghost tells = { λ beside told. Unit {0} };
+
+    fn run<R: Wait, D: Disk + Drop, P: Policy>(
+        self,
+        rt: &R,
+        client: &mut Client<'_, D, P>,
+    ) -> Result<(), Refusal> {
+        match self {
+            Beside::Replaces(clock, signals) => client.worker(rt, &Holding { clock, signals }),
+            Beside::Flushes(clock, signals, answered) => {
+                let stands = await_signal(clock, &signals.stands);
+                let flushed = client.flush(rt);
+                answered.store(1, Ordering::SeqCst);
+                match flushed {
+                    Ok(_) if stands => Ok(()),
+                    Ok(_) => Err(Refusal::Busy),
+                    Err(refusal) => Err(refusal),
+                }
+            }
+            Beside::Watches(clock, signals, answered) => {
+                let stands = await_signal(clock, &signals.stands);
+                thread::sleep(clock, Duration::from_millis(200));
+                let waits = answered.load(Ordering::SeqCst) == 0;
+                signals.goes.store(1, Ordering::SeqCst);
+                if stands && waits { Ok(()) } else { Err(Refusal::Busy) }
+            }
+        }
+    }
+}
+
+type Failing = FaultDisk<FileDisk>;
+
+/// These files, of which the cache fails at its call of this number.
+fn failing(rt: &HostRuntime, names: &Names, call: Option<u64>) -> Result<Devices<Failing>, Fail> {
+    let Devices {
+        metadata,
+        cache,
+        origin,
+    } = images(rt, names)?;
+    Ok(Devices {
+        metadata: FaultDisk::new(metadata, None),
+        cache: FaultDisk::new(cache, call),
+        origin: FaultDisk::new(origin, None),
+    })
+}
+
+/// Has a replacement ordered by a client that then goes.
+fn order(rt: &HostRuntime, target: &Target<TinyLfu>, names: &Names) -> Result<bool, Fail> {
+    let mut client = client_over(rt, target, images(rt, names)?)?;
+    let ordered = order_replacement(rt, &mut client);
+    target.retire(rt, client);
+    Ok(ordered)
+}
+
+/// The three of them, the worker's cache failing at this call.
+fn all_three<'a>(
+    rt: &'a HostRuntime,
+    names: &Names,
+    call: Option<u64>,
+    signals: &'a Signals,
+    answered: &'a AtomicU64,
+) -> Result<Vec<Sent<Failing, Beside<'a, HostRuntime>>>, Fail> {
+    let mut sent = Vec::new(rt.alloc());
+    let errands = [
+        (call, Beside::Replaces(rt, signals)),
+        (None, Beside::Flushes(rt, signals, answered)),
+        (None, Beside::Watches(rt, signals, answered)),
+    ];
+    for (call, errand) in errands {
+        let devices = failing(rt, names, call)?;
+        sent.push(Sent { devices, errand })?;
+    }
+    Ok(sent)
+}
+
+/// Whether they end as they are to.
+fn end_so<R: Threads + Wait + Sync, C: Clock + Sync>(
+    rt: &R,
+    target: &Target<TinyLfu>,
+    errands: Vec<Sent<Failing, Beside<'_, C>>>,
+    wanted: &[Result<(), Refusal>; 3],
+) -> Result<bool, AllocError> {
+    let returned = target.together(rt, errands)?;
+    Ok(returned.len() == 3
+        && wanted
+            .iter()
+            .zip(&returned)
+            .all(|pair| pair.1.told == Ok(*pair.0)))
+}
+
+/// Whether a target of these files has a replacement, a flush and a watch beside one another end so.
+fn all_end_so(
+    rt: &HostRuntime,
+    names: &Names,
+    call: Option<u64>,
+    wanted: &[Result<(), Refusal>; 3],
+) -> Result<bool, Fail> {
+    let target = target_over(rt, names)?;
+    let signals = Signals::new();
+    let answered = AtomicU64::new(0);
+    let ordered = order(rt, &target, names);
+    let ended = end_so(
+        rt,
+        &target,
+        all_three(rt, names, call, &signals, &answered)?,
+        wanted,
+    );
+    drop(target);
+    Ok(ordered? && ended?)
+}
+
+const WAITED: Names = ["waited_m.img", "waited_c.img", "waited_o.img"];
+
+#[test]
+fn a_flush_waits_for_the_commit_that_runs(rt: HostRuntime) -> Result<(), Fail> {
+    let wanted = [Ok(()), Ok(()), Ok(())];
+    assert!(rt; all_end_so(&rt, &WAITED, None, &wanted)?);
+    Ok(())
+}
+
+const BROKEN: Names = ["broken_m.img", "broken_c.img", "broken_o.img"];
+
+#[test]
+fn who_waits_for_a_commit_that_fails_is_told(rt: HostRuntime) -> Result<(), Fail> {
+    let wanted = [
+        Err(Refusal::Io(Dev::Cache)),
+        Err(Refusal::Failed),
+        Ok(()),
+    ];
+    assert!(rt; all_end_so(&rt, &BROKEN, Some(0), &wanted)?);
+    Ok(())
+}
