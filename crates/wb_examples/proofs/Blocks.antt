@@ -30,7 +30,7 @@ use Rattle.wb_promise.specs.Happenings.{Plain, Cut, Orders, Asks, task_job}
 use Rattle.wb_promise.specs.Effects.{contents_at}
 use Rattle.wb_promise.specs.Clerk.{Notes}
 use Rattle.wb_examples.specs.Possible.{first_block, second_block, first_cache_block, first_sector, replacement, IsPromoted, IsWrittenTo, IsHalfReplaced, to_demote, to_write_back, to_replace, to_give_up, to_start_again, CanPromote, CanDemote, CanWriteBack, CanReplace, CanGiveUp, CanStartAgain}
-use Rattle.wb_runs.proofs.InsideRuns.{length-written_where}
+use Rattle.wb_disk.proofs.Lengths.{length_written_where}
 use Rattle.wb_runs.proofs.Rooted.{rooted}
 use Rattle.wb_runs.proofs.MetadataRuns.{IsKnown}
 use Rattle.wb_examples.proofs.Beginning.{bare_commit}
@@ -274,16 +274,16 @@ module _ (P A : Type 0) (f : Formatted P A 1) (room : 128 ≤ f.sizes.threshold)
   d4 = record { metadata = synced (rooted (bare_commit s.global (shape1 P A s).geometry (s.generation + 1)) (synced d3.metadata)); cache = synced d3.cache; origin = synced d3.origin }
 
   cache1 : 64 ≤ length d1.cache
-  cache1 = omega (arith, length-written_where (λ at. true) d0.cache 0 buffer, cache_size P A 1 f)
+  cache1 = omega (arith, length_written_where (λ at. true) d0.cache 0 buffer, cache_size P A 1 f)
 
   cache2 : 64 ≤ length d2.cache
-  cache2 = omega (arith, length-written_where (λ at. true) d1.cache 0 (content ∷ []), cache1)
+  cache2 = omega (arith, length_written_where (λ at. true) d1.cache 0 (content ∷ []), cache1)
 
   origin0 : 128 ≤ length d0.origin
   origin0 = omega (arith, origin_size P A 1 f)
 
   origin3 : 128 ≤ length d3.origin
-  origin3 = omega (arith, length-written_where (λ at. true) d2.origin 0 carried, origin0)
+  origin3 = omega (arith, length_written_where (λ at. true) d2.origin 0 carried, origin0)
 
   cache4 : 64 ≤ length d4.cache
   cache4 = omega (arith, length-map d3.cache (λ (h : History). only (newest h)), cache2)

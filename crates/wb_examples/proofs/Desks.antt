@@ -24,7 +24,7 @@ use Rattle.wb_desk.specs.Opening.{opened}
 use Rattle.wb_stage.specs.Asking.{DidUnmap, DidRelease, ended}
 use Rattle.wb_promise.specs.States.{Shape, Actor}
 use Rattle.wb_examples.specs.Possible.{first_block, second_block, first_cache_block, replacement}
-use Rattle.wb_runs.proofs.Desks.{changed}
+use Rattle.wb_tree.proofs.Branching.Edits.{changed-edit as changed}
 use Rattle.wb_examples.proofs.Completing.{empty_sound}
 
 -- so many blocks of 64 sectors behind the first on the cache, so many metadata sectors, so many sectors for which orders may ask at once, and so

@@ -25,7 +25,7 @@ use Rattle.wb_promise.specs.declared.job.Job.TheVariants.{Open, Flush}
 use Rattle.wb_promise.specs.States.{Shape, State, Actor, Target, Stands, Gone, resting}
 use Rattle.wb_promise.specs.Happenings.{Plain, Begins, Reaches, Puts, Commits, Opened}
 use Rattle.wb_promise.specs.Effects.{target_over, words_by, card_by, all_resting}
-use Rattle.wb_contents.proofs.Lengths.{length-grown}
+use Rattle.wb_disk.proofs.Lengths.{length_grown}
 use Rattle.wb_runs.proofs.Readings.{first_read, some_slot}
 use Rattle.wb_runs.proofs.Formatted.{HasNoTree, synced_none, none_images, none_readable}
 use Rattle.wb_runs.proofs.Rooted.{Fits, rooted, comes_next, root_does}
@@ -93,7 +93,7 @@ module _ (P A : Type 0) (d : Down P A) where
   fits = same_size ∙ ap (λ (x : Geometry). x.meta_sectors) (sym none_then.geometry_is)
 
   fits_then : length (rooted commit durable) ≡ commit.image.root.geometry.meta_sectors
-  fits_then = length-grown (slice_get durable (slot_of commit.image.root).0) durable (slot_of commit.image.root).0 _ ∙ fits
+  fits_then = length_grown (slice_get durable (slot_of commit.image.root).0) durable (slot_of commit.image.root).0 _ ∙ fits
 
   pub opening_may : MayGo global shape down opening
   opening_may =
@@ -118,7 +118,7 @@ module _ (P A : Type 0) (d : Down P A) where
   }
 
   pub rooted_size : length opened.devices.metadata ≡ shape.geometry.meta_sectors
-  rooted_size = length-map (rooted commit durable) (λ (h : History). only (newest h)) ∙ length-grown (slice_get durable (slot_of commit.image.root).0) durable (slot_of commit.image.root).0 _ ∙ same_size
+  rooted_size = length-map (rooted commit durable) (λ (h : History). only (newest h)) ∙ length_grown (slice_get durable (slot_of commit.image.root).0) durable (slot_of commit.image.root).0 _ ∙ same_size
 
   pub opened_is : ends global shape down opening ≡ opened
   opened_is = ap (λ (steps : List CellStep). record opened {
@@ -180,7 +180,7 @@ module _ (P A : Type 0) (i : Idle P) where
     fits_synced = length-map m _ ∙ fits_now
 
     fits_rooted : Fits root_commit (rooted root_commit (synced m))
-    fits_rooted = length-grown (slice_get (synced m) (slot_of root_commit.image.root).0) (synced m) (slot_of root_commit.image.root).0 _ ∙ fits_synced
+    fits_rooted = length_grown (slice_get (synced m) (slot_of root_commit.image.root).0) (synced m) (slot_of root_commit.image.root).0 _ ∙ fits_synced
 
     pub flushing_may : MayGo global shape idle flushing
     flushing_may =
