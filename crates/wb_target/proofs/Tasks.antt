@@ -81,5 +81,9 @@ module _ {R D P G : Type 0} (tells : Type 0) (size : D → ℕ) (contents : D �
     where
       plainly : (x : WorkStage R D P G) (done : List (Want × Got)) → Leads led x done new → Leads (WorkStep tells size contents faults (asked x.held.now) x.cells.now.blocks) (working_at x) done (working_at new)
       plainly x [] e = ap (λ (y : WorkStage R D P G). working_at y) e
-      plainly x (step ∷ done) l = (working_at l.0, (l.1.by_pass, l.1.works), subst (λ h. Leads (WorkStep tells size contents faults (asked h.now) x.cells.now.blocks) (working_at l.0) done (working_at new)) l.1.held
-          (subst (λ c. Leads (WorkStep tells size contents faults (asked l.0.held.now) c.now.blocks) (working_at l.0) done (working_at new)) l.1.cells (plainly l.0 done l.2)))
+      plainly x (step ∷ done) l = (
+        working_at l.0,
+        (l.1.by_pass, l.1.works),
+        subst (λ h. Leads (WorkStep tells size contents faults (asked h.now) x.cells.now.blocks) (working_at l.0) done (working_at new)) l.1.held
+            (subst (λ c. Leads (WorkStep tells size contents faults (asked l.0.held.now) c.now.blocks) (working_at l.0) done (working_at new)) l.1.cells (plainly l.0 done l.2)),
+      )

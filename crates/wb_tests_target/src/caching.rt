@@ -1,8 +1,6 @@
 //! Blocks that are cached, written back and found again.
 
-use crate::fixture::{
-    Lent, Memory, begun_with, formatted, open, shows, worked, write_and_read,
-};
+use crate::fixture::{Lent, Memory, begun_with, formatted, open, shows, worked, write_and_read};
 use crate::questions::{Question, answered, answered_over, done_by};
 use std::alloc::Global;
 use std::sync::Wait;
@@ -84,9 +82,7 @@ fn replaces_block(
 
 /// Whether a block that is accessed three times replaces the least recent one.
 pub fn replaces(rt: &impl Wait, target: &Target<TinyLfu>, client: &mut Lent<'_>) -> bool {
-    fill_cache(rt, client)
-        && replaces_block(rt, target, client, 0)
-        && shows(rt, client, 0, 0x10)
+    fill_cache(rt, client) && replaces_block(rt, target, client, 0) && shows(rt, client, 0, 0x10)
 }
 
 /// Whether the block that leaves is the least recent one, and not the one that came first.

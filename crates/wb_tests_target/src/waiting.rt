@@ -77,7 +77,11 @@ impl<'a, C: Clock> Errand for Beside<'a, C> {
                 thread::sleep(clock, Duration::from_millis(200));
                 let waits = answered.load(Ordering::SeqCst) == 0;
                 signals.goes.store(1, Ordering::SeqCst);
-                if stands && waits { Ok(()) } else { Err(Refusal::Busy) }
+                if stands && waits {
+                    Ok(())
+                } else {
+                    Err(Refusal::Busy)
+                }
             }
         }
     }
@@ -136,11 +140,13 @@ fn end_so<R: Threads + Wait + Sync, C: Clock + Sync>(
     wanted: &[Result<(), Refusal>; 3],
 ) -> Result<bool, AllocError> {
     let returned = target.together(rt, errands)?;
-    Ok(returned.len() == 3
-        && wanted
-            .iter()
-            .zip(&returned)
-            .all(|pair| pair.1.told == Ok(*pair.0)))
+    Ok(
+        returned.len() == 3
+            && wanted
+                .iter()
+                .zip(&returned)
+                .all(|pair| pair.1.told == Ok(*pair.0)),
+    )
 }
 
 /// Whether a target of these files has a replacement, a flush and a watch beside one another end so.
@@ -177,11 +183,7 @@ const BROKEN: Names = ["broken_m.img", "broken_c.img", "broken_o.img"];
 
 #[test]
 fn who_waits_for_a_commit_that_fails_is_told(rt: HostRuntime) -> Result<(), Fail> {
-    let wanted = [
-        Err(Refusal::Io(Dev::Cache)),
-        Err(Refusal::Failed),
-        Ok(()),
-    ];
+    let wanted = [Err(Refusal::Io(Dev::Cache)), Err(Refusal::Failed), Ok(())];
     assert!(rt; all_end_so(&rt, &BROKEN, Some(0), &wanted)?);
     Ok(())
 }
