@@ -71,7 +71,7 @@ use Rattle.wb_simulation.specs.Noted.{told}
 use Rattle.wb_simulation.specs.Sites.{ImagesAgree, IsRunning, locations}
 use Rattle.wb_simulation.specs.Telling.{Quietly, Releases, Answers}
 use Rattle.wb_simulation.specs.Worlds.{Situation, TurnedTo, DeskTurnedTo, Turn, Stays, Begins, Puts, Ends, GivesUp, WorldFollowsBy, WorldFollows}
-use Rattle.wb_simulation.specs.Laws.{Wants, went, after_step, turn_of}
+use Rattle.wb_simulation.specs.Laws.{WantsNext, went, after_step, turn_of}
 use Rattle.wb_simulation.proofs.Flushes.{flush_steps_followed}
 use Rattle.wb_simulation.proofs.Noted.{notes_followed}
 use Rattle.wb_simulation.proofs.Opening.{images_followed}
@@ -145,7 +145,7 @@ module _ (P A : Type 0) (shape : Shape) (images : Images) (t : Target P) (commit
   now = situation shape t devices actors
 
   -- so its actor there is to do this next
-  wants : {next : Want} → next ≡ want plan → Wants now a x f.site.world Flush plan next
+  wants : {next : Want} → next ≡ want plan → WantsNext now a x f.site.world Flush plan next
   wants {next} e = record { here = ex; task = xt; asks = sym e; agrees = f.phase.agrees }
 
   -- it serves these blocks

@@ -77,7 +77,7 @@ use Rattle.wb_headline.proofs.Carried.{carried}
 use Rattle.wb_headline.proofs.Desking.{located_entered, located_left}
 use Rattle.wb_headline.proofs.Following.{situation, size, most, Followed}
 use Rattle.wb_simulation.specs.Carried.{IsOrderFor}
-use Rattle.wb_simulation.specs.Laws.{Wants}
+use Rattle.wb_simulation.specs.Laws.{WantsNext}
 use Rattle.wb_simulation.specs.Migrating.{EndsOrder}
 use Rattle.wb_simulation.specs.Worlds.{Situation, GivesUp}
 use Rattle.wb_headline.proofs.Orders.{leaves_from, left, of_order, owned_then, stands_so, at_there, live_at, AreParted, for_block, one_of_block, only_held, over, found_of, only_of, replacing_is, true_not}
@@ -418,7 +418,7 @@ module _ (P A : Type 0) (shape : Shape) (images : Images) (t : Target P) (commit
 
   module _ (m : Migration) (block : OBlock) (plan : Plan) (xt : x.task ≡ Some (Migrate m block, plan)) where
     -- so its actor there is to do this next
-    wants : {next : Want} → next ≡ want plan → Wants now a x f.site.world (Migrate m block) plan next
+    wants : {next : Want} → next ≡ want plan → WantsNext now a x f.site.world (Migrate m block) plan next
     wants {next} e = record { here = ex; task = xt; asks = sym e; agrees = f.phase.agrees }
 
     abbrev job : Job

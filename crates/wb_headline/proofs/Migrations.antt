@@ -40,7 +40,7 @@ use Rattle.wb_simulation.specs.Noting.{NotesAgree}
 use Rattle.wb_simulation.specs.Noted.{told}
 use Rattle.wb_simulation.specs.Telling.{Carries, Rests}
 use Rattle.wb_simulation.specs.Worlds.{Situation, Turn, Stays, WorldFollowsBy, WorldFollows, Maps, Unmaps, GivesUp, TurnedTo}
-use Rattle.wb_simulation.specs.Laws.{Wants, went, after_step}
+use Rattle.wb_simulation.specs.Laws.{WantsNext, went, after_step}
 use Rattle.wb_simulation.specs.Migrating.{SeesWhere, EndsOrder}
 use Rattle.wb_simulation.proofs.Noted.{notes_followed}
 use Rattle.wb_simulation.proofs.Migrations.{migrations_followed}
@@ -117,7 +117,7 @@ module _ (P A : Type 0) (shape : Shape) (images : Images) (t : Target P) (commit
     migrating_job = Migrate migration block
 
     -- so its actor there is to do this next
-    wants : {next : Want} → next ≡ want plan → Wants now a x f.site.world (Migrate migration block) plan next
+    wants : {next : Want} → next ≡ want plan → WantsNext now a x f.site.world (Migrate migration block) plan next
     wants {next} e = record { here = ex; task = xt; asks = sym e; agrees = f.phase.agrees }
 
     -- on the shared words
@@ -224,7 +224,7 @@ module _ (P A : Type 0) (shape : Shape) (t : Target P) (commit : Option RunningC
   now_at_desk = situation shape t devices actors
 
   -- so its actor there is to do this next
-  wants_at_desk : {next : Want} → next ≡ want plan → Wants now_at_desk a x f.site.world (Migrate migration block) plan next
+  wants_at_desk : {next : Want} → next ≡ want plan → WantsNext now_at_desk a x f.site.world (Migrate migration block) plan next
   wants_at_desk {next} e = record { here = ex; task = xt; asks = sym e; agrees = f.phase.agrees }
 
   kept : DeskInvariant unknowing t.desk

@@ -32,7 +32,7 @@ use Rattle.wb_runs.specs.Holding.{cards_of}
 use Rattle.wb_simulation.specs.Steps.{IsTail}
 use Rattle.wb_simulation.specs.Carried.{IsCarried, HasEnded}
 use Rattle.wb_simulation.specs.Worlds.{Situation, Agrees, Stays}
-use Rattle.wb_simulation.specs.Laws.{Wants, went}
+use Rattle.wb_simulation.specs.Laws.{WantsNext, went}
 use Rattle.wb_simulation.specs.Migrating.{SealTells, SeesWhere, Carried}
 use Rattle.wb_simulation.proofs.Steps.{AreCopies, after_cell, migration_works}
 use Rattle.wb_simulation.proofs.Cells.{Acted, acts_in_role, acts_over, tells}
@@ -110,7 +110,7 @@ module _ (now : Situation) (blocks : ℕ) (a : ℕ) (x : Actor) (step : CellStep
 -- ---- any step of a migration on the words
 
 pub cells : (now : Situation) (blocks : ℕ) (a : ℕ) (x : Actor) (migration : Migration) (block : OBlock) (plan : Plan) (step : CellStep) (s : World) →
-    LockRule blocks now.words (cards_of now.actors) → Wants now a x s (Migrate migration block) plan (Cell step) → Suits blocks plan x.card → SeesWhere now.words now.orders s.shared.mapping migration block step →
+    LockRule blocks now.words (cards_of now.actors) → WantsNext now a x s (Migrate migration block) plan (Cell step) → Suits blocks plan x.card → SeesWhere now.words now.orders s.shared.mapping migration block step →
     Carried Stays a s (record now { words = words_after now.words step }) (went now.words (Migrate migration block) plan step x)
 cells now blocks a x migration block plan step s rule wants suits sees =
     let y = own_there now s wants.agrees a x wants.here in

@@ -27,8 +27,8 @@ use Rattle.wb_refines.specs.Migrations.{Fills, order_on}
 use Rattle.wb_promise.specs.declared.job.Job.TheVariants.{Migrate}
 use Rattle.wb_promise.specs.Effects.{contents_at, dropped, replacing}
 use Rattle.wb_promise.specs.States.{Actor, with_device}
-use Rattle.wb_simulation.specs.Worlds.{Situation, Agrees, Stays, Maps, Unmaps, GivesUp, WorldFollows}
-use Rattle.wb_simulation.specs.Laws.{after_step}
+use Rattle.wb_simulation.specs.Worlds.{Situation, Stays, Maps, Unmaps, GivesUp, WorldFollows}
+use Rattle.wb_simulation.specs.Laws.{WantsNext, after_step}
 use Rattle.wb_simulation.specs.Migrating.{MigrationsFollowed, Carried, EndsOrder, TurnsOrder, LeavesFrom}
 use Rattle.wb_simulation.proofs.Followed.{first, answers_by, IsWithin, never_late, never_over}
 use Rattle.wb_simulation.proofs.Ending.{IsOver, IsNothingLeft, stopped_over, late_over, answers}
@@ -42,16 +42,15 @@ use Rattle.wb_simulation.proofs.Among.{own_there}
 use Rattle.wb_simulation.proofs.Carrying.{carried_leads, under_migrates}
 use Rattle.wb_simulation.proofs.Deciding.{map_refused, mapped, unmapped, turned_over, given_up}
 
-module _ (now : Situation) (blocks : ℕ) (a : ℕ) (x : Actor) (migration : Migration) (block : OBlock) (plan : Plan) (s : World) (ex : slice_get now.actors a ≡ Some x) (task : x.task ≡ Some (Migrate migration block, plan))
-    (suits : Suits blocks plan x.card) (g : Agrees now s) where
+module _ (now : Situation) (blocks : ℕ) (a : ℕ) (x : Actor) (migration : Migration) (block : OBlock) (plan : Plan) (s : World) (next : Want) (wants : WantsNext now a x s (Migrate migration block) plan next) (suits : Suits blocks plan x.card) where
   its : (y : AbstractActor) × (slice_get s.actors a ≡ Some y) × StandsFor now.size now.most now.words x y
-  its = own_there now s g a x ex
+  its = own_there now s wants.agrees a x wants.here
 
   abbrev y : AbstractActor
   y = its.0
 
   at : IsAtMigration now.size now.words now.orders migration block plan x its.0
-  at = g.orders_agree.carried a x its.0 migration block plan ex its.1 task
+  at = wants.agrees.orders_agree.carried a x its.0 migration block plan wants.here its.1 wants.task
 
   -- What holds of what is left, with this step on a device or the desk next, holds of it: it is at the same there.
   found : (next : Want) → want plan ≡ next → IsWithin next → (P : Plan → Type 0) → ((part : BlockRange) (later : List Want) → IsCarried now.size now.orders migration block part (next ∷ later) plan.answer x its.0 → Suits blocks (plan_of (Migrating migration part) (next ∷ later) plan.answer) x.card → P (plan_of (Migrating migration part) (next ∷ later) plan.answer)) → P plan
@@ -66,19 +65,19 @@ module _ (now : Situation) (blocks : ℕ) (a : ℕ) (x : Actor) (migration : Mig
   module _ (device : Dev) (e : Extent) where
     read_is_done : want plan ≡ Device (Read device e) → e.first + e.count ≤ length (device_in device now.devices) → Carried Stays a s now (record x { task = Some (Migrate migration block, after plan Done); buffer = contents_at (device_in device now.devices) e })
     read_is_done asked room = found (Device (Read device e)) asked tt (λ p. Carried Stays a s now (record x { task = Some (Migrate migration block, after p Done); buffer = contents_at (device_in device now.devices) e }))
-        (λ part later f has. reads now blocks a x s its.0 g ex its.1 migration block part device e plan.answer later f has room)
+        (λ part later f has. reads now blocks a x s its.0 wants.agrees wants.here its.1 migration block part device e plan.answer later f has room)
 
     write_is_done : want plan ≡ Device (Write device e) → e.first + e.count ≤ length (device_in device now.devices) → Carried Stays a s (record now { devices = with_device device now.devices (written_each (device_in device now.devices) e.first x.buffer) }) (after_step (Migrate migration block) plan Done x)
     write_is_done asked room = found (Device (Write device e)) asked tt (λ p. Carried Stays a s (record now { devices = with_device device now.devices (written_each (device_in device now.devices) e.first x.buffer) }) (after_step (Migrate migration block) p Done x))
-        (λ part later f has. writes now blocks a x s its.0 g ex its.1 migration block part device e plan.answer later f has room)
+        (λ part later f has. writes now blocks a x s its.0 wants.agrees wants.here its.1 migration block part device e plan.answer later f has room)
 
     write_has_failed : (lands : ℕ → Bool) → want plan ≡ Device (Write device e) → e.first + e.count ≤ length (device_in device now.devices) → Carried Stays a s (record now { devices = with_device device now.devices (written_where lands (device_in device now.devices) e.first x.buffer) }) (after_step (Migrate migration block) plan Fault x)
     write_has_failed lands asked room = found (Device (Write device e)) asked tt (λ p. Carried Stays a s (record now { devices = with_device device now.devices (written_where lands (device_in device now.devices) e.first x.buffer) }) (after_step (Migrate migration block) p Fault x))
-        (λ part later f has. write_falls now blocks a x s its.0 g ex its.1 migration block part device e plan.answer later f has room lands)
+        (λ part later f has. write_falls now blocks a x s its.0 wants.agrees wants.here its.1 migration block part device e plan.answer later f has room lands)
 
     read_has_failed : want plan ≡ Device (Read device e) → Carried Stays a s now (after_step (Migrate migration block) plan Fault x)
     read_has_failed asked = found (Device (Read device e)) asked tt (λ p. Carried Stays a s now (after_step (Migrate migration block) p Fault x))
-        (λ part later f has. read_falls now blocks a x s its.0 g ex its.1 migration block part device e plan.answer later f has)
+        (λ part later f has. read_falls now blocks a x s its.0 wants.agrees wants.here its.1 migration block part device e plan.answer later f has)
 
   -- the actor once its order is over, with this left
   abbrev left_so : Plan → OBlock → Actor
@@ -100,7 +99,7 @@ module _ (now : Situation) (blocks : ℕ) (a : ℕ) (x : Actor) (migration : Mig
             subst (λ (v : OBlock). EndsOrder (Maps block.0 c.0) c.0 a s now x (left_so left v) k.order) (sym same)
                 (subst (λ (v : OBlock). EndsOrder (Maps v.0 c.0) c.0 a s now x (left_so left part.block) k.order) k.block_is
                 (subst (λ (v : ℕ). EndsOrder (Maps part.block.0 v) v a s now x (left_so left part.block) k.order) place
-                (mapped now blocks a x s its.0 g ex its.1 migration block part later plan.answer c k (subst (λ (v : OBlock). Suits blocks (plan_of (Migrating migration part) (Desk (Map v c) ∷ later) plan.answer) x.card) same has) (ap (λ (v : OBlock). s.shared.mapping v.0) (sym same) ∙ free)))),
+                (mapped now blocks a x s its.0 wants.agrees wants.here its.1 migration block part later plan.answer c k (subst (λ (v : OBlock). Suits blocks (plan_of (Migrating migration part) (Desk (Map v c) ∷ later) plan.answer) x.card) same has) (ap (λ (v : OBlock). s.shared.mapping v.0) (sym same) ∙ free)))),
           ),
         ))
       where
@@ -115,7 +114,7 @@ module _ (now : Situation) (blocks : ℕ) (a : ℕ) (x : Actor) (migration : Mig
     map_is_refused : (c : CBlock) (refusal : Refusal) → want plan ≡ Desk (Map b c) → Carried Stays a s now (after_step (Migrate migration block) plan (Refused refusal) x)
     map_is_refused c refusal asked = found (Desk (Map b c)) asked tt (λ p. Carried Stays a s now (after_step (Migrate migration block) p (Refused refusal) x)) (λ part later f has.
         let same : b ≡ part.block = has.1.1.1.0.0 in
-        map_refused now blocks a x s its.0 g ex its.1 migration block part later plan.answer c (subst (λ (v : OBlock). IsCarried now.size now.orders migration block part (Desk (Map v c) ∷ later) plan.answer x its.0) same f)
+        map_refused now blocks a x s its.0 wants.agrees wants.here its.1 migration block part later plan.answer c (subst (λ (v : OBlock). IsCarried now.size now.orders migration block part (Desk (Map v c) ∷ later) plan.answer x its.0) same f)
         (subst (λ (v : OBlock). Suits blocks (plan_of (Migrating migration part) (Desk (Map v c) ∷ later) plan.answer) x.card) same has) refusal)
 
     abbrev then_waiting : Plan → Actor
@@ -143,12 +142,12 @@ module _ (now : Situation) (blocks : ℕ) (a : ℕ) (x : Actor) (migration : Mig
           inl (subst (λ (o : Order). EndsOrder (Unmaps block.0 k.c.0 None) k.c.0 a s now x (left_so (plan_of (Migrating migration part) later plan.answer) b) o) (e ∙ is.0)
               (subst (λ (v : OBlock). EndsOrder (Unmaps block.0 k.c.0 None) k.c.0 a s now x (left_so (plan_of (Migrating migration part) later plan.answer) v) k.order) (sym same)
               (subst (λ (v : OBlock). EndsOrder (Unmaps v.0 k.c.0 None) k.c.0 a s now x (left_so (plan_of (Migrating migration part) later plan.answer) part.block) k.order) k.block_is
-              (unmapped now blocks a x s its.0 g ex its.1 migration block part later plan.answer k has is.1 leaving)))),
+              (unmapped now blocks a x s its.0 wants.agrees wants.here its.1 migration block part later plan.answer k has is.1 leaving)))),
         )
         by part later same k has leaving (Replace old new d) e (inr is) = (
           k.c.0,
           inr (subst (λ (v : OBlock). TurnsOrder k.c.0 a s now x (record x { task = Some (Migrate migration block, plan_of (Migrating migration part) later plan.answer); orders = dropped v x.orders; awaiting = replacing v x.orders ++ x.awaiting }) block) (sym same)
-              (turned_over now blocks a x s its.0 g ex its.1 migration block part later plan.answer k has new d (e ∙ ap (λ (v : OBlock). Replace v new d) is.0) is.1 leaving)),
+              (turned_over now blocks a x s its.0 wants.agrees wants.here its.1 migration block part later plan.answer k has new d (e ∙ ap (λ (v : OBlock). Replace v new d) is.0) is.1 leaving)),
         )
         by part later same k has leaving o e (inr is) = absurd is
 
@@ -163,7 +162,7 @@ module _ (now : Situation) (blocks : ℕ) (a : ℕ) (x : Actor) (migration : Mig
             k.order,
             k.of,
             subst (λ (v : OBlock). EndsOrder (GivesUp k.c.0) k.c.0 a s now x (left_so (plan_of (Migrating migration part) later plan.answer) v) k.order) (sym same)
-                (given_up now blocks a x s its.0 g ex its.1 migration block part later plan.answer k (subst (λ (v : OBlock). Suits blocks (plan_of (Migrating migration part) (Desk (ReleaseOrder v) ∷ later) plan.answer) x.card) same has)),
+                (given_up now blocks a x s its.0 wants.agrees wants.here its.1 migration block part later plan.answer k (subst (λ (v : OBlock). Suits blocks (plan_of (Migrating migration part) (Desk (ReleaseOrder v) ∷ later) plan.answer) x.card) same has)),
           ),
         ))
 
@@ -174,7 +173,7 @@ module _ (now : Situation) (blocks : ℕ) (a : ℕ) (x : Actor) (migration : Mig
       (λ p. Suits blocks p x.card → IsCarried now.size now.orders migration block at.part p.steps p.answer x its.0 ⊎ HasEnded at.failed p x its.0 ⊎ IsLate at.failed p its.0 → WorldFollows Rests a s now (record x { task = None })) (λ has on. by has.1 on) suits at.at
     where
       rests : Rested its.0.task → IsOver now.words its.0 → WorldFollows Rests a s now (record x { task = None })
-      rests rested over = answers now a x s its.0 ex its.1 g its.2 x.orders x.awaiting (λ o h. h) Rests (rested, refl) over
+      rests rested over = answers now a x s its.0 wants.here its.1 wants.agrees its.2 x.orders x.awaiting (λ o h. h) Rests (rested, refl) over
 
       by : x.card.hold ≡ HoldsNothing → IsCarried now.size now.orders migration block at.part [] answer x its.0 ⊎ HasEnded at.failed (plan_of (Migrating migration at.part) [] answer) x its.0 ⊎ IsLate at.failed (plan_of (Migrating migration at.part) [] answer) its.0 → WorldFollows Rests a s now (record x { task = None })
       by h (inl k) =
@@ -192,13 +191,13 @@ migrations_followed = record {
       let y = own_there now s g a x ex in
       again now a x migration block c next order cut s y.0 g ex y.1 none hold some small is_cut of is live mine only may;
   cells = cells;
-  read_done = λ now blocks a x migration block plan device e s wants suits room. read_is_done now blocks a x migration block plan s wants.here wants.task suits wants.agrees device e wants.asks room;
-  read_fails = λ now blocks a x migration block plan device e s wants suits. read_has_failed now blocks a x migration block plan s wants.here wants.task suits wants.agrees device e wants.asks;
-  write_done = λ now blocks a x migration block plan device e s wants suits room. write_is_done now blocks a x migration block plan s wants.here wants.task suits wants.agrees device e wants.asks room;
-  write_fails = λ now blocks a x migration block plan device e lands s wants suits room. write_has_failed now blocks a x migration block plan s wants.here wants.task suits wants.agrees device e lands wants.asks room;
-  maps = λ now blocks a x migration block b c plan s wants suits free. map_is_done now blocks a x migration block plan s wants.here wants.task suits wants.agrees b c wants.asks free;
-  is_refused = λ now blocks a x migration block b c plan refusal s wants suits. map_is_refused now blocks a x migration block plan s wants.here wants.task suits wants.agrees b c refusal wants.asks;
-  unmaps = λ now blocks a x migration block b plan s wants suits leaving. unmap_is_done now blocks a x migration block plan s wants.here wants.task suits wants.agrees b wants.asks leaving;
-  gives_up = λ now blocks a x migration block b plan s wants suits. order_is_given_up now blocks a x migration block plan s wants.here wants.task suits wants.agrees b wants.asks;
-  answers = λ now blocks a x migration block plan answer s wants suits. answered now blocks a x migration block plan s wants.here wants.task suits wants.agrees answer wants.asks;
+  read_done = λ now blocks a x migration block plan device e s wants suits room. read_is_done now blocks a x migration block plan s _ wants suits device e wants.asks room;
+  read_fails = λ now blocks a x migration block plan device e s wants suits. read_has_failed now blocks a x migration block plan s _ wants suits device e wants.asks;
+  write_done = λ now blocks a x migration block plan device e s wants suits room. write_is_done now blocks a x migration block plan s _ wants suits device e wants.asks room;
+  write_fails = λ now blocks a x migration block plan device e lands s wants suits room. write_has_failed now blocks a x migration block plan s _ wants suits device e lands wants.asks room;
+  maps = λ now blocks a x migration block b c plan s wants suits free. map_is_done now blocks a x migration block plan s _ wants suits b c wants.asks free;
+  is_refused = λ now blocks a x migration block b c plan refusal s wants suits. map_is_refused now blocks a x migration block plan s _ wants suits b c refusal wants.asks;
+  unmaps = λ now blocks a x migration block b plan s wants suits leaving. unmap_is_done now blocks a x migration block plan s _ wants suits b wants.asks leaving;
+  gives_up = λ now blocks a x migration block b plan s wants suits. order_is_given_up now blocks a x migration block plan s _ wants suits b wants.asks;
+  answers = λ now blocks a x migration block plan answer s wants suits. answered now blocks a x migration block plan s _ wants suits answer wants.asks;
 }

@@ -42,7 +42,7 @@ use Rattle.wb_simulation.specs.Telling.{Quietly, Reads, Writes, Answers, Starts,
 use Rattle.wb_simulation.specs.Worlds.{zeros, Situation, Agrees, Turn, Stays, Begins, Puts, Ends, GivesUp, WorldFollowsBy, WorldFollows}
 
 -- This actor, which is at this task, wants this next, and the run stands where the world does.
-pub record Wants (now : Situation) (a : ℕ) (x : Actor) (s : World) (job : Job) (plan : Plan) (next : Want) : Type 0 where
+pub record WantsNext (now : Situation) (a : ℕ) (x : Actor) (s : World) (job : Job) (plan : Plan) (next : Want) : Type 0 where
   pub here : slice_get now.actors a ≡ Some x
   pub task : x.task ≡ Some (job, plan)
   pub asks : want plan ≡ next
@@ -60,7 +60,7 @@ went words job plan step x = record x { task = Some (job, after plan (got_of (re
 -- A step of a read or a write on the shared words, which keep their rule, among all others who have tasks.
 abbrev pub CellStepsFollowed : Type 0
 CellStepsFollowed = (now : Situation) (blocks : ℕ) (a : ℕ) (x : Actor) (job : Job) (plan : Plan) (step : CellStep) (s : World) →
-    IsRequestJob job → LockRule blocks now.words (cards_of now.actors) → Wants now a x s job plan (Cell step) → Suits blocks plan x.card →
+    IsRequestJob job → LockRule blocks now.words (cards_of now.actors) → WantsNext now a x s job plan (Cell step) → Suits blocks plan x.card →
     WorldFollows Quietly a s (record now { words = words_after now.words step }) (went now.words job plan step x)
 
 -- an actor that has gone on with its task, and knows what it knew
@@ -70,16 +70,16 @@ after_step job plan got x = record x { task = Some (job, after plan got) }
 -- A step of a read or a write on an extent of a device, done or failing; of a write that fails each sector has landed or not.
 pub record ExtentStepsFollowed : Type 0 where
   pub read_done : (now : Situation) (blocks : ℕ) (a : ℕ) (x : Actor) (extent : Extent) (part : BlockRange) (plan : Plan) (device : Dev) (e : Extent) (contents : List Content) (s : World) →
-      Wants now a x s (Read extent) plan (Device (ReadExtent device e)) → plan.job ≡ OnBlock (Reading part) → Suits blocks plan x.card → HoldsBlocks device → length contents ≡ e.count → GivesEach (device_in device now.devices) e.first contents →
+      WantsNext now a x s (Read extent) plan (Device (ReadExtent device e)) → plan.job ≡ OnBlock (Reading part) → Suits blocks plan x.card → HoldsBlocks device → length contents ≡ e.count → GivesEach (device_in device now.devices) e.first contents →
       WorldFollows (Reads part.block.0 (e.first % now.size) contents) a s now (after_step (Read extent) plan Done x)
   pub read_fails : (now : Situation) (blocks : ℕ) (a : ℕ) (x : Actor) (extent : Extent) (part : BlockRange) (plan : Plan) (device : Dev) (e : Extent) (s : World) →
-      Wants now a x s (Read extent) plan (Device (ReadExtent device e)) → plan.job ≡ OnBlock (Reading part) → Suits blocks plan x.card → HoldsBlocks device →
+      WantsNext now a x s (Read extent) plan (Device (ReadExtent device e)) → plan.job ≡ OnBlock (Reading part) → Suits blocks plan x.card → HoldsBlocks device →
       WorldFollows Quietly a s now (after_step (Read extent) plan Fault x)
   pub write_done : (now : Situation) (blocks : ℕ) (a : ℕ) (x : Actor) (extent : Extent) (content : Content) (part : BlockRange) (plan : Plan) (device : Dev) (e : Extent) (s : World) →
-      Wants now a x s (Write extent content) plan (Device (WriteExtent device e)) → plan.job ≡ OnBlock (Writing part) → Suits blocks plan x.card → HoldsBlocks device → e.first + e.count ≤ length (device_in device now.devices) →
+      WantsNext now a x s (Write extent content) plan (Device (WriteExtent device e)) → plan.job ≡ OnBlock (Writing part) → Suits blocks plan x.card → HoldsBlocks device → e.first + e.count ≤ length (device_in device now.devices) →
       WorldFollows (Writes part.block.0 (e.first % now.size) e.count content) a s (record now { devices = with_device device now.devices (written_each (device_in device now.devices) e.first (replicate e.count content)) }) (after_step (Write extent content) plan Done x)
   pub write_fails : (now : Situation) (blocks : ℕ) (a : ℕ) (x : Actor) (extent : Extent) (content : Content) (part : BlockRange) (plan : Plan) (device : Dev) (e : Extent) (lands : ℕ → Bool) (s : World) →
-      Wants now a x s (Write extent content) plan (Device (WriteExtent device e)) → plan.job ≡ OnBlock (Writing part) → Suits blocks plan x.card → HoldsBlocks device → e.first + e.count ≤ length (device_in device now.devices) →
+      WantsNext now a x s (Write extent content) plan (Device (WriteExtent device e)) → plan.job ≡ OnBlock (Writing part) → Suits blocks plan x.card → HoldsBlocks device → e.first + e.count ≤ length (device_in device now.devices) →
       WorldFollows (Writes part.block.0 (e.first % now.size) e.count content) a s (record now { devices = with_device device now.devices (written_where lands (device_in device now.devices) e.first (replicate e.count content)) }) (after_step (Write extent content) plan Fault x)
 
 -- The job is given to the actor there too, or to nobody, since the actor has kept something at a failure.
@@ -106,7 +106,7 @@ content_of job = []
 -- A read or write is answered, whether it was done, refused, or stopped by a failure.
 abbrev pub AnswersFollowed : Type 0
 AnswersFollowed = (now : Situation) (blocks : ℕ) (a : ℕ) (x : Actor) (job : Job) (plan : Plan) (answer : Answer) (s : World) →
-    IsRequestJob job → Wants now a x s job plan (End answer) → Suits blocks plan x.card →
+    IsRequestJob job → WantsNext now a x s job plan (End answer) → Suits blocks plan x.card →
     WorldFollows (Answers (job_for now.size (content_of job) plan.job) answer) a s now (record x { task = None })
 
 -- a step of a commit on the metadata writes the root, or is nothing to the images
@@ -121,42 +121,42 @@ IsOnlyOf actors a order = (b : ℕ) (z : Actor) → slice_get actors b ≡ Some 
 -- Each step of a flush, with each result that it may have: on the words, on the desk, and on the devices, done or failing.
 pub record FlushStepsFollowed : Type 0 where
   pub looks : (now : Situation) (a : ℕ) (x : Actor) (plan : Plan) (s : World) →
-      Wants now a x s Flush plan (Cell (Look Fail)) →
+      WantsNext now a x s Flush plan (Cell (Look Fail)) →
       WorldFollows Quietly a s now (went now.words Flush plan (Look Fail) x)
   pub begins : (now : Situation) (nodes allowed : ℕ) (clean : Bool) (a : ℕ) (x : Actor) (plan : Plan) (s : World) →
-      Wants now a x s Flush plan (Desk (BeginCommit clean allowed)) → now.committing ≡ false →
+      WantsNext now a x s Flush plan (Desk (BeginCommit clean allowed)) → now.committing ≡ false →
       WorldFollowsBy Begins Quietly a s (record now { committing = true }) (after_step Flush plan (Began nodes) x)
   pub is_refused : (now : Situation) (allowed : ℕ) (clean : Bool) (refusal : Refusal) (a : ℕ) (x : Actor) (plan : Plan) (s : World) → IsNoBegin refusal →
-      Wants now a x s Flush plan (Desk (BeginCommit clean allowed)) →
+      WantsNext now a x s Flush plan (Desk (BeginCommit clean allowed)) →
       WorldFollows Quietly a s now (after_step Flush plan (Refused refusal) x)
   pub syncs : (now : Situation) (device : Dev) (a : ℕ) (x : Actor) (plan : Plan) (s : World) → HoldsBlocks device →
-      Wants now a x s Flush plan (Device (Sync device)) →
+      WantsNext now a x s Flush plan (Device (Sync device)) →
       WorldFollows Quietly a s (record now { devices = with_device device now.devices (synced (device_in device now.devices)) }) (after_step Flush plan Done x)
   pub sync_fails : (now : Situation) (device : Dev) (lands : ℕ → Bool) (a : ℕ) (x : Actor) (plan : Plan) (s : World) → HoldsBlocks device →
-      Wants now a x s Flush plan (Device (Sync device)) →
+      WantsNext now a x s Flush plan (Device (Sync device)) →
       WorldFollows Quietly a s (record now { devices = with_device device now.devices (synced_where lands (device_in device now.devices)) }) (after_step Flush plan Fault x)
   -- whatever the step leaves of the metadata
   pub on_metadata : (now : Situation) (step : DeviceStep) (metadata : List History) (a : ℕ) (x : Actor) (plan : Plan) (s : World) → device_of step ≡ Metadata →
-      Wants now a x s Flush plan (Device step) →
+      WantsNext now a x s Flush plan (Device step) →
       WorldFollowsBy (turn_of step) Quietly a s (record now { devices = with_device Metadata now.devices metadata }) (after_step Flush plan Done x)
   pub metadata_fails : (now : Situation) (step : DeviceStep) (metadata : List History) (a : ℕ) (x : Actor) (plan : Plan) (s : World) → device_of step ≡ Metadata →
-      Wants now a x s Flush plan (Device step) →
+      WantsNext now a x s Flush plan (Device step) →
       (written : Bool) × IsWrittenAfter step s.shared.root_written written × WorldFollowsBy (Puts written) Quietly a s (record now { devices = with_device Metadata now.devices metadata }) (after_step Flush plan Fault x)
   pub ends : (now : Situation) (a : ℕ) (x : Actor) (plan : Plan) (s : World) →
-      Wants now a x s Flush plan (Desk EndCommit) →
+      WantsNext now a x s Flush plan (Desk EndCommit) →
       WorldFollowsBy Ends Quietly a s (record now { committing = false }) (after_step Flush plan Done x)
   -- an order that waits for it is given up, or none is
   pub gives_up : (now : Situation) (block : OBlock) (a : ℕ) (x : Actor) (plan : Plan) (c : ℕ) (order : Order) (awaiting' : List Order) (s : World) →
-      Wants now a x s Flush plan (Desk (ReleaseOrder block)) → slice_get now.orders c ≡ Some (Some order) → IsOnlyOf now.actors a order →
+      WantsNext now a x s Flush plan (Desk (ReleaseOrder block)) → slice_get now.orders c ≡ Some (Some order) → IsOnlyOf now.actors a order →
       WorldFollowsBy (GivesUp c) Releases a s (record now { orders = slice_set now.orders c None }) (record (after_step Flush plan Done x) { awaiting = awaiting' })
   pub releases : (now : Situation) (block : OBlock) (a : ℕ) (x : Actor) (plan : Plan) (s : World) →
-      Wants now a x s Flush plan (Desk (ReleaseOrder block)) →
+      WantsNext now a x s Flush plan (Desk (ReleaseOrder block)) →
       WorldFollows Quietly a s now (after_step Flush plan Done x)
   pub fails : (now : Situation) (failures suspensions : ℕ) (a : ℕ) (x : Actor) (plan : Plan) (s : World) → now.words.fail ≡ fail_word failures suspensions →
-      Wants now a x s Flush plan (Cell SetFailed) →
+      WantsNext now a x s Flush plan (Cell SetFailed) →
       WorldFollows Quietly a s (record now { words = words_after now.words SetFailed }) (went now.words Flush plan SetFailed x)
   pub answers : (now : Situation) (answer : Answer) (a : ℕ) (x : Actor) (plan : Plan) (orders' awaiting' : List Order) (s : World) →
-      Wants now a x s Flush plan (End answer) → ((o : Order) → Contains (held x) o → Contains (orders' ++ awaiting') o) →
+      WantsNext now a x s Flush plan (End answer) → ((o : Order) → Contains (held x) o → Contains (orders' ++ awaiting') o) →
       WorldFollows (Answers (FlushingFor None) answer) a s now (record x { task = None; orders = orders'; awaiting = awaiting' })
 
 -- a target that was just made over empty devices of these sizes, with so many actors who have nothing to do, and no order

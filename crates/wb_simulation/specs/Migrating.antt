@@ -26,7 +26,7 @@ use Rattle.wb_promise.specs.declared.job.Job.{Job}
 use Rattle.wb_promise.specs.declared.job.Job.TheVariants.{Migrate}
 use Rattle.wb_promise.specs.States.{Actor, with_device}
 use Rattle.wb_simulation.specs.Telling.{Resumes, Carries, Rests}
-use Rattle.wb_simulation.specs.Laws.{Wants, went, after_step, IsOnlyOf}
+use Rattle.wb_simulation.specs.Laws.{WantsNext, went, after_step, IsOnlyOf}
 use Rattle.wb_words.specs.Rule.{LockRule}
 use Rattle.wb_words.specs.declared.word.Word.TheVariants.{Seal as SealWord, Number}
 use Rattle.wb_words.specs.declared.step.CellStep.{CellStep}
@@ -120,36 +120,36 @@ pub record MigrationsFollowed : Type 0 where
       MayBeKept migration c.0 s.shared → Agrees now s →
       WorldFollows Resumes a s now (begun (Migrate migration block) (migrates now.size migration block cut) x)
   pub cells : (now : Situation) (blocks : ℕ) (a : ℕ) (x : Actor) (migration : Migration) (block : OBlock) (plan : Plan) (step : CellStep) (s : World) →
-      LockRule blocks now.words (cards_of now.actors) → Wants now a x s (Migrate migration block) plan (Cell step) → Suits blocks plan x.card → SeesWhere now.words now.orders s.shared.mapping migration block step →
+      LockRule blocks now.words (cards_of now.actors) → WantsNext now a x s (Migrate migration block) plan (Cell step) → Suits blocks plan x.card → SeesWhere now.words now.orders s.shared.mapping migration block step →
       Carried Stays a s (record now { words = words_after now.words step }) (went now.words (Migrate migration block) plan step x)
   -- a read puts what it was given in the buffer
   pub read_done : (now : Situation) (blocks : ℕ) (a : ℕ) (x : Actor) (migration : Migration) (block : OBlock) (plan : Plan) (device : Dev) (e : Extent) (s : World) →
-      Wants now a x s (Migrate migration block) plan (Device (ReadExtent device e)) → Suits blocks plan x.card → e.first + e.count ≤ length (device_in device now.devices) →
+      WantsNext now a x s (Migrate migration block) plan (Device (ReadExtent device e)) → Suits blocks plan x.card → e.first + e.count ≤ length (device_in device now.devices) →
       Carried Stays a s now (record x { task = Some (Migrate migration block, after plan Done); buffer = contents_at (device_in device now.devices) e })
   pub read_fails : (now : Situation) (blocks : ℕ) (a : ℕ) (x : Actor) (migration : Migration) (block : OBlock) (plan : Plan) (device : Dev) (e : Extent) (s : World) →
-      Wants now a x s (Migrate migration block) plan (Device (ReadExtent device e)) → Suits blocks plan x.card →
+      WantsNext now a x s (Migrate migration block) plan (Device (ReadExtent device e)) → Suits blocks plan x.card →
       Carried Stays a s now (after_step (Migrate migration block) plan Fault x)
   -- a write takes it from there
   pub write_done : (now : Situation) (blocks : ℕ) (a : ℕ) (x : Actor) (migration : Migration) (block : OBlock) (plan : Plan) (device : Dev) (e : Extent) (s : World) →
-      Wants now a x s (Migrate migration block) plan (Device (WriteExtent device e)) → Suits blocks plan x.card → e.first + e.count ≤ length (device_in device now.devices) →
+      WantsNext now a x s (Migrate migration block) plan (Device (WriteExtent device e)) → Suits blocks plan x.card → e.first + e.count ≤ length (device_in device now.devices) →
       Carried Stays a s (record now { devices = with_device device now.devices (written_each (device_in device now.devices) e.first x.buffer) }) (after_step (Migrate migration block) plan Done x)
   pub write_fails : (now : Situation) (blocks : ℕ) (a : ℕ) (x : Actor) (migration : Migration) (block : OBlock) (plan : Plan) (device : Dev) (e : Extent) (lands : ℕ → Bool) (s : World) →
-      Wants now a x s (Migrate migration block) plan (Device (WriteExtent device e)) → Suits blocks plan x.card → e.first + e.count ≤ length (device_in device now.devices) →
+      WantsNext now a x s (Migrate migration block) plan (Device (WriteExtent device e)) → Suits blocks plan x.card → e.first + e.count ≤ length (device_in device now.devices) →
       Carried Stays a s (record now { devices = with_device device now.devices (written_where lands (device_in device now.devices) e.first x.buffer) }) (after_step (Migrate migration block) plan Fault x)
   -- A promotion's order is over once its block is mapped, a demotion's once it is unmapped; and each where it is given up.
   pub maps : (now : Situation) (blocks : ℕ) (a : ℕ) (x : Actor) (migration : Migration) (block : OBlock) (b : OBlock) (c : CBlock) (plan : Plan) (s : World) →
-      Wants now a x s (Migrate migration block) plan (Desk (Map b c)) → Suits blocks plan x.card → s.shared.mapping b.0 ≡ None →
+      WantsNext now a x s (Migrate migration block) plan (Desk (Map b c)) → Suits blocks plan x.card → s.shared.mapping b.0 ≡ None →
       (migration ≡ Promote c) × (b ≡ block) × ((order : Order) × IsOrderFor (Promote c) block None order × EndsOrder (Maps block.0 c.0) c.0 a s now x (record x { task = Some (Migrate migration block, after plan Done); orders = dropped b x.orders }) order)
   pub is_refused : (now : Situation) (blocks : ℕ) (a : ℕ) (x : Actor) (migration : Migration) (block : OBlock) (b : OBlock) (c : CBlock) (plan : Plan) (refusal : Refusal) (s : World) →
-      Wants now a x s (Migrate migration block) plan (Desk (Map b c)) → Suits blocks plan x.card →
+      WantsNext now a x s (Migrate migration block) plan (Desk (Map b c)) → Suits blocks plan x.card →
       Carried Stays a s now (after_step (Migrate migration block) plan (Refused refusal) x)
   pub unmaps : (now : Situation) (blocks : ℕ) (a : ℕ) (x : Actor) (migration : Migration) (block : OBlock) (b : OBlock) (plan : Plan) (s : World) →
-      Wants now a x s (Migrate migration block) plan (Desk (Unmap b)) → Suits blocks plan x.card → LeavesFrom now.orders s.shared.mapping b →
+      WantsNext now a x s (Migrate migration block) plan (Desk (Unmap b)) → Suits blocks plan x.card → LeavesFrom now.orders s.shared.mapping b →
       (migration ≡ Demote) × (b ≡ block) × ((c : ℕ) × (EndsOrder (Unmaps block.0 c None) c a s now x (record x { task = Some (Migrate migration block, after plan Done); orders = dropped b x.orders }) (DemoteOrder block) ⊎ TurnsOrder c a s now x (record x { task = Some (Migrate migration block, after plan Done); orders = dropped b x.orders; awaiting = replacing b x.orders ++ x.awaiting }) block))
   pub gives_up : (now : Situation) (blocks : ℕ) (a : ℕ) (x : Actor) (migration : Migration) (block : OBlock) (b : OBlock) (plan : Plan) (s : World) →
-      Wants now a x s (Migrate migration block) plan (Desk (ReleaseOrder b)) → Suits blocks plan x.card →
+      WantsNext now a x s (Migrate migration block) plan (Desk (ReleaseOrder b)) → Suits blocks plan x.card →
       (b ≡ block) × ((c : ℕ) × (next : Option ℕ) × (order : Order) × IsOrderFor migration block next order × EndsOrder (GivesUp c) c a s now x (record x { task = Some (Migrate migration block, after plan Done); orders = dropped b x.orders }) order)
   -- whatever it is
   pub answers : (now : Situation) (blocks : ℕ) (a : ℕ) (x : Actor) (migration : Migration) (block : OBlock) (plan : Plan) (answer : Answer) (s : World) →
-      Wants now a x s (Migrate migration block) plan (End answer) → Suits blocks plan x.card →
+      WantsNext now a x s (Migrate migration block) plan (End answer) → Suits blocks plan x.card →
       WorldFollows Rests a s now (record x { task = None })
