@@ -1,57 +1,52 @@
 -- A run through an opening, a write, a read of it, a flush, a write that fails, a crash and a second opening that shows the first write.
-use Rattle.std.proofs.Common.{Global, ◌≡◌, ◌∙◌, ◌<◌, ◌≤◌, ◌+◌, ◌%◌, ◌^◌, ℕ, suc, List, [], ◌∷◌, ◌++◌, Option, Some, None, refl, sym, ap, subst, arith, length, map, slice_get, replicate}
+use Rattle.std.proofs.Common.{◌≡◌, ◌∙◌, ◌<◌, ◌≤◌, ◌+◌, ◌%◌, ◌^◌, inl, inr, ℕ, suc, List, [], ◌∷◌, Option, Some, None, refl, sym, ap, subst, arith, length, map, slice_get, replicate}
+use Rattle.std.specs.Prelude.{option_map, drop}
 use Rattle.std.proofs.lemmas.Option.{slice_get-get_or, slice_get-map}
 use Rattle.std.proofs.lemmas.List.{length-map}
+use Rattle.std.proofs.lemmas.List.Elements.{All-nil}
 use lib.ListN.{get_or}
 use Rattle.std.proofs.Math.Nat.{mod-lt}
-use Rattle.wb_disk.specs.Device.{Content as Bytes, History, newest, synced, written}
+use Rattle.wb_types.specs.declared.geometry.Geometry.{Geometry}
+use Rattle.wb_types.specs.declared.mode.Dev.{Dev}
+use Rattle.wb_types.specs.declared.mode.Dev.TheVariants.{Metadata, Cache, Origin}
+use Rattle.wb_disk.specs.Device.{Content as Bytes, History, Crashed, newest, only, synced, written}
+use Rattle.wb_disk.specs.Crash.{Applies, crashed, crashed_from}
 use Rattle.wb_disk.specs.Memory.{blank}
-use Rattle.wb_disk.proofs.Leaving.{newest-synced}
-use Rattle.wb_meta.proofs.Histories.{newest-added}
+use Rattle.wb_disk.proofs.Leaving.{newest-synced, read-left, crash-left, left-crashed}
+use Rattle.wb_disk.proofs.Crashes.{Crashed-crashed_from}
 use Rattle.wb_format.specs.declared.root.Root.{Root}
 use Rattle.wb_format.specs.Layout.{SpellsRoot}
 use Rattle.wb_format.proofs.Values.{one_root}
-use Rattle.wb_tree.specs.Reading.{IsNewestRoot}
-use Rattle.wb_examples.proofs.Shown.{written_same, origin_shown}
-use Rattle.wb_runs.proofs.Spelling.{spelling, spelled_root}
-use Rattle.std.specs.Prelude.{option_map}
-use Rattle.wb_types.specs.declared.geometry.Geometry.{Geometry}
-use Rattle.wb_types.specs.Limits.{IsWithinLimits}
-use Rattle.wb_disk.specs.Device.{Crashed, only}
-use Rattle.wb_disk.proofs.Leaving.{read-left, crash-left, left-crashed}
-use Rattle.wb_disk.proofs.Crashes.{Crashed-crashed_from}
-use Rattle.wb_tree.specs.Reading.{nothing_found, top_read}
 use Rattle.wb_meta.specs.Representing.{Represents}
-use Rattle.wb_meta.specs.Formats.{IsFormatted}
+use Rattle.wb_meta.proofs.Histories.{newest-added}
+use Rattle.wb_tree.specs.Reading.{IsNewestRoot, nothing_found, top_read}
 use Rattle.wb_desk.specs.Desks.{DeskState}
+use Rattle.wb_desk.specs.Commits.{commit_begun}
+use Rattle.wb_stage.specs.Asking.{ended}
+use Rattle.wb_words.specs.SharedWords.{Words}
+use Rattle.wb_words.specs.Cards.{blank_card}
 use Rattle.wb_words.specs.declared.card.Card.{Card}
-use Rattle.wb_desk.specs.Commits.{MayBegin}
-use Rattle.wb_types.specs.declared.mode.Dev.TheVariants.{Metadata, Cache, Origin}
-use Rattle.wb_disk.specs.Crash.{crashed, crashed_from}
-use Rattle.wb_examples.proofs.Beginning.{bare_root}
-use Rattle.wb_promise.specs.States.{Shape, State, Actor, Gone, resting, cache_sector_count, start}
-use Rattle.wb_promise.specs.Happenings.{Happening}
-use Rattle.wb_promise.specs.Effects.{after_happening, after_all, all_resting, IsRun}
-use Rattle.wb_promise.specs.Clerk.{Notes, Doing, begins, nobody}
-use Rattle.wb_promise.specs.Headline.{shown, noted, note_happening}
-use Rattle.wb_examples.specs.Possible.{one_block, first_sector, PassesThrough, AboutToAnswer, FirstDoes, Survives, CanSurvive}
+use Rattle.wb_tasks.specs.Plan.{Plan}
+use Rattle.wb_promise.specs.declared.job.Job.{Job}
 use Rattle.wb_promise.specs.declared.job.Job.TheVariants.{Read, Write, Flush}
-use Rattle.wb_promise.specs.States.{OfTarget}
-use Rattle.wb_promise.specs.Clerk.{greater_of}
-use Rattle.wb_meta.specs.Reads.{sectors_read}
-use Rattle.wb_meta.specs.declared.read_steps.ReadSteps.{ReadSteps}
-use Rattle.wb_meta.specs.declared.read_steps.ReadSteps.TheVariants.{Begun, FirstSlotRead, RootFound, Done as AllRead}
+use Rattle.wb_promise.specs.States.{Shape, State}
+use Rattle.wb_promise.specs.Happenings.{Cut, task_job}
+use Rattle.wb_promise.specs.Effects.{all_resting}
+use Rattle.wb_promise.specs.Clerk.{Notes, Doing, Reading, Position, begins, nobody, formatted}
+use Rattle.wb_promise.specs.Headline.{shown, noted}
+use Rattle.wb_examples.specs.Possible.{first_sector, PassesThrough, to_survive, CanSurvive}
 use Rattle.wb_runs.proofs.Images.{Images}
 use Rattle.wb_runs.proofs.Metadata.{Quiet}
 use Rattle.wb_runs.proofs.MetadataRuns.{IsKnown}
-use Rattle.wb_examples.proofs.Bare.{BareDesk}
-use Rattle.wb_runs.proofs.Formatted.{HasNoTree, formatted_none}
-use Rattle.wb_promise.specs.Clerk.{formatted as formatted_notes}
-use Rattle.wb_examples.proofs.FirstOpening.{happenings as first_opening, is_run as opens_run, target as opened_target, rooted_metadata as opened_metadata, opened_is, known as opened_known, quiet as opened_quiet, may as opened_may, stands as opens_stands, run_append, after_append}
-use Rattle.wb_examples.proofs.FirstLife.{Leads, does, rested, nothing_lands, idle_state, idle_notes, durable_state, durable_notes, target_in, flushes, flushes_run, flushes_answer, flushes_then, flush_answer, durable, durable_is, durable_known, durable_quiet, durable_noted, fails, fails_run, fails_then, crash, crash_run, crashed_is, writes_run, writes_then, reads_run, reads_then, read_answer, idle_noted, before, started, writes, reads, idle_is}
-use Rattle.wb_tasks.specs.declared.step.Answer.TheVariants.{Done as Finished}
-use Rattle.wb_tasks.specs.declared.step.Want.TheVariants.{End}
-use Rattle.wb_tasks.specs.declared.step.Got.TheVariants.{Done}
+use Rattle.wb_runs.proofs.Formatted.{HasNoTree}
+use Rattle.wb_runs.proofs.Rooted.{rooted}
+use Rattle.wb_runs.proofs.Spelling.{spelling, spelled_root}
+use Rattle.wb_examples.proofs.Beginning.{bare_root, bare_commit}
+use Rattle.wb_examples.proofs.Shown.{written_same, origin_shown}
+use Rattle.wb_examples.proofs.Playing.{Move, Gets, Moves, Reads, Fails, Stops, goes, played, ends, MayGo, goes_on, ◌⨟◌}
+use Rattle.wb_examples.proofs.Opening.{Down, down, opening, opening_may, opened_is, target, bare, Idle, flushing, flushing_may}
+use Rattle.wb_examples.proofs.Desks.{Setting, shape, desk}
+use Rattle.wb_examples.proofs.Scenes.{Scene, Formatted, at, over, Leads, goes_to, FromNoted, noted_stretch, opened_scene, down_at, setting, devices, devices_size, shape_at, opened_at, known_at, opening_run, Whole, from_opened, small_can, uncut, nothing_lands, may_fail}
 
 -- the root that was written last, if the newest root has its generation
 root_there : (m : List History) (r q : Root) → 2 ≤ length m → r.generation < 2 ^ 64 → q.generation ≡ r.generation → IsNewestRoot (map newest (synced (written (synced m) (r.generation % 2) (spelling r)))) q → q ≡ r
@@ -80,238 +75,188 @@ none_after P g i desk m m' q top more crash = record {
     nothing : (sectors : List Bytes) → IsNewestRoot sectors q.stored.root → Represents sectors q.stored.root (nothing_found q.stored.root)
     nothing sectors n = record { newest = n; nodes = λ place. None; reached = λ place e. absurd (cc); reads = ap (λ t. top_read q.stored.root (λ place. None) t) top }
 
-noted_append : {P A : Type 0} (shape : Shape) (w : State P A) (n : Notes) (hs ks : List (Happening P A)) → noted shape w n (hs ++ ks) ≡ noted shape (after_all shape w hs) (noted shape w n hs) ks
-noted_append shape w n [] ks = refl
-noted_append shape w n (h ∷ hs) ks = noted_append shape (after_happening shape w h) (note_happening shape w n h) hs ks
+module _ (P A : Type 0) (policy : P) (alloc : A) (s : Setting P 0) (metadata cache sectors histories : List History) (first : Bytes) (finished floors : List ℕ) (doings : List (Option Doing)) (content other : Bytes) where
+  open s use {global}
 
--- what a stretch and those behind it come to, from a state and notes on
-abbrev Onward : {P A : Type 0} → Shape → List (Happening P A) → (State P A → Notes → Type 0) → List (List (Happening P A) × (State P A → Notes → Type 0)) → State P A → Notes → Type 0
-Onward shape ks Is more v k = IsRun shape v ks × Is (after_all shape v ks) (noted shape v k ks) × PassesThrough shape (after_all shape v ks) (noted shape v k ks) more
+  abbrev shape0 : Shape
+  shape0 = shape P 0 s
 
--- a stretch whose first part leads to a state and notes that are known
-along : {P A : Type 0} (shape : Shape) (w w' : State P A) (n n' : Notes) (hs ks : List (Happening P A)) (Is : State P A → Notes → Type 0) (more : List (List (Happening P A) × (State P A → Notes → Type 0))) → after_all shape w hs ≡ w' → noted shape w n hs ≡ n' → IsRun shape w hs → IsRun shape w' ks →
-    Is (after_all shape w' ks) (noted shape w' n' ks) → PassesThrough shape (after_all shape w' ks) (noted shape w' n' ks) more → PassesThrough shape w n ((hs ++ ks, Is) ∷ more)
-along {P} {A} shape w w' n n' hs ks Is more e f run goes is rest =
-    let first = subst (λ (v : State P A). Onward shape ks Is more v (noted shape w n hs)) (sym e) (subst (λ (k : Notes). Onward shape ks Is more w' k) (sym f) (goes, is, rest)) in (
-      run_append shape w hs ks run first.0,
-      subst (λ (v : State P A). Is v (noted shape w n (hs ++ ks))) (sym (after_append shape w hs ks)) (subst (λ (k : Notes). Is (after_all shape (after_all shape w hs) ks) k) (sym (noted_append shape w n hs ks)) first.1),
-      subst (λ (v : State P A). PassesThrough shape v (noted shape w n (hs ++ ks)) more) (sym (after_append shape w hs ks)) (subst (λ (k : Notes). PassesThrough shape (after_all shape (after_all shape w hs) ks) k more) (sym (noted_append shape w n hs ks)) first.2),
-    )
+  abbrev lead : State P A → List (Move P A) → State P A
+  lead w moves = ends global shape0 w moves
 
-module _ (P A : Type 0) (policy : P) (alloc : A) (global : Global) (cache_blocks meta_sectors : ℕ) (within : IsWithinLimits 64 cache_blocks 1 meta_sectors) (threshold others : ℕ) (metadata : List History) (content other : Bytes)
-    (formatted : IsFormatted (one_block cache_blocks meta_sectors within) metadata) (size : length metadata ≡ meta_sectors) where
-  abbrev shape : Shape
-  shape = record { geometry = one_block cache_blocks meta_sectors within; threshold = threshold; actors = suc others }
+  abbrev conditions : List (State P A → Notes → Type 0)
+  conditions = to_survive shape0 content other
 
-  abbrev rest : List Actor
-  rest = replicate others resting
+  -- ---- where it is, and what is noted
 
-  abbrev zeros : List History
-  zeros = replicate (cache_sector_count shape) blank
+  abbrev words : (number misses written : ℕ) → Words
+  words number misses written = record { cells = 0 ∷ []; seals = 0 ∷ []; numbers = number ∷ []; read_hits = 0; read_misses = misses; write_hits = 0; write_misses = written; fail = 0 }
 
-  abbrev none : HasNoTree shape.geometry metadata
-  none = formatted_none shape.geometry metadata formatted
+  abbrev here : (metadata cache origin : List History) → Words → DeskState P → Option (Job × Plan) → Scene P
+  here metadata cache origin words desk task = record { devices = record { metadata = metadata; cache = cache; origin = origin }; words = words; desk = desk; task = task; orders = []; awaiting = []; buffer = [] }
 
-  abbrev opening : List (Happening P A)
-  opening = first_opening P A policy alloc global shape metadata zeros (replicate 64 blank) none size rest
-
-  opening_run : IsRun shape (start shape metadata) opening
-  opening_run = opens_run P A policy alloc global shape metadata zeros (replicate 64 blank) none size rest
-
-  abbrev desk : DeskState P
-  desk = (opened_target P A policy alloc global shape metadata zeros (replicate 64 blank) none size rest).desk
-
-  abbrev m1 : List History
-  m1 = opened_metadata P A policy alloc global shape metadata zeros (replicate 64 blank) none size rest
-
-  abbrev first : Bytes
-  first = replicate 512 0
-
-  abbrev sectors : List History
-  sectors = replicate 63 blank
-
-  abbrev from : State P A
-  from = before P A global cache_blocks meta_sectors within threshold others desk m1 (synced zeros) (all_resting rest) content first sectors sectors (replicate 63 0) (replicate 63 0) (replicate (length (nobody (replicate others None))) None)
-
-  opened_from : after_all shape (start shape metadata) opening ≡ from
-  opened_from = opened_is P A policy alloc global shape metadata zeros (replicate 64 blank) none size rest
-
-  shows : shown shape (after_all shape (start shape metadata) opening) ≡ map newest (synced (replicate 64 blank))
-  shows = ap (λ (w : State P A). shown shape w) opened_from
-      ∙ origin_shown shape desk.tree.entries (map newest (synced zeros)) (map newest (synced (replicate 64 blank))) cache_blocks (opened_known P A policy alloc global shape metadata zeros (replicate 64 blank) none size rest).entries refl
-
-  abbrev n1 : Notes
-  n1 = started P A global cache_blocks meta_sectors within threshold others desk m1 (synced zeros) (all_resting rest) content first sectors sectors (replicate 63 0) (replicate 63 0) (replicate (length (nobody (replicate others None))) None)
-
-  opened_notes : noted shape (start shape metadata) (formatted_notes shape) opening ≡ n1
-  opened_notes = ap (λ (s : List Bytes). begins (suc (length (nobody (replicate others None)))) s) shows
-
-  abbrev wrote : List (Happening P A)
-  wrote = writes P A global cache_blocks meta_sectors within threshold others desk m1 (synced zeros) (all_resting rest) content first sectors sectors (replicate 63 0) (replicate 63 0) (replicate (length (nobody (replicate others None))) None)
-
-  abbrev read : List (Happening P A)
-  read = reads P A global cache_blocks meta_sectors within threshold others desk m1 (synced zeros) (all_resting rest) content first sectors sectors (replicate 63 0) (replicate 63 0) (replicate (length (nobody (replicate others None))) None)
-
-  leads : Leads P A global cache_blocks meta_sectors within threshold others from (wrote ++ read ++ does P A global cache_blocks meta_sectors within threshold others (End Finished) Done ∷ []) (λ card. rested P A m1 (synced zeros) (record { first = first; later = content ∷ [] } ∷ sectors) desk card (all_resting rest))
-  leads = idle_is P A global cache_blocks meta_sectors within threshold others desk m1 (synced zeros) (all_resting rest) content first sectors sectors (replicate 63 0) (replicate 63 0) (replicate (length (nobody (replicate others None))) None)
-
-  -- ---- what is known of the metadata
+  -- at the last step of a job on the first sector
+  abbrev ending : Job → Option (Job × Plan)
+  ending job = over job (task_job shape0 [] job (first_sector ∷ []))
 
   abbrev history : History
   history = record { first = first; later = content ∷ [] }
 
-  abbrev doings : List (Option Doing)
-  doings = replicate (length (nobody (replicate others None))) None
+  abbrev pub opened0 : Scene P
+  opened0 = opened_scene P A 0 s (record { metadata = metadata; cache = cache; origin = only first ∷ sectors })
 
-  abbrev known : BareDesk P shape.geometry desk m1
-  known = opened_known P A policy alloc global shape metadata zeros (replicate 64 blank) none size rest
+  abbrev wrote : Scene P
+  wrote = here metadata cache (history ∷ sectors) (words 1 0 1) (desk P 0 s) (ending (Write first_sector content))
 
-  quiet : Quiet shape.geometry known.images desk m1
-  quiet = opened_quiet P A policy alloc global shape metadata zeros (replicate 64 blank) none size rest
+  abbrev was_read : Scene P
+  was_read = here metadata cache (history ∷ sectors) (words 1 1 1) (desk P 0 s) (ending (Read first_sector))
 
-  may : MayBegin desk
-  may = opened_may P A policy alloc global shape metadata zeros (replicate 64 blank) none size rest
+  abbrev desk_then : DeskState P
+  desk_then = ended (commit_begun (desk P 0 s) (desk P 0 s).tree)
 
-  abbrev flushed : List (Happening P A)
-  flushed = flushes P A global cache_blocks meta_sectors within threshold others desk m1 (synced zeros) (all_resting rest) leads.card history sectors sectors (replicate 63 0) (replicate 63 0) doings known quiet may
+  abbrev durable : Scene P
+  durable = here (synced (rooted (bare_commit global shape0.geometry (s.generation + 1)) (synced metadata))) (synced cache) (only content ∷ synced sectors) (words 1 1 1) desk_then (over Flush (task_job shape0 [] Flush []))
 
-  abbrev settled : State P A
-  settled = durable P A global cache_blocks meta_sectors within threshold others desk m1 (synced zeros) (all_resting rest) leads.card history sectors sectors (replicate 63 0) (replicate 63 0) doings known quiet may
+  abbrev notes : History → (last : ℕ) → Option Doing → Notes
+  notes history last doing = record { histories = history ∷ histories; finished = last ∷ finished; floors = 0 ∷ floors; doings = doing ∷ doings }
 
-  abbrev desk2 : DeskState P
-  desk2 = (target_in settled.phase desk).desk
+  abbrev doing_at : Job → List Reading → List Position → (last : ℕ) → Option Doing
+  doing_at job readings entered last = Some (record { job = job; readings = readings; entered = entered; then_finished = last ∷ finished; failed = [] })
 
-  abbrev settled_known : IsKnown P A shape settled
-  settled_known = durable_known P A global cache_blocks meta_sectors within threshold others desk m1 (synced zeros) (all_resting rest) leads.card history sectors sectors (replicate 63 0) (replicate 63 0) doings known quiet may
+  abbrev n0 : Notes
+  n0 = notes (only first) 0 None
 
-  settled_quiet : Quiet shape.geometry settled_known.images desk2 settled.devices.metadata
-  settled_quiet = durable_quiet P A global cache_blocks meta_sectors within threshold others desk m1 (synced zeros) (all_resting rest) leads.card history sectors sectors (replicate 63 0) (replicate 63 0) doings known quiet may
+  abbrev n1 : Notes
+  n1 = notes history 0 (doing_at (Write first_sector content) [] (record { sector = 0; position = 1 } ∷ []) 0)
 
-  settled_is : (card : Card) × (settled ≡ rested P A settled.devices.metadata settled.devices.cache (only content ∷ synced sectors) desk2 card (all_resting rest))
-  settled_is = durable_is P A global cache_blocks meta_sectors within threshold others desk m1 (synced zeros) (all_resting rest) leads.card history sectors sectors (replicate 63 0) (replicate 63 0) doings known quiet may
+  abbrev n2 : Notes
+  n2 = notes history 1 (doing_at (Read first_sector) (record { sector = 0; content = content; latest = Some content } ∷ []) [] 1)
 
-  generation : desk.generation ≡ formatted.root.generation + 1
-  generation = refl
+  abbrev n3 : Notes
+  n3 = notes history 1 (doing_at Flush [] [] 1)
 
-  settled_root : settled_quiet.stored.root ≡ bare_root shape.geometry (desk.generation + 1)
-  settled_root = root_there m1 (bare_root shape.geometry (desk.generation + 1)) settled_quiet.stored.root
-      (omega (arith, quiet.stores.size, ap (λ (g : Geometry). g.meta_sectors) quiet.same, within.meta_from)) (omega (arith, generation, formatted.first.generation)) (sym settled_quiet.generation)
-      ((settled_quiet.stores.represents (map newest settled.devices.metadata) (read-left settled.devices.metadata)).newest)
+  -- ---- what happens
 
-  -- ---- the second opening
+  -- a read or write of the first sector, where its block stands on the origin
+  abbrev starting : Job → List (Move P A) → List (Move P A)
+  starting job moves = Gets job (Cut (first_sector ∷ [])) ∷ goes 5 moves
 
-  abbrev m3 : List History
-  m3 = crashed Metadata nothing_lands settled.devices.metadata
+  abbrev writing : List (Move P A)
+  writing = starting (Write first_sector content) (Moves ∷ goes 3 [])
 
-  crash_of : Crashed settled.devices.metadata m3
-  crash_of = Crashed-crashed_from Metadata nothing_lands 0 settled.devices.metadata
+  abbrev reading : List (Move P A)
+  reading = goes 1 (starting (Read first_sector) (Reads content ∷ goes 2 []))
 
-  none3 : HasNoTree shape.geometry m3
-  none3 = none_after P shape.geometry settled_known.images desk2 settled.devices.metadata m3 settled_quiet (ap (λ (r : Root). r.top) settled_root) (omega (arith, ap (λ (r : Root). r.generation) settled_root, generation, formatted.first.generation)) crash_of
+  abbrev idle_there : Card → Idle P
+  idle_there card = record { global = global; shape = shape0; words = words 1 1 1; desk = desk P 0 s; devices = was_read.devices; actor = record { task = None; card = card; orders = []; awaiting = []; buffer = [] }; rest = s.rest }
 
-  size3 : length m3 ≡ meta_sectors
-  size3 = crash_of.size ∙ settled_quiet.stores.size ∙ ap (λ (g : Geometry). g.meta_sectors) settled_quiet.same
+  abbrev flush : List (Move P A)
+  flush = goes 1 (flushing P A (idle_there blank_card))
 
-  abbrev cache3 : List History
-  cache3 = crashed Cache nothing_lands settled.devices.cache
+  abbrev failing : List (Move P A)
+  failing = goes 1 (starting (Write first_sector other) (Fails nothing_lands ∷ []))
 
-  abbrev origin3 : List History
-  origin3 = only content ∷ crashed_from Origin nothing_lands 1 (synced sectors)
+  abbrev crash : List (Move P A)
+  crash = Stops nothing_lands ∷ []
 
-  abbrev again : List (Happening P A)
-  again = first_opening P A policy alloc global shape m3 cache3 origin3 none3 size3 (all_resting (all_resting rest))
+  writing_leads : (card : Card) → Leads P A 0 s (at P A 0 s opened0 card) writing wrote
+  writing_leads card = goes_to P A 0 s _ _ _ ((refl, uncut first_sector (omega arith)) ⨟ (tt, omega arith) ⨟ tt) refl
 
-  abbrev at_last : State P A
-  at_last = after_all shape (record { devices = record { metadata = m3; cache = cache3; origin = origin3 }; commit = None; phase = Gone; actors = resting ∷ all_resting (all_resting rest) }) again
+  reading_leads : (card : Card) → Leads P A 0 s (at P A 0 s wrote card) reading was_read
+  reading_leads card = goes_to P A 0 s _ _ _ ((refl, uncut first_sector (omega arith)) ⨟ (tt, refl, refl, refl, ((_, refl, refl), tt)) ⨟ tt) refl
 
-  abbrev desk3 : DeskState P
-  desk3 = (opened_target P A policy alloc global shape m3 cache3 origin3 none3 size3 (all_resting (all_resting rest))).desk
+  flush_leads : (card : Card) → IsKnown P A shape0 (at P A 0 s was_read card) → Leads P A 0 s (at P A 0 s was_read card) flush durable
+  flush_leads card known = goes_to P A 0 s _ _ _ (flushing_may P A (idle_there card) (record { images = known.images; known = known.known; entries = refl }) (record { idle = refl; next = omega (arith, s.later) })) refl
 
-  shows_last : shown shape at_last ≡ map newest (synced origin3)
-  shows_last = ap (λ (w : State P A). shown shape w) (opened_is P A policy alloc global shape m3 cache3 origin3 none3 size3 (all_resting (all_resting rest)))
-      ∙ origin_shown shape desk3.tree.entries (map newest (synced cache3)) (map newest (synced origin3)) cache_blocks (opened_known P A policy alloc global shape m3 cache3 origin3 none3 size3 (all_resting (all_resting rest))).entries refl
+  failing_may : (card : Card) → MayGo global shape0 (at P A 0 s durable card) failing
+  failing_may card = (refl, uncut first_sector (omega arith)) ⨟ (may_fail _, (refl, tt)) ⨟ tt
 
-  last_shown : slice_get (shown shape at_last) 0 ≡ Some content
-  last_shown = ap (λ (ss : List Bytes). slice_get ss 0) shows_last
+  keeps : (device : Dev) (sectors : List History) → Applies device nothing_lands sectors
+  keeps device sectors = record { inside = All-nil _; there = λ at h e. omega arith }
 
-  -- ---- the whole run
+  -- ---- the second opening, which finds the root of the flush, and shows the origin, since nothing is cached
 
-  abbrev ends : Happening P A
-  ends = does P A global cache_blocks meta_sectors within threshold others (End Finished) Done
+  module _ (size : length metadata ≡ s.sizes.meta_sectors) (many : length sectors ≡ 63) (card : Card) (known : IsKnown P A shape0 (at P A 0 s durable card)) where
+    abbrev settled : State P A
+    settled = at P A 0 s durable card
 
-  abbrev failing : List (Happening P A)
-  failing = fails P A global cache_blocks meta_sectors within threshold others desk2 settled.devices.metadata settled.devices.cache (all_resting rest) settled_is.0 other (only content) (synced sectors) sectors history (replicate 63 0) (greater_of (replicate 63 0) (replicate 63 0)) doings
+    abbrev down_again : State P A
+    down_again = lead (lead settled failing) crash
 
-  abbrev crashes : Happening P A
-  crashes = crash P A global cache_blocks meta_sectors within threshold others desk2 settled.devices.metadata settled.devices.cache (all_resting rest) settled_is.0 other (only content) (synced sectors) sectors history (replicate 63 0) (greater_of (replicate 63 0) (replicate 63 0)) doings
+    quiet : Quiet shape0.geometry known.images desk_then settled.devices.metadata
+    quiet = elim known.known.stands [ inl q ↦ q | inr broken ↦ absurd (let busy = broken.busy in cc) ]
 
-  idle_is_then : after_all shape (after_all shape (after_all shape from wrote) read) (ends ∷ []) ≡ rested P A m1 (synced zeros) (history ∷ sectors) desk leads.card (all_resting rest)
-  idle_is_then = sym (after_append shape (after_all shape from wrote) read (ends ∷ [])) ∙ sym (after_append shape from wrote (read ++ ends ∷ [])) ∙ leads.is
+    root_is : quiet.stored.root ≡ bare_root shape0.geometry (s.generation + 1)
+    root_is = root_there metadata (bare_root shape0.geometry (s.generation + 1)) quiet.stored.root (omega (arith, size, s.sizes.within.meta_from)) (omega (arith, s.later)) (sym quiet.generation)
+        ((quiet.stores.represents (map newest settled.devices.metadata) (read-left settled.devices.metadata)).newest)
 
-  -- what is so after each stretch
-  abbrev WasOpened : State P A → Notes → Type 0
-  WasOpened w n = OfTarget w.phase (λ target. Unit {0}) × (slice_get (shown shape w) 0 ≡ Some content)
+    crash_of : Crashed settled.devices.metadata down_again.devices.metadata
+    crash_of = Crashed-crashed_from Metadata nothing_lands 0 settled.devices.metadata
 
-  abbrev HasFailed : State P A → Notes → Type 0
-  HasFailed w n = FirstDoes n (λ doing. (doing.job ≡ Write first_sector other) × (doing.failed ≡ Origin ∷ [])) × (slice_get n.floors 0 ≡ Some 1)
+    abbrev again : Down P A
+    again = record {
+      policy = policy;
+      alloc = alloc;
+      global = global;
+      shape = shape0;
+      metadata = crashed Metadata nothing_lands settled.devices.metadata;
+      cache = crashed Cache nothing_lands settled.devices.cache;
+      origin = only content ∷ crashed_from Origin nothing_lands 1 (synced sectors);
+      none = none_after P shape0.geometry known.images desk_then settled.devices.metadata down_again.devices.metadata quiet (ap (λ (r : Root). r.top) root_is) (omega (arith, ap (λ (r : Root). r.generation) root_is, s.later)) crash_of;
+      size = crash_of.size ∙ quiet.stores.size ∙ ap (λ (g : Geometry). g.meta_sectors) quiet.same;
+      rest = all_resting s.rest;
+    }
 
-  abbrev IsDurable : State P A → Notes → Type 0
-  IsDurable w n = AboutToAnswer Flush w × (slice_get n.finished 0 ≡ Some 1) × (slice_get n.floors 0 ≡ Some 0)
+    last_shown : slice_get (shown shape0 (ends global shape0 (down P A again) (opening P A again))) 0 ≡ Some content
+    last_shown = ap (λ (w : State P A). slice_get (shown shape0 w) 0) (opened_is P A again)
+        ∙ ap (λ (ss : List Bytes). slice_get ss 0) (origin_shown shape0 (target P A again).desk.tree.entries (map newest (synced again.cache)) (map newest (synced again.origin)) shape0.geometry.cache_blocks (bare P A again).entries
+        (length-map (synced again.origin) newest ∙ length-map again.origin (λ (h : History). only (newest h)) ∙ ap (λ (n : ℕ). suc n) ((Crashed-crashed_from Origin nothing_lands 1 (synced sectors)).size ∙ length-map sectors (λ (h : History). only (newest h)) ∙ many)))
 
-  abbrev IsGone : State P A → Notes → Type 0
-  IsGone w n = w.phase ≡ Gone
+    last_stretches : PassesThrough shape0 settled n3 (drop 3 conditions)
+    last_stretches = (
+      played global shape0 settled failing,
+      goes_on global shape0 settled failing (failing_may card),
+      ((refl, refl), refl),
+      (
+        played global shape0 (lead settled failing) crash,
+        goes_on global shape0 (lead settled failing) crash (record { metadata = keeps Metadata _; cache = keeps Cache _; origin = keeps Origin _ } ⨟ tt),
+        refl,
+        (played global shape0 (down P A again) (opening P A again), goes_on global shape0 (down P A again) (opening P A again) (opening_may P A again), (tt, last_shown), tt),
+      ),
+    )
 
-  -- ---- from the last stretch to the first
+  pub survives : length metadata ≡ s.sizes.meta_sectors → length sectors ≡ 63 → FromNoted P A 0 s opened0 n0 conditions
+  survives size many c0 known = noted_stretch P A 0 s opened0 wrote writing n0 n1 conditions c0 known (writing_leads c0) refl (λ c. (refl, refl)) (λ c1 known1.
+      noted_stretch P A 0 s wrote was_read reading n1 n2 (drop 1 conditions) c1 known1 (reading_leads c1) refl (λ c. ((refl, refl), refl)) (λ c2 known2.
+      noted_stretch P A 0 s was_read durable flush n2 n3 (drop 2 conditions) c2 known2 (flush_leads c2 known2) refl (λ c. ((refl, refl), refl, refl)) (last_stretches size many)))
 
-  abbrev idle : State P A
-  idle = idle_state P A global cache_blocks meta_sectors within threshold others desk m1 (synced zeros) (all_resting rest) leads.card history sectors sectors (replicate 63 0) (replicate 63 0) doings known quiet may
+-- what is noted once the first opening was answered: of each sector what is shown of it
+module _ (P A : Type 0) (f : Formatted P A 0) where
+  abbrev sectors_then : List History
+  sectors_then = synced (replicate 63 blank)
 
-  abbrev idle_n : Notes
-  idle_n = idle_notes P A global cache_blocks meta_sectors within threshold others desk m1 (synced zeros) (all_resting rest) leads.card history sectors sectors (replicate 63 0) (replicate 63 0) doings known quiet may
+  abbrev contents_then : List Bytes
+  contents_then = map newest sectors_then
 
-  abbrev calm : State P A
-  calm = durable_state P A global cache_blocks meta_sectors within threshold others desk2 settled.devices.metadata settled.devices.cache (all_resting rest) settled_is.0 other (only content) (synced sectors) sectors history (replicate 63 0) (greater_of (replicate 63 0) (replicate 63 0)) doings
+  abbrev finished_then : List ℕ
+  finished_then = map (λ (c : Bytes). 0) contents_then
 
-  abbrev calm_n : Notes
-  calm_n = durable_notes P A global cache_blocks meta_sectors within threshold others desk2 settled.devices.metadata settled.devices.cache (all_resting rest) settled_is.0 other (only content) (synced sectors) sectors history (replicate 63 0) (greater_of (replicate 63 0) (replicate 63 0)) doings
+  abbrev nobody_else : List (Option Doing)
+  nobody_else = replicate (length (nobody (replicate f.sizes.others None))) None
 
-  abbrev down : State P A
-  down = record { devices = record { metadata = m3; cache = cache3; origin = origin3 }; commit = None; phase = Gone; actors = resting ∷ all_resting (all_resting rest) }
+  abbrev down0 : Down P A
+  down0 = down_at P A 0 f
 
-  last_stretch : (n : Notes) → PassesThrough shape (after_all shape (after_all shape calm failing) (crashes ∷ [])) n ((again, WasOpened) ∷ [])
-  last_stretch n = along shape (after_all shape (after_all shape calm failing) (crashes ∷ [])) down n n [] again WasOpened [] (crashed_is P A global cache_blocks meta_sectors within threshold others desk2 settled.devices.metadata settled.devices.cache (all_resting rest) settled_is.0 other (only content) (synced sectors) sectors history (replicate 63 0) (greater_of (replicate 63 0) (replicate 63 0)) doings) refl tt (opens_run P A policy alloc global shape m3 cache3 origin3 none3 size3 (all_resting (all_resting rest)))
-      (opens_stands P A policy alloc global shape m3 cache3 origin3 none3 size3 (all_resting (all_resting rest)), last_shown) tt
+  noted_then : noted (shape_at P A 0 f) (down P A down0) (formatted (shape_at P A 0 f)) (opening_run P A 0 f)
+      ≡ record { histories = only (newest blank) ∷ map only contents_then; finished = 0 ∷ finished_then; floors = 0 ∷ finished_then; doings = None ∷ nobody_else }
+  noted_then = ap (λ (ss : List Bytes). begins (suc (length (nobody (replicate f.sizes.others None)))) ss) (
+      ap (λ (w : State P A). shown (shape_at P A 0 f) w) (opened_is P A down0)
+      ∙ origin_shown (shape_at P A 0 f) (target P A down0).desk.tree.entries (map newest (devices P A 0 f).cache) (map newest (devices P A 0 f).origin) (suc f.sizes.k) (bare P A down0).entries refl)
 
-  crash_stretch : PassesThrough shape (after_all shape calm failing) (noted shape calm calm_n failing) ((crashes ∷ [], IsGone) ∷ (again, WasOpened) ∷ [])
-  crash_stretch = (crash_run P A global cache_blocks meta_sectors within threshold others desk2 settled.devices.metadata settled.devices.cache (all_resting rest) settled_is.0 other (only content) (synced sectors) sectors history (replicate 63 0) (greater_of (replicate 63 0) (replicate 63 0)) doings, ap (λ (w : State P A). w.phase) (crashed_is P A global cache_blocks meta_sectors within threshold others desk2 settled.devices.metadata settled.devices.cache (all_resting rest) settled_is.0 other (only content) (synced sectors) sectors history (replicate 63 0) (greater_of (replicate 63 0) (replicate 63 0)) doings), last_stretch (noted shape (after_all shape calm failing) (noted shape calm calm_n failing) (crashes ∷ [])))
-
-  fail_stretch : PassesThrough shape (after_all shape idle flushed) (noted shape idle idle_n flushed) ((ends ∷ failing, HasFailed) ∷ (crashes ∷ [], IsGone) ∷ (again, WasOpened) ∷ [])
-  fail_stretch = along shape (after_all shape idle flushed) calm (noted shape idle idle_n flushed) calm_n (ends ∷ []) failing HasFailed ((crashes ∷ [], IsGone) ∷ (again, WasOpened) ∷ []) settled_is.1 (durable_noted P A global cache_blocks meta_sectors within threshold others desk m1 (synced zeros) (all_resting rest) leads.card history sectors sectors (replicate 63 0) (replicate 63 0) doings known quiet may) (flush_answer P A global cache_blocks meta_sectors within threshold others desk m1 (synced zeros) (all_resting rest) leads.card history sectors sectors (replicate 63 0) (replicate 63 0) doings known quiet may, tt)
-      (fails_run P A global cache_blocks meta_sectors within threshold others desk2 settled.devices.metadata settled.devices.cache (all_resting rest) settled_is.0 other (only content) (synced sectors) sectors history (replicate 63 0) (greater_of (replicate 63 0) (replicate 63 0)) doings) (fails_then P A global cache_blocks meta_sectors within threshold others desk2 settled.devices.metadata settled.devices.cache (all_resting rest) settled_is.0 other (only content) (synced sectors) sectors history (replicate 63 0) (greater_of (replicate 63 0) (replicate 63 0)) doings) crash_stretch
-
-  flush_stretch : PassesThrough shape (after_all shape (after_all shape from wrote) read) (noted shape (after_all shape from wrote) (noted shape from n1 wrote) read)
-      ((ends ∷ flushed, IsDurable) ∷ (ends ∷ failing, HasFailed) ∷ (crashes ∷ [], IsGone) ∷ (again, WasOpened) ∷ [])
-  flush_stretch = along shape (after_all shape (after_all shape from wrote) read) idle (noted shape (after_all shape from wrote) (noted shape from n1 wrote) read) idle_n (ends ∷ []) flushed IsDurable ((ends ∷ failing, HasFailed) ∷ (crashes ∷ [], IsGone) ∷ (again, WasOpened) ∷ [])
-      idle_is_then (idle_noted P A global cache_blocks meta_sectors within threshold others desk m1 (synced zeros) (all_resting rest) content first sectors sectors (replicate 63 0) (replicate 63 0) doings) (read_answer P A global cache_blocks meta_sectors within threshold others desk m1 (synced zeros) (all_resting rest) content first sectors sectors (replicate 63 0) (replicate 63 0) doings, tt) (flushes_run P A global cache_blocks meta_sectors within threshold others desk m1 (synced zeros) (all_resting rest) leads.card history sectors sectors (replicate 63 0) (replicate 63 0) doings known quiet may) (flushes_answer P A global cache_blocks meta_sectors within threshold others desk m1 (synced zeros) (all_resting rest) leads.card history sectors sectors (replicate 63 0) (replicate 63 0) doings known quiet may, (flushes_then P A global cache_blocks meta_sectors within threshold others desk m1 (synced zeros) (all_resting rest) leads.card history sectors sectors (replicate 63 0) (replicate 63 0) doings known quiet may).0, (flushes_then P A global cache_blocks meta_sectors within threshold others desk m1 (synced zeros) (all_resting rest) leads.card history sectors sectors (replicate 63 0) (replicate 63 0) doings known quiet may).1) fail_stretch
-
-  pub survives : Survives P A shape metadata content other
-  survives = record {
-    writing = opening ++ wrote;
-    reading = read;
-    flushing = ends ∷ flushed;
-    failing = ends ∷ failing;
-    crashing = crashes ∷ [];
-    opening = again;
-    passes = along shape (start shape metadata) from (formatted_notes shape) n1 opening wrote (λ w n. AboutToAnswer (Write first_sector content) w)
-        ((read, λ w n. AboutToAnswer (Read first_sector) w × FirstDoes n (λ doing. doing.readings ≡ record { sector = 0; content = content; latest = Some content } ∷ [])) ∷ (ends ∷ flushed, IsDurable) ∷ (ends ∷ failing, HasFailed) ∷ (crashes ∷ [], IsGone) ∷ (again, WasOpened) ∷ [])
-        opened_from opened_notes opening_run (writes_run P A global cache_blocks meta_sectors within threshold others desk m1 (synced zeros) (all_resting rest) content first sectors sectors (replicate 63 0) (replicate 63 0) doings) (writes_then P A global cache_blocks meta_sectors within threshold others desk m1 (synced zeros) (all_resting rest) content first sectors sectors (replicate 63 0) (replicate 63 0) doings) (reads_run P A global cache_blocks meta_sectors within threshold others desk m1 (synced zeros) (all_resting rest) content first sectors sectors (replicate 63 0) (replicate 63 0) doings, reads_then P A global cache_blocks meta_sectors within threshold others desk m1 (synced zeros) (all_resting rest) content first sectors sectors (replicate 63 0) (replicate 63 0) doings, flush_stretch);
-  }
+  pub survives_from : (content other : Bytes) → Whole P A 0 f (to_survive (shape_at P A 0 f) content other)
+  survives_from content other = from_opened P A 0 f (to_survive (shape_at P A 0 f) content other) (λ n e.
+      subst (λ (m : Notes). PassesThrough (shape_at P A 0 f) (opened_at P A 0 f) m (to_survive (shape_at P A 0 f) content other)) (sym (e ∙ noted_then))
+      (survives P A f.policy f.alloc (setting P A 0 f) (devices P A 0 f).metadata (devices P A 0 f).cache sectors_then (map only contents_then) (newest blank) finished_then finished_then nobody_else content other (devices_size P A 0 f) refl blank_card (known_at P A 0 f)))
 
 pub can_survive : (P A : Type 0) → CanSurvive P A
-can_survive P A policy reading begun cache_blocks meta_sectors within threshold others metadata content other formatted size = by_reading reading begun
-  where
-    by_reading : (r : ReadSteps A) → sectors_read r ≡ 0 → Survives P A (record { geometry = one_block cache_blocks meta_sectors within; threshold = threshold; actors = suc others }) metadata content other
-    by_reading (Begun alloc global) e = survives P A policy alloc global cache_blocks meta_sectors within threshold others metadata content other formatted size
-    by_reading (FirstSlotRead alloc global found) e = absurd (omega (arith, e))
-    by_reading (RootFound global root loader) e = absurd (omega (arith, e))
-    by_reading (AllRead state) e = absurd (omega (arith, e))
+can_survive P A content other = small_can P A 0 0 (λ shape. to_survive shape content other) (λ f room. survives_from P A f content other)

@@ -1,8 +1,6 @@
 -- That the promises are not empty: runs that pass through what they speak of.
-use Rattle.std.specs.Prelude.{true, false, ◌≡◌, ◌≤◌, ◌∷◌, ℕ, suc, List, [], Some, None, length, slice_get}
-use Rattle.wb_types.specs.Limits.{IsWithinLimits}
+use Rattle.std.specs.Prelude.{true, false, ◌≡◌, ◌≤◌, ◌∷◌, ℕ, List, [], Some, None, length, slice_get}
 use Rattle.wb_types.specs.declared.extent.Extent.{Extent}
-use Rattle.wb_types.specs.declared.geometry.Geometry.{Geometry}
 use Rattle.wb_types.specs.declared.mode.Dev.TheVariants.{Origin}
 use Rattle.wb_types.specs.declared.refusal.Refusal.TheVariants.{Memory}
 use Rattle.wb_types.specs.declared.number.OBlock.{OBlock}
@@ -22,216 +20,201 @@ use Rattle.wb_meta.specs.declared.read_steps.ReadSteps.{ReadSteps}
 use Rattle.wb_tasks.specs.Plan.{want}
 use Rattle.wb_tasks.specs.declared.step.Answer.TheVariants.{Done as Finished, Refused as IsRefused}
 use Rattle.wb_tasks.specs.declared.step.DeskStep.TheVariants.{ReleaseOrder}
+use Rattle.wb_tasks.specs.declared.step.Want.{Want}
 use Rattle.wb_tasks.specs.declared.step.Want.TheVariants.{Desk, End}
 use Rattle.wb_promise.specs.declared.job.Job.{Job}
 use Rattle.wb_promise.specs.declared.job.Job.TheVariants.{Read, Write, Flush, Migrate}
-use Rattle.wb_promise.specs.States.{Shape, State, Gone, OfTarget, start}
-use Rattle.wb_promise.specs.Happenings.{Happening, AtWork, OfSome}
-use Rattle.wb_promise.specs.Effects.{after_all, IsRun}
+use Rattle.wb_promise.specs.States.{Shape, State, Target, Gone, OfTarget, start}
+use Rattle.wb_promise.specs.Happenings.{Happening, AtWork, OfSome, May}
+use Rattle.wb_promise.specs.Effects.{after_happening, after_all, IsRun}
 use Rattle.wb_promise.specs.Clerk.{Notes, Doing, formatted}
 use Rattle.wb_promise.specs.Headline.{place_of, shown, noted}
 
--- a run after which a target stands, as an opening was answered done
-pub record Opens (P A : Type 0) (shape : Shape) (metadata : List History) : Type 0 where
-  pub happenings : List (Happening P A)
-  pub is_run : IsRun shape (start shape metadata) happenings
-  pub stands : OfTarget (after_all shape (start shape metadata) happenings).phase (λ target. Unit {0})
+-- ---- runs
 
--- From any formatted metadata there is such a run, where there is somebody to open, a policy and a reading that has read nothing.
-abbrev pub CanOpen : (P A : Type 0) → Type 0
-CanOpen P A = (policy : P) (reading : ReadSteps A) → sectors_read reading ≡ 0 → (shape : Shape) (metadata : List History) → 1 ≤ shape.actors → IsFormatted shape.geometry metadata → length metadata ≡ shape.geometry.meta_sectors → Opens P A shape metadata
+-- There is a run that passes through these conditions: a stretch of it after which the first holds, one behind that after which the second
+-- does, and so on.
+abbrev pub PassesThrough : {P A : Type 0} → Shape → State P A → Notes → List (State P A → Notes → Type 0) → Type 0
+PassesThrough shape w n [] = Unit {0}
+PassesThrough {P} {A} shape w n (Is ∷ conditions) = (stretch : List (Happening P A)) × IsRun shape w stretch × Is (after_all shape w stretch) (noted shape w n stretch)
+    × PassesThrough shape (after_all shape w stretch) (noted shape w n stretch) conditions
 
--- a run after which the first actor's flush is answered done at its next step
-pub record Flushes (P A : Type 0) (shape : Shape) (metadata : List History) : Type 0 where
-  pub happenings : List (Happening P A)
-  pub is_run : IsRun shape (start shape metadata) happenings
-  pub answers : AtWork (after_all shape (start shape metadata) happenings) 0 (λ job s. (job ≡ Flush) × (want s ≡ End Finished))
+-- one thing more may happen, and then this holds
+abbrev pub NextMay : {P A : Type 0} → Shape → State P A → (State P A → Type 0) → Type 0
+NextMay {P} {A} shape w Is = (h : Happening P A) × May shape w h × Is (after_happening shape w h)
 
-abbrev pub CanFlush : (P A : Type 0) → Type 0
-CanFlush P A = (policy : P) (reading : ReadSteps A) → sectors_read reading ≡ 0 → (shape : Shape) (metadata : List History) → 1 ≤ shape.actors → IsFormatted shape.geometry metadata → length metadata ≡ shape.geometry.meta_sectors → Flushes P A shape metadata
+-- Where there are a policy and a reading that has read nothing, there is such a run from any formatted metadata, over a shape of which this holds.
+abbrev pub CanPass : (P A : Type 0) → (Shape → Type 0) → (Shape → List (State P A → Notes → Type 0)) → Type 0
+CanPass P A Suits conditions = (policy : P) (reading : ReadSteps A) → sectors_read reading ≡ 0 → (shape : Shape) (metadata : List History) → Suits shape
+    → IsFormatted shape.geometry metadata → length metadata ≡ shape.geometry.meta_sectors → PassesThrough shape (start shape metadata) (formatted shape) (conditions shape)
 
--- the fewest sectors that an origin may have: one block of 64
-abbrev pub one_block : (cache_blocks meta_sectors : ℕ) → IsWithinLimits 64 cache_blocks 1 meta_sectors → Geometry
-one_block cache_blocks meta_sectors within = record { block = 64; cache_blocks = cache_blocks; origin_blocks = 1; meta_sectors = meta_sectors; within = within }
+-- somebody is there
+abbrev pub HasActors : Shape → Type 0
+HasActors shape = 1 ≤ shape.actors
 
--- its first sector
+-- Somebody is there; the origin has so many blocks, of the fewest sectors that a block may have; and orders may ask for so many sectors at once.
+pub record IsSmall (blocks asked : ℕ) (shape : Shape) : Type 0 where
+  pub actors : 1 ≤ shape.actors
+  pub block : shape.geometry.block ≡ 64
+  pub origin : shape.geometry.origin_blocks ≡ blocks
+  pub room : asked ≤ shape.threshold
+
+-- ---- what is so in a state
+
 abbrev pub first_sector : Extent
 first_sector = record { first = 0; count = 1 }
 
--- Stretches of a run, each with what is so once it is over.
-abbrev pub PassesThrough : {P A : Type 0} → Shape → State P A → Notes → List (List (Happening P A) × (State P A → Notes → Type 0)) → Type 0
-PassesThrough shape w n [] = Unit {0}
-PassesThrough shape w n (stretch ∷ stretches) = IsRun shape w stretch.0 × stretch.1 (after_all shape w stretch.0) (noted shape w n stretch.0)
-    × PassesThrough shape (after_all shape w stretch.0) (noted shape w n stretch.0) stretches
-
--- the first actor's next step is to answer its job done
-abbrev pub AboutToAnswer : {P A : Type 0} → Job → State P A → Type 0
-AboutToAnswer job w = AtWork w 0 (λ at s. (at ≡ job) × (want s ≡ End Finished))
-
--- the first actor is noted to be at something of which this holds
-abbrev pub FirstDoes : Notes → (Doing → Type 0) → Type 0
-FirstDoes n on = OfSome (slice_get n.doings 0) (λ noted. OfSome noted on)
-
--- A run over such a geometry that passes through an opening and a write that is answered done, a read that is given what was written,
--- a flush by which it is durable, a write of something else that fails, a crash, and a second opening, which shows the first write.
-pub record Survives (P A : Type 0) (shape : Shape) (metadata : List History) (content other : Bytes) : Type 0 where
-  pub writing : List (Happening P A)
-  pub reading : List (Happening P A)
-  pub flushing : List (Happening P A)
-  pub failing : List (Happening P A)
-  pub crashing : List (Happening P A)
-  pub opening : List (Happening P A)
-  pub passes : PassesThrough shape (start shape metadata) (formatted shape) (
-      (writing, λ w n. AboutToAnswer (Write first_sector content) w)
-      ∷ (reading, λ w n. AboutToAnswer (Read first_sector) w × FirstDoes n (λ doing. doing.readings ≡ record { sector = 0; content = content; latest = Some content } ∷ []))
-      ∷ (flushing, λ w n. AboutToAnswer Flush w × (slice_get n.finished 0 ≡ Some 1) × (slice_get n.floors 0 ≡ Some 0))
-      ∷ (failing, λ w n. FirstDoes n (λ doing. (doing.job ≡ Write first_sector other) × (doing.failed ≡ Origin ∷ [])) × (slice_get n.floors 0 ≡ Some 1))
-      ∷ (crashing, λ w n. w.phase ≡ Gone)
-      ∷ (opening, λ w n. OfTarget w.phase (λ target. Unit {0}) × (slice_get (shown shape w) 0 ≡ Some content))
-      ∷ [])
-
--- There is one for any formatted metadata, a policy and a reading that has read nothing, and any two contents.
-abbrev pub CanSurvive : (P A : Type 0) → Type 0
-CanSurvive P A = (policy : P) (reading : ReadSteps A) → sectors_read reading ≡ 0 → (cache_blocks meta_sectors : ℕ) (within : IsWithinLimits 64 cache_blocks 1 meta_sectors) (threshold others : ℕ) (metadata : List History) (content other : Bytes)
-    → IsFormatted (one_block cache_blocks meta_sectors within) metadata → length metadata ≡ meta_sectors
-    → Survives P A (record { geometry = one_block cache_blocks meta_sectors within; threshold = threshold; actors = suc others }) metadata content other
-
--- the first block of the origin, and that of the cache
 abbrev pub first_block : OBlock
 first_block = record { 0 = 0 }
 
-abbrev pub first_cache_block : CBlock
-first_cache_block = record { 0 = 0 }
-
--- A run after which a promotion of the first block is answered done at the next step of the first actor: the block stands in the first
--- cache block, and no order lives there any more.
-pub record Promotes (P A : Type 0) (shape : Shape) (metadata : List History) : Type 0 where
-  pub happenings : List (Happening P A)
-  pub is_run : IsRun shape (start shape metadata) happenings
-  pub answers : AboutToAnswer (Migrate (Promote first_cache_block) first_block) (after_all shape (start shape metadata) happenings)
-  pub stands : OfTarget (after_all shape (start shape metadata) happenings).phase (λ target. (place_of target.desk.tree.entries 0 ≡ Some 0) × (order_at target.desk.orders.slots 0 ≡ None))
-
--- There is one over the smallest origin, where orders may ask for a block at once.
-abbrev pub CanPromote : (P A : Type 0) → Type 0
-CanPromote P A = (policy : P) (reading : ReadSteps A) → sectors_read reading ≡ 0 → (cache_blocks meta_sectors : ℕ) (within : IsWithinLimits 64 cache_blocks 1 meta_sectors) (threshold others : ℕ) (metadata : List History) → 64 ≤ threshold
-    → IsFormatted (one_block cache_blocks meta_sectors within) metadata → length metadata ≡ meta_sectors
-    → Promotes P A (record { geometry = one_block cache_blocks meta_sectors within; threshold = threshold; actors = suc others }) metadata
-
--- A run after which a demotion of the first block, which was promoted before, is answered done at the next step of the first actor: the block
--- stands nowhere, no order lives on its cache block, and that is in quarantine until a commit that has still to begin has ended.
-pub record Demotes (P A : Type 0) (shape : Shape) (metadata : List History) : Type 0 where
-  pub happenings : List (Happening P A)
-  pub is_run : IsRun shape (start shape metadata) happenings
-  pub answers : AboutToAnswer (Migrate Demote first_block) (after_all shape (start shape metadata) happenings)
-  pub stands : OfTarget (after_all shape (start shape metadata) happenings).phase (λ target. (place_of target.desk.tree.entries 0 ≡ None) × (order_at target.desk.orders.slots 0 ≡ None) × (slice_get target.desk.space.blocks 0 ≡ Some (Quarantined false false)))
-
-abbrev pub CanDemote : (P A : Type 0) → Type 0
-CanDemote P A = (policy : P) (reading : ReadSteps A) → sectors_read reading ≡ 0 → (cache_blocks meta_sectors : ℕ) (within : IsWithinLimits 64 cache_blocks 1 meta_sectors) (threshold others : ℕ) (metadata : List History) → 64 ≤ threshold
-    → IsFormatted (one_block cache_blocks meta_sectors within) metadata → length metadata ≡ meta_sectors
-    → Demotes P A (record { geometry = one_block cache_blocks meta_sectors within; threshold = threshold; actors = suc others }) metadata
-
--- an origin of two blocks of 64 sectors
-abbrev pub two_blocks : (cache_blocks meta_sectors : ℕ) → IsWithinLimits 64 cache_blocks 2 meta_sectors → Geometry
-two_blocks cache_blocks meta_sectors within = record { block = 64; cache_blocks = cache_blocks; origin_blocks = 2; meta_sectors = meta_sectors; within = within }
-
 abbrev pub second_block : OBlock
 second_block = record { 0 = 1 }
+
+abbrev pub first_cache_block : CBlock
+first_cache_block = record { 0 = 0 }
 
 -- the order by which the first block leaves the first cache block, and the second follows
 abbrev pub replacement : Order
 replacement = ReplaceOrder first_block second_block first_cache_block
 
--- the first actor has these orders, and these wait for its flush
+-- a target stands, of which this holds
+abbrev pub TargetHas : {P A : Type 0} → State P A → (Target P → Type 0) → Type 0
+TargetHas w on = OfTarget w.phase on
+
+-- the first actor is at this job, and wants this next
+abbrev pub FirstWants : {P A : Type 0} → Job → Want → State P A → Type 0
+FirstWants job next w = AtWork w 0 (λ at s. (at ≡ job) × (want s ≡ next))
+
+-- its next step is to answer its job done
+abbrev pub AboutToAnswer : {P A : Type 0} → Job → State P A → Type 0
+AboutToAnswer job w = FirstWants job (End Finished) w
+
+-- it is at this job
+abbrev pub FirstIsAt : {P A : Type 0} → Job → State P A → Type 0
+FirstIsAt job w = AtWork w 0 (λ at s. at ≡ job)
+
+-- it is noted to be at something of which this holds
+abbrev pub FirstDoes : Notes → (Doing → Type 0) → Type 0
+FirstDoes n on = OfSome (slice_get n.doings 0) (λ noted. OfSome noted on)
+
+-- it has these orders, and these wait for its flush
 abbrev pub FirstHas : {P A : Type 0} → (orders awaiting : List Order) → State P A → Type 0
 FirstHas orders awaiting w = OfSome (slice_get w.actors 0) (λ x. (x.orders ≡ orders) × (x.awaiting ≡ awaiting))
 
 -- the first cache block is in this state
 abbrev pub FirstCacheBlockIs : {P A : Type 0} → Block → State P A → Type 0
-FirstCacheBlockIs block w = OfTarget w.phase (λ target. slice_get target.desk.space.blocks 0 ≡ Some block)
+FirstCacheBlockIs block w = TargetHas w (λ target. slice_get target.desk.space.blocks 0 ≡ Some block)
 
--- A run over such a geometry that passes through a promotion of the first block into the first cache block; a write to it there; the first
--- half of its replacement, after which its cache block is claimed, and the order lives on and waits for a flush; a flush, which ends the
--- quarantine; its answer, which gives the order back, and under that order the start of a promotion of the second block; and the rest of
--- that: the second block stands in the first cache block then, the first nowhere, no order lives there, and the origin has what was written.
-pub record Replaces (P A : Type 0) (shape : Shape) (metadata : List History) (content : Bytes) : Type 0 where
-  pub promoting : List (Happening P A)
-  pub writing : List (Happening P A)
-  pub leaving : List (Happening P A)
-  pub flushing : List (Happening P A)
-  pub starting : List (Happening P A)
-  pub following : List (Happening P A)
-  pub passes : PassesThrough shape (start shape metadata) (formatted shape) (
-      (promoting, λ w n. AboutToAnswer (Migrate (Promote first_cache_block) first_block) w)
-      ∷ (writing, λ w n. AboutToAnswer (Write first_sector content) w × Gives w.devices.cache 0 content)
-      ∷ (leaving, λ w n. AboutToAnswer (Migrate Demote first_block) w × FirstHas [] (replacement ∷ []) w × FirstCacheBlockIs (Quarantined true false) w × OfTarget w.phase (λ target. IsLive target.desk replacement))
-      ∷ (flushing, λ w n. AboutToAnswer Flush w × FirstHas [] (replacement ∷ []) w × FirstCacheBlockIs Reserved w)
-      ∷ (starting, λ w n. AtWork w 0 (λ job s. job ≡ Migrate (Promote first_cache_block) second_block) × FirstHas (replacement ∷ []) [] w)
-      ∷ (
-        following,
-        λ w n. AboutToAnswer (Migrate (Promote first_cache_block) second_block) w × FirstHas [] [] w × Gives w.devices.origin 0 content
-            × OfTarget w.phase (λ target. (place_of target.desk.tree.entries 1 ≡ Some 0) × (place_of target.desk.tree.entries 0 ≡ None) × (order_at target.desk.orders.slots 0 ≡ None)),
-      )
-      ∷ [])
+-- no order lives there
+abbrev pub NoOrderLives : {P A : Type 0} → State P A → Type 0
+NoOrderLives w = TargetHas w (λ target. order_at target.desk.orders.slots 0 ≡ None)
 
--- There is one where orders may ask for two blocks at once.
-abbrev pub CanReplace : (P A : Type 0) → Type 0
-CanReplace P A = (policy : P) (reading : ReadSteps A) → sectors_read reading ≡ 0 → (cache_blocks meta_sectors : ℕ) (within : IsWithinLimits 64 cache_blocks 2 meta_sectors) (threshold others : ℕ) (metadata : List History) (content : Bytes) → 128 ≤ threshold
-    → IsFormatted (two_blocks cache_blocks meta_sectors within) metadata → length metadata ≡ meta_sectors
-    → Replaces P A (record { geometry = two_blocks cache_blocks meta_sectors within; threshold = threshold; actors = suc others }) metadata content
+-- this block stands in the first cache block
+abbrev pub StandsCached : {P A : Type 0} → OBlock → State P A → Type 0
+StandsCached block w = TargetHas w (λ target. place_of target.desk.tree.entries block.0 ≡ Some 0)
 
--- A run over such a geometry that passes through a promotion of the first block, a write to it, and a write-back of it: what was written is
--- on the origin then too, the block stands where it was, its seal says that it is clean, and no order lives there.
-pub record WritesBack (P A : Type 0) (shape : Shape) (metadata : List History) (content : Bytes) : Type 0 where
-  pub promoting : List (Happening P A)
-  pub writing : List (Happening P A)
-  pub cleaning : List (Happening P A)
-  pub passes : PassesThrough shape (start shape metadata) (formatted shape) (
-      (promoting, λ w n. AboutToAnswer (Migrate (Promote first_cache_block) first_block) w)
-      ∷ (writing, λ w n. AboutToAnswer (Write first_sector content) w × Gives w.devices.cache 0 content)
-      ∷ (
-        cleaning,
-        λ w n. AboutToAnswer (Migrate Clean first_block) w × FirstHas [] [] w × Gives w.devices.origin 0 content
-            × OfTarget w.phase (λ target. (place_of target.desk.tree.entries 0 ≡ Some 0) × (word_at target.words.seals first_block ≡ seal_word (Some first_cache_block) false) × (order_at target.desk.orders.slots 0 ≡ None)),
-      )
-      ∷ [])
+-- this one stands in none
+abbrev pub StandsNowhere : {P A : Type 0} → OBlock → State P A → Type 0
+StandsNowhere block w = TargetHas w (λ target. place_of target.desk.tree.entries block.0 ≡ None)
 
--- There is one where orders may ask for two blocks at once.
+-- ---- what runs pass through, and that there are such runs
+
+-- an opening is answered done, and a target stands
+abbrev pub CanOpen : (P A : Type 0) → Type 0
+CanOpen P A = CanPass P A HasActors (λ shape. (λ w n. TargetHas w (λ target. Unit {0})) ∷ [])
+
+-- a flush over it comes to its answer, which is done
+abbrev pub CanFlush : (P A : Type 0) → Type 0
+CanFlush P A = CanPass P A HasActors (λ shape. (λ w n. AboutToAnswer Flush w) ∷ [])
+
+-- After an opening a write comes to its answer; a read of it, which is given what was written, and that is the latest; a flush, by which it
+-- becomes durable; a write of something else fails; power is lost; and a second opening shows the first write.
+abbrev pub to_survive : {P A : Type 0} → Shape → (content other : Bytes) → List (State P A → Notes → Type 0)
+to_survive shape content other =
+    (λ w n. AboutToAnswer (Write first_sector content) w)
+    ∷ (λ w n. AboutToAnswer (Read first_sector) w × FirstDoes n (λ doing. doing.readings ≡ record { sector = 0; content = content; latest = Some content } ∷ []))
+    ∷ (λ w n. AboutToAnswer Flush w × (slice_get n.finished 0 ≡ Some 1) × (slice_get n.floors 0 ≡ Some 0))
+    ∷ (λ w n. FirstDoes n (λ doing. (doing.job ≡ Write first_sector other) × (doing.failed ≡ Origin ∷ [])) × (slice_get n.floors 0 ≡ Some 1))
+    ∷ (λ w n. w.phase ≡ Gone)
+    ∷ (λ w n. TargetHas w (λ target. Unit {0}) × (slice_get (shown shape w) 0 ≡ Some content))
+    ∷ []
+
+abbrev pub CanSurvive : (P A : Type 0) → Type 0
+CanSurvive P A = (content other : Bytes) → CanPass P A (IsSmall 1 0) (λ shape. to_survive shape content other)
+
+-- a promotion of the first block comes to its answer: the block stands in the first cache block, and no order lives there any more
+abbrev pub IsPromoted : {P A : Type 0} → State P A → Type 0
+IsPromoted w = AboutToAnswer (Migrate (Promote first_cache_block) first_block) w × StandsCached first_block w × NoOrderLives w
+
+abbrev pub CanPromote : (P A : Type 0) → Type 0
+CanPromote P A = CanPass P A (IsSmall 1 64) (λ shape. (λ w n. IsPromoted w) ∷ [])
+
+-- and then a demotion of it: it stands nowhere, no order lives there, and its cache block is in quarantine until a commit that has still to begin
+-- has ended
+abbrev pub to_demote : {P A : Type 0} → List (State P A → Notes → Type 0)
+to_demote =
+    (λ w n. IsPromoted w)
+    ∷ (λ w n. AboutToAnswer (Migrate Demote first_block) w × StandsNowhere first_block w × NoOrderLives w × FirstCacheBlockIs (Quarantined false false) w)
+    ∷ []
+
+abbrev pub CanDemote : (P A : Type 0) → Type 0
+CanDemote P A = CanPass P A (IsSmall 1 64) (λ shape. to_demote)
+
+-- a write to it, where it stands cached, comes to its answer
+abbrev pub IsWrittenTo : {P A : Type 0} → Bytes → State P A → Type 0
+IsWrittenTo content w = AboutToAnswer (Write first_sector content) w × Gives w.devices.cache 0 content
+
+-- The first block comes, is written to, and is written back: what was written is on the origin then too, the block stands where it was, its
+-- seal says that it is clean, and no order lives there.
+abbrev pub to_write_back : {P A : Type 0} → Bytes → List (State P A → Notes → Type 0)
+to_write_back content =
+    (λ w n. IsPromoted w)
+    ∷ (λ w n. IsWrittenTo content w)
+    ∷ (λ w n. AboutToAnswer (Migrate Clean first_block) w × FirstHas [] [] w × Gives w.devices.origin 0 content × StandsCached first_block w × NoOrderLives w
+    × TargetHas w (λ target. word_at target.words.seals first_block ≡ seal_word (Some first_cache_block) false))
+    ∷ []
+
 abbrev pub CanWriteBack : (P A : Type 0) → Type 0
-CanWriteBack P A = (policy : P) (reading : ReadSteps A) → sectors_read reading ≡ 0 → (cache_blocks meta_sectors : ℕ) (within : IsWithinLimits 64 cache_blocks 2 meta_sectors) (threshold others : ℕ) (metadata : List History) (content : Bytes) → 128 ≤ threshold
-    → IsFormatted (two_blocks cache_blocks meta_sectors within) metadata → length metadata ≡ meta_sectors
-    → WritesBack P A (record { geometry = two_blocks cache_blocks meta_sectors within; threshold = threshold; actors = suc others }) metadata content
+CanWriteBack P A = (content : Bytes) → CanPass P A (IsSmall 2 128) (λ shape. to_write_back content)
 
--- A run that comes as far, but whose flush is refused for want of memory: it is about to give the order up then, and with one happening more
--- it has: the order is over, and its cache block claimed no longer.
-pub record GivesUp (P A : Type 0) (shape : Shape) (metadata : List History) : Type 0 where
-  pub leaving : List (Happening P A)
-  pub refusing : List (Happening P A)
-  pub giving : Happening P A
-  pub passes : PassesThrough shape (start shape metadata) (formatted shape) (
-      (leaving, λ w n. FirstHas [] (replacement ∷ []) w × FirstCacheBlockIs (Quarantined true false) w)
-      ∷ (refusing, λ w n. AtWork w 0 (λ job s. (job ≡ Flush) × (want s ≡ Desk (ReleaseOrder first_block))) × FirstHas [] (replacement ∷ []) w × FirstCacheBlockIs (Quarantined true false) w)
-      ∷ (
-        giving ∷ [],
-        λ w n. AtWork w 0 (λ job s. (job ≡ Flush) × (want s ≡ End (IsRefused Memory))) × FirstHas [] [] w × FirstCacheBlockIs (Quarantined false false) w
-            × OfTarget w.phase (λ target. order_at target.desk.orders.slots 0 ≡ None),
-      )
-      ∷ [])
+-- the first block has left, its cache block is claimed, and its order lives on and waits for a flush
+abbrev pub IsHalfReplaced : {P A : Type 0} → State P A → Type 0
+IsHalfReplaced w = FirstHas [] (replacement ∷ []) w × FirstCacheBlockIs (Quarantined true false) w × TargetHas w (λ target. IsLive target.desk replacement)
+
+-- The first block comes, is written to, and leaves by the first half of its replacement; a flush ends the quarantine; its answer gives the
+-- order back, under which a promotion of the second block starts; and by the rest of that the second block stands in the first cache block,
+-- the first nowhere, no order lives there, and the origin has what was written.
+abbrev pub to_replace : {P A : Type 0} → Bytes → List (State P A → Notes → Type 0)
+to_replace content =
+    (λ w n. IsPromoted w)
+    ∷ (λ w n. IsWrittenTo content w)
+    ∷ (λ w n. AboutToAnswer (Migrate Demote first_block) w × IsHalfReplaced w)
+    ∷ (λ w n. AboutToAnswer Flush w × FirstHas [] (replacement ∷ []) w × FirstCacheBlockIs Reserved w)
+    ∷ (λ w n. FirstIsAt (Migrate (Promote first_cache_block) second_block) w × FirstHas (replacement ∷ []) [] w)
+    ∷ (λ w n. AboutToAnswer (Migrate (Promote first_cache_block) second_block) w × FirstHas [] [] w × Gives w.devices.origin 0 content × StandsCached second_block w × StandsNowhere first_block w × NoOrderLives w)
+    ∷ []
+
+abbrev pub CanReplace : (P A : Type 0) → Type 0
+CanReplace P A = (content : Bytes) → CanPass P A (IsSmall 2 128) (λ shape. to_replace content)
+
+-- The first block has left so, but the flush is refused for want of memory: it is about to give the order up then, and with one happening more it
+-- has: the order is over, and its cache block claimed no longer.
+abbrev pub to_give_up : {P A : Type 0} → Shape → List (State P A → Notes → Type 0)
+to_give_up shape =
+    (λ w n. IsHalfReplaced w)
+    ∷ (λ w n. FirstWants Flush (Desk (ReleaseOrder first_block)) w × IsHalfReplaced w
+    × NextMay shape w (λ v. FirstWants Flush (End (IsRefused Memory)) v × FirstHas [] [] v × FirstCacheBlockIs (Quarantined false false) v × NoOrderLives v))
+    ∷ []
 
 abbrev pub CanGiveUp : (P A : Type 0) → Type 0
-CanGiveUp P A = (policy : P) (reading : ReadSteps A) → sectors_read reading ≡ 0 → (cache_blocks meta_sectors : ℕ) (within : IsWithinLimits 64 cache_blocks 2 meta_sectors) (threshold others : ℕ) (metadata : List History) → 128 ≤ threshold
-    → IsFormatted (two_blocks cache_blocks meta_sectors within) metadata → length metadata ≡ meta_sectors
-    → GivesUp P A (record { geometry = two_blocks cache_blocks meta_sectors within; threshold = threshold; actors = suc others }) metadata
+CanGiveUp P A = CanPass P A (IsSmall 2 128) to_give_up
 
--- A run after which a replacement has failed, and its actor has nothing to do, but its order still; with one happening more it starts again.
-pub record StartsAgain (P A : Type 0) (shape : Shape) (metadata : List History) : Type 0 where
-  pub failing : List (Happening P A)
-  pub starting : Happening P A
-  pub passes : PassesThrough shape (start shape metadata) (formatted shape) (
-      (failing, λ w n. OfSome (slice_get w.actors 0) (λ x. x.task ≡ None) × FirstHas (replacement ∷ []) [] w)
-      ∷ (starting ∷ [], λ w n. AtWork w 0 (λ job s. job ≡ Migrate Demote first_block) × FirstHas (replacement ∷ []) [] w)
-      ∷ [])
+-- A replacement has failed, and its actor has nothing to do, but its order still; with one happening more it starts again.
+abbrev pub to_start_again : {P A : Type 0} → Shape → List (State P A → Notes → Type 0)
+to_start_again shape =
+    (λ w n. OfSome (slice_get w.actors 0) (λ x. x.task ≡ None) × FirstHas (replacement ∷ []) [] w
+    × NextMay shape w (λ v. FirstIsAt (Migrate Demote first_block) v × FirstHas (replacement ∷ []) [] v))
+    ∷ []
 
 abbrev pub CanStartAgain : (P A : Type 0) → Type 0
-CanStartAgain P A = (policy : P) (reading : ReadSteps A) → sectors_read reading ≡ 0 → (cache_blocks meta_sectors : ℕ) (within : IsWithinLimits 64 cache_blocks 2 meta_sectors) (threshold others : ℕ) (metadata : List History) → 128 ≤ threshold
-    → IsFormatted (two_blocks cache_blocks meta_sectors within) metadata → length metadata ≡ meta_sectors
-    → StartsAgain P A (record { geometry = two_blocks cache_blocks meta_sectors within; threshold = threshold; actors = suc others }) metadata
+CanStartAgain P A = CanPass P A (IsSmall 2 128) to_start_again

@@ -70,14 +70,14 @@ use Rattle.wb_simulation.specs.Noting.{NotesAgree}
 use Rattle.wb_simulation.specs.Noted.{told}
 use Rattle.wb_simulation.specs.Sites.{ImagesAgree, IsRunning, locations}
 use Rattle.wb_simulation.specs.Telling.{Quietly, Releases, Answers}
-use Rattle.wb_simulation.specs.Worlds.{TurnedTo, DeskTurnedTo, Agrees, Turn, Stays, Begins, Puts, Ends, GivesUp, FollowsBy, Follows}
-use Rattle.wb_simulation.specs.Laws.{went, after_step, turn_of}
+use Rattle.wb_simulation.specs.Worlds.{Situation, TurnedTo, DeskTurnedTo, Turn, Stays, Begins, Puts, Ends, GivesUp, WorldFollowsBy, WorldFollows}
+use Rattle.wb_simulation.specs.Laws.{WantsNext, went, after_step, turn_of}
 use Rattle.wb_simulation.proofs.Flushes.{flush_steps_followed}
 use Rattle.wb_simulation.proofs.Noted.{notes_followed}
 use Rattle.wb_simulation.proofs.Opening.{images_followed}
 use Rattle.wb_headline.specs.Desks.{DeskAgrees, live_orders}
 use Rattle.wb_headline.proofs.Desking.{desk_stays, desk_begins, desk_ends, desk_releases}
-use Rattle.wb_headline.proofs.Following.{size, most, Followed, Goes}
+use Rattle.wb_headline.proofs.Following.{situation, size, most, Followed, Goes}
 use Rattle.wb_headline.proofs.Rooted.{same_one}
 use Rattle.wb_headline.proofs.Seeing.{orders_set, slot_there, slot_within}
 use Rattle.wb_headline.proofs.Orders.{found_of, none_dropped}
@@ -140,14 +140,19 @@ some_is a b e = ap (λ o. Rattle.std.proofs.Common.unwrap_or o a) e
 module _ (P A : Type 0) (shape : Shape) (images : Images) (t : Target P) (commit : Option RunningCommit) (devices : Devices (List History)) (actors : List Actor) (n : Notes) (known : MetadataKept {P = P} {A = A} shape.geometry images (Stands t) commit devices.metadata)
     (f : Followed P A shape images (standing P A shape images t commit devices actors n) n) (rule : LockRule shape.geometry.origin_blocks t.words (cards_of actors)) (a : ℕ) (x : Actor) (ex : slice_get actors a ≡ Some x) (plan : Plan) (xt : x.task ≡ Some (Flush, plan))
     (doing : Doing) (noted : slice_get n.doings a ≡ Some (Some doing)) (job_is : doing.job ≡ Flush) where
-  abbrev slots : List (Option Order)
-  slots = live_orders t.desk
+  -- where the machine stands
+  abbrev now : Situation
+  now = situation shape t devices actors
+
+  -- so its actor there is to do this next
+  wants : {next : Want} → next ≡ want plan → WantsNext now a x f.site.world Flush plan next
+  wants {next} e = record { here = ex; task = xt; asks = sym e; agrees = f.phase.agrees }
 
   -- it serves these blocks
   serving : (serves : List OBlock) × (plan.job ≡ Flushing serves (most P A shape))
   serving =
       let b = beside P A shape images t commit devices actors n known f a x ex in
-      let r : IsFlushAt (size P A shape) (most P A shape) t.words plan b.0 = doing_of (size P A shape) (most P A shape) t.words x b.0 Flush plan (f.phase.agrees.each a x b.0 ex b.1) xt in
+      let r : IsFlushAt (size P A shape) (most P A shape) _ plan b.0 = doing_of (size P A shape) (most P A shape) t.words x b.0 Flush plan (f.phase.agrees.each a x b.0 ex b.1) xt in
       (r.serves, r.job)
 
   abbrev s : Shared
@@ -164,18 +169,18 @@ module _ (P A : Type 0) (shape : Shape) (images : Images) (t : Target P) (commit
   noted_less : Rattle.std.proofs.Common.◌<◌ a (length n.doings)
   noted_less = noted_within P A shape images t commit devices actors n known f a x ex
 
-  quiet_notes : (turn : Turn) (words' : Words) (committing' : Bool) (orders' : List (Option Order)) (devices' : Devices (List History)) (y : Actor) (g : FollowsBy turn Quietly (size P A shape) (most P A shape) a f.site.world words' committing' orders' devices' (slice_set actors a y)) →
+  quiet_notes : {turn : Turn} {words' : Words} {committing' : Bool} {orders' : List (Option Order)} {devices' : Devices (List History)} {y : Actor} (g : WorldFollowsBy turn Quietly a f.site.world (record (situation shape t devices' actors) { words = words'; committing = committing'; orders = orders' }) y) →
       NotesAgree (size P A shape) n (after_all f.site.world g.records) (told f.notes g.records)
-  quiet_notes turn words' committing' orders' devices' y g =
+  quiet_notes {turn} {words'} {committing'} {orders'} {devices'} {y} g =
       let b = beside P A shape images t commit devices actors n known f a x ex in
-      notes_followed.quiet turn (size P A shape) (most P A shape) a f.site.world words' committing' orders' devices' (slice_set actors a y) g b.0 n f.notes b.1 noted_less f.notes_agree
+      notes_followed.quiet turn a f.site.world _ _ g b.0 n f.notes b.1 noted_less f.notes_agree
 
   -- ---- steps on devices
 
-  module _ (turn : Turn) (step : DeviceStep) (got : Got) (contents : List Bytes) (t' : Target P) (commit' : Option RunningCommit) (devices' : Devices (List History)) (images' : Images) (plain : Rattle.wb_promise.specs.Effects.buffer_then devices x.buffer (Device step) got Flush ≡ x.buffer) (next : Device step ≡ want plan)
-      (g : FollowsBy turn Quietly (size P A shape) (most P A shape) a f.site.world t'.words t'.desk.space.committing (live_orders t'.desk) devices' (slice_set actors a (after_step Flush plan got x))) where
+  module _ (turn : Turn) (step : DeviceStep) (got : Got) (contents : List Bytes) (t' : Target P) (commit' : Option RunningCommit) (devices' : Devices (List History)) (images' : Images) (plain : Rattle.wb_promise.specs.Effects.buffer_then devices x.buffer (Device step) got Flush ≡ x.buffer)
+      (g : WorldFollowsBy turn Quietly a f.site.world (situation shape t' devices' actors) (after_step Flush plan got x)) where
     device_notes : NotesAgree (size P A shape) (device_n step got) (after_all f.site.world g.records) (told f.notes g.records)
-    device_notes = let e = failing_same doing step got in notes_followed.redone (size P A shape) n (after_all f.site.world g.records) (told f.notes g.records) a doing (failing doing step got) (quiet_notes turn t'.words t'.desk.space.committing (live_orders t'.desk) devices' (after_step Flush plan got x) g) noted e.0 e.1
+    device_notes = let e = failing_same doing step got in notes_followed.redone (size P A shape) n (after_all f.site.world g.records) (told f.notes g.records) a doing (failing doing step got) (quiet_notes g) noted e.0 e.1
 
     on_device : AtDesk shape.geometry images' t'.desk commit' devices'.metadata → DeskAgrees t'.desk (after_all f.site.world g.records).shared → ImagesAgree shape.geometry images'.committed (later_of images') devices'.metadata (after_all f.site.world g.records).shared →
         ((state : Stored) → images'.running ≡ Some state → (after_all f.site.world g.records).shared.running ≡ locations state) → Goes P A shape (then_is t' commit' devices' (Device step) got) (noted_step shape [] n a (Some (Some doing)) (Device step) got contents)
@@ -186,20 +191,20 @@ module _ (P A : Type 0) (shape : Shape) (images : Images) (t : Target P) (commit
 
   -- cache and origin are synced, or fail to be
   module _ (device : Dev) (holds : HoldsBlocks device) (next : Device (Sync device) ≡ want plan) (contents : List Bytes) where
-    synced_so : (got : Got) → (list : List History) → Follows Quietly (size P A shape) (most P A shape) a f.site.world t.words t.desk.space.committing slots (with_device device devices list) (slice_set actors a (after_step Flush plan got x)) →
+    synced_so : (got : Got) → (list : List History) → WorldFollows Quietly a f.site.world (situation shape t (with_device device devices list) actors) (after_step Flush plan got x) →
         Goes P A shape (then_is t commit (with_device device devices list) (Device (Sync device)) got) (noted_step shape [] n a (Some (Some doing)) (Device (Sync device)) got contents)
     synced_so got list g =
         let known' = subst (λ (m : List History). AtDesk shape.geometry images t.desk commit m) (sym (data_device device holds devices list)) known in
         let s' = (after_all f.site.world g.records).shared in
         let readable = kept_readable shape.geometry images (with_device device devices list).metadata P A (Stands t) commit known' in
-        on_device Stays (Sync device) got contents t commit (with_device device devices list) images refl next g known' (desk_stays P t.desk s s' f.phase.desk t.desk refl refl g.desk.0 g.desk.1)
+        on_device Stays (Sync device) got contents t commit (with_device device devices list) images refl g known' (desk_stays P t.desk s s' f.phase.desk t.desk refl refl g.desk.0 g.desk.1)
         (images_followed.stay shape.geometry images.committed (later_of images) devices.metadata (with_device device devices list).metadata s s' f.phase.images_agree g.turned readable.read) (λ state e. g.turned.1 ∙ f.phase.running state e)
 
     syncs : Goes P A shape (then_is t commit (with_device device devices (synced (device_in device devices))) (Device (Sync device)) Done) (noted_step shape [] n a (Some (Some doing)) (Device (Sync device)) Done contents)
-    syncs = synced_so Done (synced (device_in device devices)) (flush_steps_followed.syncs (size P A shape) (most P A shape) device t.words t.desk.space.committing slots devices actors a x plan f.site.world holds ex xt (sym next) f.phase.agrees)
+    syncs = synced_so Done (synced (device_in device devices)) (flush_steps_followed.syncs now device a x plan f.site.world holds (wants next))
 
     sync_fails : (lands : ℕ → Bool) → Goes P A shape (then_is t commit (with_device device devices (synced_where lands (device_in device devices))) (Device (Sync device)) Fault) (noted_step shape [] n a (Some (Some doing)) (Device (Sync device)) Fault contents)
-    sync_fails lands = synced_so Fault (synced_where lands (device_in device devices)) (flush_steps_followed.sync_fails (size P A shape) (most P A shape) device lands t.words t.desk.space.committing slots devices actors a x plan f.site.world holds ex xt (sym next) f.phase.agrees)
+    sync_fails lands = synced_so Fault (synced_where lands (device_in device devices)) (flush_steps_followed.sync_fails now device lands a x plan f.site.world holds (wants next))
 
   -- ---- steps of the commit on the metadata
 
@@ -233,7 +238,7 @@ module _ (P A : Type 0) (shape : Shape) (images : Images) (t : Target P) (commit
 
     put_done : Rattle.wb_promise.specs.Effects.buffer_then devices x.buffer (Device step) Done Flush ≡ x.buffer → DoesStep c.image c.steps devices.metadata new → Goes P A shape (then_is t (led commit Done) devices' (Device step) Done) (noted_step shape [] n a (Some (Some doing)) (Device step) Done contents)
     put_done plain does =
-        let g = flush_steps_followed.on_metadata (size P A shape) (most P A shape) step new t.words t.desk.space.committing slots devices actors a x plan f.site.world of_metadata ex xt (sym next) f.phase.agrees in
+        let g = flush_steps_followed.on_metadata now step new a x plan f.site.world of_metadata (wants next) in
         let s' = (after_all f.site.world g.records).shared in
         let so = parts step coming s' g.desk g.turned in
         let u = led_on shape.geometry images c l.of devices.metadata new l.under does in
@@ -242,7 +247,7 @@ module _ (P A : Type 0) (shape : Shape) (images : Images) (t : Target P) (commit
         let readable = kept_readable shape.geometry u.now new P A (Stands t) (Some c') known' in
         let there : s'.running ≡ locations l.of.new = so.3 ∙ f.phase.running l.of.new running_now in
         subst (λ (m : Option RunningCommit). Goes P A shape (then_is t m devices' (Device step) Done) (noted_step shape [] n a (Some (Some doing)) (Device step) Done contents)) (sym (ap (λ (m : Option RunningCommit). led m Done) runs))
-        (on_device (turn_of step) step Done contents t (Some c') devices' u.now plain next g known' (desk_stays P t.desk s s' f.phase.desk t.desk refl refl so.0 so.1)
+        (on_device (turn_of step) step Done contents t (Some c') devices' u.now plain g known' (desk_stays P t.desk s s' f.phase.desk t.desk refl refl so.0 so.1)
         (record {
           read = readable.read;
           committed_is = so.2 ∙ f.phase.images_agree.committed_is ∙ ap locations (sym same);
@@ -252,7 +257,7 @@ module _ (P A : Type 0) (shape : Shape) (images : Images) (t : Target P) (commit
 
     put_failed : Rattle.wb_promise.specs.Effects.buffer_then devices x.buffer (Device step) Fault Flush ≡ x.buffer → FailsStep c.image c.steps devices.metadata new → Goes P A shape (then_is t (led commit Fault) devices' (Device step) Fault) (noted_step shape [] n a (Some (Some doing)) (Device step) Fault contents)
     put_failed plain bad =
-        let fails = flush_steps_followed.metadata_fails (size P A shape) (most P A shape) step new t.words t.desk.space.committing slots devices actors a x plan f.site.world of_metadata ex xt (sym next) f.phase.agrees in
+        let fails = flush_steps_followed.metadata_fails now step new a x plan f.site.world of_metadata (wants next) in
         let written = fails.0 in
         let g = fails.2 in
         let images' = images_of l.of (failed_written c.steps) in
@@ -260,7 +265,7 @@ module _ (P A : Type 0) (shape : Shape) (images : Images) (t : Target P) (commit
         let readable = failed_read shape.geometry images c l.of devices.metadata new l.under bad in
         let there : s'.running ≡ locations l.of.new = g.turned.1 ∙ f.phase.running l.of.new running_now in
         subst (λ (m : Option RunningCommit). Goes P A shape (then_is t m devices' (Device step) Fault) (noted_step shape [] n a (Some (Some doing)) (Device step) Fault contents)) (sym (ap (λ (m : Option RunningCommit). led m Fault) runs))
-        (on_device (Puts written) step Fault contents t None devices' images' plain next g (record { is = k.is; stands = inr (record { readable = readable; busy = l.busy }) }) (desk_stays P t.desk s s' f.phase.desk t.desk refl refl g.desk.0 g.desk.1)
+        (on_device (Puts written) step Fault contents t None devices' images' plain g (record { is = k.is; stands = inr (record { readable = readable; busy = l.busy }) }) (desk_stays P t.desk s s' f.phase.desk t.desk refl refl g.desk.0 g.desk.1)
         (record {
           read = readable.read;
           committed_is = g.turned.0 ∙ f.phase.images_agree.committed_is ∙ ap locations (sym committed_now);
@@ -287,8 +292,7 @@ module _ (P A : Type 0) (shape : Shape) (images : Images) (t : Target P) (commit
       quiet : Quiet shape.geometry images t.desk devices.metadata → AtDesk shape.geometry images t.desk None devices.metadata → Goes P A shape (then_is (record { words = t.words; desk = commit_begun t.desk tree }) (Some c) devices (Desk (BeginCommit clean allowed)) (Began nodes)) n
       quiet q k =
           let b = begins_over P shape.geometry images t.desk devices.metadata c tree k.is q steps begun in
-          let agrees = subst (λ (v : Bool). Agrees (size P A shape) (most P A shape) t.words v slots devices actors f.site.world) idle f.phase.agrees in
-          let g = flush_steps_followed.begins (size P A shape) (most P A shape) nodes allowed clean t.words slots devices actors a x plan f.site.world ex xt (sym next) agrees in
+          let g = flush_steps_followed.begins now nodes allowed clean a x plan f.site.world (wants next) idle in
           let s' = (after_all f.site.world g.records).shared in
           let t' : Target P = record { words = t.words; desk = commit_begun t.desk tree } in
           let y = after_step Flush plan (Began nodes) x in
@@ -299,7 +303,7 @@ module _ (P A : Type 0) (shape : Shape) (images : Images) (t : Target P) (commit
           let same : b.now.committed ≡ images.committed = same_one b.turn images b.now (ap (λ (i : Images). i.running) q.are) b.turned in
           let later : later_of b.now ≡ None = ap later_of l.under.are ∙ ap (λ (v : CommitSteps). if is_written v then Some l.of.new else None) steps in
           subst (λ (y : Actor). Goes P A shape (record { devices = devices; commit = Some c; phase = Stands t'; actors = slice_set actors a y }) n) (sym (actor_is P A shape (Stands t) devices x Flush plan (Desk (BeginCommit clean allowed)) (Began nodes) xt))
-          (leads_on P A shape images t commit devices actors n known f a x ex Begins Quietly t' (Some c) devices y n b.now (live_orders t'.desk) g tt (quiet_notes Begins t.words true slots devices (after_step Flush plan (Began nodes) x) g) refl refl b.kept.0 refl (desk_begins P t.desk s s' f.phase.desk tree begun.image_is.same_entries g.desk.0 g.desk.1) (subst (λ (o : Option Stored). ImagesAgree shape.geometry b.now.committed o devices.metadata s') (sym later) (subst (λ (v : Stored). ImagesAgree shape.geometry v None devices.metadata s') (sym same) begun_there.0)) (λ state e. begun_there.1 ∙ f.phase.desk.mapping ∙ ap (λ es. Rattle.wb_simulation.specs.Opened.located es) (sym b.kept.1.2) ∙ ap locations (some_is b.kept.1.0 state (sym b.kept.1.1 ∙ e))))
+          (leads_on P A shape images t commit devices actors n known f a x ex Begins Quietly t' (Some c) devices y n b.now (live_orders t'.desk) g tt (quiet_notes g) refl refl b.kept.0 refl (desk_begins P t.desk s s' f.phase.desk tree begun.image_is.same_entries g.desk.0 g.desk.1) (subst (λ (o : Option Stored). ImagesAgree shape.geometry b.now.committed o devices.metadata s') (sym later) (subst (λ (v : Stored). ImagesAgree shape.geometry v None devices.metadata s') (sym same) begun_there.0)) (λ state e. begun_there.1 ∙ f.phase.desk.mapping ∙ ap (λ es. Rattle.wb_simulation.specs.Opened.located es) (sym b.kept.1.2) ∙ ap locations (some_is b.kept.1.0 state (sym b.kept.1.1 ∙ e))))
 
       by_commit : (o : Option RunningCommit) → commit ≡ o → AtDesk shape.geometry images t.desk commit devices.metadata → Goes P A shape (then_is (record { words = t.words; desk = commit_begun t.desk tree }) (Some c) devices (Desk (BeginCommit clean allowed)) (Began nodes)) n
       by_commit (Some d) e k = absurd (let k' = subst (λ (m : Option RunningCommit). AtDesk shape.geometry images t.desk m devices.metadata) e k in let busy = k'.stands.busy in let bad : false ≡ true = sym idle ∙ busy in cc)
@@ -310,17 +314,17 @@ module _ (P A : Type 0) (shape : Shape) (images : Images) (t : Target P) (commit
   -- or none begins
   begin_refused : (refusal : Refusal) (allowed : ℕ) (clean : Bool) → Desk (BeginCommit clean allowed) ≡ want plan → IsBeginRefused t.desk refusal → Goes P A shape (then_is t commit devices (Desk (BeginCommit clean allowed)) (GotRefused refusal)) n
   begin_refused refusal allowed clean next r =
-      let g = flush_steps_followed.is_refused (size P A shape) (most P A shape) allowed clean refusal t.words t.desk.space.committing slots devices actors a x plan f.site.world (no_begin refusal r) ex xt (sym next) f.phase.agrees in
+      let g = flush_steps_followed.is_refused now allowed clean refusal a x plan f.site.world (no_begin refusal r) (wants next) in
       let y = after_step Flush plan (GotRefused refusal) x in
       subst (λ (y : Actor). Goes P A shape (record { devices = devices; commit = commit; phase = Stands t; actors = slice_set actors a y }) n) (sym (actor_is P A shape (Stands t) devices x Flush plan (Desk (BeginCommit clean allowed)) (GotRefused refusal) xt))
-      (stays_on P A shape images t commit devices actors n known f a x ex Quietly t.words devices y n g tt (quiet_notes Stays t.words t.desk.space.committing slots devices (after_step Flush plan (GotRefused refusal) x) g) refl refl refl)
+      (stays_on P A shape images t commit devices actors n known f a x ex Quietly t.words devices y n g tt (quiet_notes g) refl refl refl)
 
   -- the commit ends
   ends : (c : RunningCommit) → commit ≡ Some c → Desk EndCommit ≡ want plan → is_committed c.steps ≡ true → Goes P A shape (then_is (record { words = t.words; desk = ended t.desk }) None devices (Desk EndCommit) Done) n
   ends c runs next done =
       let k = subst (λ (m : Option RunningCommit). AtDesk shape.geometry images t.desk m devices.metadata) runs known in
       let e = ends_over P shape.geometry images t.desk devices.metadata c k done in
-      let g = flush_steps_followed.ends (size P A shape) (most P A shape) t.words t.desk.space.committing slots devices actors a x plan f.site.world ex xt (sym next) f.phase.agrees in
+      let g = flush_steps_followed.ends now a x plan f.site.world (wants next) in
       let s' = (after_all f.site.world g.records).shared in
       let y = after_step Flush plan Done x in
       let after = commit_ended t.desk in
@@ -333,25 +337,25 @@ module _ (P A : Type 0) (shape : Shape) (images : Images) (t : Target P) (commit
       let agree = images_followed.end shape.geometry e.kept.1.0 devices.metadata s s' g.turned (f.phase.running e.kept.1.0 e.kept.1.1) read in
       subst (λ (d : DeskState P). Goes P A shape (then_is (record { words = t.words; desk = d }) None devices (Desk EndCommit) Done) n) (sym is)
       (subst (λ (y : Actor). Goes P A shape (record { devices = devices; commit = None; phase = Stands t'; actors = slice_set actors a y }) n) (sym (actor_is P A shape (Stands t) devices x Flush plan (Desk EndCommit) Done xt))
-      (leads_on P A shape images t commit devices actors n known f a x ex Ends Quietly t' None devices y n e.now (live_orders t'.desk) g tt (quiet_notes Ends t.words false slots devices (after_step Flush plan Done x) g) refl refl known' refl (desk_ends P t.desk s s' f.phase.desk g.desk.0 g.desk.1) (subst (λ (i : Images). ImagesAgree shape.geometry i.committed (later_of i) devices.metadata s') (sym one) agree) (λ state r. absurd (let bad : None ≡ Some state = sym (ap (λ (i : Images). i.running) one) ∙ r in cc))))
+      (leads_on P A shape images t commit devices actors n known f a x ex Ends Quietly t' None devices y n e.now (live_orders t'.desk) g tt (quiet_notes g) refl refl known' refl (desk_ends P t.desk s s' f.phase.desk g.desk.0 g.desk.1) (subst (λ (i : Images). ImagesAgree shape.geometry i.committed (later_of i) devices.metadata s') (sym one) agree) (λ state r. absurd (let bad : None ≡ Some state = sym (ap (λ (i : Images). i.running) one) ∙ r in cc))))
 
   -- ---- the shared words, and the answer
 
-  told_so : (step : CellStep) → Cell step ≡ want plan → Follows Quietly (size P A shape) (most P A shape) a f.site.world (words_after t.words step) t.desk.space.committing slots devices (slice_set actors a (went t.words Flush plan step x)) →
+  told_so : (step : CellStep) → Cell step ≡ want plan → WorldFollows Quietly a f.site.world (record now { words = words_after t.words step }) (went t.words Flush plan step x) →
       Goes P A shape (then_is (record { words = words_after t.words step; desk = t.desk }) commit devices (Cell step) (got_of (result_of t.words step))) n
   told_so step next g =
       let y = went t.words Flush plan step x in
       subst (λ (y : Actor). Goes P A shape (record { devices = devices; commit = commit; phase = Stands (record { words = words_after t.words step; desk = t.desk }); actors = slice_set actors a y }) n) (sym (actor_is P A shape (Stands t) devices x Flush plan (Cell step) (got_of (result_of t.words step)) xt))
       (stays_on P A shape images t commit devices actors n known f a x ex Quietly (words_after t.words step) devices y n g tt
-      (quiet_notes Stays (words_after t.words step) t.desk.space.committing slots devices (went t.words Flush plan step x) g) refl refl refl)
+      (quiet_notes g) refl refl refl)
 
   on_words : (step : CellStep) → (step ≡ Look Fail) ⊎ (step ≡ SetFailed) → Cell step ≡ want plan → Goes P A shape (then_is (record { words = words_after t.words step; desk = t.desk }) commit devices (Cell step) (got_of (result_of t.words step))) n
   on_words step (inl is) next = subst (λ (v : CellStep). Goes P A shape (then_is (record { words = words_after t.words v; desk = t.desk }) commit devices (Cell v) (got_of (result_of t.words v))) n) (sym is)
       (told_so (Look Fail) (ap (λ (v : CellStep). Cell v) (sym is) ∙ next)
-      (flush_steps_followed.looks (size P A shape) (most P A shape) t.words t.desk.space.committing slots devices actors a x plan f.site.world ex xt (sym (ap (λ (v : CellStep). Cell v) (sym is) ∙ next)) f.phase.agrees))
+      (flush_steps_followed.looks now a x plan f.site.world (wants (ap (λ (v : CellStep). Cell v) (sym is) ∙ next))))
   on_words step (inr is) next = subst (λ (v : CellStep). Goes P A shape (then_is (record { words = words_after t.words v; desk = t.desk }) commit devices (Cell v) (got_of (result_of t.words v))) n) (sym is)
       (told_so SetFailed (ap (λ (v : CellStep). Cell v) (sym is) ∙ next)
-      (flush_steps_followed.fails (size P A shape) (most P A shape) _ _ t.words t.desk.space.committing slots devices actors a x plan f.site.world rule.logs.fail ex xt (sym (ap (λ (v : CellStep). Cell v) (sym is) ∙ next)) f.phase.agrees))
+      (flush_steps_followed.fails now _ _ a x plan f.site.world rule.logs.fail (wants (ap (λ (v : CellStep). Cell v) (sym is) ∙ next))))
 
   answers : (answer : Answer) (shown contents : List Bytes) → End answer ≡ want plan → length doing.then_finished ≡ length n.floors → Goes P A shape (then_is t commit devices (End answer) Done) (noted_step shape shown n a (Some (Some doing)) (End answer) Done contents)
   answers answer shown contents next asked = by_answer answer next
@@ -360,11 +364,11 @@ module _ (P A : Type 0) (shape : Shape) (images : Images) (t : Target P) (commit
       b = beside P A shape images t commit devices actors n known f a x ex
 
       given : (v : Answer) (orders' awaiting' : List Order) → ((o : Order) → Contains (held_of x) o → Contains (orders' ++ awaiting') o) → End v ≡ want plan →
-          Follows (Answers (FlushingFor None) v) (size P A shape) (most P A shape) a f.site.world t.words t.desk.space.committing slots devices (slice_set actors a (record x { task = None; orders = orders'; awaiting = awaiting' }))
-      given v orders' awaiting' on e = flush_steps_followed.answers (size P A shape) (most P A shape) v t.words t.desk.space.committing slots devices actors a x plan orders' awaiting' f.site.world ex xt (sym e) on f.phase.agrees
+          WorldFollows (Answers (FlushingFor None) v) a f.site.world now (record x { task = None; orders = orders'; awaiting = awaiting' })
+      given v orders' awaiting' on e = flush_steps_followed.answers now v a x plan orders' awaiting' f.site.world (wants e) on
 
       finish : (v : Answer) (y : Actor) → record { task = None; card = x.card; orders = orders_then x.orders x.awaiting Flush (End v) Done; awaiting = awaiting_then x.orders x.awaiting Flush (End v) Done; buffer = x.buffer } ≡ y →
-          (n' : Notes) (g : Follows (Answers (FlushingFor None) v) (size P A shape) (most P A shape) a f.site.world t.words t.desk.space.committing slots devices (slice_set actors a y)) →
+          (n' : Notes) (g : WorldFollows (Answers (FlushingFor None) v) a f.site.world now y) →
           NotesAgree (size P A shape) n' (after_all f.site.world g.records) (told f.notes g.records) → length n'.doings ≡ length n.doings → length n'.histories ≡ length n.histories → Goes P A shape (then_is t commit devices (End v) Done) n'
       finish v y same n' g notes d h =
           subst (λ (y : Actor). Goes P A shape (record { devices = devices; commit = commit; phase = Stands t; actors = slice_set actors a y }) n') (sym (actor_is P A shape (Stands t) devices x Flush plan (End v) Done xt ∙ same))
@@ -376,14 +380,14 @@ module _ (P A : Type 0) (shape : Shape) (images : Images) (t : Target P) (commit
       by_answer : (v : Answer) → End v ≡ want plan → Goes P A shape (then_is t commit devices (End v) Done) (noted_step shape shown n a (Some (Some doing)) (End v) Done contents)
       by_answer (Refuses refusal) e =
           let g = given (Refuses refusal) x.orders x.awaiting (λ o h. h) e in
-          finish (Refuses refusal) (record x { task = None }) refl (put n a None) g (notes_followed.refused (FlushingFor None) refusal Stays (size P A shape) (most P A shape) a f.site.world t.words t.desk.space.committing slots devices (slice_set actors a (record x { task = None })) g b.0 n f.notes b.1 noted_less f.notes_agree)
+          finish (Refuses refusal) (record x { task = None }) refl (put n a None) g (notes_followed.refused (FlushingFor None) refusal Stays a f.site.world _ _ g b.0 n f.notes b.1 noted_less f.notes_agree)
           (length-set n.doings a None) refl
       by_answer Finished e =
           let y : Actor = record x { task = None; orders = x.awaiting ++ x.orders; awaiting = [] } in
           let g = given Finished (x.awaiting ++ x.orders) [] served e in
           subst (λ (q : Job). Goes P A shape (then_is t commit devices (End Finished) Done) (finished_note n a doing q shown)) (sym job_is)
           (finish Finished y refl (record n { floors = greater_of n.floors doing.then_finished; doings = slice_set n.doings a None }) g
-          (notes_followed.flush_answered Stays (size P A shape) (most P A shape) a f.site.world t.words t.desk.space.committing slots devices (slice_set actors a y) g b.0 n f.notes b.1 noted_less f.notes_agree doing noted asked)
+          (notes_followed.flush_answered Stays a f.site.world _ _ g b.0 n f.notes b.1 noted_less f.notes_agree doing noted asked)
           (length-set n.doings a None) refl)
 
   -- ---- orders that it gives up
@@ -398,9 +402,9 @@ module _ (P A : Type 0) (shape : Shape) (images : Images) (t : Target P) (commit
 
       by_order : (o : Option Order) → Rattle.wb_stage.specs.Asking.order_of block x.awaiting ≡ o → IsGivenUp o t.desk new → To new
       by_order None e d =
-          let g = flush_steps_followed.releases (size P A shape) (most P A shape) block t.words t.desk.space.committing slots devices actors a x plan f.site.world ex xt (sym next) f.phase.agrees in
+          let g = flush_steps_followed.releases now block a x plan f.site.world (wants next) in
           subst To (sym d) (subst (λ (os : List Order). Goes P A shape (record { devices = devices; commit = commit; phase = Stands t; actors = slice_set actors a (record x { task = Some (Flush, after plan Done); awaiting = os }) }) n) (sym (none_dropped block x.awaiting e))
-          (stays_on P A shape images t commit devices actors n known f a x ex Quietly t.words devices (after_step Flush plan Done x) n g tt (quiet_notes Stays t.words t.desk.space.committing slots devices (after_step Flush plan Done x) g) refl refl refl))
+          (stays_on P A shape images t commit devices actors n known f a x ex Quietly t.words devices (after_step Flush plan Done x) n g tt (quiet_notes g) refl refl refl))
       by_order (Some order) e d =
           let y : Actor = record x { task = Some (Flush, after plan Done); awaiting = dropped block x.awaiting } in
           let mine = found_of block x.awaiting order e in
@@ -412,12 +416,12 @@ module _ (P A : Type 0) (shape : Shape) (images : Images) (t : Target P) (commit
           let many_slots = known.is.kept.slots in
           let many_blocks = known.is.kept.blocks in
           let b = beside P A shape images t commit devices actors n known f a x ex in
-          let g = flush_steps_followed.gives_up (size P A shape) (most P A shape) block t.words t.desk.space.committing slots devices actors a x plan l.cache.0 order (dropped block x.awaiting) f.site.world ex xt (sym next) here
-          (λ c z ez h. owned.one c a z x order ez ex h had) f.phase.agrees in
+          let g = flush_steps_followed.gives_up now block a x plan l.cache.0 order (dropped block x.awaiting) f.site.world (wants next) here
+          (λ c z ez h. owned.one c a z x order ez ex h had) in
           let s' = (after_all f.site.world g.records).shared in
           let readable = kept_readable shape.geometry images devices.metadata P A (Stands t) commit known in
           subst To (sym is) (leads_on P A shape images t commit devices actors n known f a x ex (GivesUp l.cache.0) Releases (record { words = t.words; desk = released t.desk l.cache }) commit devices y n images (slice_set (live_orders t.desk) l.cache.0 None) g tt
-          (notes_followed.released (GivesUp l.cache.0) (size P A shape) (most P A shape) a f.site.world t.words t.desk.space.committing (slice_set (live_orders t.desk) l.cache.0 None) devices (slice_set actors a y) g b.0 n f.notes b.1 noted_less f.notes_agree)
+          (notes_followed.released (GivesUp l.cache.0) a f.site.world _ _ g b.0 n f.notes b.1 noted_less f.notes_agree)
           refl refl (subst (λ (v : DeskState P). AtDesk shape.geometry images v commit devices.metadata) is (given_up_stands P shape.geometry images t.desk commit devices.metadata new order known d))
           (sym (orders_set t.desk.orders.slots l.cache.0 None)) (desk_releases P t.desk s s' f.phase.desk l.cache (omega (arith, inside, many_slots, many_blocks)) g.desk.0 g.desk.1)
           (images_followed.stay shape.geometry images.committed (later_of images) devices.metadata devices.metadata s s' f.phase.images_agree g.turned readable.read) (λ state e. g.turned.1 ∙ f.phase.running state e))

@@ -28,7 +28,7 @@ use Rattle.wb_link.specs.Openings.{Site, Phase as PhaseThere, Stands as StandsTh
 use Rattle.wb_simulation.specs.Opened.{located}
 use Rattle.wb_simulation.specs.Noting.{NotesAgree}
 use Rattle.wb_simulation.specs.Sites.{ImagesAgree, DevicesAgree, locations}
-use Rattle.wb_simulation.specs.Worlds.{Agrees}
+use Rattle.wb_simulation.specs.Worlds.{Situation, Agrees}
 use Rattle.wb_headline.specs.Desks.{DeskAgrees, live_orders}
 use Rattle.wb_headline.proofs.Events.{Reached}
 
@@ -86,6 +86,18 @@ pub record IsOver (plan : Plan) (phase : PhaseThere) : Type 0 where
 
 -- ---- a state
 
+-- where the machine stands, with this target
+abbrev pub situation : {P : Type 0} → Shape → Target P → Devices (List History) → List Actor → Situation
+situation shape t devices actors = record {
+  size = block_size shape;
+  most = node_count shape.geometry.cache_blocks;
+  words = t.words;
+  committing = t.desk.space.committing;
+  orders = live_orders t.desk;
+  devices = devices;
+  actors = actors;
+}
+
 module _ (P A : Type 0) (shape : Shape) where
   -- how many abstract actors there are
   abbrev pub many : ℕ
@@ -106,7 +118,7 @@ module _ (P A : Type 0) (shape : Shape) where
 
   pub record TargetFollows (images : Images) (t : Target P) (devices : Devices (List History)) (actors : List Actor) (v : Site) : Type 0 where
     pub phase_is : v.phase ≡ StandsThere
-    pub agrees : Agrees size most t.words t.desk.space.committing (live_orders t.desk) devices actors v.world
+    pub agrees : Agrees (situation shape t devices actors) v.world
     pub desk : DeskAgrees t.desk v.world.shared
     pub images_agree : ImagesAgree shape.geometry images.committed (later_of images) devices.metadata v.world.shared
     -- the running image is that of the commit that runs, or was broken

@@ -75,10 +75,11 @@ use Rattle.wb_headline.specs.Desks.{live_orders}
 use Rattle.wb_contents.proofs.Lists.{there_is as there}
 use Rattle.wb_headline.proofs.Carried.{carried}
 use Rattle.wb_headline.proofs.Desking.{located_entered, located_left}
-use Rattle.wb_headline.proofs.Following.{size, most, Followed}
+use Rattle.wb_headline.proofs.Following.{situation, size, most, Followed}
 use Rattle.wb_simulation.specs.Carried.{IsOrderFor}
+use Rattle.wb_simulation.specs.Laws.{WantsNext}
 use Rattle.wb_simulation.specs.Migrating.{EndsOrder}
-use Rattle.wb_simulation.specs.Worlds.{GivesUp}
+use Rattle.wb_simulation.specs.Worlds.{Situation, GivesUp}
 use Rattle.wb_headline.proofs.Orders.{leaves_from, left, of_order, owned_then, stands_so, at_there, live_at, AreParted, for_block, one_of_block, only_held, over, found_of, only_of, replacing_is, true_not}
 use Rattle.wb_runs.proofs.Located.{stands_alone, unmapped_there}
 use Rattle.wb_headline.proofs.Targets.{standing, beside}
@@ -154,6 +155,10 @@ module _ (P A : Type 0) (shape : Shape) (images : Images) (t : Target P) (commit
     (f : Followed P A shape images (standing P A shape images t commit devices actors n) n) (rule : LockRule shape.geometry.origin_blocks t.words (cards_of actors)) (all_suited : AllSuited shape.geometry.origin_blocks actors) (k : KeepingAt t actors) (a : ℕ) (x : Actor) (ex : slice_get actors a ≡ Some x) where
   abbrev slots : List (Option Order)
   slots = live_orders t.desk
+
+  -- where the machine stands
+  abbrev now : Situation
+  now = situation shape t devices actors
 
   -- whoever is to seal a block owns it
   pub sealing_owns : (c : ℕ) (z : Actor) → slice_get actors c ≡ Some z → (b : OBlock) (place : Option CBlock) → SealsNext b place z.task → (b.0 < shape.geometry.origin_blocks) × (z.card.hold ≡ Held Own b)
@@ -279,7 +284,7 @@ module _ (P A : Type 0) (shape : Shape) (images : Images) (t : Target P) (commit
           z : (v : Rattle.wb_link.specs.World.Actor) × (slice_get f.site.world.actors a ≡ Some v)
           z = beside P A shape images t commit devices actors n known f a x ex
 
-          doing : (j : Job) → x.task ≡ Some (j, plan) → IsDoing (size P A shape) (most P A shape) t.words j plan x.card z.0
+          doing : (j : Job) → x.task ≡ Some (j, plan) → IsDoing (size P A shape) (most P A shape) (f.phase.agrees.each a x z.0 ex z.1).failed j plan x.card z.0
           doing j jt = doing_of (size P A shape) (most P A shape) t.words x z.0 j plan (f.phase.agrees.each a x z.0 ex z.1) jt
 
           is_seal : Cell (Seal b place dirty) ≡ want plan
@@ -291,7 +296,7 @@ module _ (P A : Type 0) (shape : Shape) (images : Images) (t : Target P) (commit
           by_job Flush jt = (let r = doing Flush jt in absurd (own (Flushing r.serves (most P A shape)) (Cell (Seal b place dirty)) r.job is_seal))
           by_job (Open mode) jt = absurd (doing (Open mode) jt)
           by_job (Migrate m block) jt =
-              let c = carried (size P A shape) (most P A shape) shape.geometry.origin_blocks t.words t.desk.space.committing slots devices actors f.site.world f.phase.agrees a x m block plan ex jt suits (Cell (Seal b place dirty)) is_seal tt in
+              let c = carried now shape.geometry.origin_blocks f.site.world f.phase.agrees a x m block plan ex jt suits (Cell (Seal b place dirty)) is_seal tt in
               of_it c.part.block.0 c.of_block
           by_job (Replace old new) jt = absurd (doing (Replace old new) jt)
 
@@ -412,6 +417,10 @@ module _ (P A : Type 0) (shape : Shape) (images : Images) (t : Target P) (commit
           ]
 
   module _ (m : Migration) (block : OBlock) (plan : Plan) (xt : x.task ≡ Some (Migrate m block, plan)) where
+    -- so its actor there is to do this next
+    wants : {next : Want} → next ≡ want plan → WantsNext now a x f.site.world (Migrate m block) plan next
+    wants {next} e = record { here = ex; task = xt; asks = sym e; agrees = f.phase.agrees }
+
     abbrev job : Job
     job = Migrate m block
 
@@ -425,7 +434,7 @@ module _ (P A : Type 0) (shape : Shape) (images : Images) (t : Target P) (commit
     map_keeps bl c new e may changed is =
         let en = entrance unknowing t.desk bl c known.is.kept may in
         let free = ap (λ (m : ℕ → Option ℕ). m bl.0) f.phase.desk.mapping ∙ unmapped_there P t.desk known.is.kept bl.0 en.unmapped in
-        let law = migrations_followed.maps (size P A shape) (most P A shape) shape.geometry.origin_blocks t.words t.desk.space.committing slots devices actors a x m block bl c plan f.site.world ex xt its (sym e) free f.phase.agrees in
+        let law = migrations_followed.maps now shape.geometry.origin_blocks a x m block bl c plan f.site.world (wants e) its free in
         let order = law.2 in
         let is_its : is_of bl order.0 ≡ true = ap (λ (o : OBlock). is_of o order.0) law.1 ∙ of_order (Promote c) block None order.0 order.1 in
         let holds : x.card.hold ≡ Held Own bl = ready job plan xt (Desk (Map bl c)) e in
@@ -465,7 +474,7 @@ module _ (P A : Type 0) (shape : Shape) (images : Images) (t : Target P) (commit
     unmap_keeps bl new e did =
         let s = f.site.world.shared in
         let leaving = leaves_from P t.desk known.is.kept s f.phase.desk in
-        let law = migrations_followed.unmaps (size P A shape) (most P A shape) shape.geometry.origin_blocks t.words t.desk.space.committing slots devices actors a x m block bl plan f.site.world ex xt its (sym e) (leaving bl) f.phase.agrees in
+        let law = migrations_followed.unmaps now shape.geometry.origin_blocks a x m block bl plan f.site.world (wants e) its (leaving bl) in
         let same : bl ≡ block = law.1 in
         let c = law.2.0 in
         let at : s.mapping block.0 ≡ Some c → IsMappedAt (holdings t.desk) bl.0 c = λ stood. subst (λ (o : OBlock). IsMappedAt (holdings t.desk) o.0 c) (sym same) (stands_so P t.desk known.is.kept s f.phase.desk block.0 c stood) in
@@ -476,10 +485,10 @@ module _ (P A : Type 0) (shape : Shape) (images : Images) (t : Target P) (commit
 
     pub release_keeps : (bl : OBlock) (new : DeskState P) → Desk (ReleaseOrder bl) ≡ want plan → DidRelease x.orders bl t.desk new → KeepingAt (record { words = t.words; desk = new }) (slice_set actors a (y job plan xt (Desk (ReleaseOrder bl)) Done))
     release_keeps bl new e d =
-        let law = migrations_followed.gives_up (size P A shape) (most P A shape) shape.geometry.origin_blocks t.words t.desk.space.committing slots devices actors a x m block bl plan f.site.world ex xt its (sym e) f.phase.agrees in
+        let law = migrations_followed.gives_up now shape.geometry.origin_blocks a x m block bl plan f.site.world (wants e) its in
         by law.0 law.1
       where
-        by : bl ≡ block → ((c : ℕ) × (next : Option ℕ) × (order : Order) × IsOrderFor m block next order × EndsOrder (GivesUp c) c (size P A shape) (most P A shape) a f.site.world t.words t.desk.space.committing slots devices actors x (record x { task = Some (Migrate m block, after plan Done); orders = dropped bl x.orders }) order) →
+        by : bl ≡ block → ((c : ℕ) × (next : Option ℕ) × (order : Order) × IsOrderFor m block next order × EndsOrder (GivesUp c) c a f.site.world now x (record x { task = Some (Migrate m block, after plan Done); orders = dropped bl x.orders }) order) →
             KeepingAt (record { words = t.words; desk = new }) (slice_set actors a (y job plan xt (Desk (ReleaseOrder bl)) Done))
         by same (c, next, order, of, ends) =
             let held = Contains-append_left x.orders x.awaiting order ends.mine in

@@ -39,8 +39,8 @@ use Rattle.wb_link.specs.World.{after_all, Shared, removed}
 use Rattle.wb_simulation.specs.Noting.{NotesAgree}
 use Rattle.wb_simulation.specs.Noted.{told}
 use Rattle.wb_simulation.specs.Telling.{Carries, Rests}
-use Rattle.wb_simulation.specs.Worlds.{Turn, Stays, FollowsBy, Follows, Agrees, Maps, Unmaps, GivesUp, TurnedTo}
-use Rattle.wb_simulation.specs.Laws.{went, after_step}
+use Rattle.wb_simulation.specs.Worlds.{Situation, Turn, Stays, WorldFollowsBy, WorldFollows, Maps, Unmaps, GivesUp, TurnedTo}
+use Rattle.wb_simulation.specs.Laws.{WantsNext, went, after_step}
 use Rattle.wb_simulation.specs.Migrating.{SeesWhere, EndsOrder}
 use Rattle.wb_simulation.proofs.Noted.{notes_followed}
 use Rattle.wb_simulation.proofs.Migrations.{migrations_followed}
@@ -82,7 +82,7 @@ use Rattle.wb_runs.proofs.Owning.{Owned}
 use Rattle.wb_simulation.specs.Carried.{IsOrderFor}
 use Rattle.wb_runs.proofs.Located.{stands_alone, unmapped_there}
 use Rattle.wb_headline.specs.Desks.{live_orders, orders_of, DeskAgrees, block_there}
-use Rattle.wb_headline.proofs.Following.{size, most, Followed, Goes}
+use Rattle.wb_headline.proofs.Following.{situation, size, Followed, Goes}
 use Rattle.wb_headline.proofs.Targets.{standing, actor_is, beside, failing_same, noted_within, stays_on, leads_on}
 use Rattle.wb_headline.proofs.Orders.{keeps_so, leaves_from, left, none_waits, of_order, past, stands_so, at_there, live_at, for_block, only_held, only_of}
 use Rattle.wb_headline.proofs.Carried.{own, looks_seal, looks_number}
@@ -98,41 +98,46 @@ answered_still orders awaiting migration block (Refuses refusal) = (refl, refl)
 
 module _ (P A : Type 0) (shape : Shape) (images : Images) (t : Target P) (commit : Option RunningCommit) (devices : Devices (List History)) (actors : List Actor) (n : Notes) (known : MetadataKept {P = P} {A = A} shape.geometry images (Stands t) commit devices.metadata)
     (f : Followed P A shape images (standing P A shape images t commit devices actors n) n) (a : ℕ) (x : Actor) (ex : slice_get actors a ≡ Some x) where
-  abbrev live_now : List (Option Order)
-  live_now = live_orders t.desk
+  -- where the machine stands
+  abbrev now : Situation
+  now = situation shape t devices actors
 
   noted_less : a < length n.doings
   noted_less = noted_within P A shape images t commit devices actors n known f a x ex
 
   -- a migration's steps are not noted
-  pub carried_notes : (turn : Turn) (words' : Words) (committing' : Bool) (orders' : List (Option Order)) (devices' : Devices (List History)) (actors' : List Actor) (g : FollowsBy turn Carries (size P A shape) (most P A shape) a f.site.world words' committing' orders' devices' actors') →
+  pub carried_notes : {turn : Turn} {words' : Words} {committing' : Bool} {orders' : List (Option Order)} {devices' : Devices (List History)} {y : Actor} (g : WorldFollowsBy turn Carries a f.site.world (record (situation shape t devices' actors) { words = words'; committing = committing'; orders = orders' }) y) →
       NotesAgree (size P A shape) n (after_all f.site.world g.records) (told f.notes g.records)
-  carried_notes turn words' committing' orders' devices' actors' g =
+  carried_notes {turn} {words'} {committing'} {orders'} {devices'} {y} g =
       let b = beside P A shape images t commit devices actors n known f a x ex in
-      notes_followed.carries turn (size P A shape) (most P A shape) a f.site.world words' committing' orders' devices' actors' g b.0 n f.notes b.1 noted_less f.notes_agree
+      notes_followed.carries turn a f.site.world _ _ g b.0 n f.notes b.1 noted_less f.notes_agree
 
   module _ (migration : Migration) (block : OBlock) (plan : Plan) (xt : x.task ≡ Some (Migrate migration block, plan)) (suits : Suits shape.geometry.origin_blocks plan x.card) (doing : Doing) (noted : slice_get n.doings a ≡ Some (Some doing)) (job_is : doing.job ≡ Migrate migration block) where
     abbrev migrating_job : Job
     migrating_job = Migrate migration block
 
+    -- so its actor there is to do this next
+    wants : {next : Want} → next ≡ want plan → WantsNext now a x f.site.world (Migrate migration block) plan next
+    wants {next} e = record { here = ex; task = xt; asks = sym e; agrees = f.phase.agrees }
+
     -- on the shared words
-    pub cells : LockRule shape.geometry.origin_blocks t.words (cards_of actors) → (step : CellStep) → Cell step ≡ want plan → SeesWhere t.words live_now f.site.world.shared.mapping migration block step →
+    pub cells : LockRule shape.geometry.origin_blocks t.words (cards_of actors) → (step : CellStep) → Cell step ≡ want plan → SeesWhere t.words (live_orders t.desk) f.site.world.shared.mapping migration block step →
         Goes P A shape (record { devices = devices; commit = commit; phase = Stands (record { words = words_after t.words step; desk = t.desk }); actors = slice_set actors a (actor_then {P = P} {A = A} shape (Stands t) devices x (Cell step) (got_of (result_of t.words step))) }) n
     cells rule step next sees =
         let y = went t.words migrating_job plan step x in
-        let g = migrations_followed.cells (size P A shape) (most P A shape) shape.geometry.origin_blocks t.words t.desk.space.committing live_now devices actors a x migration block plan step f.site.world rule ex xt suits (sym next) sees f.phase.agrees in
+        let g = migrations_followed.cells now shape.geometry.origin_blocks a x migration block plan step f.site.world rule (wants next) suits sees in
         subst (λ (y : Actor). Goes P A shape (record { devices = devices; commit = commit; phase = Stands (record { words = words_after t.words step; desk = t.desk }); actors = slice_set actors a y }) n) (sym (actor_is P A shape (Stands t) devices x migrating_job plan (Cell step) (got_of (result_of t.words step)) xt))
         (stays_on P A shape images t commit devices actors n known f a x ex Carries (words_after t.words step) devices y n g tt
-        (carried_notes Stays (words_after t.words step) t.desk.space.committing live_now devices (slice_set actors a (went t.words migrating_job plan step x)) g) refl refl refl)
+        (carried_notes g) refl refl refl)
 
     -- on a device
     module _ (step : DeviceStep) (got : Got) (contents : List Bytes) (devices' : Devices (List History)) (y : Actor) (is : actor_then {P = P} {A = A} shape (Stands t) devices x (Device step) got ≡ y)
-        (g : Follows Carries (size P A shape) (most P A shape) a f.site.world t.words t.desk.space.committing live_now devices' (slice_set actors a y)) where
+        (g : WorldFollows Carries a f.site.world (situation shape t devices' actors) y) where
       on_device : devices'.metadata ≡ devices.metadata → Goes P A shape (record { devices = devices'; commit = commit; phase = Stands t; actors = slice_set actors a (actor_then {P = P} {A = A} shape (Stands t) devices x (Device step) got) }) (noted_step shape [] n a (Some (Some doing)) (Device step) got contents)
       on_device same =
           let mid = failing doing step got in
           let e = failing_same doing step got in
-          let notes = notes_followed.redone (size P A shape) n (after_all f.site.world g.records) (told f.notes g.records) a doing mid (carried_notes Stays t.words t.desk.space.committing live_now devices' (slice_set actors a y) g) noted e.0 e.1 in
+          let notes = notes_followed.redone (size P A shape) n (after_all f.site.world g.records) (told f.notes g.records) a doing mid (carried_notes g) noted e.0 e.1 in
           subst (λ (q : Job). Goes P A shape (record { devices = devices'; commit = commit; phase = Stands t; actors = slice_set actors a (actor_then {P = P} {A = A} shape (Stands t) devices x (Device step) got) }) (device_note shape (put n a (Some mid)) a mid q step got contents)) (sym job_is)
           (subst (λ (v : Actor). Goes P A shape (record { devices = devices'; commit = commit; phase = Stands t; actors = slice_set actors a v }) (put n a (Some mid))) (sym is)
           (stays_on P A shape images t commit devices actors n known f a x ex Carries t.words devices' y (put n a (Some mid)) g tt notes (length-set n.doings a (Some mid)) refl same))
@@ -142,26 +147,26 @@ module _ (P A : Type 0) (shape : Shape) (images : Images) (t : Target P) (commit
     read_done device e contents next inside =
         let y : Actor = record x { task = Some (migrating_job, after plan Done); buffer = contents_at (device_in device devices) e } in
         on_device (ReadExtent device e) Done contents devices y (actor_is P A shape (Stands t) devices x migrating_job plan (Device (ReadExtent device e)) Done xt)
-        (migrations_followed.read_done (size P A shape) (most P A shape) shape.geometry.origin_blocks t.words t.desk.space.committing live_now devices actors a x migration block plan device e f.site.world ex xt suits (sym next) inside f.phase.agrees) refl
+        (migrations_followed.read_done now shape.geometry.origin_blocks a x migration block plan device e f.site.world (wants next) suits inside) refl
 
     pub read_fails : (device : Dev) (e : Extent) (contents : List Bytes) → Device (ReadExtent device e) ≡ want plan →
         Goes P A shape (record { devices = devices; commit = commit; phase = Stands t; actors = slice_set actors a (actor_then {P = P} {A = A} shape (Stands t) devices x (Device (ReadExtent device e)) Fault) }) (noted_step shape [] n a (Some (Some doing)) (Device (ReadExtent device e)) Fault contents)
     read_fails device e contents next =
         on_device (ReadExtent device e) Fault contents devices (after_step migrating_job plan Fault x) (actor_is P A shape (Stands t) devices x migrating_job plan (Device (ReadExtent device e)) Fault xt)
-        (migrations_followed.read_fails (size P A shape) (most P A shape) shape.geometry.origin_blocks t.words t.desk.space.committing live_now devices actors a x migration block plan device e f.site.world ex xt suits (sym next) f.phase.agrees) refl
+        (migrations_followed.read_fails now shape.geometry.origin_blocks a x migration block plan device e f.site.world (wants next) suits) refl
 
     pub write_done : (device : Dev) (e : Extent) (contents : List Bytes) → HoldsBlocks device → Device (WriteExtent device e) ≡ want plan → e.first + e.count ≤ length (device_in device devices) →
         Goes P A shape (record { devices = with_device device devices (written_each (device_in device devices) e.first x.buffer); commit = commit; phase = Stands t; actors = slice_set actors a (actor_then {P = P} {A = A} shape (Stands t) devices x (Device (WriteExtent device e)) Done) }) (noted_step shape [] n a (Some (Some doing)) (Device (WriteExtent device e)) Done contents)
     write_done device e contents holds next inside =
         on_device (WriteExtent device e) Done contents (with_device device devices (written_each (device_in device devices) e.first x.buffer)) (after_step migrating_job plan Done x) (actor_is P A shape (Stands t) devices x migrating_job plan (Device (WriteExtent device e)) Done xt)
-        (migrations_followed.write_done (size P A shape) (most P A shape) shape.geometry.origin_blocks t.words t.desk.space.committing live_now devices actors a x migration block plan device e f.site.world ex xt suits (sym next) inside f.phase.agrees)
+        (migrations_followed.write_done now shape.geometry.origin_blocks a x migration block plan device e f.site.world (wants next) suits inside)
         (data_device device holds devices (written_each (device_in device devices) e.first x.buffer))
 
     pub write_fails : (device : Dev) (e : Extent) (contents : List Bytes) (lands : ℕ → Bool) → HoldsBlocks device → Device (WriteExtent device e) ≡ want plan → e.first + e.count ≤ length (device_in device devices) →
         Goes P A shape (record { devices = with_device device devices (written_where lands (device_in device devices) e.first x.buffer); commit = commit; phase = Stands t; actors = slice_set actors a (actor_then {P = P} {A = A} shape (Stands t) devices x (Device (WriteExtent device e)) Fault) }) (noted_step shape [] n a (Some (Some doing)) (Device (WriteExtent device e)) Fault contents)
     write_fails device e contents lands holds next inside =
         on_device (WriteExtent device e) Fault contents (with_device device devices (written_where lands (device_in device devices) e.first x.buffer)) (after_step migrating_job plan Fault x) (actor_is P A shape (Stands t) devices x migrating_job plan (Device (WriteExtent device e)) Fault xt)
-        (migrations_followed.write_fails (size P A shape) (most P A shape) shape.geometry.origin_blocks t.words t.desk.space.committing live_now devices actors a x migration block plan device e lands f.site.world ex xt suits (sym next) inside f.phase.agrees)
+        (migrations_followed.write_fails now shape.geometry.origin_blocks a x migration block plan device e lands f.site.world (wants next) suits inside)
         (data_device device holds devices (written_where lands (device_in device devices) e.first x.buffer))
 
     -- the desk has no memory for its entry
@@ -169,10 +174,10 @@ module _ (P A : Type 0) (shape : Shape) (images : Images) (t : Target P) (commit
         Goes P A shape (record { devices = devices; commit = commit; phase = Stands t; actors = slice_set actors a (actor_then {P = P} {A = A} shape (Stands t) devices x (Desk (Map b c)) (GotRefused refusal)) }) n
     map_refused b c refusal next =
         let y = after_step migrating_job plan (GotRefused refusal) x in
-        let g = migrations_followed.is_refused (size P A shape) (most P A shape) shape.geometry.origin_blocks t.words t.desk.space.committing live_now devices actors a x migration block b c plan refusal f.site.world ex xt suits (sym next) f.phase.agrees in
+        let g = migrations_followed.is_refused now shape.geometry.origin_blocks a x migration block b c plan refusal f.site.world (wants next) suits in
         subst (λ (y : Actor). Goes P A shape (record { devices = devices; commit = commit; phase = Stands t; actors = slice_set actors a y }) n) (sym (actor_is P A shape (Stands t) devices x migrating_job plan (Desk (Map b c)) (GotRefused refusal) xt))
         (stays_on P A shape images t commit devices actors n known f a x ex Carries t.words devices y n g tt
-        (carried_notes Stays t.words t.desk.space.committing live_now devices (slice_set actors a (after_step migrating_job plan (GotRefused refusal) x)) g) refl refl refl)
+        (carried_notes g) refl refl refl)
 
     -- it is answered
     pub answers : (answer : Answer) (shown contents : List Bytes) → End answer ≡ want plan →
@@ -184,11 +189,11 @@ module _ (P A : Type 0) (shape : Shape) (images : Images) (t : Target P) (commit
 
         rested : (v : Answer) → End v ≡ want plan → Goes P A shape (record { devices = devices; commit = commit; phase = Stands t; actors = slice_set actors a (actor_then {P = P} {A = A} shape (Stands t) devices x (End v) Done) }) (put n a None)
         rested v e =
-            let g = migrations_followed.answers (size P A shape) (most P A shape) shape.geometry.origin_blocks t.words t.desk.space.committing live_now devices actors a x migration block plan v f.site.world ex xt suits (sym e) f.phase.agrees in
+            let g = migrations_followed.answers now shape.geometry.origin_blocks a x migration block plan v f.site.world (wants e) suits in
             let b = beside P A shape images t commit devices actors n known f a x ex in
             subst (λ (v' : Actor). Goes P A shape (record { devices = devices; commit = commit; phase = Stands t; actors = slice_set actors a v' }) (put n a None)) (sym (actor_is P A shape (Stands t) devices x migrating_job plan (End v) Done xt ∙ (λ i. record { task = None; card = x.card; orders = (answered_still x.orders x.awaiting migration block v).0 i; awaiting = (answered_still x.orders x.awaiting migration block v).1 i; buffer = x.buffer })))
             (stays_on P A shape images t commit devices actors n known f a x ex Rests t.words devices (record x { task = None }) (put n a None) g tt
-            (notes_followed.rests Stays (size P A shape) (most P A shape) a f.site.world t.words t.desk.space.committing live_now devices (slice_set actors a (record x { task = None })) g b.0 n f.notes b.1 noted_less f.notes_agree) (length-set n.doings a None) refl refl)
+            (notes_followed.rests Stays a f.site.world _ _ g b.0 n f.notes b.1 noted_less f.notes_agree) (length-set n.doings a None) refl refl)
 
         by_answer : (v : Answer) → End v ≡ want plan → Goes P A shape (record { devices = devices; commit = commit; phase = Stands t; actors = slice_set actors a (actor_then {P = P} {A = A} shape (Stands t) devices x (End v) Done) }) (noted_step shape shown n a (Some (Some doing)) (End v) Done contents)
         by_answer (Refuses refusal) e = rested (Refuses refusal) e
@@ -214,20 +219,25 @@ module _ (P A : Type 0) (shape : Shape) (t : Target P) (commit : Option RunningC
   abbrev slots : List (Option Order)
   slots = live_orders t.desk
 
-  agrees : Agrees (size P A shape) (most P A shape) t.words t.desk.space.committing slots devices actors f.site.world
-  agrees = f.phase.agrees
+  -- where the machine stands
+  abbrev now_at_desk : Situation
+  now_at_desk = situation shape t devices actors
+
+  -- so its actor there is to do this next
+  wants_at_desk : {next : Want} → next ≡ want plan → WantsNext now_at_desk a x f.site.world (Migrate migration block) plan next
+  wants_at_desk {next} e = record { here = ex; task = xt; asks = sym e; agrees = f.phase.agrees }
 
   kept : DeskInvariant unknowing t.desk
   kept = b.goes.known.is.kept
 
   -- a step on a device or at the desk is a migration's own
   own_step : (next : Want) → next ≡ want plan → IsWithin next → (m : Migration) × (part : BlockRange) × IsOwnStep (OnBlock (Migrating m part)) next
-  own_step next e within = own (size P A shape) (most P A shape) shape.geometry.origin_blocks t.words t.desk.space.committing slots devices actors f.site.world agrees a x migration block plan ex xt suits next e within
+  own_step next e within = own now_at_desk shape.geometry.origin_blocks f.site.world f.phase.agrees a x migration block plan ex xt suits next e within
 
   -- where it looks at a seal or a number, the seal tells where its order has the block
   sees : (step : CellStep) → Cell step ≡ want plan → SeesWhere t.words slots f.site.world.shared.mapping migration block step
-  sees (Look (SealWord o)) e = seal_tells_order P t.desk kept slots (named P t.desk kept) t.words f.site.world.shared.mapping migration block (place_told (looks_seal (size P A shape) (most P A shape) shape.geometry.origin_blocks t.words t.desk.space.committing slots devices actors f.site.world agrees a x migration block plan ex xt suits o e) (λ place dirty q. absurd (let bad : Cell (Look (SealWord o)) ≡ Cell (Seal block place dirty) = e ∙ q in cc))) f.phase.desk.mapping
-  sees (Look (Number o)) e = seal_tells_order P t.desk kept slots (named P t.desk kept) t.words f.site.world.shared.mapping migration block (place_told (looks_number (size P A shape) (most P A shape) shape.geometry.origin_blocks t.words t.desk.space.committing slots devices actors f.site.world agrees a x migration block plan ex xt suits o e) (λ place dirty q. absurd (let bad : Cell (Look (Number o)) ≡ Cell (Seal block place dirty) = e ∙ q in cc))) f.phase.desk.mapping
+  sees (Look (SealWord o)) e = seal_tells_order P t.desk kept slots (named P t.desk kept) t.words f.site.world.shared.mapping migration block (place_told (looks_seal now_at_desk shape.geometry.origin_blocks f.site.world f.phase.agrees a x migration block plan ex xt suits o e) (λ place dirty q. absurd (let bad : Cell (Look (SealWord o)) ≡ Cell (Seal block place dirty) = e ∙ q in cc))) f.phase.desk.mapping
+  sees (Look (Number o)) e = seal_tells_order P t.desk kept slots (named P t.desk kept) t.words f.site.world.shared.mapping migration block (place_told (looks_number now_at_desk shape.geometry.origin_blocks f.site.world f.phase.agrees a x migration block plan ex xt suits o e) (λ place dirty q. absurd (let bad : Cell (Look (Number o)) ≡ Cell (Seal block place dirty) = e ∙ q in cc))) f.phase.desk.mapping
   sees step e = tt
 
   inside : (next : Want) → next ≡ want plan → StepInside shape next
@@ -252,7 +262,7 @@ module _ (P A : Type 0) (shape : Shape) (t : Target P) (commit : Option RunningC
 
   -- the desk and its orders turn, and whatever is read of the metadata stays
   goes_to : (turn : Turn) (desk' : DeskState P) (y : Actor) (next : Want) (orders' : List (Option Order)) → actor_then {P = P} {A = A} shape (Stands t) devices x next Done ≡ y →
-      (g : FollowsBy turn Carries (size P A shape) (most P A shape) a f.site.world t.words desk'.space.committing orders' devices (slice_set actors a y)) → (TurnedTo turn s (after_all f.site.world g.records).shared → TurnedTo Stays s (after_all f.site.world g.records).shared) →
+      (g : WorldFollowsBy turn Carries a f.site.world (record now_at_desk { committing = desk'.space.committing; orders = orders' }) y) → (TurnedTo turn s (after_all f.site.world g.records).shared → TurnedTo Stays s (after_all f.site.world g.records).shared) →
       AtDesk shape.geometry b.goes.images desk' commit devices.metadata → orders' ≡ live_orders desk' → DeskAgrees desk' (after_all f.site.world g.records).shared →
       Goes P A shape (record { devices = devices; commit = commit; phase = Stands (record { words = t.words; desk = desk' }); actors = slice_set actors a (actor_then {P = P} {A = A} shape (Stands t) devices x next Done) }) n
   goes_to turn desk' y next orders' is g stays known' same desk =
@@ -261,7 +271,7 @@ module _ (P A : Type 0) (shape : Shape) (t : Target P) (commit : Option RunningC
       let readable = kept_readable shape.geometry b.goes.images devices.metadata P A (Stands t) commit b.goes.known in
       subst (λ (v : Actor). Goes P A shape (record { devices = devices; commit = commit; phase = Stands (record { words = t.words; desk = desk' }); actors = slice_set actors a v }) n) (sym is)
       (leads_on P A shape b.goes.images t commit devices actors n b.goes.known f a x ex turn Carries (record { words = t.words; desk = desk' }) commit devices y n b.goes.images orders' g tt
-      (carried_notes P A shape b.goes.images t commit devices actors n b.goes.known f a x ex turn t.words desk'.space.committing orders' devices (slice_set actors a y) g) refl refl known' same desk
+      (carried_notes P A shape b.goes.images t commit devices actors n b.goes.known f a x ex g) refl refl known' same desk
       (images_followed.stay shape.geometry b.goes.images.committed (later_of b.goes.images) devices.metadata devices.metadata s s' f.phase.images_agree turned readable.read)
       (λ state e. turned.1 ∙ f.phase.running state e))
 
@@ -271,28 +281,28 @@ module _ (P A : Type 0) (shape : Shape) (t : Target P) (commit : Option RunningC
       let desk' = mapped t.desk c tree policy in
       let en = entrance unknowing t.desk bl c kept may in
       let free = ap (λ (m : Locations). m bl.0) f.phase.desk.mapping ∙ unmapped_there P t.desk kept bl.0 en.unmapped in
-      let law = migrations_followed.maps (size P A shape) (most P A shape) shape.geometry.origin_blocks t.words t.desk.space.committing slots devices actors a x migration block bl c plan f.site.world ex xt suits (sym next) free agrees in
+      let law = migrations_followed.maps now_at_desk shape.geometry.origin_blocks a x migration block bl c plan f.site.world (wants_at_desk next) suits free in
       let over = law.2 in
-      let g = subst (λ (k : OBlock). FollowsBy (Maps k.0 c.0) Carries (size P A shape) (most P A shape) a f.site.world t.words t.desk.space.committing (slice_set slots c.0 None) devices (slice_set actors a (then_actor bl x.awaiting))) (sym law.1) over.2.follows in
+      let g = subst (λ (k : OBlock). WorldFollowsBy (Maps k.0 c.0) Carries a f.site.world (record now_at_desk { orders = slice_set slots c.0 None }) (then_actor bl x.awaiting)) (sym law.1) over.2.follows in
       let room = slice_get_within t.desk.space.blocks c.0 Reserved may.reserved in
       goes_to (Maps bl.0 c.0) desk' (then_actor bl x.awaiting) (Desk (Map bl c)) (slice_set slots c.0 None) (actor_is P A shape (Stands t) devices x job plan (Desk (Map bl c)) Done xt) g (λ d. d)
       (mapped_stands P shape.geometry b.goes.images t.desk commit devices.metadata bl c tree policy b.goes.known may changed) (sym (orders_set t.desk.orders.slots c.0 None))
       (desk_maps P t.desk s (after_all f.site.world g.records).shared f.phase.desk bl c tree policy room (let l = en.inside in let m = kept.mapping.size in omega (arith, l, m)) (unmapped_there P t.desk kept bl.0 en.unmapped) en.none changed g.desk.0 g.desk.1)
 
   -- one that was demoted leaves, or one that another is to follow
-  module _ (bl : OBlock) (read : List Bytes) (new : DeskState P) (next : Desk (Unmap bl) ≡ want plan) (did : DidUnmap (λ policy o. new.policy) bl t.desk new) (same : bl ≡ block) where
+  module _ (bl : OBlock) (read : List Bytes) (new : DeskState P) (did : DidUnmap (λ policy o. new.policy) bl t.desk new) (same : bl ≡ block) where
     abbrev away : Actor
     away = then_actor bl (replacing bl x.orders ++ x.awaiting)
 
     module _ (c : ℕ) (o : Order) (live : slice_get slots c ≡ Some (Some o)) (mine : Contains x.orders o) (removes : Removes o) (at : IsMappedAt (holdings t.desk) bl.0 c) (of : is_of bl o ≡ true) where
       leaves_to : (v : Bool) → is_replacement o ≡ v → (after_it : Option ℕ) → block_there (Quarantined v false) ≡ removed after_it → (orders' : List (Option Order)) → orders' ≡ orders_of (if v then t.desk.orders else without_order t.desk.orders (record { 0 = c })).slots →
-          FollowsBy (Unmaps block.0 c after_it) Carries (size P A shape) (most P A shape) a f.site.world t.words t.desk.space.committing orders' devices (slice_set actors a (then_actor bl (replacing bl x.orders ++ x.awaiting))) → To (Desk (Unmap bl)) Done read (Asks new)
+          WorldFollowsBy (Unmaps block.0 c after_it) Carries a f.site.world (record now_at_desk { orders = orders' }) (then_actor bl (replacing bl x.orders ++ x.awaiting)) → To (Desk (Unmap bl)) Done read (Asks new)
       leaves_to v r after_it there orders' orders_are follows =
           let parted = b.keeping.parted a x ex in
           let gone = left P t.desk kept actors are owned a x ex parted bl c o live mine removes at of new did in
           let alone = stands_alone P t.desk kept bl.0 c at in
           let desk' = unmapped t.desk (record { 0 = c }) new.tree new.policy in
-          let g = subst (λ (k : OBlock). FollowsBy (Unmaps k.0 c after_it) Carries (size P A shape) (most P A shape) a f.site.world t.words t.desk.space.committing orders' devices (slice_set actors a away)) (sym same) follows in
+          let g = subst (λ (k : OBlock). WorldFollowsBy (Unmaps k.0 c after_it) Carries a f.site.world (record now_at_desk { orders = orders' }) away) (sym same) follows in
           let room = slice_get_within t.desk.space.blocks c Mapped (mapped_state unknowing t.desk bl.0 c kept at) in
           subst (λ (k : DeskState P). To (Desk (Unmap bl)) Done read (Asks k)) (sym gone.1)
           (goes_to (Unmaps bl.0 c after_it) desk' away (Desk (Unmap bl)) orders' (actor_is P A shape (Stands t) devices x job plan (Desk (Unmap bl)) Done xt) g (λ d. d)
@@ -304,7 +314,7 @@ module _ (P A : Type 0) (shape : Shape) (t : Target P) (commit : Option RunningC
   unmaps_on : (bl : OBlock) (read : List Bytes) (new : DeskState P) → Desk (Unmap bl) ≡ want plan → DidUnmap (λ policy o. new.policy) bl t.desk new → To (Desk (Unmap bl)) Done read (Asks new)
   unmaps_on bl read new next did =
       let leaving = leaves_from P t.desk kept s f.phase.desk in
-      let law = migrations_followed.unmaps (size P A shape) (most P A shape) shape.geometry.origin_blocks t.words t.desk.space.committing slots devices actors a x migration block bl plan f.site.world ex xt suits (sym next) (leaving bl) agrees in
+      let law = migrations_followed.unmaps now_at_desk shape.geometry.origin_blocks a x migration block bl plan f.site.world (wants_at_desk next) suits (leaving bl) in
       let same : bl ≡ block = law.1 in
       let c = law.2.0 in
       elim law.2.1 [
@@ -313,19 +323,19 @@ module _ (P A : Type 0) (shape : Shape) (t : Target P) (commit : Option RunningC
             let at = subst (λ (k : OBlock). IsMappedAt (holdings t.desk) k.0 c) (sym same) (stands_so P t.desk kept s f.phase.desk block.0 c (leaving block c None (DemoteOrder block) d.live (inl (refl, refl)) (λ no. absurd (no refl)))) in
             let of = for_block Demote block bl same in
             let none = none_waits P t.desk kept actors are owned a x ex parted bl c (DemoteOrder block) d.live d.mine tt at of refl in
-            leaves_to bl read new next did same c (DemoteOrder block) d.live d.mine tt at of false refl None refl (slice_set slots c None) (sym (orders_set t.desk.orders.slots c None))
-            (subst (λ (os : List Order). FollowsBy (Unmaps block.0 c None) Carries (size P A shape) (most P A shape) a f.site.world t.words t.desk.space.committing (slice_set slots c None) devices (slice_set actors a (then_actor bl (os ++ x.awaiting)))) (sym none) d.follows))
-        | inr d ↦ leaves_to bl read new next did same c (ReplaceOrder block d.new d.k) d.live d.mine tt (subst (λ (k : OBlock). IsMappedAt (holdings t.desk) k.0 c) (sym same) (stands_so P t.desk kept s f.phase.desk block.0 c d.stood))
+            leaves_to bl read new did same c (DemoteOrder block) d.live d.mine tt at of false refl None refl (slice_set slots c None) (sym (orders_set t.desk.orders.slots c None))
+            (subst (λ (os : List Order). WorldFollowsBy (Unmaps block.0 c None) Carries a f.site.world (record now_at_desk { orders = slice_set slots c None }) (then_actor bl (os ++ x.awaiting))) (sym none) d.follows))
+        | inr d ↦ leaves_to bl read new did same c (ReplaceOrder block d.new d.k) d.live d.mine tt (subst (λ (k : OBlock). IsMappedAt (holdings t.desk) k.0 c) (sym same) (stands_so P t.desk kept s f.phase.desk block.0 c d.stood))
             (subst (λ (k : OBlock). is_of k (ReplaceOrder block d.new d.k) ≡ true) (sym same) (of_order Demote block (Some d.new.0) (ReplaceOrder block d.new d.k) (inr (refl, refl)))) true refl (Some d.new.0) refl slots refl d.follows
       ]
 
   -- an order is given up
   releases_on : (bl : OBlock) (read : List Bytes) (new : DeskState P) → Desk (ReleaseOrder bl) ≡ want plan → DidRelease x.orders bl t.desk new → To (Desk (ReleaseOrder bl)) Done read (Asks new)
   releases_on bl read new next d =
-      let law = migrations_followed.gives_up (size P A shape) (most P A shape) shape.geometry.origin_blocks t.words t.desk.space.committing slots devices actors a x migration block bl plan f.site.world ex xt suits (sym next) agrees in
+      let law = migrations_followed.gives_up now_at_desk shape.geometry.origin_blocks a x migration block bl plan f.site.world (wants_at_desk next) suits in
       by law.0 law.1
     where
-      by : bl ≡ block → ((c : ℕ) × (after_it : Option ℕ) × (order : Order) × IsOrderFor migration block after_it order × EndsOrder (GivesUp c) c (size P A shape) (most P A shape) a f.site.world t.words t.desk.space.committing slots devices actors x (then_actor bl x.awaiting) order) → To (Desk (ReleaseOrder bl)) Done read (Asks new)
+      by : bl ≡ block → ((c : ℕ) × (after_it : Option ℕ) × (order : Order) × IsOrderFor migration block after_it order × EndsOrder (GivesUp c) c a f.site.world now_at_desk x (then_actor bl x.awaiting) order) → To (Desk (ReleaseOrder bl)) Done read (Asks new)
       by same (c, after_it, order, of, ends) =
           let held = Contains-append_left x.orders x.awaiting order ends.mine in
           let l = live_at P t.desk actors are owned a x ex order c ends.live held in

@@ -1,6 +1,6 @@
 -- Whatever step an opening takes, done or failing, it is followed, and its answer; a target that it makes has seals that tell where it has each
 -- block, and no orders.
-use Rattle.std.proofs.Common.{◌≡◌, ◌∙◌, ◌≤◌, ◌^◌, inl, inr, ℕ, true, false, List, Option, Some, None, refl, sym, ap, subst, arith, length, map, replicate, slice_get, slice_set, Contains, ◌⊎◌, []}
+use Rattle.std.proofs.Common.{◌≡◌, ◌∙◌, ◌≤◌, ◌^◌, inl, inr, ℕ, true, List, Option, Some, None, refl, sym, ap, subst, arith, length, map, replicate, slice_get, slice_set, Contains, ◌⊎◌, []}
 use Rattle.std.proofs.lemmas.List.{length-replicate, length-set, length-map}
 use Rattle.wb_types.proofs.Lists.{set_cases}
 use Rattle.wb_types.specs.declared.entry.Entry.{Entry}
@@ -57,9 +57,9 @@ use Rattle.wb_promise.specs.Happenings.{Chosen, Plain, Cut, Orders, Begins, Reac
 use Rattle.wb_runs.proofs.Underway.{sync_does, sync_fails, put_fails}
 use Rattle.wb_types.specs.declared.number.CBlock.{CBlock}
 use Rattle.wb_promise.specs.Sealed.{number_of}
-use Rattle.wb_headline.specs.Desks.{block_there, live_orders}
+use Rattle.wb_headline.specs.Desks.{block_there}
 use Rattle.wb_headline.proofs.Events.{Reached, event_reaches}
-use Rattle.wb_headline.proofs.Following.{HasReadAt, IsOver, many, size, most, Followed, Goes, opening_at, AtStage}
+use Rattle.wb_headline.proofs.Following.{situation, HasReadAt, IsOver, many, size, most, Followed, Goes, opening_at, AtStage}
 use Rattle.wb_headline.proofs.Arriving.{SameSectors, sized_so, rests, gone}
 use Rattle.wb_headline.proofs.Showing.{shows_allowed, length-rising, state_allowed}
 use Rattle.wb_headline.proofs.Answering.{no_orders_live, opened_state, view_of, answer_of, answer_may, opened_site, answer_leads, shown_view}
@@ -183,12 +183,12 @@ module _ (P A : Type 0) (shape : Shape) (images : Images) (devices : Devices (Li
       abbrev site_now : Site
       site_now = opened_site f.site i tree
 
-      agrees_now : Agrees (size P A shape) (most P A shape) (target_over shape mode policy stored).words false (live_orders (target_over shape mode policy stored).desk) devices (slice_set actors a y) site_now.world
+      agrees_now : Agrees (situation shape (target_over shape mode policy stored) devices (slice_set actors a y)) site_now.world
       agrees_now =
           let many_then : length (slice_set actors a y) ≡ length f.site.world.actors = length-set actors a y ∙ f.sized.actors_many ∙ sym f.as_many in
           let few : shape.geometry.cache_blocks ≤ 2 ^ 32 = (let l = shape.geometry.within.cache_to in omega (arith, l)) in
-          subst (λ (os : List (Option Order)). Agrees (size P A shape) (most P A shape) (target_over shape mode policy stored).words false os devices (slice_set actors a y) site_now.world) (sym (no_orders_live shape.geometry.cache_blocks))
-          (subst (λ (k : ℕ). Agrees (size P A shape) (most P A shape) (target_over shape mode policy stored).words false (replicate shape.geometry.cache_blocks None) devices (slice_set actors a y) (record { shared = opened_on f.site.world.shared Writeback i blocks_now; actors = replicate k idle; waiting = λ c. None })) many_then
+          subst (λ (os : List (Option Order)). Agrees (record (situation shape (target_over shape mode policy stored) devices (slice_set actors a y)) { orders = os }) site_now.world) (sym (no_orders_live shape.geometry.cache_blocks))
+          (subst (λ (k : ℕ). Agrees (record (situation shape (target_over shape mode policy stored) devices (slice_set actors a y)) { orders = replicate shape.geometry.cache_blocks None }) (record { shared = opened_on f.site.world.shared Writeback i blocks_now; actors = replicate k idle; waiting = λ c. None })) many_then
           (opened_followed (size P A shape) (most P A shape) shape.geometry.origin_blocks shape.geometry.cache_blocks stored.root.clean tree i blocks_now f.site.world.shared devices (slice_set actors a y) mapping few rd.0.bare rd.0.same rd.0.unclean d.origin d.cache at_rest))
 
       -- the seals tell where the tree has each block

@@ -28,7 +28,7 @@ use Rattle.wb_promise.specs.Happenings.{IsOutOfPlace, Plain, Chosen, Happening, 
 use Rattle.wb_promise.specs.Effects.{all_resting, stepped, with_actor, device_done, job_of, phase_then, after_what, after_happening, after_all, IsRun, device_failed, given, cleared, phase_given, started, actor_then}
 use Rattle.wb_promise.specs.Clerk.{Notes, Doing, formatted, noted_step, noted_what, put, begun, starting}
 use Rattle.wb_promise.specs.Headline.{IsLatest, shown, shown_in, note_happening, noted, ShowsAllowed, ShownBy, ShowsRightly, OpensRightly, AllOpenRightly, IsRightAnswer, DoingRightly, AnswersRightly, AllRight, CrashConsistent, Headline}
-use Rattle.wb_runs.specs.Laws.{IsCovered, DoingCovers, AnswerCovers, AllCover, RefusedBy, RefusedRightly, RefusesByCause, AllRefuseByCause}
+use Rattle.wb_runs.specs.Laws.{AllAlong, IsCovered, DoingCovers, AnswerCovers, RefusedBy, RefusedRightly, RefusesByCause}
 use Rattle.wb_promise.specs.Latest.{IsGiven, GivesLatest, ReadsRightly, AllReadRightly}
 use Rattle.wb_runs.specs.Holding.{TaskSuits}
 use Rattle.wb_runs.proofs.Claims.{Noted}
@@ -82,8 +82,8 @@ module _ (P A : Type 0) (shape : Shape) where
         asked doing noted = (b.noted_so a doing noted).0 ∙ sym b.goes.followed.sized.sectors ∙ sym b.goes.followed.notes_agree.floors_as_many
 
         by_job : (job : Job) → x.task ≡ Some (job, plan) → (d : Noted shape job plan (slice_get n.doings a)) → Gives shape (in_phase (Stands t)) x job next got read chosen → Stepped_to P A shape (in_phase (Stands t)) n a x job next got read chosen d.doing
-        by_job (Read extent) xt d g = read_steps P A shape b.goes.images t commit devices actors n b.goes.known b.goes.followed b.used.here b.used.suited a x ex plan suits d.doing d.is extent xt d.job_is d.claim next got read chosen e g
-        by_job (Write extent content) xt d g = write_steps P A shape b.goes.images t commit devices actors n b.goes.known b.goes.followed b.used.here b.used.suited a x ex plan suits d.doing d.is extent content xt d.job_is d.claim next got read chosen e g
+        by_job (Read extent) xt d g = read_steps P A shape b.goes.images t commit devices actors n b.goes.known b.goes.followed b.used.here a x ex plan suits d.doing d.is extent xt d.job_is d.claim next got read chosen e g
+        by_job (Write extent content) xt d g = write_steps P A shape b.goes.images t commit devices actors n b.goes.known b.goes.followed b.used.here a x ex plan suits d.doing d.is extent content xt d.job_is d.claim next got read chosen e g
         by_job Flush xt d g = flush_steps P A shape b.goes.images t commit devices actors n b.goes.known b.goes.followed b.used.here a x ex plan xt d.doing d.is d.job_is suits b.keeping.owned next got read chosen (asked d.doing d.is) e g
         by_job (Open mode) xt d g = absurd (subst (λ (o : Option (Job × Plan)). TaskHere {P = P} {A = A} (Stands t) o) xt (b.linked.here a x ex))
         by_job (Migrate migration block) xt d g = any_step P A shape t commit devices actors n b a x migration block plan d.doing ex xt d.is d.job_is next got read chosen e g
@@ -115,8 +115,8 @@ module _ (P A : Type 0) (shape : Shape) where
         inside = subst (λ (v : Want). Rattle.wb_runs.specs.Inside.StepInside shape v) (sym e) (want_inside shape plan (subst (λ (o : Option (Job × Plan)). Rattle.wb_runs.proofs.InsideRuns.PlanInside shape o) xt (b.inside.tasks a x ex)).1)
 
         by_job : (job : Job) → x.task ≡ Some (job, plan) → (d : Noted shape job plan (slice_get n.doings a)) → Faulted_to P A shape (in_phase (Stands t)) n a x choice job next read chosen d.doing
-        by_job (Read extent) xt d = read_faults P A shape b.goes.images t commit devices actors n b.goes.known b.goes.followed b.used.here b.used.suited a x ex plan suits d.doing d.is extent xt d.job_is d.claim choice next read chosen e m g
-        by_job (Write extent content) xt d = write_faults P A shape b.goes.images t commit devices actors n b.goes.known b.goes.followed b.used.here b.used.suited a x ex plan suits d.doing d.is extent content xt d.job_is d.claim choice next read chosen inside b.inside.cache b.inside.origin e m g
+        by_job (Read extent) xt d = read_faults P A shape b.goes.images t commit devices actors n b.goes.known b.goes.followed b.used.here a x ex plan suits d.doing d.is extent xt d.job_is d.claim choice next read chosen e m g
+        by_job (Write extent content) xt d = write_faults P A shape b.goes.images t commit devices actors n b.goes.known b.goes.followed b.used.here a x ex plan suits d.doing d.is extent content xt d.job_is d.claim choice next read chosen inside b.inside.cache b.inside.origin e m g
         by_job Flush xt d = flush_faults P A shape b.goes.images t commit devices actors n b.goes.known b.goes.followed b.used.here a x ex plan xt d.doing d.is d.job_is suits b.keeping.owned choice next read chosen e m g
         by_job (Open mode) xt d = absurd (subst (λ (o : Option (Job × Plan)). TaskHere {P = P} {A = A} (Stands t) o) xt (b.linked.here a x ex))
         by_job (Migrate migration block) xt d = any_fault P A shape t commit devices actors n b a x migration block plan d.doing ex xt d.is d.job_is choice next read chosen e m g
@@ -155,7 +155,7 @@ module _ (P A : Type 0) (shape : Shape) where
 
   start_opening : (w : State P A) (n : Notes) → Whole P A shape w n → (a : ℕ) (x : Actor) (mode : Mode) (chosen : Chosen P A) → slice_get w.actors a ≡ Some x → (¬ IsOutOfPlace w.phase (Open mode)) → Begun_to w n a (Open mode) chosen
   start_opening w n b a x mode chosen ex place = put_there (cleared w (Open mode)) (put (starting n (Open mode)) a (Some (begun n (Open mode)))) a resting (Open mode) chosen (there_rests w.actors a x ex)
-      (opening_starts P A shape b.goes.images w n b.goes.known b.goes.followed a mode x (given shape resting (Open mode) chosen) (λ o. place (inl o)) (λ o. place (inr o)) refl, none_set (all_resting w.actors) a (given shape resting (Open mode) chosen) (λ order h. absurd (omega (arith, h.1))) (none_rest w.actors))
+      (opening_starts P A shape b.goes.images w n b.goes.known b.goes.followed a mode (given shape resting (Open mode) chosen) (λ o. place (inl o)) (λ o. place (inr o)) refl, none_set (all_resting w.actors) a (given shape resting (Open mode) chosen) (λ order h. absurd (omega (arith, h.1))) (none_rest w.actors))
 
   module _ (t : Target P) (commit : Option RunningCommit) (devices : Devices (List History)) (actors : List Actor) (n : Notes) (b : Whole P A shape (at_target P A shape t commit devices actors) n) (a : ℕ) (x : Actor) (ex : slice_get actors a ≡ Some x) (xt : x.task ≡ None) where
     abbrev w_now : State P A
@@ -205,7 +205,7 @@ module _ (P A : Type 0) (shape : Shape) where
   read_by_phase : (devices : Devices (List History)) (commit : Option RunningCommit) (phase : Phase P A) (actors : List Actor) (n : Notes) → Whole P A shape (record { devices = devices; commit = commit; phase = phase; actors = actors }) n → (a : ℕ) (x : Actor) (job : Job) (plan : Plan) → slice_get actors a ≡ Some x → x.task ≡ Some (job, plan) →
       (d : Noted shape job plan (slice_get n.doings a)) (device : Dev) (e : Extent) (read : List Bytes) (chosen : Chosen P A) → Device (ReadExtent device e) ≡ want plan → Gives shape (record { devices = devices; commit = commit; phase = phase; actors = actors }) x job (Device (ReadExtent device e)) Done read chosen → GivesLatest shape n job e read
   read_by_phase devices commit (Stands t) actors n b a x (Read extent) plan ex xt d device e read chosen next g =
-      given_latest P A shape b.goes.images t commit devices actors n b.goes.known b.goes.followed b.used.here b.used.suited a x ex plan (subst (λ (o : Option (Job × Plan)). TaskSuits shape.geometry.origin_blocks x.card o) xt (b.used.suited a x ex)) d.doing d.is extent xt d.job_is d.claim device e next g.0 read g.3 g.4
+      given_latest P A shape b.goes.images t commit devices actors n b.goes.known b.goes.followed a x ex plan (subst (λ (o : Option (Job × Plan)). TaskSuits shape.geometry.origin_blocks x.card o) xt (b.used.suited a x ex)) d.doing d.is extent xt d.job_is d.claim device e next g.0 read g.3 g.4
   read_by_phase devices commit (Stands t) actors n b a x (Migrate migration block) plan ex xt d device e read chosen next g = g.1.0
   read_by_phase devices commit Gone actors n b a x job plan ex xt d device e read chosen next g = absurd (subst (λ (o : Option (Job × Plan)). TaskHere {P = P} {A = A} Gone o) xt (b.linked.here a x ex))
   read_by_phase devices commit (Opens mode reading) actors n b a x job plan ex xt d device e read chosen next g = by_job job (subst (λ (o : Option (Job × Plan)). TaskHere {P = P} {A = A} (Opens mode reading) o) xt (b.linked.here a x ex)) g
@@ -308,7 +308,7 @@ module _ (P A : Type 0) (shape : Shape) where
   record Kept_over (w : State P A) (n : Notes) (hs : List (Happening P A)) : Type 0 where
     pub reads : AllReadRightly shape w n hs
     pub opens : AllOpenRightly shape w n hs
-    pub answers : AllCover shape w n hs → AllRefuseByCause shape w n hs → AllRight shape w n hs
+    pub answers : AllAlong AnswerCovers shape w n hs → AllAlong RefusesByCause shape w n hs → AllRight shape w n hs
     pub last : Whole P A shape (after_all shape w hs) (noted shape w n hs)
 
   over_run : (w : State P A) (n : Notes) (hs : List (Happening P A)) → Whole P A shape w n → IsRun shape w hs → Kept_over w n hs

@@ -32,7 +32,7 @@ use Rattle.wb_promise.specs.declared.job.Job.TheVariants.{Read, Write}
 use Rattle.wb_promise.specs.States.{Shape, State, Actor, Target, Stands, with_device, Phase, block_size, sector_count}
 use Rattle.wb_promise.specs.Happenings.{block_range, Chosen, Gives, Falters, MayFailAt}
 use Rattle.wb_promise.specs.Effects.{actor_then, orders_then, awaiting_then, device_done, device_failed, stepped}
-use Rattle.wb_runs.specs.Holding.{cards_of, AllSuited}
+use Rattle.wb_runs.specs.Holding.{cards_of}
 use Rattle.wb_promise.specs.Clerk.{Notes, Doing, noted_step, device_note, failing, put, readings_from, sector_for, write_note, enter_each, entering, finished_note, all_raised, Entering, enter}
 use Rattle.wb_contents.proofs.Lists.{set_there}
 use Rattle.wb_runs.proofs.Images.{Images}
@@ -46,7 +46,7 @@ use Rattle.wb_simulation.specs.Noted.{told, AreNewest}
 use Rattle.wb_simulation.specs.Actors.{IsRequestAt}
 use Rattle.wb_simulation.specs.Steps.{AreOfBlock}
 use Rattle.wb_simulation.specs.Telling.{Quietly, Reads, Writes, Answers}
-use Rattle.wb_simulation.specs.Worlds.{Stays, Follows, zeros}
+use Rattle.wb_simulation.specs.Worlds.{Stays, WorldFollows, zeros}
 use Rattle.wb_simulation.specs.Laws.{IsRequestJob, went, after_step, content_of}
 use Rattle.wb_simulation.proofs.Followed.{begins_by, cell_steps_followed, doing_of}
 use Rattle.wb_simulation.proofs.Moving.{extent_steps_followed, same_device}
@@ -56,8 +56,7 @@ use Rattle.std.proofs.lemmas.List.Elements.{All-cons}
 use Rattle.wb_contents.specs.Devices.{by_block}
 use Rattle.wb_contents.proofs.Devices.{is_there}
 use Rattle.wb_promise.specs.Headline.{IsLatest, shown}
-use Rattle.wb_headline.specs.Desks.{live_orders}
-use Rattle.wb_headline.proofs.Following.{size, most, Followed, Goes, many}
+use Rattle.wb_headline.proofs.Following.{situation, size, most, Followed, Goes, many}
 use Rattle.wb_headline.proofs.Targets.{standing, actor_is, beside, noted_within, stays_on}
 use Rattle.wb_contents.proofs.Lists.{there_is as there}
 use Rattle.wb_headline.proofs.Events.{records_happen, is_right}
@@ -69,30 +68,25 @@ use Rattle.wb_runs.specs.Inside.{StepInside}
 use Rattle.wb_runs.proofs.Stepping.{data_device}
 
 module _ (P A : Type 0) (shape : Shape) (images : Images) (t : Target P) (commit : Option RunningCommit) (devices : Devices (List History)) (actors : List Actor) (n : Notes) (known : MetadataKept {P = P} {A = A} shape.geometry images (Stands t) commit devices.metadata)
-    (f : Followed P A shape images (standing P A shape images t commit devices actors n) n) (rule : LockRule shape.geometry.origin_blocks t.words (cards_of actors)) (all_suited : AllSuited shape.geometry.origin_blocks actors) (a : ℕ) (x : Actor) (ex : slice_get actors a ≡ Some x) (job : Job) (plan : Plan) (xt : x.task ≡ Some (job, plan)) (suits : Suits shape.geometry.origin_blocks plan x.card)
-    (shown : List Bytes) (doing : Doing) (noted : slice_get n.doings a ≡ Some (Some doing)) (job_is : doing.job ≡ job) where
-  abbrev slots : List (Option Order)
-  slots = live_orders t.desk
-
+    (f : Followed P A shape images (standing P A shape images t commit devices actors n) n) (rule : LockRule shape.geometry.origin_blocks t.words (cards_of actors)) (a : ℕ) (x : Actor) (ex : slice_get actors a ≡ Some x) (job : Job) (plan : Plan) (xt : x.task ≡ Some (job, plan)) (suits : Suits shape.geometry.origin_blocks plan x.card) where
   -- the state after a step that leaves words, desk and metadata
   abbrev after_it : Words → Devices (List History) → Actor → State P A
   after_it words' devices' y = record { devices = devices'; commit = commit; phase = Stands (record { words = words'; desk = t.desk }); actors = slice_set actors a y }
 
   -- nothing is noted
   quietly : (words' : Words) (devices' : Devices (List History)) (y : Actor) →
-      Follows Quietly (size P A shape) (most P A shape) a f.site.world words' t.desk.space.committing slots devices' (slice_set actors a y) → devices'.metadata ≡ devices.metadata → Goes P A shape (after_it words' devices' y) n
+      WorldFollows Quietly a f.site.world (record (situation shape t devices' actors) { words = words' }) y → devices'.metadata ≡ devices.metadata → Goes P A shape (after_it words' devices' y) n
   quietly words' devices' y g same =
       let b = beside P A shape images t commit devices actors n known f a x ex in
       stays_on P A shape images t commit devices actors n known f a x ex Quietly words' devices' y n g tt
-      (notes_followed.quiet Stays (size P A shape) (most P A shape) a f.site.world words' t.desk.space.committing slots devices' (slice_set actors a y) g b.0 n f.notes b.1 (noted_within P A shape images t commit devices actors n known f a x ex) f.notes_agree)
+      (notes_followed.quiet Stays a f.site.world _ _ g b.0 n f.notes b.1 (noted_within P A shape images t commit devices actors n known f a x ex) f.notes_agree)
       refl refl same
 
   -- a step on the shared words
   pub on_words : (step : CellStep) → IsRequestJob job → Cell step ≡ want plan → Goes P A shape (after_it (words_after t.words step) devices (actor_then {P = P} {A = A} shape (Stands t) devices x (Cell step) (got_of (result_of t.words step)))) n
   on_words step q e = subst (λ (y : Actor). Goes P A shape (after_it (words_after t.words step) devices y) n) (sym (actor_is P A shape (Stands t) devices x job plan (Cell step) (got_of (result_of t.words step)) xt))
       (quietly (words_after t.words step) devices (went t.words job plan step x)
-      (cell_steps_followed (size P A shape) (most P A shape) shape.geometry.origin_blocks t.words t.desk.space.committing slots devices actors a x job plan step f.site.world q rule
-      ex xt suits (sym e) f.phase.agrees) refl)
+      (cell_steps_followed (situation shape t devices actors) shape.geometry.origin_blocks a x job plan step f.site.world q rule (record { here = ex; task = xt; asks = sym e; agrees = f.phase.agrees }) suits) refl)
 
 -- a read or write that is answered leaves its actor the orders that it has
 orders_still : (orders awaiting : List Order) (job : Job) (answer : Answer) → IsRequestJob job → orders_then orders awaiting job (End answer) Done ≡ orders
@@ -108,10 +102,7 @@ awaiting_still orders awaiting job (Refuses refusal) q = refl
 awaiting_still orders awaiting job answer q = absurd q
 
 module _ (P A : Type 0) (shape : Shape) (images : Images) (t : Target P) (commit : Option RunningCommit) (devices : Devices (List History)) (actors : List Actor) (n : Notes) (known : MetadataKept {P = P} {A = A} shape.geometry images (Stands t) commit devices.metadata)
-    (f : Followed P A shape images (standing P A shape images t commit devices actors n) n) (rule : LockRule shape.geometry.origin_blocks t.words (cards_of actors)) (all_suited : AllSuited shape.geometry.origin_blocks actors) (a : ℕ) (x : Actor) (ex : slice_get actors a ≡ Some x) (shown : List Bytes) (doing : Doing) (noted : slice_get n.doings a ≡ Some (Some doing)) where
-  abbrev slots_now : List (Option Order)
-  slots_now = live_orders t.desk
-
+    (f : Followed P A shape images (standing P A shape images t commit devices actors n) n) (a : ℕ) (x : Actor) (ex : slice_get actors a ≡ Some x) (shown : List Bytes) (doing : Doing) (noted : slice_get n.doings a ≡ Some (Some doing)) where
   -- ---- a read
 
   module _ (extent : Extent) (plan : Plan) (xt : x.task ≡ Some (Read extent, plan)) (suits : Suits shape.geometry.origin_blocks plan x.card) (job_is : doing.job ≡ Read extent) (claim : JobClaim shape (Read extent) plan doing) (device : Dev) (e : Extent) (next : Device (ReadExtent device e) ≡ want plan) (holds : HoldsBlocks device) where
@@ -120,8 +111,8 @@ module _ (P A : Type 0) (shape : Shape) (images : Images) (t : Target P) (commit
 
     -- what it is told there
     pub read_follows : (contents : List Bytes) → length contents ≡ e.count → GivesEach (device_in device devices) e.first contents →
-        Follows (Reads part.block.0 (e.first % size P A shape) contents) (size P A shape) (most P A shape) a f.site.world t.words t.desk.space.committing slots_now devices (slice_set actors a (after_step (Read extent) plan Done x))
-    read_follows contents many gives = extent_steps_followed.read_done (size P A shape) (most P A shape) shape.geometry.origin_blocks t.words t.desk.space.committing slots_now devices actors a x extent part plan device e contents f.site.world ex xt claim.is_job suits (sym next) holds many gives f.phase.agrees
+        WorldFollows (Reads part.block.0 (e.first % size P A shape) contents) a f.site.world (situation shape t devices actors) (after_step (Read extent) plan Done x)
+    read_follows contents many gives = extent_steps_followed.read_done (situation shape t devices actors) shape.geometry.origin_blocks a x extent part plan device e contents f.site.world (record { here = ex; task = xt; asks = sym next; agrees = f.phase.agrees }) claim.is_job suits holds many gives
 
     pub reads : (contents : List Bytes) → length contents ≡ e.count → GivesEach (device_in device devices) e.first contents →
         Goes P A shape (record { devices = devices; commit = commit; phase = Stands (record { words = t.words; desk = t.desk }); actors = slice_set actors a (actor_then {P = P} {A = A} shape (Stands t) devices x (Device (ReadExtent device e)) Done) })
@@ -132,7 +123,7 @@ module _ (P A : Type 0) (shape : Shape) (images : Images) (t : Target P) (commit
         let doing2 : Doing = record doing { readings = doing.readings ++ readings_from n.histories (sector_for shape extent e) contents } in
         let s' = after_all f.site.world g.records in
         let m' = told f.notes g.records in
-        let once = notes_followed.read part.block.0 (e.first % size P A shape) contents Stays (size P A shape) (most P A shape) a f.site.world t.words t.desk.space.committing slots_now devices (slice_set actors a (after_step (Read extent) plan Done x)) g b.0 n f.notes b.1 (noted_within P A shape images t commit devices actors n known f a x ex) f.notes_agree in
+        let once = notes_followed.read part.block.0 (e.first % size P A shape) contents Stays a f.site.world _ _ g b.0 n f.notes b.1 (noted_within P A shape images t commit devices actors n known f a x ex) f.notes_agree in
         let first = notes_followed.redone (size P A shape) n s' m' a doing doing once noted refl refl in
         let second = notes_followed.redone (size P A shape) (put n a (Some doing)) s' m' a doing doing2 first (set_there n.doings a (Some doing) (Some doing) noted) refl refl in
         let y = after_step (Read extent) plan Done x in
@@ -145,12 +136,12 @@ module _ (P A : Type 0) (shape : Shape) (images : Images) (t : Target P) (commit
         Goes P A shape (record { devices = devices; commit = commit; phase = Stands (record { words = t.words; desk = t.desk }); actors = slice_set actors a (actor_then {P = P} {A = A} shape (Stands t) devices x (Device (ReadExtent device e)) Fault) })
         (noted_step shape shown n a (Some (Some doing)) (Device (ReadExtent device e)) Fault contents)
     read_fails contents =
-        let g = extent_steps_followed.read_fails (size P A shape) (most P A shape) shape.geometry.origin_blocks t.words t.desk.space.committing slots_now devices actors a x extent part plan device e f.site.world ex xt claim.is_job suits (sym next) holds f.phase.agrees in
+        let g = extent_steps_followed.read_fails (situation shape t devices actors) shape.geometry.origin_blocks a x extent part plan device e f.site.world (record { here = ex; task = xt; asks = sym next; agrees = f.phase.agrees }) claim.is_job suits holds in
         let b = beside P A shape images t commit devices actors n known f a x ex in
         let mid = failing doing (ReadExtent device e) Fault in
         let s' = after_all f.site.world g.records in
         let m' = told f.notes g.records in
-        let once = notes_followed.quiet Stays (size P A shape) (most P A shape) a f.site.world t.words t.desk.space.committing slots_now devices (slice_set actors a (after_step (Read extent) plan Fault x)) g b.0 n f.notes b.1 (noted_within P A shape images t commit devices actors n known f a x ex) f.notes_agree in
+        let once = notes_followed.quiet Stays a f.site.world _ _ g b.0 n f.notes b.1 (noted_within P A shape images t commit devices actors n known f a x ex) f.notes_agree in
         let first = notes_followed.redone (size P A shape) n s' m' a doing mid once noted refl refl in
         let y = after_step (Read extent) plan Fault x in
         subst (λ (q : Job). Goes P A shape (record { devices = devices; commit = commit; phase = Stands (record { words = t.words; desk = t.desk }); actors = slice_set actors a (actor_then {P = P} {A = A} shape (Stands t) devices x (Device (ReadExtent device e)) Fault) }) (device_note shape (put n a (Some mid)) a mid q (ReadExtent device e) Fault contents)) (sym job_is)
@@ -167,7 +158,7 @@ module _ (P A : Type 0) (shape : Shape) (images : Images) (t : Target P) (commit
     in_block : e.first % size P A shape + e.count ≤ size P A shape
     in_block =
         let b = beside P A shape images t commit devices actors n known f a x ex in
-        let r : IsRequestAt (size P A shape) content t.words WritingPart plan x.card b.0 = doing_of (size P A shape) (most P A shape) t.words x b.0 (Write extent content) plan (f.phase.agrees.each a x b.0 ex b.1) xt in
+        let r : IsRequestAt (size P A shape) content _ WritingPart plan x.card b.0 = doing_of (size P A shape) (most P A shape) t.words x b.0 (Write extent content) plan (f.phase.agrees.each a x b.0 ex b.1) xt in
         let first = begins_by plan (Device (WriteExtent device e)) (sym next) (λ answer q. absurd (cc)) in
         (subst (λ (ws : List Want). AreOfBlock (size P A shape) r.part.block.0 ws) first.1 r.of_block).0.room
 
@@ -190,7 +181,7 @@ module _ (P A : Type 0) (shape : Shape) (images : Images) (t : Target P) (commit
         by (Some h) = length-set en.histories s (added h content)
 
     module _ (got : Got) (mid : Doing) (same_entered : mid.entered ≡ doing.entered) (same_then : mid.then_finished ≡ doing.then_finished) (list : List History)
-        (g : Follows (Writes written_part.block.0 (e.first % size P A shape) e.count content) (size P A shape) (most P A shape) a f.site.world t.words t.desk.space.committing slots_now (with_device device devices list) (slice_set actors a (after_step (Write extent content) plan got x))) where
+        (g : WorldFollows (Writes written_part.block.0 (e.first % size P A shape) e.count content) a f.site.world (situation shape t (with_device device devices list) actors) (after_step (Write extent content) plan got x)) where
       abbrev n1 : Notes
       n1 = put n a (Some mid)
 
@@ -202,7 +193,7 @@ module _ (P A : Type 0) (shape : Shape) (images : Images) (t : Target P) (commit
           let b = beside P A shape images t commit devices actors n known f a x ex in
           let first = notes_followed.redone (size P A shape) n f.site.world f.notes a doing mid f.notes_agree noted same_entered same_then in
           let less1 = subst (λ (k : ℕ). a < k) (sym (length-set n.doings a (Some mid))) (noted_within P A shape images t commit devices actors n known f a x ex) in
-          let second = notes_followed.write written_part.block.0 (e.first % size P A shape) e.count content Stays (size P A shape) (most P A shape) a f.site.world t.words t.desk.space.committing slots_now (with_device device devices list) (slice_set actors a (after_step (Write extent content) plan got x)) g b.0 n1 f.notes b.1 less1 first mid
+          let second = notes_followed.write written_part.block.0 (e.first % size P A shape) e.count content Stays a f.site.world _ _ g b.0 n1 f.notes b.1 less1 first mid
           (set_there n.doings a (Some doing) (Some mid) noted) in_block in_range in
           stays_on P A shape images t commit devices actors n known f a x ex (Writes written_part.block.0 (e.first % size P A shape) e.count content) t.words (with_device device devices list) (after_step (Write extent content) plan got x) n2 g tt second (length-set n1.doings a _ ∙ length-set n.doings a (Some mid)) (entered_many (rising (sector_for shape extent e) e.count) (entering n1 mid)) (data_device device holds devices list)
 
@@ -211,7 +202,7 @@ module _ (P A : Type 0) (shape : Shape) (images : Images) (t : Target P) (commit
         (noted_step shape shown n a (Some (Some doing)) (Device (WriteExtent device e)) Done contents)
     writes contents inside =
         let list = written_each (device_in device devices) e.first (replicate e.count content) in
-        let g = extent_steps_followed.write_done (size P A shape) (most P A shape) shape.geometry.origin_blocks t.words t.desk.space.committing slots_now devices actors a x extent content written_part plan device e f.site.world ex xt claim.is_job suits (sym next) holds inside f.phase.agrees in
+        let g = extent_steps_followed.write_done (situation shape t devices actors) shape.geometry.origin_blocks a x extent content written_part plan device e f.site.world (record { here = ex; task = xt; asks = sym next; agrees = f.phase.agrees }) claim.is_job suits holds inside in
         subst (λ (q : Job). Goes P A shape (record { devices = with_device device devices list; commit = commit; phase = Stands (record { words = t.words; desk = t.desk }); actors = slice_set actors a (actor_then {P = P} {A = A} shape (Stands t) devices x (Device (WriteExtent device e)) Done) }) (device_note shape (put n a (Some doing)) a doing q (WriteExtent device e) Done contents)) (sym job_is)
         (subst (λ (y : Actor). Goes P A shape (record { devices = with_device device devices list; commit = commit; phase = Stands (record { words = t.words; desk = t.desk }); actors = slice_set actors a y }) (write_note (put n a (Some doing)) a doing (enter_each content (rising (sector_for shape extent e) e.count) (entering (put n a (Some doing)) doing))))
         (sym (actor_is P A shape (Stands t) devices x (Write extent content) plan (Device (WriteExtent device e)) Done xt)) (writes_on Done doing refl refl list g))
@@ -222,22 +213,22 @@ module _ (P A : Type 0) (shape : Shape) (images : Images) (t : Target P) (commit
     write_fails contents lands inside =
         let list = written_where lands (device_in device devices) e.first (replicate e.count content) in
         let mid = failing doing (WriteExtent device e) Fault in
-        let g = extent_steps_followed.write_fails (size P A shape) (most P A shape) shape.geometry.origin_blocks t.words t.desk.space.committing slots_now devices actors a x extent content written_part plan device e lands f.site.world ex xt claim.is_job suits (sym next) holds inside f.phase.agrees in
+        let g = extent_steps_followed.write_fails (situation shape t devices actors) shape.geometry.origin_blocks a x extent content written_part plan device e lands f.site.world (record { here = ex; task = xt; asks = sym next; agrees = f.phase.agrees }) claim.is_job suits holds inside in
         subst (λ (q : Job). Goes P A shape (record { devices = with_device device devices list; commit = commit; phase = Stands (record { words = t.words; desk = t.desk }); actors = slice_set actors a (actor_then {P = P} {A = A} shape (Stands t) devices x (Device (WriteExtent device e)) Fault) }) (device_note shape (put n a (Some mid)) a mid q (WriteExtent device e) Fault contents)) (sym job_is)
         (subst (λ (y : Actor). Goes P A shape (record { devices = with_device device devices list; commit = commit; phase = Stands (record { words = t.words; desk = t.desk }); actors = slice_set actors a y }) (write_note (put n a (Some mid)) a mid (enter_each content (rising (sector_for shape extent e) e.count) (entering (put n a (Some mid)) mid))))
         (sym (actor_is P A shape (Stands t) devices x (Write extent content) plan (Device (WriteExtent device e)) Fault xt)) (writes_on Fault mid refl refl list g))
 
   -- ---- answers
 
-  module _ (job : Job) (request : IsRequestJob job) (plan : Plan) (xt : x.task ≡ Some (job, plan)) (suits : Suits shape.geometry.origin_blocks plan x.card) (job_is : doing.job ≡ job) (answer : Answer) (next : End answer ≡ want plan) where
-    answer_follows : Follows (Answers (job_for (size P A shape) (content_of job) plan.job) answer) (size P A shape) (most P A shape) a f.site.world t.words t.desk.space.committing slots_now devices (slice_set actors a (record x { task = None }))
-    answer_follows = answers_followed (size P A shape) (most P A shape) shape.geometry.origin_blocks t.words t.desk.space.committing slots_now devices actors a x job plan answer f.site.world request ex xt suits (sym next) f.phase.agrees
+  module _ (job : Job) (request : IsRequestJob job) (plan : Plan) (xt : x.task ≡ Some (job, plan)) (suits : Suits shape.geometry.origin_blocks plan x.card) (answer : Answer) (next : End answer ≡ want plan) where
+    answer_follows : WorldFollows (Answers (job_for (size P A shape) (content_of job) plan.job) answer) a f.site.world (situation shape t devices actors) (record x { task = None })
+    answer_follows = answers_followed (situation shape t devices actors) shape.geometry.origin_blocks a x job plan answer f.site.world request (record { here = ex; task = xt; asks = sym next; agrees = f.phase.agrees }) suits
 
     -- the state and notes then
     abbrev Answered : Notes → Type 0
     Answered n' = Goes P A shape (record { devices = devices; commit = commit; phase = Stands (record { words = t.words; desk = t.desk }); actors = slice_set actors a (actor_then {P = P} {A = A} shape (Stands t) devices x (End answer) Done) }) n'
 
-    answered_with : (there : Answer) (of : Rattle.wb_link.specs.Tables.Job) (n' : Notes) → length n'.doings ≡ length n.doings → length n'.histories ≡ length n.histories → (g : Follows (Answers of there) (size P A shape) (most P A shape) a f.site.world t.words t.desk.space.committing slots_now devices (slice_set actors a (record x { task = None }))) →
+    answered_with : (there : Answer) (of : Rattle.wb_link.specs.Tables.Job) (n' : Notes) → length n'.doings ≡ length n.doings → length n'.histories ≡ length n.histories → (g : WorldFollows (Answers of there) a f.site.world (situation shape t devices actors) (record x { task = None })) →
         NotesAgree (size P A shape) n' (after_all f.site.world g.records) (told f.notes g.records) → Answered n'
     answered_with there of n' d h g notes =
         subst (λ (y : Actor). Goes P A shape (record { devices = devices; commit = commit; phase = Stands (record { words = t.words; desk = t.desk }); actors = slice_set actors a y }) n') (sym (actor_is P A shape (Stands t) devices x job plan (End answer) Done xt ∙ (λ i. record { task = None; card = x.card; orders = orders_still x.orders x.awaiting job answer request i; awaiting = awaiting_still x.orders x.awaiting job answer request i; buffer = x.buffer })))
@@ -247,26 +238,26 @@ module _ (P A : Type 0) (shape : Shape) (images : Images) (t : Target P) (commit
   pub answers : (job : Job) → IsRequestJob job → (plan : Plan) → x.task ≡ Some (job, plan) → Suits shape.geometry.origin_blocks plan x.card → doing.job ≡ job → JobClaim shape job plan doing → (answer : Answer) → End answer ≡ want plan → (contents : List Bytes) →
       Goes P A shape (record { devices = devices; commit = commit; phase = Stands (record { words = t.words; desk = t.desk }); actors = slice_set actors a (actor_then {P = P} {A = A} shape (Stands t) devices x (End answer) Done) }) (noted_step shape shown n a (Some (Some doing)) (End answer) Done contents)
   answers job q plan xt suits job_is claim (Refuses refusal) next contents =
-      let g = answer_follows job q plan xt suits job_is (Refuses refusal) next in
+      let g = answer_follows job q plan xt suits (Refuses refusal) next in
       let b = beside P A shape images t commit devices actors n known f a x ex in
-      answered_with job q plan xt suits job_is (Refuses refusal) next (Refuses refusal) _ (put n a None) (length-set n.doings a None) refl g
-      (notes_followed.refused (job_for (size P A shape) (content_of job) plan.job) refusal Stays (size P A shape) (most P A shape) a f.site.world t.words t.desk.space.committing slots_now devices (slice_set actors a (record x { task = None })) g b.0 n f.notes b.1 (noted_within P A shape images t commit devices actors n known f a x ex) f.notes_agree)
+      answered_with job q plan xt suits (Refuses refusal) next (Refuses refusal) _ (put n a None) (length-set n.doings a None) refl g
+      (notes_followed.refused (job_for (size P A shape) (content_of job) plan.job) refusal Stays a f.site.world _ _ g b.0 n f.notes b.1 (noted_within P A shape images t commit devices actors n known f a x ex) f.notes_agree)
   answers (Read extent) q plan xt suits job_is claim Finished next contents =
       let part = block_range shape extent claim.cut in
       let of = job_for (size P A shape) [] (OnBlock (ReadingPart part)) in
-      let g = subst (λ (k : TaskJob). Follows (Answers (job_for (size P A shape) [] k) Finished) (size P A shape) (most P A shape) a f.site.world t.words t.desk.space.committing slots_now devices (slice_set actors a (record x { task = None }))) claim.is_job (answer_follows (Read extent) q plan xt suits job_is Finished next) in
+      let g = subst (λ (k : TaskJob). WorldFollows (Answers (job_for (size P A shape) [] k) Finished) a f.site.world (situation shape t devices actors) (record x { task = None })) claim.is_job (answer_follows (Read extent) q plan xt suits Finished next) in
       let b = beside P A shape images t commit devices actors n known f a x ex in
       subst (λ (k : Job). Goes P A shape (record { devices = devices; commit = commit; phase = Stands (record { words = t.words; desk = t.desk }); actors = slice_set actors a (actor_then {P = P} {A = A} shape (Stands t) devices x (End Finished) Done) }) (finished_note n a doing k shown)) (sym job_is)
-      (answered_with (Read extent) q plan xt suits job_is Finished next Finished of (put n a None) (length-set n.doings a None) refl g
-      (notes_followed.read_answered part.block.0 _ Stays (size P A shape) (most P A shape) a f.site.world t.words t.desk.space.committing slots_now devices (slice_set actors a (record x { task = None })) g b.0 n f.notes b.1 (noted_within P A shape images t commit devices actors n known f a x ex) f.notes_agree))
+      (answered_with (Read extent) q plan xt suits Finished next Finished of (put n a None) (length-set n.doings a None) refl g
+      (notes_followed.read_answered part.block.0 _ Stays a f.site.world _ _ g b.0 n f.notes b.1 (noted_within P A shape images t commit devices actors n known f a x ex) f.notes_agree))
   answers (Write extent content) q plan xt suits job_is claim Finished next contents =
       let part = block_range shape extent claim.cut in
       let of = job_for (size P A shape) content (OnBlock (WritingPart part)) in
-      let g = subst (λ (k : TaskJob). Follows (Answers (job_for (size P A shape) content k) Finished) (size P A shape) (most P A shape) a f.site.world t.words t.desk.space.committing slots_now devices (slice_set actors a (record x { task = None }))) claim.is_job (answer_follows (Write extent content) q plan xt suits job_is Finished next) in
+      let g = subst (λ (k : TaskJob). WorldFollows (Answers (job_for (size P A shape) content k) Finished) a f.site.world (situation shape t devices actors) (record x { task = None })) claim.is_job (answer_follows (Write extent content) q plan xt suits Finished next) in
       let b = beside P A shape images t commit devices actors n known f a x ex in
       subst (λ (k : Job). Goes P A shape (record { devices = devices; commit = commit; phase = Stands (record { words = t.words; desk = t.desk }); actors = slice_set actors a (actor_then {P = P} {A = A} shape (Stands t) devices x (End Finished) Done) }) (finished_note n a doing k shown)) (sym job_is)
-      (answered_with (Write extent content) q plan xt suits job_is Finished next Finished of (record n { finished = all_raised n.finished doing.entered; doings = slice_set n.doings a None }) (length-set n.doings a None) refl g
-      (notes_followed.write_answered part.block.0 _ content Stays (size P A shape) (most P A shape) a f.site.world t.words t.desk.space.committing slots_now devices (slice_set actors a (record x { task = None })) g b.0 n f.notes b.1 (noted_within P A shape images t commit devices actors n known f a x ex) f.notes_agree doing noted))
+      (answered_with (Write extent content) q plan xt suits Finished next Finished of (record n { finished = all_raised n.finished doing.entered; doings = slice_set n.doings a None }) (length-set n.doings a None) refl g
+      (notes_followed.write_answered part.block.0 _ content Stays a f.site.world _ _ g b.0 n f.notes b.1 (noted_within P A shape images t commit devices actors n known f a x ex) f.notes_agree doing noted))
   answers job q plan xt suits job_is claim Finished next contents = absurd q
 
 -- newest by block and offset is latest by sector
@@ -284,17 +275,17 @@ newest_latest sectors histories b o (c ∷ contents) room inside all =
         ap Rattle.wb_promise.specs.Clerk.latest_of h.1 ∙ ap (λ (g : History). Some (newest g)) (sym is) ∙ ap (λ (x : Bytes). Some x) (sym all.0)
 
 module _ (P A : Type 0) (shape : Shape) (images : Images) (t : Target P) (commit : Option RunningCommit) (devices : Devices (List History)) (actors : List Actor) (n : Notes) (known : MetadataKept {P = P} {A = A} shape.geometry images (Stands t) commit devices.metadata)
-    (f : Followed P A shape images (standing P A shape images t commit devices actors n) n) (rule : LockRule shape.geometry.origin_blocks t.words (cards_of actors)) (all_suited : AllSuited shape.geometry.origin_blocks actors) (a : ℕ) (x : Actor) (ex : slice_get actors a ≡ Some x) (plan : Plan) (suits : Suits shape.geometry.origin_blocks plan x.card)
+    (f : Followed P A shape images (standing P A shape images t commit devices actors n) n) (a : ℕ) (x : Actor) (ex : slice_get actors a ≡ Some x) (plan : Plan) (suits : Suits shape.geometry.origin_blocks plan x.card)
     (doing : Doing) (noted : slice_get n.doings a ≡ Some (Some doing)) (extent : Extent) (xt : x.task ≡ Some (Read extent, plan)) (job_is : doing.job ≡ Read extent) (claim : JobClaim shape (Read extent) plan doing) (device : Dev) (e : Extent) (next : Device (ReadExtent device e) ≡ want plan) (holds : HoldsBlocks device) where
   pub given_latest : (contents : List Bytes) → length contents ≡ e.count → GivesEach (device_in device devices) e.first contents → All IsLatest (readings_from n.histories (sector_for shape extent e) contents)
   given_latest contents many_read gives =
-      let g = read_follows P A shape images t commit devices actors n known f rule all_suited a x ex [] doing noted extent plan xt suits job_is claim device e next holds contents many_read gives in
+      let g = read_follows P A shape images t commit devices actors n known f a x ex [] doing noted extent plan xt suits job_is claim device e next holds contents many_read gives in
       let b = beside P A shape images t commit devices actors n known f a x ex in
       let less = noted_within P A shape images t commit devices actors n known f a x ex in
       let part = block_range shape extent claim.cut in
       let right = is_right (size P A shape) (many P A shape) f.site f.notes f.reached _ (records_happen (size P A shape) f.site g.records f.phase.phase_is g.run) in
-      let newest = notes_followed.newest_read Stays (size P A shape) (most P A shape) a part.block.0 (e.first % size P A shape) contents f.site.world t.words t.desk.space.committing (live_orders t.desk) devices _ g b.0 n f.notes b.1 less f.notes_agree right in
-      let r : IsRequestAt (size P A shape) [] t.words ReadingPart plan x.card b.0 = doing_of (size P A shape) (most P A shape) t.words x b.0 (Read extent) plan (f.phase.agrees.each a x b.0 ex b.1) xt in
+      let newest = notes_followed.newest_read Stays part.block.0 (e.first % size P A shape) contents a f.site.world _ _ g b.0 n f.notes b.1 less f.notes_agree right in
+      let r : IsRequestAt (size P A shape) [] _ ReadingPart plan x.card b.0 = doing_of (size P A shape) (most P A shape) t.words x b.0 (Read extent) plan (f.phase.agrees.each a x b.0 ex b.1) xt in
       let first = begins_by plan (Device (ReadExtent device e)) (sym next) (λ answer q. absurd (cc)) in
       let room = (subst (λ (ws : List Want). AreOfBlock (size P A shape) r.part.block.0 ws) first.1 r.of_block).0.room in
       let m = may_start shape extent claim.inside in
@@ -306,7 +297,7 @@ module _ (P A : Type 0) (shape : Shape) (images : Images) (t : Target P) (commit
 -- ---- any step
 
 module _ (P A : Type 0) (shape : Shape) (images : Images) (t : Target P) (commit : Option RunningCommit) (devices : Devices (List History)) (actors : List Actor) (n : Notes) (known : MetadataKept {P = P} {A = A} shape.geometry images (Stands t) commit devices.metadata)
-    (f : Followed P A shape images (standing P A shape images t commit devices actors n) n) (rule : LockRule shape.geometry.origin_blocks t.words (cards_of actors)) (all_suited : AllSuited shape.geometry.origin_blocks actors) (a : ℕ) (x : Actor) (ex : slice_get actors a ≡ Some x) (plan : Plan) (suits : Suits shape.geometry.origin_blocks plan x.card)
+    (f : Followed P A shape images (standing P A shape images t commit devices actors n) n) (rule : LockRule shape.geometry.origin_blocks t.words (cards_of actors)) (a : ℕ) (x : Actor) (ex : slice_get actors a ≡ Some x) (plan : Plan) (suits : Suits shape.geometry.origin_blocks plan x.card)
     (doing : Doing) (noted : slice_get n.doings a ≡ Some (Some doing)) where
   abbrev w : State P A
   w = standing P A shape images t commit devices actors n
@@ -330,20 +321,20 @@ module _ (P A : Type 0) (shape : Shape) (images : Images) (t : Target P) (commit
 
     pub read_steps : (next : Want) (got : Got) (read : List Bytes) (chosen : Chosen P A) → next ≡ want plan → Gives shape w x (Read extent) next got read chosen → Done_by (Read extent) next got read chosen
     read_steps (Cell step) got read chosen e g = subst (λ (v : Got). Done_by (Read extent) (Cell step) v read chosen) (sym g.1)
-        (on_words P A shape images t commit devices actors n known f rule all_suited a x ex (Read extent) plan xt suits [] doing noted job_is step tt e)
+        (on_words P A shape images t commit devices actors n known f rule a x ex (Read extent) plan xt suits step tt e)
     read_steps (Device (ReadExtent d ex')) got read chosen e g = subst (λ (v : Got). Done_by (Read extent) (Device (ReadExtent d ex')) v read chosen) (sym g.2)
         (subst (λ (c : Chosen P A). Done_by (Read extent) (Device (ReadExtent d ex')) Done read c) (sym g.1)
         (subst (λ (ds : Devices (List History)). Goes P A shape (record { devices = ds; commit = commit; phase = Stands t; actors = slice_set actors a (actor_then {P = P} {A = A} shape (Stands t) devices x (Device (ReadExtent d ex')) Done) }) (noted_step shape [] n a (Some (Some doing)) (Device (ReadExtent d ex')) Done read)) (sym (same_device d devices g.0))
-        (reads P A shape images t commit devices actors n known f rule all_suited a x ex [] doing noted extent plan xt suits job_is claim d ex' e g.0 read g.3 g.4)))
+        (reads P A shape images t commit devices actors n known f a x ex [] doing noted extent plan xt suits job_is claim d ex' e g.0 read g.3 g.4)))
     read_steps (End answer) got read chosen e g = subst (λ (v : Got). Done_by (Read extent) (End answer) v read chosen) (sym g.1) (subst (λ (c : Chosen P A). Done_by (Read extent) (End answer) Done read c) (sym g.0.1)
-        (answers P A shape images t commit devices actors n known f rule all_suited a x ex _ doing noted (Read extent) tt plan xt suits job_is claim answer e read))
+        (answers P A shape images t commit devices actors n known f a x ex _ doing noted (Read extent) tt plan xt suits job_is claim answer e read))
     read_steps (Device (WriteExtent d ex')) got read chosen e g = absurd g
     read_steps next got read chosen e g = absurd (own of_read next claim.is_job e)
 
     pub read_faults : (choice : Choice) (next : Want) (read : List Bytes) (chosen : Chosen P A) → next ≡ want plan → MayFailAt devices choice next → Falters w choice next chosen → Failed_by choice (Read extent) next read chosen
     read_faults choice (Device (ReadExtent d ex')) read chosen e m g = subst (λ (c : Chosen P A). Failed_by choice (Read extent) (Device (ReadExtent d ex')) read c) (sym g.0)
         (subst (λ (ds : Devices (List History)). Goes P A shape (record { devices = ds; commit = commit; phase = Stands t; actors = slice_set actors a (actor_then {P = P} {A = A} shape (Stands t) devices x (Device (ReadExtent d ex')) Fault) }) (noted_step shape [] n a (Some (Some doing)) (Device (ReadExtent d ex')) Fault read)) (sym (same_device d devices g.1))
-        (read_fails P A shape images t commit devices actors n known f rule all_suited a x ex [] doing noted extent plan xt suits job_is claim d ex' e g.1 read))
+        (read_fails P A shape images t commit devices actors n known f a x ex [] doing noted extent plan xt suits job_is claim d ex' e g.1 read))
     read_faults choice (Device step) read chosen e m g = absurd (own of_read (Device step) claim.is_job e)
     read_faults choice next read chosen e m g = absurd m
 
@@ -355,17 +346,17 @@ module _ (P A : Type 0) (shape : Shape) (images : Images) (t : Target P) (commit
 
     pub write_steps : (next : Want) (got : Got) (read : List Bytes) (chosen : Chosen P A) → next ≡ want plan → Gives shape w x (Write extent content) next got read chosen → Done_by (Write extent content) next got read chosen
     write_steps (Cell step) got read chosen e g = subst (λ (v : Got). Done_by (Write extent content) (Cell step) v read chosen) (sym g.1)
-        (on_words P A shape images t commit devices actors n known f rule all_suited a x ex (Write extent content) plan xt suits [] doing noted job_is step tt e)
+        (on_words P A shape images t commit devices actors n known f rule a x ex (Write extent content) plan xt suits step tt e)
     write_steps (Device (WriteExtent d ex')) got read chosen e g = subst (λ (v : Got). Done_by (Write extent content) (Device (WriteExtent d ex')) v read chosen) (sym g.2)
-        (writes P A shape images t commit devices actors n known f rule all_suited a x ex [] doing noted extent content plan xt suits job_is claim d ex' e g.0 read g.3)
+        (writes P A shape images t commit devices actors n known f a x ex [] doing noted extent content plan xt suits job_is claim d ex' e g.0 read g.3)
     write_steps (End answer) got read chosen e g = subst (λ (v : Got). Done_by (Write extent content) (End answer) v read chosen) (sym g.1) (subst (λ (c : Chosen P A). Done_by (Write extent content) (End answer) Done read c) (sym g.0.1)
-        (answers P A shape images t commit devices actors n known f rule all_suited a x ex _ doing noted (Write extent content) tt plan xt suits job_is claim answer e read))
+        (answers P A shape images t commit devices actors n known f a x ex _ doing noted (Write extent content) tt plan xt suits job_is claim answer e read))
     write_steps (Device (ReadExtent d ex')) got read chosen e g = absurd g
     write_steps next got read chosen e g = absurd (own of_write next claim.is_job e)
 
     pub write_faults : (choice : Choice) (next : Want) (read : List Bytes) (chosen : Chosen P A) → StepInside shape next → (length devices.cache ≡ Rattle.wb_promise.specs.States.cache_sector_count shape) → (length devices.origin ≡ sector_count shape) → next ≡ want plan → MayFailAt devices choice next → Falters w choice next chosen → Failed_by choice (Write extent content) next read chosen
     write_faults choice (Device (WriteExtent d ex')) read chosen inside cs os e m g = subst (λ (c : Chosen P A). Failed_by choice (Write extent content) (Device (WriteExtent d ex')) read c) (sym g.0)
-        (write_fails P A shape images t commit devices actors n known f rule all_suited a x ex [] doing noted extent content plan xt suits job_is claim d ex' e g.1 read (lands d choice) (by d g.1 inside))
+        (write_fails P A shape images t commit devices actors n known f a x ex [] doing noted extent content plan xt suits job_is claim d ex' e g.1 read (lands d choice) (by d g.1 inside))
       where
         by : (d : Dev) → HoldsBlocks d → StepInside shape (Device (WriteExtent d ex')) → ex'.first + ex'.count ≤ length (device_in d devices)
         by Cache h i = subst (λ (k : ℕ). ex'.first + ex'.count ≤ k) (sym cs) i

@@ -32,14 +32,14 @@ use Rattle.wb_refines.specs.Translation.{job_for}
 use Rattle.wb_simulation.specs.Actors.{IsBusyAt}
 use Rattle.wb_simulation.specs.Steps.{IsPart}
 use Rattle.wb_simulation.specs.Telling.{Quietly, Starts, Resumes}
-use Rattle.wb_simulation.specs.Worlds.{Stays, Turn, TurnedTo, DeskTurnedTo, FollowsBy}
+use Rattle.wb_simulation.specs.Worlds.{Stays, Turn, TurnedTo, DeskTurnedTo, WorldFollowsBy}
 use Rattle.wb_simulation.specs.Laws.{Begun}
 use Rattle.wb_simulation.proofs.Starting.{starts_followed}
 use Rattle.wb_simulation.proofs.Opening.{openings_followed, images_followed}
 use Rattle.wb_simulation.proofs.Noted.{notes_followed}
 use Rattle.wb_headline.specs.Desks.{live_orders, block_there, DeskAgrees}
 use Rattle.wb_contents.proofs.Lists.{there_is as there}
-use Rattle.wb_headline.proofs.Following.{opening_at, AtStage, IsOver, size, most, Sized, Followed, Goes}
+use Rattle.wb_headline.proofs.Following.{situation, opening_at, AtStage, IsOver, size, most, Sized, Followed, Goes}
 use Rattle.wb_headline.proofs.Arriving.{SameSectors, sized_so, arrives, opens, agreeing}
 use Rattle.wb_headline.proofs.Targets.{standing, beside, noted_within, stays_on, leads_on}
 use Rattle.std.proofs.lemmas.Option.{get_or_from_slice_get, slice_get_within}
@@ -79,6 +79,7 @@ use Rattle.wb_headline.proofs.Whole.{Whole, at_target}
 pub part_of : (shape : Shape) (extent : Extent) (cut : List Extent) → extent_refusal shape extent ≡ None → IsCutInto extent cut → IsPart (block_size shape) (block_range shape extent cut)
 part_of shape extent cut inside cuts = record {
   some = some_sectors shape extent m;
+  mode = refl;
   sized = refl;
   each = λ e c.
       let w = some_there extent cut all e c in
@@ -95,11 +96,8 @@ part_of shape extent cut inside cuts = record {
 
 module _ (P A : Type 0) (shape : Shape) (images : Images) (t : Target P) (commit : Option RunningCommit) (devices : Devices (List History)) (actors : List Actor) (n : Notes) (known : MetadataKept {P = P} {A = A} shape.geometry images (Stands t) commit devices.metadata)
     (f : Followed P A shape images (standing P A shape images t commit devices actors n) n) (a : ℕ) (x : Actor) (ex : slice_get actors a ≡ Some x) (xt : x.task ≡ None) where
-  abbrev slots : List (Option Order)
-  slots = live_orders t.desk
-
   -- an actor that has been given a job, there or not
-  begins_so : (job : Job) (plan : Plan) (of : AbstractJob) → job_alone of ≡ false → Begun of (size P A shape) (most P A shape) a f.site.world t.words t.desk.space.committing slots devices (slice_set actors a (record x { task = Some (job, plan) })) →
+  begins_so : (job : Job) (plan : Plan) (of : AbstractJob) → job_alone of ≡ false → Begun of a f.site.world (situation shape t devices actors) (record x { task = Some (job, plan) }) →
       Goes P A shape (record { devices = devices; commit = commit; phase = Stands (record { words = t.words; desk = t.desk }); actors = slice_set actors a (record x { task = Some (job, plan) }) }) (put n a (Some (begun n job)))
   begins_so job plan of plain b = by b
     where
@@ -115,29 +113,29 @@ module _ (P A : Type 0) (shape : Shape) (images : Images) (t : Target P) (commit
       was : (d : Option Doing) × (slice_get n.doings a ≡ Some d)
       was = there n.doings a less
 
-      by : Begun of (size P A shape) (most P A shape) a f.site.world t.words t.desk.space.committing slots devices (slice_set actors a (record x { task = Some (job, plan) })) →
+      by : Begun of a f.site.world (situation shape t devices actors) (record x { task = Some (job, plan) }) →
           Goes P A shape (record { devices = devices; commit = commit; phase = Stands (record { words = t.words; desk = t.desk }); actors = slice_set actors a (record x { task = Some (job, plan) }) }) (put n a (Some (begun n job)))
       by (inl g) = stays_on P A shape images t commit devices actors n known f a x ex (Starts of) t.words devices (record x { task = Some (job, plan) }) (put n a (Some (begun n job))) g plain
-          (notes_followed.starts of job Stays (size P A shape) (most P A shape) a f.site.world t.words t.desk.space.committing slots devices (slice_set actors a (record x { task = Some (job, plan) })) g y.0 n f.notes y.1 less f.notes_agree was.0 was.1) (length-set n.doings a (Some (begun n job))) refl refl
+          (notes_followed.starts of job Stays a f.site.world _ _ g y.0 n f.notes y.1 less f.notes_agree was.0 was.1) (length-set n.doings a (Some (begun n job))) refl refl
       by (inr g) =
-          let none = (subst (λ (q : Option (Job × Plan)). IsBusyAt (size P A shape) (most P A shape) t.words q x.card y.0) xt (f.phase.agrees.each a x y.0 ex y.1).at).0 in
+          let none = (subst (λ (q : Option (Job × Plan)). IsBusyAt (size P A shape) (most P A shape) (f.phase.agrees.each a x y.0 ex y.1).failed q x.card y.0) xt (f.phase.agrees.each a x y.0 ex y.1).at).0 in
           stays_on P A shape images t commit devices actors n known f a x ex Quietly t.words devices (record x { task = Some (job, plan) }) (put n a (Some (begun n job))) g tt
-          (notes_followed.starts_late job Stays (size P A shape) (most P A shape) a f.site.world t.words t.desk.space.committing slots devices (slice_set actors a (record x { task = Some (job, plan) })) g y.0 n f.notes y.1 less f.notes_agree none) (length-set n.doings a (Some (begun n job))) refl refl
+          (notes_followed.starts_late job Stays a f.site.world _ _ g y.0 n f.notes y.1 less f.notes_agree none) (length-set n.doings a (Some (begun n job))) refl refl
 
   pub read_starts : (extent : Extent) (cut : List Extent) → x.card.hold ≡ Nothing → extent_refusal shape extent ≡ None → IsCutInto extent cut →
       Goes P A shape (record { devices = devices; commit = commit; phase = Stands (record { words = t.words; desk = t.desk }); actors = slice_set actors a (record x { task = Some (Read extent, table (task_job shape x.awaiting (Read extent) cut)) }) }) (put n a (Some (begun n (Read extent))))
   read_starts extent cut holds inside cuts = begins_so (Read extent) (table (task_job shape x.awaiting (Read extent) cut)) (job_for (size P A shape) [] (OnBlock (ReadingPart (block_range shape extent cut)))) refl
-      (starts_followed.read (size P A shape) (most P A shape) t.words t.desk.space.committing slots devices actors a x extent (block_range shape extent cut) f.site.world ex xt holds (part_of shape extent cut inside cuts) f.phase.agrees)
+      (starts_followed.read (situation shape t devices actors) a x extent (block_range shape extent cut) f.site.world ex xt holds (part_of shape extent cut inside cuts) f.phase.agrees)
 
   pub write_starts : (extent : Extent) (content : Bytes) (cut : List Extent) → x.card.hold ≡ Nothing → extent_refusal shape extent ≡ None → IsCutInto extent cut →
       Goes P A shape (record { devices = devices; commit = commit; phase = Stands (record { words = t.words; desk = t.desk }); actors = slice_set actors a (record x { task = Some (Write extent content, table (task_job shape x.awaiting (Write extent content) cut)) }) }) (put n a (Some (begun n (Write extent content))))
   write_starts extent content cut holds inside cuts = begins_so (Write extent content) (table (task_job shape x.awaiting (Write extent content) cut)) (job_for (size P A shape) content (OnBlock (WritingPart (block_range shape extent cut)))) refl
-      (starts_followed.write (size P A shape) (most P A shape) t.words t.desk.space.committing slots devices actors a x extent content (block_range shape extent cut) f.site.world ex xt holds (part_of shape extent cut inside cuts) f.phase.agrees)
+      (starts_followed.write (situation shape t devices actors) a x extent content (block_range shape extent cut) f.site.world ex xt holds (part_of shape extent cut inside cuts) f.phase.agrees)
 
   -- a flush
   pub flush_starts : (cut : List Extent) → Goes P A shape (record { devices = devices; commit = commit; phase = Stands (record { words = t.words; desk = t.desk }); actors = slice_set actors a (record x { task = Some (Flush, table (task_job shape x.awaiting Flush cut)) }) }) (put n a (Some (begun n Flush)))
   flush_starts cut = begins_so Flush (table (task_job shape x.awaiting Flush cut)) (FlushingFor None) refl
-      (starts_followed.flush (size P A shape) (most P A shape) t.words t.desk.space.committing slots devices actors a x (blocks_left x.awaiting) f.site.world ex xt f.phase.agrees)
+      (starts_followed.flush (situation shape t devices actors) a x (blocks_left x.awaiting) f.site.world ex xt f.phase.agrees)
 
 -- ---- an opening, over whatever is there
 
@@ -161,9 +159,9 @@ module _ (P A : Type 0) (shape : Shape) (images : Images) (w : State P A) (n : N
   in_writeback Passthrough not = absurd (not (λ e. absurd (cc)))
 
   -- an opening begins
-  pub opening_starts : (a : ℕ) (mode : Mode) (x y : Actor) → (OfTarget w.phase (λ t. t.words.fail ≡ 0) → ⊥) → ((mode ≢ Writeback) → ⊥) → y.task ≡ Some (Open mode, table (task_job shape y.awaiting (Open mode) [])) →
+  pub opening_starts : (a : ℕ) (mode : Mode) (y : Actor) → (OfTarget w.phase (λ t. t.words.fail ≡ 0) → ⊥) → ((mode ≢ Writeback) → ⊥) → y.task ≡ Some (Open mode, table (task_job shape y.awaiting (Open mode) [])) →
       Goes P A shape (record { devices = w.devices; commit = None; phase = Opens mode None; actors = slice_set (all_resting w.actors) a y }) (put (record n { doings = nobody n.doings }) a (Some (begun n (Open mode))))
-  opening_starts a mode x y not writeback yt =
+  opening_starts a mode y not writeback yt =
       let d = agreeing P A shape images w.phase w.commit w.devices w.actors f.site known f.phase in
       let l = openings_followed.begins shape.geometry (size P A shape) images.committed d.later Writeback f.site w.devices d.agree (may_open w.phase refl not) in
       let n' = put (record n { doings = nobody n.doings }) a (Some (begun n (Open mode))) in
@@ -284,12 +282,12 @@ module _ (P A : Type 0) (shape : Shape) (t : Target P) (commit : Option RunningC
     small c l = let many = kept.slots in let limit = t.desk.geometry.within.cache_to in omega (arith, l, many, limit)
 
     -- it is noted to be at its job, while nobody is told of it there
-    notes_then : (turn : Turn) (orders' : List (Option Order)) (y : Actor) (h : FollowsBy turn Resumes (size P A shape) (most P A shape) a g.site.world t.words t.desk.space.committing orders' devices (slice_set actors a y)) → y.task ≡ Some (begun_job, begun_plan) →
+    notes_then : (turn : Turn) (orders' : List (Option Order)) (y : Actor) (h : WorldFollowsBy turn Resumes a g.site.world (record (situation shape t devices actors) { orders = orders' }) y) → y.task ≡ Some (begun_job, begun_plan) →
         NotesAgree (size P A shape) n' (after_all g.site.world h.records) (told g.notes h.records)
     notes_then turn orders' y h task =
         let at_it = beside P A shape b.goes.images t commit devices actors n b.goes.known g a x ex in
         let was = there n.doings a (noted_within P A shape b.goes.images t commit devices actors n b.goes.known g a x ex) in
-        notes_followed.resumes begun_job turn (size P A shape) (most P A shape) a g.site.world t.words t.desk.space.committing orders' devices (slice_set actors a y) h at_it.0 n g.notes at_it.1 (noted_within P A shape b.goes.images t commit devices actors n b.goes.known g a x ex) g.notes_agree was.0 was.1
+        notes_followed.resumes begun_job turn a g.site.world _ _ h at_it.0 n g.notes at_it.1 (noted_within P A shape b.goes.images t commit devices actors n b.goes.known g a x ex) g.notes_agree was.0 was.1
 
     -- a migration under an order that is given with it
     under_given : (o : Order) (c : CBlock) (next : Option ℕ) → MayReserve t.desk c o → IsOrderFor migration block next o → order_there g.site.world.shared.mapping c.0 o ≡ order_of block c next → ((v : ℕ) → NamesThere (order_of block c next) v → IsNamed o v) → ((b : ℕ) → next ≡ Some b → g.site.world.shared.mapping b ≡ None) →
@@ -300,7 +298,7 @@ module _ (P A : Type 0) (shape : Shape) (t : Target P) (commit : Option RunningC
         let y : Actor = record x { task = Some (begun_job, begun_plan); orders = o ∷ x.orders } in
         let s = g.site.world.shared in
         let less = slice_get_within t.desk.orders.slots c.0 None may.give.vacant in
-        let h = migrations_followed.starts (size P A shape) (most P A shape) t.words t.desk.space.committing slots_now devices actors a x migration block c next o cut g.site.world ex xt holds some (small c.0 less) cuts
+        let h = migrations_followed.starts (situation shape t devices actors) a x migration block c next o cut g.site.world ex xt holds some (small c.0 less) cuts
         (vacant_there t.desk.orders.slots c.0 may.give.vacant) of there (ungiven o block c next may named_by) waits given_there g.phase.agrees in
         let s' = (after_all g.site.world h.records).shared in
         let turned = images_stay migration c.0 s s' h.turned in
@@ -320,7 +318,7 @@ module _ (P A : Type 0) (shape : Shape) (t : Target P) (commit : Option RunningC
         let here : slice_get slots_now l.cache.0 ≡ Some (Some o) = slot_there t.desk.orders.slots l.cache.0 l.live l.there ∙ ap (λ (q : Order). Some (Some q)) l.same in
         let y : Actor = record x { task = Some (begun_job, begun_plan) } in
         let k = kept_there l.cache here in
-        let h = migrations_followed.again (size P A shape) (most P A shape) t.words t.desk.space.committing slots_now devices actors a x migration block l.cache next o cut g.site.world ex xt holds some (small l.cache.0 (slot_within t.desk.orders.slots l.cache.0 l.live l.there)) cuts here of k.0 has
+        let h = migrations_followed.again (situation shape t devices actors) a x migration block l.cache next o cut g.site.world ex xt holds some (small l.cache.0 (slot_within t.desk.orders.slots l.cache.0 l.live l.there)) cuts here of k.0 has
         (λ d z ez i. b.keeping.owned.one d a z x o ez ex i had) k.1 g.phase.agrees in
         stays_on P A shape b.goes.images t commit devices actors n b.goes.known g a x ex Resumes t.words devices y n' h tt (notes_then Stays slots_now y h refl) (length-set n.doings a (Some (begun n begun_job))) refl refl
 

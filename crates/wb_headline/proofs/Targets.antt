@@ -25,14 +25,14 @@ use Rattle.wb_simulation.specs.Noting.{NotesAgree}
 use Rattle.wb_simulation.specs.Noted.{told}
 use Rattle.wb_simulation.specs.Sites.{ImagesAgree, locations}
 use Rattle.wb_simulation.specs.Telling.{Telling, Quietly, Reads, Writes, Answers, Starts, Resumes, Carries, Releases, Rests, IsTold, IsMigrating, IsResumed, Given, Kept, Failing, Nowhere}
-use Rattle.wb_simulation.specs.Worlds.{Agrees, Turn, Stays, FollowsBy, Follows}
+use Rattle.wb_simulation.specs.Worlds.{Agrees, Turn, Stays, WorldFollowsBy, WorldFollows}
 use Rattle.wb_simulation.proofs.Opening.{images_followed}
 use Rattle.wb_headline.specs.Desks.{DeskAgrees, live_orders}
 use Rattle.wb_contents.proofs.Lists.{there_is as there}
 use Rattle.wb_headline.proofs.Events.{gone_on, records_reach}
 use Rattle.wb_headline.proofs.Unclean.{ArePlainRecords, steps_plain}
 use Rattle.wb_headline.proofs.Desking.{desk_stays}
-use Rattle.wb_headline.proofs.Following.{many, size, most, Followed, Goes}
+use Rattle.wb_headline.proofs.Following.{situation, many, size, most, Followed, Goes}
 use Rattle.wb_simulation.proofs.Followed.{doing_of}
 use Rattle.wb_types.specs.declared.number.OBlock.{OBlock}
 use Rattle.wb_promise.specs.declared.job.Job.TheVariants.{Replace}
@@ -145,7 +145,7 @@ module _ (P A : Type 0) (shape : Shape) (images : Images) (t : Target P) (commit
 
     -- the state that it leads to
     pub leads_on : (turn : Turn) (telling : Telling) (t' : Target P) (commit' : Option RunningCommit) (devices' : Devices (List History)) (y : Actor) (n' : Notes) (images' : Images) (orders' : List (Option Order))
-        (g : FollowsBy turn telling (size P A shape) (most P A shape) a f.site.world t'.words t'.desk.space.committing orders' devices' (slice_set actors a y)) → IsPlainTelling telling → NotesAgree (size P A shape) n' (after_all f.site.world g.records) (told f.notes g.records) → length n'.doings ≡ length n.doings → length n'.histories ≡ length n.histories →
+        (g : WorldFollowsBy turn telling a f.site.world (record (situation shape t' devices' actors) { orders = orders' }) y) → IsPlainTelling telling → NotesAgree (size P A shape) n' (after_all f.site.world g.records) (told f.notes g.records) → length n'.doings ≡ length n.doings → length n'.histories ≡ length n.histories →
         AtDesk shape.geometry images' t'.desk commit' devices'.metadata → orders' ≡ live_orders t'.desk →
         DeskAgrees t'.desk (after_all f.site.world g.records).shared → ImagesAgree shape.geometry images'.committed (later_of images') devices'.metadata (after_all f.site.world g.records).shared →
         ((state : Stored) → images'.running ≡ Some state → (after_all f.site.world g.records).shared.running ≡ locations state) → Goes P A shape (record { devices = devices'; commit = commit'; phase = Stands t'; actors = slice_set actors a y }) n'
@@ -161,7 +161,7 @@ module _ (P A : Type 0) (shape : Shape) (images : Images) (t : Target P) (commit
         sized = record { actors_many = length-set actors a y ∙ f.sized.actors_many; doings_many = d ∙ f.sized.doings_many; sectors = h ∙ f.sized.sectors };
         phase = record {
           phase_is = f.phase.phase_is;
-          agrees = subst (λ (os : List (Option Order)). Agrees (size P A shape) (most P A shape) t'.words t'.desk.space.committing os devices' (slice_set actors a y) (after_all f.site.world g.records)) same g.agrees;
+          agrees = subst (λ (os : List (Option Order)). Agrees (record (situation shape t' devices' (slice_set actors a y)) { orders = os }) (after_all f.site.world g.records)) same g.agrees;
           desk = desk;
           images_agree = images_agree;
           running = running;
@@ -171,7 +171,7 @@ module _ (P A : Type 0) (shape : Shape) (images : Images) (t : Target P) (commit
 
     -- where nothing comes of the desk, the images and the metadata
     pub stays_on : (telling : Telling) (words' : Words) (devices' : Devices (List History)) (y : Actor) (n' : Notes)
-        (g : Follows telling (size P A shape) (most P A shape) a f.site.world words' t.desk.space.committing (live_orders t.desk) devices' (slice_set actors a y)) → IsPlainTelling telling →
+        (g : WorldFollows telling a f.site.world (record (situation shape t devices' actors) { words = words' }) y) → IsPlainTelling telling →
         NotesAgree (size P A shape) n' (after_all f.site.world g.records) (told f.notes g.records) → length n'.doings ≡ length n.doings → length n'.histories ≡ length n.histories → devices'.metadata ≡ devices.metadata →
         Goes P A shape (record { devices = devices'; commit = commit; phase = Stands (record { words = words'; desk = t.desk }); actors = slice_set actors a y }) n'
     stays_on telling words' devices' y n' g plain notes d h same =

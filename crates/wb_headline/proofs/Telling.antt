@@ -1,5 +1,5 @@
 -- Each seal that is left of a task is right when it comes; and whoever owns a block has it alone.
-use Rattle.std.proofs.Common.{◌≡◌, ◌≢◌, ◌∙◌, ◌<◌, ◌==◌, ◌++◌, if◌then◌else◌, ℕ, Bool, true, false, cond, List, [], ◌∷◌, Option, Some, None, refl, sym, ap, subst, arith, map, slice_get}
+use Rattle.std.proofs.Common.{◌≡◌, ◌≢◌, ◌∙◌, ◌<◌, ◌==◌, ◌++◌, if◌then◌else◌, ℕ, Bool, true, false, cond, List, [], ◌∷◌, Option, Some, None, refl, sym, ap, subst, arith, slice_get}
 use Rattle.std.proofs.lemmas.Bool.{eq-eqb}
 use Rattle.wb_types.specs.declared.extent.Extent.{Extent}
 use Rattle.wb_types.specs.declared.number.OBlock.{OBlock}
@@ -19,7 +19,8 @@ use Rattle.wb_words.specs.Cards.{owners, sharers, owns, shares}
 use Rattle.wb_words.specs.Effects.{result_of, card_after}
 use Rattle.wb_words.specs.Rule.{LockRule}
 use Rattle.wb_words.proofs.Totals.{total_at, total_two}
-use Rattle.wb_tasks.specs.Tables.{BlockRange, BlockJob, Reading, Writing, Migrating, OnBlock, read_step, write_step, read_count, write_count, copies, ending, work}
+use Rattle.wb_tasks.specs.Tables.{BlockRange, BlockJob, Reading, Writing, Migrating, OnBlock, place_read, read_step, read_count, write_count, copies, ending, work}
+use Rattle.wb_tasks.proofs.Working.{work_has}
 use Rattle.wb_tasks.specs.Plan.{Plan, after, refused, got_of, gives_back, gives_up, is_worn}
 use Rattle.wb_tasks.specs.Ready.{Has, block_of}
 use Rattle.wb_tasks.specs.declared.step.DeskStep.TheVariants.{Map, Unmap}
@@ -49,16 +50,6 @@ SealsRight here (Desk (Unmap block) ∷ later) = IsSealed block None later × Se
 SealsRight here (next ∷ later) = SealsRight here later
 
 module _ (here : Option ℕ) (part : BlockRange) where
-  reads_right : (place : Option CBlock) (es : List Extent) (ws : List Want) → SealsRight here ws → SealsRight here (map (read_step part place) es ++ ws)
-  reads_right place [] ws r = r
-  reads_right None (e ∷ es) ws r = reads_right None es ws r
-  reads_right (Some c) (e ∷ es) ws r = reads_right (Some c) es ws r
-
-  writes_right : (place : Option CBlock) (es : List Extent) (ws : List Want) → SealsRight here ws → SealsRight here (map (write_step part place) es ++ ws)
-  writes_right place [] ws r = r
-  writes_right None (e ∷ es) ws r = writes_right None es ws r
-  writes_right (Some c) (e ∷ es) ws r = writes_right (Some c) es ws r
-
   copies_right : (from to : Option CBlock) (es : List Extent) (ws : List Want) → SealsRight here ws → SealsRight here (copies part from to es ++ ws)
   copies_right from to [] ws r = r
   copies_right None None (e ∷ es) ws r = copies_right None None es ws r
@@ -68,13 +59,23 @@ module _ (here : Option ℕ) (part : BlockRange) where
 
   -- what is done with a block that is where its seal says
   reading_right : (place : Option CBlock) (dirty : Bool) → SealsRight here (work (Reading part) place dirty)
-  reading_right None dirty = reads_right None part.extents (read_count None ∷ Cell (Release Shared part.block) ∷ []) tt
-  reading_right (Some c) dirty = reads_right (Some c) part.extents (read_count (Some c) ∷ Cell (Release Shared part.block) ∷ []) tt
+  reading_right = work_has (λ place dirty ws. SealsRight here ws) (Reading part) (record { each = λ place dirty e ws m r. each (place_read part.mode place) e ws r; last = λ place dirty. last (place_read part.mode place) })
+    where
+      each : (place : Option CBlock) (e : Extent) (ws : List Want) → SealsRight here ws → SealsRight here (read_step part place e ∷ ws)
+      each None e ws r = r
+      each (Some c) e ws r = r
+
+      last : (place : Option CBlock) → SealsRight here (read_count place ∷ Cell (Release Shared part.block) ∷ [])
+      last None = tt
+      last (Some c) = tt
 
   writing_right : (place : Option CBlock) (dirty : Bool) → number_of place ≡ here → SealsRight here (work (Writing part) place dirty)
-  writing_right None dirty e = writes_right None part.extents (Cell (Finish part.block) ∷ write_count None ∷ Cell (Release Owned part.block) ∷ []) tt
-  writing_right (Some c) true e = writes_right (Some c) part.extents (Cell (Finish part.block) ∷ write_count (Some c) ∷ Cell (Release Owned part.block) ∷ []) tt
-  writing_right (Some c) false e = (e, writes_right (Some c) part.extents (Cell (Finish part.block) ∷ write_count (Some c) ∷ Cell (Release Owned part.block) ∷ []) tt)
+  writing_right = work_has (λ place dirty ws. number_of place ≡ here → SealsRight here ws) (Writing part)
+      (record { seal = λ c ws back r e. (e, r e); home = λ dirty x ws m r. r; cached = λ c dirty x ws sealed m r. r; through = λ c dirty x ws other m r. r; last = last })
+    where
+      last : (place : Option CBlock) (dirty : Bool) → number_of place ≡ here → SealsRight here (Cell (Finish part.block) ∷ write_count place ∷ Cell (Release Owned part.block) ∷ [])
+      last None dirty e = tt
+      last (Some c) dirty e = tt
 
   ending_right : (m : Migration) (place : Option CBlock) → number_of place ≡ here → SealsRight here (ending m part.block place)
   ending_right (Promote c) place e = ((refl, refl), (refl, tt))

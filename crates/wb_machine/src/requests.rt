@@ -17,7 +17,7 @@ use wb_flow::FlushTask;
 use wb_policy::Order;
 use wb_promise::Job;
 use wb_tasks::{BlockTask, Migration};
-use wb_types::{Extent, Geometry, OBlock, Refusal};
+use wb_types::{Extent, Geometry, Mode, OBlock, Refusal};
 
 /// Why a job is not started.
 pub(crate) fn refusal_of(geometry: &Geometry, job: &Job) -> Option<Refusal>
@@ -118,14 +118,26 @@ fn read_of(geometry: &Geometry, extent: Extent) -> BlockTask
     requires { extent_refusal (shape_of geometry.now ACTORS) extent ≡ None }
     ensures { result ≡ table (OnBlock (Reading (block_range (shape_of geometry.now ACTORS) extent (pieces 1 extent)))) }
 {
-    BlockTask::read(geometry.block, block_of(geometry, extent), extent, 1)
+    BlockTask::read(
+        Mode::Writeback,
+        geometry.block,
+        block_of(geometry, extent),
+        extent,
+        1,
+    )
 }
 
 fn write_of(geometry: &Geometry, extent: Extent) -> BlockTask
     requires { extent_refusal (shape_of geometry.now ACTORS) extent ≡ None }
     ensures { result ≡ table (OnBlock (Writing (block_range (shape_of geometry.now ACTORS) extent (pieces 1 extent)))) }
 {
-    BlockTask::write(geometry.block, block_of(geometry, extent), extent, 1)
+    BlockTask::write(
+        Mode::Writeback,
+        geometry.block,
+        block_of(geometry, extent),
+        extent,
+        1,
+    )
 }
 
 /// The block in which these sectors lie.

@@ -3,6 +3,7 @@ use Rattle.std.proofs.Common.{◌≡◌, ◌≢◌, ◌^◌, ◌-◌, ◌≤◌,
 use Rattle.std.proofs.lemmas.Bool.{ne_eqb}
 use Rattle.wb_types.specs.declared.extent.Extent.{Extent}
 use Rattle.wb_types.specs.Extents.{pieces}
+use Rattle.wb_types.specs.declared.mode.Mode.TheVariants.{Writeback}
 use Rattle.wb_types.specs.declared.mode.Dev.{Dev}
 use Rattle.wb_types.specs.declared.number.CBlock.{CBlock}
 use Rattle.wb_types.specs.declared.number.OBlock.{OBlock}
@@ -108,4 +109,4 @@ one_piece piece sectors p s few =
     rw (first_piece piece sectors.first sectors.count p s, is, none) refl
 
 pub one_part : (block_sectors : ℕ) (block : OBlock) (sectors : Extent) → 1 ≤ sectors.count → sectors.count ≤ LONGEST → part_of block_sectors block sectors ≡ range_in (record { block_sectors = block_sectors; block = block; sectors = sectors })
-one_part block_sectors block sectors s few = ap (λ (es : List Extent). record { block_sectors = block_sectors; block = block; extents = es }) (one_piece LONGEST sectors (omega arith) s few)
+one_part block_sectors block sectors s few = ap (λ (es : List Extent). record { mode = Writeback; block_sectors = block_sectors; block = block; extents = es }) (one_piece LONGEST sectors (omega arith) s few)

@@ -4,6 +4,8 @@ use Rattle.std.specs.Prelude.{All}
 use Rattle.std.proofs.lemmas.Nat.{mod-mul-add, div-add-mod'}
 use Rattle.std.proofs.lemmas.Bool.{cases_lt}
 use Rattle.std.proofs.lemmas.List.Elements.{All-nil, All-cons}
+use Rattle.wb_types.specs.declared.mode.Mode.{Mode}
+use Rattle.wb_types.specs.declared.mode.Mode.TheVariants.{Writeback}
 use Rattle.wb_types.specs.declared.extent.Extent.{Extent}
 use Rattle.wb_types.specs.Extents.{cut_by, pieces}
 use Rattle.wb_types.specs.declared.number.OBlock.{OBlock}
@@ -12,7 +14,7 @@ use Rattle.wb_words.specs.declared.word.Access.TheVariants.{Shared, Owned}
 use Rattle.wb_words.specs.declared.card.Card.{Card}
 use Rattle.wb_words.specs.declared.step.CellStep.TheVariants.{Release, Finish}
 use Rattle.wb_words.specs.SharedWords.{dirty_in, seal_word}
-use Rattle.wb_tasks.specs.Tables.{BlockRange, BlockJob, Reading, Writing, Migrating, whole_block, cache_extent, read_step, read_count, write_count}
+use Rattle.wb_tasks.specs.Tables.{BlockRange, BlockJob, Reading, Writing, Migrating, whole_block, cache_extent, place_read, read_step, read_count, write_count}
 use Rattle.wb_tasks.specs.declared.step.DeviceStep.TheVariants.{Read, Write}
 use Rattle.wb_tasks.specs.declared.step.Migration.{Migration}
 use Rattle.wb_tasks.specs.declared.step.Migration.TheVariants.{Promote, Demote, Clean}
@@ -102,9 +104,16 @@ module _ (part : BlockRange) (some : 0 < part.block_sectors) (are : AreIn (part.
   copied : (c : CBlock) (e : Extent) → Contains part.extents e → LiesIn (c.0 * part.block_sectors) part.block_sectors (cache_extent part c e)
   copied c e m = cache_in part.block_sectors part.block.0 c.0 e.first e.count some (of e m)
 
-  pub reads_there : Works (Followed (MovesAt (Reading part))) (Reading part)
-  reads_there = record { each = each; last = last }
+  pub reads_there : part.mode ≡ Writeback → Works (Followed (MovesAt (Reading part))) (Reading part)
+  reads_there back = record {
+    each = λ place dirty e ws m f t. subst (λ (from : Option CBlock). IsFollowed (MovesAt (Reading part)) place dirty (read_step part from e ∷ ws)) (there place) (each place dirty e ws m f t);
+    last = λ place dirty t. subst (λ (from : Option CBlock). IsFollowed (MovesAt (Reading part)) place dirty (read_count from ∷ Cell (Release Shared part.block) ∷ [])) (there place) (last place dirty t);
+  }
     where
+      -- in write-back a read takes its extents from where its block stands
+      there : (place : Option CBlock) → place ≡ place_read part.mode place
+      there place = sym (ap (λ (mode : Mode). place_read mode place) back)
+
       each : (place : Option CBlock) (dirty : Bool) (e : Extent) (ws : List Want) → Contains part.extents e → Followed (MovesAt (Reading part)) place dirty ws → Followed (MovesAt (Reading part)) place dirty (read_step part place e ∷ ws)
       each None dirty e ws m f t = (of e m, f t)
       each (Some c) dirty e ws m f t = (copied c e m, f t)
@@ -113,15 +122,16 @@ module _ (part : BlockRange) (some : 0 < part.block_sectors) (are : AreIn (part.
       last None dirty t = tt
       last (Some c) dirty t = tt
 
-  pub writes_there : Works (Followed (MovesAt (Writing part))) (Writing part)
-  writes_there = record {
-    seal = λ c ws f t. (
+  pub writes_there : part.mode ≡ Writeback → Works (Followed (MovesAt (Writing part))) (Writing part)
+  writes_there back = record {
+    seal = λ c ws is f t. (
       tt,
       subst (λ (place : Option CBlock). IsFollowed (MovesAt (Writing part)) place (dirty_in (seal_word (Some c) true)) ws) (sym (t true))
           (subst (λ (dirty : Bool). IsFollowed (MovesAt (Writing part)) (Some c) dirty ws) (sym (dirty_told (Some c))) (f t)),
     );
     home = λ dirty e ws m f t. ((of e m, tt), f t);
-    cached = λ c e ws m f t. ((copied c e m, refl), f t);
+    cached = λ c dirty e ws sealed m f t. ((copied c e m, sealed back), f t);
+    through = λ c dirty e ws other m f t. absurd (other back);
     last = last;
   }
     where

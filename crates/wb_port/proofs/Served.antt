@@ -3,6 +3,7 @@ use Rattle.std.proofs.Common.{◌≡◌, ◌≤◌, ◌+◌, ◌%◌, ℕ, Bool,
 use Rattle.std.proofs.lemmas.List.{take_all}
 use Rattle.wb_types.specs.declared.extent.Extent.{Extent}
 use Rattle.wb_types.specs.Extents.{pieces}
+use Rattle.wb_types.specs.declared.mode.Mode.TheVariants.{Writeback}
 use Rattle.wb_types.specs.declared.number.OBlock.{OBlock}
 use Rattle.wb_types.specs.declared.number.CBlock.{CBlock}
 use Rattle.wb_disk.specs.Device.{History, Content}
@@ -14,7 +15,7 @@ use Rattle.wb_words.specs.SharedWords.{place_in, dirty_in, seal_word}
 use Rattle.wb_words.specs.Cards.{holding, sealing, finishing, counting}
 use Rattle.wb_words.specs.declared.step.CellStep.TheVariants.{Release, Seal, Finish, Count}
 use Rattle.wb_cells.specs.Passes.{PassState}
-use Rattle.wb_tasks.specs.Tables.{BlockRange, BlockJob, OnBlock, Reading, Writing, device_at, read_step, write_step, read_count, write_count, dirtying}
+use Rattle.wb_tasks.specs.Tables.{BlockRange, BlockJob, OnBlock, Reading, Writing, device_at, read_step, write_step, read_count, write_count, dirtying, work}
 use Rattle.wb_tasks.specs.Plan.{table, IsStep}
 use Rattle.wb_tasks.specs.Run.{IsRunOf, Leads}
 use Rattle.wb_tasks.specs.declared.step.Answer.TheVariants.{Done as Finished}
@@ -29,6 +30,7 @@ use Rattle.wb_port.specs.Hands.{ReadLed, WriteLed}
 use Rattle.wb_port.specs.Requests.{part_of, first_at, read_kind, write_kind, taking_card, dirtied, WasRead, WasWritten}
 use Rattle.wb_port.specs.declared.moving.ReadStage.{ReadStage}
 use Rattle.wb_port.specs.declared.moving.WriteStage.{WriteStage}
+use Rattle.wb_tasks.proofs.Working.{write_work_back}
 use Rattle.wb_port.proofs.Paths.{going, done, at_end, OnlyDone, only_release, only_seal, only_finish, only_count, only_read, only_write, acquired, acquired_keeps, all_moved}
 use Rattle.wb_port.proofs.Passing.{with_card, by_taking, by_step}
 use Rattle.wb_port.proofs.Moved.{ReadSoFar, read_more, WrittenSoFar, write_more, others-stay}
@@ -145,7 +147,7 @@ module _ {D : Type 0} (tells : Type 0) (size : D → ℕ) (contents : D → List
     leads = l;
   }
 
-  dirties : (place : Option CBlock) (dirty : Bool) (ws : List Want) (steps : List (Want × Got)) (old new : WriteStage D) → IsRunOf (going (Writing part) (dirtying block place dirty ++ ws)) steps Finished → Leads writes old steps new → Dirtied place dirty ws old new
+  dirties : (place : Option CBlock) (dirty : Bool) (ws : List Want) (steps : List (Want × Got)) (old new : WriteStage D) → IsRunOf (going (Writing part) (dirtying Writeback block place dirty ++ ws)) steps Finished → Leads writes old steps new → Dirtied place dirty ws old new
   dirties None dirty ws steps old new r l = undirtied None dirty ws steps old new refl r l
   dirties (Some c) true ws steps old new r l = undirtied (Some c) true ws steps old new refl r l
   dirties (Some c) false ws steps old new r l =
@@ -159,6 +161,10 @@ module _ {D : Type 0} (tells : Type 0) (size : D → ℕ) (contents : D → List
         run = d.run;
         leads = d.leads;
       }
+
+  -- what it does with its block: the seal, where it is due, and then its sectors
+  writing_is : (place : Option CBlock) (dirty : Bool) → work (Writing part) place dirty ≡ dirtying Writeback block place dirty ++ (map (write_step part place) part.extents ++ Cell (Finish block) ∷ write_count place ∷ Cell (Release Owned block) ∷ [])
+  writing_is place dirty = write_work_back part refl place dirty ∙ append_assoc (dirtying Writeback block place dirty) (map (write_step part place) part.extents) (Cell (Finish block) ∷ write_count place ∷ Cell (Release Owned block) ∷ [])
 
   -- a write that is answered done
   pub write_whole : (steps : List (Want × Got)) (old new : WriteStage D) → old.moved ≡ 0 → length old.from.now ≡ sectors.count → sectors.first % block_sectors + sectors.count ≤ block_sectors
@@ -177,7 +183,7 @@ module _ {D : Type 0} (tells : Type 0) (size : D → ℕ) (contents : D → List
       a.not_failed.by_pass a.free.by_pass a.took.by_pass a.sealed.by_pass a.numbered.by_pass in
       let release : List Want = Cell (Release Owned block) ∷ [] in
       let tail : List Want = Cell (Finish block) ∷ write_count place ∷ release in
-      let d = dirties place dirty (map (write_step part place) part.extents ++ tail) a.rest a.s5 new (subst (λ (ws : List Want). IsRunOf (going job ws) a.rest Finished) (append_assoc (dirtying block place dirty) (map (write_step part place) part.extents) tail) a.run) a.leads in
+      let d = dirties place dirty (map (write_step part place) part.extents ++ tail) a.rest a.s5 new (subst (λ (ws : List Want). IsRunOf (going job ws) a.rest Finished) (writing_is place dirty) a.run) a.leads in
       let ds = d.devices ∙ devices in
       let start : WrittenSoFar tells size contents faults part place sectors.first d.mid.hand.now.pass old.hand.now.devices from 0 d.mid = record {
         pass_is = refl;

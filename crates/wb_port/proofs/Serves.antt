@@ -1,5 +1,5 @@
 -- A stage of a request is ready for each of its steps; and from its run to what is told of it.
-use Rattle.std.proofs.Common.{◌≡◌, ◌≤◌, ◌<◌, ◌+◌, ◌/◌, ◌%◌, ℕ, List, [], ◌∷◌, Result, Ok, Err, length, sym, ap, ◌∙◌, subst}
+use Rattle.std.proofs.Common.{◌≡◌, ◌≤◌, ◌<◌, ◌+◌, ◌/◌, ◌%◌, ℕ, List, [], ◌∷◌, Result, Ok, Err, length, refl, sym, ap, ◌∙◌, subst}
 use Rattle.std.specs.Prelude.{OnOk, IfErr}
 use Rattle.wb_types.specs.declared.extent.Extent.{Extent}
 use Rattle.wb_types.specs.declared.number.OBlock.{OBlock}
@@ -92,7 +92,7 @@ module _ {D : Type 0} (tells : Type 0) (size : D → ℕ) (contents : D → List
     read_moves some of inside sized there idle f =
         let part : BlockRange = part_of block_sectors block sectors in
         subst (λ (n : ℕ). MayMove n new.hand.now.pass.card (want (left_by s steps))) (sym (read_size ∙ sized))
-        (may_read part _ _ (moves_there (MovesAt (Reading part)) (Reading part) (reads_there part some (part_in block_sectors block sectors of inside)) (ReadLed tells size contents faults) (λ x. x.hand.now.pass.card) (λ x w g y h. made_by_pass x.cells.now.blocks x.hand.now.pass y.hand.now.pass w g h.by_pass) old.cells.now.blocks s old begun there idle steps new f leads))
+        (may_read part _ _ (moves_there (MovesAt (Reading part)) (Reading part) (reads_there part some (part_in block_sectors block sectors of inside) refl) (ReadLed tells size contents faults) (λ x. x.hand.now.pass.card) (λ x w g y h. made_by_pass x.cells.now.blocks x.hand.now.pass y.hand.now.pass w g h.by_pass) old.cells.now.blocks s old begun there idle steps new f leads))
 
     pub read_ready : 0 < block_sectors → sectors.first / block_sectors ≡ block.0 → sectors.first % block_sectors + sectors.count ≤ block_sectors → old.hand.now.block_sectors ≡ block_sectors → block.0 < old.cells.now.blocks → old.hand.now.pass.table ≡ old.cells.now.table → old.hand.now.pass.card.hold ≡ Nothing → AreFirst s steps → IsReadyToRead new (want (left_by s steps))
     read_ready some of inside sized there at idle f =
@@ -139,7 +139,7 @@ module _ {D : Type 0} (tells : Type 0) (size : D → ℕ) (contents : D → List
     write_moves some of inside sized there idle f =
         let part : BlockRange = part_of block_sectors block sectors in
         subst (λ (n : ℕ). MayMove n new.hand.now.pass.card (want (left_by s steps))) (sym (write_size ∙ sized))
-        (may_write part _ _ (moves_there (MovesAt (Writing part)) (Writing part) (writes_there part some (part_in block_sectors block sectors of inside)) (WriteLed tells size contents faults) (λ x. x.hand.now.pass.card) (λ x w g y h. made_by_pass x.cells.now.blocks x.hand.now.pass y.hand.now.pass w g h.by_pass) old.cells.now.blocks s old begun there idle steps new f leads))
+        (may_write part _ _ (moves_there (MovesAt (Writing part)) (Writing part) (writes_there part some (part_in block_sectors block sectors of inside) refl) (WriteLed tells size contents faults) (λ x. x.hand.now.pass.card) (λ x w g y h. made_by_pass x.cells.now.blocks x.hand.now.pass y.hand.now.pass w g h.by_pass) old.cells.now.blocks s old begun there idle steps new f leads))
 
     pub write_ready : 0 < block_sectors → sectors.first / block_sectors ≡ block.0 → sectors.first % block_sectors + sectors.count ≤ block_sectors → old.hand.now.block_sectors ≡ block_sectors → block.0 < old.cells.now.blocks → old.hand.now.pass.table ≡ old.cells.now.table → old.hand.now.pass.card.hold ≡ Nothing → AreFirst s steps → IsReadyToWrite new (want (left_by s steps))
     write_ready some of inside sized there at idle f =

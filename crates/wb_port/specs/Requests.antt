@@ -1,5 +1,6 @@
 -- What a read or write of sectors of one block did to a client's hand.
 use Rattle.std.specs.Prelude.{◌≡◌, ◌<◌, ◌+◌, ◌*◌, ◌%◌, ◌⊎◌, ℕ, Bool, true, false, List, Option, Some, None}
+use Rattle.wb_types.specs.declared.mode.Mode.TheVariants.{Writeback}
 use Rattle.wb_types.specs.declared.extent.Extent.{Extent}
 use Rattle.wb_types.specs.declared.number.OBlock.{OBlock}
 use Rattle.wb_types.specs.declared.number.CBlock.{CBlock}
@@ -36,9 +37,9 @@ IsRequest (Reading part) = Unit {0}
 IsRequest (Writing part) = Unit {0}
 IsRequest job = ⊥
 
--- sectors of one block, cut into extents of at most the longest that a step takes
+-- sectors of one block, cut into extents of at most the longest that a step takes, in write-back mode
 abbrev pub part_of : ℕ → OBlock → Extent → BlockRange
-part_of block_sectors block sectors = record { block_sectors = block_sectors; block = block; extents = pieces LONGEST sectors }
+part_of block_sectors block sectors = record { mode = Writeback; block_sectors = block_sectors; block = block; extents = pieces LONGEST sectors }
 
 -- A block that stands at this place has this sector of the origin from here on, on the device of the place.
 abbrev pub first_at : ℕ → Option CBlock → ℕ → ℕ

@@ -1,5 +1,6 @@
--- What is left of a read or a write whose sectors one step moves, at each step of its table.
+-- What is left of a read or a write whose sectors one step moves, at each step of its table in write-back mode.
 use Rattle.std.specs.Prelude.{List, [], ◌∷◌, Option}
+use Rattle.wb_types.specs.declared.mode.Mode.TheVariants.{Writeback}
 use Rattle.wb_types.specs.declared.number.CBlock.{CBlock}
 use Rattle.wb_words.specs.declared.word.Access.{Access}
 use Rattle.wb_words.specs.declared.word.Access.TheVariants.{Shared, Owned}
@@ -15,9 +16,9 @@ use Rattle.wb_port.specs.declared.straight.Part.{Part}
 use Rattle.wb_port.specs.declared.straight.Way.{Way}
 use Rattle.wb_port.specs.declared.straight.Way.TheVariants.{Reads, Writes}
 
--- its sectors are one extent
+-- its sectors are one extent, moved in write-back mode
 abbrev pub range_in : Part → BlockRange
-range_in part = record { block_sectors = part.block_sectors; block = part.block; extents = part.sectors ∷ [] }
+range_in part = record { mode = Writeback; block_sectors = part.block_sectors; block = part.block; extents = part.sectors ∷ [] }
 
 abbrev pub job_by : Way → Part → BlockJob
 job_by Reads part = Reading (range_in part)

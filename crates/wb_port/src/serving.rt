@@ -12,7 +12,7 @@ use crate::moving::{LONGEST, ReadStage, WriteStage};
 use crate::straight::{Part, Way, request};
 use wb_disk::Disk;
 use wb_tasks::{Answer, BlockTask, Stage, drive};
-use wb_types::{Extent, OBlock, Refusal};
+use wb_types::{Extent, Mode, OBlock, Refusal};
 
 impl<'a, D: Disk> ReadStage<'a, D> {
     /// Reads sectors of this block into the slice, by steps of at most `LONGEST` sectors.
@@ -92,7 +92,7 @@ fn read_all<S: Stage>(stage: &mut S, block_sectors: u32, block: OBlock, sectors:
         };
         return request(stage, Way::Reads, part);
     }
-    let mut task = BlockTask::read(block_sectors, block, sectors, LONGEST);
+    let mut task = BlockTask::read(Mode::Writeback, block_sectors, block, sectors, LONGEST);
     drive(&mut task, stage)
 }
 
@@ -112,7 +112,7 @@ fn write_all<S: Stage>(stage: &mut S, block_sectors: u32, block: OBlock, sectors
         };
         return request(stage, Way::Writes, part);
     }
-    let mut task = BlockTask::write(block_sectors, block, sectors, LONGEST);
+    let mut task = BlockTask::write(Mode::Writeback, block_sectors, block, sectors, LONGEST);
     drive(&mut task, stage)
 }
 

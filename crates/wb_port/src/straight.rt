@@ -1,4 +1,4 @@
-//! A read or a write whose sectors one step moves, step after step as its table has them.
+//! A read or a write whose sectors one step moves, step after step as its table in write-back mode has them.
 //!
 //! `drive` asks a task for each next step; here what comes next is where the code stands. So such a request
 //! costs a fraction of the instructions.

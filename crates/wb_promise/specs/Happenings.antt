@@ -95,9 +95,10 @@ extent_of (Open mode) = record { first = 0; count = 0 }
 extent_of (Migrate migration block) = record { first = 0; count = 0 }
 extent_of (Replace old new) = record { first = 0; count = 0 }
 
--- the part of a block that an extent covers, cut so
+-- the part of a block that an extent covers, cut so, in write-back mode
 abbrev pub block_range : Shape → Extent → List Extent → BlockRange
 block_range shape extent cut = record {
+  mode = Writeback;
   block_sectors = block_size shape;
   block = record { 0 = extent.first / block_size shape };
   extents = cut;
@@ -105,7 +106,7 @@ block_range shape extent cut = record {
 
 -- a whole block, cut so
 abbrev pub migrated_range : Shape → OBlock → List Extent → BlockRange
-migrated_range shape block cut = record { block_sectors = block_size shape; block = block; extents = cut }
+migrated_range shape block cut = record { mode = Writeback; block_sectors = block_size shape; block = block; extents = cut }
 
 -- the order under which a block is migrated so
 abbrev pub order_for : Migration → OBlock → Order

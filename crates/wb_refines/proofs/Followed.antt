@@ -2,6 +2,8 @@
 use Rattle.std.proofs.Common.{arith, length, ◌≡◌, ◌<◌, ◌==◌, ◌∙◌, ◌⊎◌, cond, inl, inr, ℕ, Bool, true, false, if◌then◌else◌, List, [], ◌∷◌, ◌++◌, map, Option, Some, None, refl, sym, ap, subst, slice_get}
 use Rattle.wb_types.specs.declared.number.OBlock.{OBlock}
 use Rattle.wb_types.specs.declared.number.CBlock.{CBlock}
+use Rattle.wb_types.specs.declared.mode.Mode.{Mode}
+use Rattle.wb_types.specs.declared.mode.Mode.TheVariants.{Writeback, Writethrough, Passthrough}
 use Rattle.wb_types.specs.declared.extent.Extent.{Extent}
 use Rattle.wb_types.specs.declared.refusal.Refusal.{Refusal}
 use Rattle.wb_types.specs.declared.refusal.Refusal.TheVariants.{Busy, Failed, Worn}
@@ -21,7 +23,7 @@ use Rattle.wb_words.specs.Rule.{LockRule}
 use Rattle.wb_words.specs.Cards.{looked, holding, losing, finishing, counting, sealing}
 use Rattle.wb_words.specs.Effects.{result_of, words_after, card_after}
 use Rattle.wb_words.proofs.Totals.{at_slice}
-use Rattle.wb_tasks.specs.Tables.{BlockJob, BlockRange, Reading, Writing, Migrating, OnBlock, access_of, work, read_step, read_count, write_step, write_count, dirtying, copies}
+use Rattle.wb_tasks.specs.Tables.{BlockJob, BlockRange, Reading, Writing, Migrating, OnBlock, access_of, work, place_read, places_written, read_step, read_count, write_count, writes, dirtying, copies}
 use Rattle.wb_tasks.specs.Plan.{Plan, after, got_of, may_take, exchange, is_worn, gives_back, work_of}
 use Rattle.wb_tasks.specs.Ready.{Has, IsRest, IsParting, block_of}
 use Rattle.wb_tasks.specs.declared.step.Answer.{Answer}
@@ -35,7 +37,7 @@ use Rattle.wb_link.specs.World.{Shared, Held, Nothing, Actor}
 use Rattle.wb_refines.specs.Translation.{number_of, cell_wants}
 use Rattle.wb_refines.specs.Going.{WinsBeside}
 use Rattle.wb_refines.specs.Models.{SealAgrees, WordsAgree, HasStopped, TellsPlace, held_of, held_for, SawSeal, plan_of}
-use Rattle.wb_refines.specs.Roles.{Role, acting, IsAs, Plays, claim, Follows, TakesBeside, StepsFollowed}
+use Rattle.wb_refines.specs.Roles.{Role, acting, IsAs, Plays, claim, DoesToo, TakesBeside, StepsFollowed}
 use Rattle.wb_refines.proofs.Cells.{words_else, same_else, flag_of, own_seal, IsPlain, held_plain, saw_plain, failed_flag, counted_agree, sealed_agree}
 use Rattle.wb_refines.proofs.Holding.{holds_nothing, keeps_owned}
 use Rattle.wb_refines.proofs.Locks.{wins}
@@ -47,21 +49,26 @@ copies_plain part (Some c) to (e ∷ es) ws p = tt
 
 -- so it is where a job begins its work
 work_plain : (job : BlockJob) (place : Option CBlock) (dirty : Bool) → IsPlain (work job place dirty)
-work_plain (Reading part) place dirty = by_extents part.extents place
+work_plain (Reading part) place dirty = by_extents part.extents (place_read part.mode place)
   where
     by_extents : (es : List Extent) (place : Option CBlock) → IsPlain (map (read_step part place) es ++ read_count place ∷ Cell (Release Sharing part.block) ∷ [])
     by_extents [] None = tt
     by_extents [] (Some c) = tt
     by_extents (e ∷ es) None = tt
     by_extents (e ∷ es) (Some c) = tt
-work_plain (Writing part) place dirty = by_place part.extents place dirty
+work_plain (Writing part) place dirty = by_mode part.mode part.extents place dirty
   where
-    by_place : (es : List Extent) (place : Option CBlock) (dirty : Bool) → IsPlain (dirtying part.block place dirty ++ map (write_step part place) es ++ Cell (Finish part.block) ∷ write_count place ∷ Cell (Release Owned part.block) ∷ [])
-    by_place [] None dirty = tt
-    by_place (e ∷ es) None dirty = tt
-    by_place es (Some c) false = tt
-    by_place [] (Some c) true = tt
-    by_place (e ∷ es) (Some c) true = tt
+    by_mode : (mode : Mode) (es : List Extent) (place : Option CBlock) (dirty : Bool) → IsPlain (dirtying mode part.block place dirty ++ writes part (places_written mode place) es ++ Cell (Finish part.block) ∷ write_count place ∷ Cell (Release Owned part.block) ∷ [])
+    by_mode Writeback [] None dirty = tt
+    by_mode Writeback (e ∷ es) None dirty = tt
+    by_mode Writeback es (Some c) false = tt
+    by_mode Writeback [] (Some c) true = tt
+    by_mode Writeback (e ∷ es) (Some c) true = tt
+    by_mode Writethrough [] place dirty = tt
+    by_mode Writethrough (e ∷ es) None dirty = tt
+    by_mode Writethrough (e ∷ es) (Some c) dirty = tt
+    by_mode Passthrough [] place dirty = tt
+    by_mode Passthrough (e ∷ es) place dirty = tt
 work_plain (Migrating (Promote c) part) place dirty = copies_plain part None (Some c) part.extents _ tt
 work_plain (Migrating Demote part) (Some c) true = copies_plain part (Some c) None part.extents _ tt
 work_plain (Migrating Clean part) (Some c) true = copies_plain part (Some c) None part.extents _ tt
@@ -92,24 +99,24 @@ module _ (role : Role) (job : BlockJob) (plays : Plays role job) (actors : List 
   on steps held = acting role steps told held buffer
 
   abbrev Goal : CellStep → List Want → Type 0
-  Goal step ws = Follows role actors a s (on (role.wants (Cell step ∷ ws)) (held_for (Cell step ∷ ws) card)) (words_after words step) (after (plan_of job (Cell step ∷ ws) answer) (got_of (result_of words step))) (card_after words step card)
+  Goal step ws = DoesToo role actors a s (on (role.wants (Cell step ∷ ws)) (held_for (Cell step ∷ ws) card)) (words_after words step) (after (plan_of job (Cell step ∷ ws) answer) (got_of (result_of words step))) (card_after words step card)
 
   -- what its steps are there
-  by : {steps steps' : List AbstractWant} {held : Held} {words' : Words} {plan' : Plan} {card' : Card} → steps ≡ steps' → Follows role actors a s (on steps' held) words' plan' card' → Follows role actors a s (on steps held) words' plan' card'
-  by {steps} {steps'} {held} {words'} {plan'} {card'} e f = subst (λ (us : List AbstractWant). Follows role actors a s (on us held) words' plan' card') (sym e) f
+  by : {steps steps' : List AbstractWant} {held : Held} {words' : Words} {plan' : Plan} {card' : Card} → steps ≡ steps' → DoesToo role actors a s (on steps' held) words' plan' card' → DoesToo role actors a s (on steps held) words' plan' card'
+  by {steps} {steps'} {held} {words'} {plan'} {card'} e f = subst (λ (us : List AbstractWant). DoesToo role actors a s (on us held) words' plan' card') (sym e) f
 
   -- it does nothing there
-  still : {steps : List AbstractWant} {held : Held} (words' : Words) (ws' : List Want) (card' : Card) → WordsAgree words' s → steps ≡ role.wants ws' → held ≡ held_for ws' card' → SawSeal (plan_of job ws' answer) ws' card' → Follows role actors a s (on steps held) words' (plan_of job ws' answer) card'
+  still : {steps : List AbstractWant} {held : Held} (words' : Words) (ws' : List Want) (card' : Card) → WordsAgree words' s → steps ≡ role.wants ws' → held ≡ held_for ws' card' → SawSeal (plan_of job ws' answer) ws' card' → DoesToo role actors a s (on steps held) words' (plan_of job ws' answer) card'
   still words' ws' card' w' same holds saw = record { results = []; may = tt; quiet = tt; words_agree = w'; same = same_else s; order = refl; at = inl (record { answer = told; buffer = buffer; is = λ i. on (same i) (holds i); alike = alike; saw = saw }) }
 
   -- it is lost there, and stands so then
-  lost : (access : Access) (held : Held) (words' : Words) (plan' : Plan) (card' : Card) → WordsAgree words' s → IsAs role plan' card' (acting role [] AnsweredBusy held buffer) ⊎ ((k : HasStopped words' plan' card' (acting role [] AnsweredBusy held buffer)) × (k.script.job ≡ role.job)) →
-      Follows role actors a s (on (claim access block ∷ Look_seal block.0 ∷ []) held) words' plan' card'
+  lost : (access : Access) (held : Held) (words' : Words) (plan' : Plan) (card' : Card) → WordsAgree words' s → IsAs role plan' card' (acting role [] AnsweredBusy held buffer) ⊎ ((k : HasStopped (flag words'.fail) plan' card' (acting role [] AnsweredBusy held buffer)) × (k.script.job ≡ role.job)) →
+      DoesToo role actors a s (on (claim access block ∷ Look_seal block.0 ∷ []) held) words' plan' card'
   lost Sharing held words' plan' card' w' at = record { results = Lost ∷ []; may = (tt, tt, tt); quiet = (tt, tt); words_agree = w'; same = same_else s; order = refl; at = at }
   lost Owned held words' plan' card' w' at = record { results = Lost ∷ []; may = (tt, tt, tt); quiet = (tt, tt); words_agree = w'; same = same_else s; order = refl; at = at }
 
   -- so where it does not get its block
-  is_lost : {steps : List AbstractWant} (words' : Words) (card' : Card) → WordsAgree words' s → steps ≡ acquire role.job → card'.hold ≡ card.hold → Follows role actors a s (on steps (held_of card.hold)) words' (plan_of job [] (Refuses Busy)) card'
+  is_lost : {steps : List AbstractWant} (words' : Words) (card' : Card) → WordsAgree words' s → steps ≡ acquire role.job → card'.hold ≡ card.hold → DoesToo role actors a s (on steps (held_of card.hold)) words' (plan_of job [] (Refuses Busy)) card'
   is_lost words' card' w' e h = by (e ∙ plays.begins) (lost (access_of job) (held_of card.hold) words' (plan_of job [] (Refuses Busy)) card' w' (inl (record { answer = AnsweredBusy; buffer = buffer; is = λ i. acting role (sym plays.ends i) AnsweredBusy (held_of (sym h i)) buffer; alike = plays.busy; saw = tt })))
 
   -- the fail word is looked at
@@ -119,7 +126,7 @@ module _ (role : Role) (job : BlockJob) (plays : Plays role job) (actors : List 
       ws : List Want
       ws = Cell (Look (LockWord block)) ∷ []
 
-      by_test : (t : Bool) → flag words.fail ≡ cond t false true → Follows role actors a s (on (Look_fail ∷ role.wants ws) (held_of card.hold)) words (if t then plan_of job ws answer else plan_of job [] (Refuses Failed)) (looked Fail words.fail card)
+      by_test : (t : Bool) → flag words.fail ≡ cond t false true → DoesToo role actors a s (on (Look_fail ∷ role.wants ws) (held_of card.hold)) words (if t then plan_of job ws answer else plan_of job [] (Refuses Failed)) (looked Fail words.fail card)
       by_test true f = record { results = Flag false ∷ []; may = (sym (w.fail ∙ f), tt, tt); quiet = (tt, tt); words_agree = w; same = same_else s; order = refl; at = inl (record { answer = told; buffer = buffer; is = refl; alike = alike; saw = tt }) }
       by_test false f = record { results = Flag true ∷ []; may = (sym (w.fail ∙ f), tt, tt); quiet = (tt, tt); words_agree = w; same = same_else s; order = refl; at = inl (record { answer = AnsweredFailed; buffer = buffer; is = λ i. acting role (sym plays.ends i) AnsweredFailed (held_of card.hold) buffer; alike = plays.failed; saw = tt }) }
 
@@ -127,7 +134,7 @@ module _ (role : Role) (job : BlockJob) (plays : Plays role job) (actors : List 
   looks_lock : Goal (Look (LockWord block)) []
   looks_lock = by_test (may_take (OnBlock job) (word_at words.cells block))
     where
-      by_test : (t : Bool) → Follows role actors a s (on (role.wants (Cell (Look (LockWord block)) ∷ [])) (held_of card.hold)) words (if t then plan_of job (exchange (OnBlock job) (word_at words.cells block)) answer else plan_of job [] (Refuses Busy)) (looked (LockWord block) (word_at words.cells block) card)
+      by_test : (t : Bool) → DoesToo role actors a s (on (role.wants (Cell (Look (LockWord block)) ∷ [])) (held_of card.hold)) words (if t then plan_of job (exchange (OnBlock job) (word_at words.cells block)) answer else plan_of job [] (Refuses Busy)) (looked (LockWord block) (word_at words.cells block) card)
       by_test true = still words (exchange (OnBlock job) (word_at words.cells block)) (looked (LockWord block) (word_at words.cells block) card) w (plays.steps (Look (LockWord block)) [] ∙ sym (plays.steps (Take (access_of job) block (word_at words.cells block)) _ ∙ plays.steps (Look (SealWord block)) [])) refl tt
       by_test false = is_lost words (looked (LockWord block) (word_at words.cells block) card) w (plays.steps (Look (LockWord block)) []) refl
 
@@ -138,7 +145,7 @@ module _ (role : Role) (job : BlockJob) (plays : Plays role job) (actors : List 
       ws : List Want
       ws = Cell (Look (SealWord block)) ∷ []
 
-      by_test : (t : Bool) → Follows role actors a s (on (role.wants ws) (held_of card.hold)) (if t then with_cell words block (taken access seen) else words) (after (plan_of job (Cell (Take access block seen) ∷ ws) answer) (got_of (if t then Won else NotWon))) (if t then holding (HoldsBlock access block) card else losing block (word_at words.cells block) card)
+      by_test : (t : Bool) → DoesToo role actors a s (on (role.wants ws) (held_of card.hold)) (if t then with_cell words block (taken access seen) else words) (after (plan_of job (Cell (Take access block seen) ∷ ws) answer) (got_of (if t then Won else NotWon))) (if t then holding (HoldsBlock access block) card else losing block (word_at words.cells block) card)
       by_test true = still (with_cell words block (taken access seen)) ws (holding (HoldsBlock access block) card) (record { fail = w.fail; seals = w.seals }) refl (ap held_of h) tt
       by_test false = is_lost words (losing block (word_at words.cells block) card) w (plays.steps (Look (SealWord block)) []) refl
 
@@ -163,11 +170,11 @@ module _ (role : Role) (job : BlockJob) (plays : Plays role job) (actors : List 
       same_work : work_there role.job (s.seals block.0) ≡ role.wants ws
       same_work = plays.works seen (s.seals block.0) finds (subst (λ (n : ℕ). SealAgrees n (s.seals block.0)) k (w.seals block))
 
-      won : (access : Access) → card.hold ≡ HoldsBlock access block → WinsBeside actors a Nothing (claim access block) Done → Follows role actors a s (on (claim access block ∷ Look_seal block.0 ∷ []) Nothing) words (plan_of job ws answer) card'
+      won : (access : Access) → card.hold ≡ HoldsBlock access block → WinsBeside actors a Nothing (claim access block) Done → DoesToo role actors a s (on (claim access block ∷ Look_seal block.0 ∷ []) Nothing) words (plan_of job ws answer) card'
       won Sharing h wins = record { results = Done ∷ Seen (s.seals block.0) ∷ []; may = (tt, wins, (refl, tt, tt)); quiet = (tt, (tt, tt)); words_agree = w; same = same_else s; order = refl; at = inl (record { answer = told; buffer = buffer; is = λ i. on (same_work i) ((ap held_of (sym h) ∙ sym (held_plain ws card' plain)) i); alike = alike; saw = saw_plain (plan_of job ws answer) ws card' plain }) }
       won Owned h wins = record { results = Done ∷ Seen (s.seals block.0) ∷ []; may = (tt, wins, (refl, tt, tt)); quiet = (tt, (tt, tt)); words_agree = w; same = same_else s; order = refl; at = inl (record { answer = told; buffer = buffer; is = λ i. on (same_work i) ((ap held_of (sym h) ∙ sym (held_plain ws card' plain)) i); alike = alike; saw = saw_plain (plan_of job ws answer) ws card' plain }) }
 
-      by_test : (t : Bool) → Follows role actors a s (on (claim (access_of job) block ∷ Look_seal block.0 ∷ []) Nothing) words (if t then plan_of job (gives_back (OnBlock job)) (Refuses Worn) else plan_of job ws answer) card'
+      by_test : (t : Bool) → DoesToo role actors a s (on (claim (access_of job) block ∷ Look_seal block.0 ∷ []) Nothing) words (if t then plan_of job (gives_back (OnBlock job)) (Refuses Worn) else plan_of job ws answer) card'
       by_test true = lost (access_of job) Nothing words _ card' w (inr (record { over = tt; refused = λ f. absurd (cc); script = record { job = role.job; steps = []; answer = AnsweredBusy }; task = refl; nothing = refl; undone = λ f. absurd (cc); among_others = plays.among_others; leads = refl; below = holds_nothing _ _ refl; free = refl }, refl))
       by_test false = won (access_of job) h wins
 
@@ -190,7 +197,7 @@ module _ (role : Role) (job : BlockJob) (plays : Plays role job) (actors : List 
       its : IsAs role (plan_of job ws answer) (holding HoldsNothing card) (on (role.wants ws) Nothing)
       its = record { answer = told; buffer = buffer; is = λ i. on (role.wants ws) (sym (held_plain ws (holding HoldsNothing card) (parting_plain job ws p)) i); alike = alike; saw = saw_plain (plan_of job ws answer) ws _ (parting_plain job ws p) }
 
-      back : (access : Access) → Follows role actors a s (on (cell_wants role.job (Release access b) (role.wants ws)) (held_of card.hold)) (words_after words (Release access b)) (plan_of job ws answer) (holding HoldsNothing card)
+      back : (access : Access) → DoesToo role actors a s (on (cell_wants role.job (Release access b) (role.wants ws)) (held_of card.hold)) (words_after words (Release access b)) (plan_of job ws answer) (holding HoldsNothing card)
       back Sharing = record { results = Done ∷ []; may = (tt, tt, tt); quiet = (tt, tt); words_agree = record { fail = w.fail; seals = w.seals }; same = same_else s; order = refl; at = inl its }
       back Owned = record { results = Done ∷ []; may = (tt, tt, tt); quiet = (tt, tt); words_agree = record { fail = w.fail; seals = w.seals }; same = same_else s; order = refl; at = inl its }
 
@@ -231,5 +238,5 @@ module _ (role : Role) (job : BlockJob) (plays : Plays role job) (actors : List 
 
 pub cell_steps_followed : (role : Role) (job : BlockJob) → Plays role job → StepsFollowed role job
 cell_steps_followed role job plays blocks words cards actors a card s y step later answer rule here below w t suits is =
-    subst (λ (v : Actor). Follows role actors a s v (words_after words step) (after (plan_of job (Cell step ∷ later) answer) (got_of (result_of words step))) (card_after words step card)) (sym is.is)
+    subst (λ (v : Actor). DoesToo role actors a s v (words_after words step) (after (plan_of job (Cell step ∷ later) answer) (got_of (result_of words step))) (card_after words step card)) (sym is.is)
     (cell role job plays actors a s words card answer is.answer is.buffer is.alike w blocks cards rule here suits.0 step later below t suits.1 is.saw)

@@ -1,5 +1,6 @@
 -- Reads, writes and migrations play their roles.
 use Rattle.std.proofs.Common.{◌≡◌, ◌<◌, ◌∙◌, ℕ, Bool, false, List, [], ◌∷◌, Option, Some, None, refl, sym, ap, subst}
+use Rattle.wb_types.specs.declared.mode.Mode.TheVariants.{Writeback}
 use Rattle.wb_types.specs.declared.number.CBlock.{CBlock}
 use Rattle.wb_types.specs.declared.refusal.Refusal.{Refusal}
 use Rattle.wb_types.specs.declared.refusal.Refusal.TheVariants.{Busy}
@@ -67,10 +68,10 @@ module _ (size : ℕ) (content : Content) (job : BlockJob) (sized : size ≡ (ra
     undone = undone (there size);
   }
 
-pub requests_play : (size : ℕ) (content : Content) (job : BlockJob) → IsRequest job → 0 < size → size ≡ (range_of job).block_sectors → Plays (request_role size content job) job
-requests_play size content (Reading part) r some e = request_plays size content (Reading part) e refl refl refl refl (λ d e. refl) (read_work part (subst (λ v. 0 < v) e some) content)
-requests_play size content (Writing part) r some e = request_plays size content (Writing part) e refl refl refl refl (λ d e. refl) (write_work part (subst (λ v. 0 < v) e some) content)
-requests_play size content (Migrating migration part) r some e = absurd r
+pub requests_play : (size : ℕ) (content : Content) (job : BlockJob) → IsRequest job → (range_of job).mode ≡ Writeback → 0 < size → size ≡ (range_of job).block_sectors → Plays (request_role size content job) job
+requests_play size content (Reading part) r back some e = request_plays size content (Reading part) e refl refl refl refl (λ d e. refl) (read_work part (subst (λ v. 0 < v) e some) back content)
+requests_play size content (Writing part) r back some e = request_plays size content (Writing part) e refl refl refl refl (λ d e. refl) (write_work part (subst (λ v. 0 < v) e some) back content)
+requests_play size content (Migrating migration part) r back some e = absurd r
 
 -- what a migration's work is hangs on no more of the seal than agrees
 same_there : (migration : Migration) (order : Order) (os : List (List ℕ)) (c : CBlock) (seen : ℕ) (seal : SealThere) → IsWhere migration c (place_in seen) → SealAgrees seen seal → work_there (job_under order os migration) seal ≡ work_there (job_under order os migration) (record { location = number_of (place_in seen); dirty = dirty_in seen })
@@ -104,7 +105,7 @@ migrations_play part c next migration kept some fills = record {
 
 -- so their steps on the words are followed
 pub request_cells_followed : RequestCellsFollowed
-request_cells_followed size content job request some sized = cell_steps_followed (request_role size content job) job (requests_play size content job request some sized)
+request_cells_followed size content job request back some sized = cell_steps_followed (request_role size content job) job (requests_play size content job request back some sized)
 
 pub migration_cells_followed : MigrationCellsFollowed
 migration_cells_followed part c next migration kept some fills = cell_steps_followed (migration_role part c next migration kept) (Migrating migration part) (migrations_play part c next migration kept some fills)

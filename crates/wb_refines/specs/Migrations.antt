@@ -1,5 +1,5 @@
 -- The table of a migration as that of the abstract world, step by step.
-use Rattle.std.specs.Prelude.{◌≡◌, ◌<◌, ℕ, Bool, List, [], ◌∷◌, Option, Some, None, true, false}
+use Rattle.std.specs.Prelude.{◌≡◌, ◌<◌, ℕ, Bool, List, [], ◌∷◌, Option, Some, true, false}
 use Rattle.wb_types.specs.declared.number.CBlock.{CBlock}
 use Rattle.wb_tasks.specs.declared.step.Migration.{Migration}
 use Rattle.wb_tasks.specs.declared.step.Migration.TheVariants.{Promote, Demote, Clean}
@@ -20,11 +20,6 @@ abbrev pub job_under : Order → List (List ℕ) → Migration → AbstractJob
 job_under order os (Promote c) = Promoting order os
 job_under order os Demote = Returning true order os
 job_under order os Clean = Returning false order os
-
--- where its sectors are read
-abbrev pub source : Order → Migration → Option ℕ
-source order (Promote c) = None
-source order migration = Some order.cache
 
 -- What its steps stand for. Whether there is room for an entry of the mapping is asked first there.
 abbrev pub migration_wants : ℕ → Order → List (List ℕ) → Migration → List Want → List AbstractWant

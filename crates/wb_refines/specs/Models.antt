@@ -1,5 +1,5 @@
 -- When what is shared, and an actor with a task that reads or writes a block, is what an abstract world has.
-use Rattle.std.specs.Prelude.{◌≡◌, ◌≢◌, ◌⊎◌, ◌<◌, ℕ, true, false, List, [], ◌∷◌, Some, None, slice_get}
+use Rattle.std.specs.Prelude.{Bool, ◌≡◌, ◌≢◌, ◌⊎◌, ◌<◌, ℕ, true, false, List, [], ◌∷◌, Some, None, slice_get}
 use Rattle.wb_types.specs.declared.number.OBlock.{OBlock}
 use Rattle.wb_types.specs.declared.number.CBlock.{CBlock}
 use Rattle.wb_types.specs.declared.refusal.Refusal.{Refusal}
@@ -78,13 +78,13 @@ pub record IsBelow (y : Actor) (card : Card) : Type 0 where
   pub shared : (block : ℕ) → y.held ≡ Shares block → 0 < sharers block card
 
 -- it holds nothing, or the target has failed and there is nothing to give back
-abbrev pub IsFree : Words → List Want → Actor → Type 0
-IsFree words [] y = (y.held ≡ Nothing) ⊎ (flag words.fail ≡ true)
-IsFree words steps y = y.held ≡ Nothing
+abbrev pub IsFree : Bool → List Want → Actor → Type 0
+IsFree failed [] y = (y.held ≡ Nothing) ⊎ (failed ≡ true)
+IsFree failed steps y = y.held ≡ Nothing
 
 -- Refused, an abstract actor has only to answer: it has set the failed bit and keeps what it owns, or it has nothing, since it did
 -- not take the block whose number was found worn.
-pub record HasStopped (words : Words) (plan : Plan) (card : Card) (y : Actor) : Type 0 where
+pub record HasStopped (failed : Bool) (plan : Plan) (card : Card) (y : Actor) : Type 0 where
   pub over : OnlyParts plan.steps
   pub refused : plan.answer ≢ Finished
   pub script : Script
@@ -94,7 +94,7 @@ pub record HasStopped (words : Words) (plan : Plan) (card : Card) (y : Actor) : 
   pub among_others : job_alone script.job ≡ false
   pub leads : y.leads ≡ false
   pub below : IsBelow y card
-  pub free : IsFree words plan.steps y
+  pub free : IsFree failed plan.steps y
 
 -- the desk, its commits, and the images that the metadata stand for are the same
 pub record SameImages (s t : Shared) : Type 0 where

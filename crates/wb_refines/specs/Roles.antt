@@ -1,10 +1,11 @@
 -- The part that a job on a block plays in an abstract world, and when its steps on the shared words are followed there.
 use Rattle.std.specs.Prelude.{◌≡◌, ◌≢◌, ◌⊎◌, ◌<◌, ℕ, false, List, [], ◌∷◌, Option, Some, None, slice_get}
+use Rattle.wb_types.specs.declared.mode.Mode.TheVariants.{Writeback}
 use Rattle.wb_types.specs.declared.number.OBlock.{OBlock}
 use Rattle.wb_types.specs.declared.refusal.Refusal.{Refusal}
 use Rattle.wb_types.specs.declared.refusal.Refusal.TheVariants.{Busy, Failed}
 use Rattle.wb_disk.specs.Device.{Content}
-use Rattle.wb_words.specs.SharedWords.{Words}
+use Rattle.wb_words.specs.SharedWords.{Words, flag}
 use Rattle.wb_words.specs.Rule.{LockRule}
 use Rattle.wb_words.specs.Effects.{result_of, words_after, card_after}
 use Rattle.wb_words.specs.declared.card.Card.{Card}
@@ -76,14 +77,14 @@ request_role size content job = record {
 }
 
 -- What an actor did on the words, which are these now, the abstract actor can do too, and both are at the same then.
-pub record Follows (role : Role) (actors : List Actor) (a : ℕ) (s : Shared) (y : Actor) (words : Words) (plan : Plan) (card : Card) : Type 0 where
+pub record DoesToo (role : Role) (actors : List Actor) (a : ℕ) (s : Shared) (y : Actor) (words : Words) (plan : Plan) (card : Card) : Type 0 where
   pub results : List Got
   pub may : MayGo actors a s y y.task results
   pub quiet : AreQuiet y.task results
   pub words_agree : WordsAgree words (shared_after s y y.task results)
   pub same : SameElse s (shared_after s y y.task results)
   pub order : (gone y y.task results).order ≡ role.order
-  pub at : IsAs role plan card (gone y y.task results) ⊎ ((k : HasStopped words plan card (gone y y.task results)) × (k.script.job ≡ role.job))
+  pub at : IsAs role plan card (gone y y.task results) ⊎ ((k : HasStopped (flag words.fail) plan card (gone y y.task results)) × (k.script.job ≡ role.job))
 
 -- Where a number is looked at the block is taken there: then the others have no more than their cards count, and its seal is as the job is to find it.
 abbrev pub TakesBeside : Role → CellStep → List Actor → List Card → ℕ → Card → Type 0
@@ -96,7 +97,8 @@ abbrev pub StepsFollowed : Role → BlockJob → Type 0
 StepsFollowed role job = (blocks : ℕ) (words : Words) (cards : List Card) (actors : List Actor) (a : ℕ) (card : Card) (s : Shared) (y : Actor) (step : CellStep) (later : List Want) (answer : Answer) →
     LockRule blocks words cards → slice_get cards a ≡ Some card → TakesBeside role step actors cards a card → WordsAgree words s → TellsPlace step →
     Suits blocks (plan_of job (Cell step ∷ later) answer) card → IsAs role (plan_of job (Cell step ∷ later) answer) card y →
-    Follows role actors a s y (words_after words step) (after (plan_of job (Cell step ∷ later) answer) (got_of (result_of words step))) (card_after words step card)
+    DoesToo role actors a s y (words_after words step) (after (plan_of job (Cell step ∷ later) answer) (got_of (result_of words step))) (card_after words step card)
 
+-- of a read or write in write-back mode
 abbrev pub RequestCellsFollowed : Type 0
-RequestCellsFollowed = (size : ℕ) (content : Content) (job : BlockJob) → IsRequest job → 0 < size → size ≡ (range_of job).block_sectors → StepsFollowed (request_role size content job) job
+RequestCellsFollowed = (size : ℕ) (content : Content) (job : BlockJob) → IsRequest job → (range_of job).mode ≡ Writeback → 0 < size → size ≡ (range_of job).block_sectors → StepsFollowed (request_role size content job) job

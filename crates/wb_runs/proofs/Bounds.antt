@@ -3,6 +3,8 @@ use Rattle.std.proofs.Common.{◌≡◌, ◌∙◌, ◌≤◌, ◌<◌, ◌+◌,
 use Rattle.std.specs.Prelude.{unwrap_or}
 use Rattle.wb_types.proofs.Lists.{Contains-first, Contains-behind}
 use Rattle.wb_types.specs.declared.entry.Entry.{Entry}
+use Rattle.wb_types.specs.declared.mode.Mode.{Mode}
+use Rattle.wb_types.specs.declared.mode.Mode.TheVariants.{Writeback, Writethrough, Passthrough}
 use Rattle.wb_types.specs.declared.extent.Extent.{Extent}
 use Rattle.wb_types.specs.declared.number.OBlock.{OBlock}
 use Rattle.wb_types.specs.declared.number.CBlock.{CBlock}
@@ -17,7 +19,8 @@ use Rattle.wb_words.specs.SharedWords.{Words, word_at, place_in, dirty_in, seal_
 use Rattle.wb_words.specs.Effects.{words_after}
 use Rattle.wb_tasks.specs.declared.step.Migration.{Migration}
 use Rattle.wb_tasks.specs.declared.step.Migration.TheVariants.{Promote, Demote, Clean}
-use Rattle.wb_tasks.specs.Tables.{BlockRange, BlockJob, Reading, Writing, Migrating, TaskJob, OnBlock, Flushing, Opening, cache_extent, read_step, write_step, read_count, write_count, copies, ending, work}
+use Rattle.wb_tasks.specs.Tables.{BlockRange, BlockJob, Reading, Writing, Migrating, TaskJob, OnBlock, Flushing, Opening, cache_extent, place_read, read_step, write_step, read_count, write_count, copies, ending, work}
+use Rattle.wb_tasks.proofs.Working.{work_has}
 use Rattle.wb_tasks.specs.Plan.{Plan, want, after, after_look, after_fault, after_refusal, after_more, later_steps, node_writes, root_steps, commit_steps, release_orders, lets_go, gives_up, release, may_take, exchange, is_worn, gives_back, work_of}
 use Rattle.wb_tasks.specs.declared.step.Answer.{Answer}
 use Rattle.wb_tasks.specs.declared.step.DeviceStep.{DeviceStep}
@@ -149,14 +152,6 @@ module _ (shape : Shape) (part : BlockRange) (p : PartInside shape part) where
   one_write None e l i = i.inside
   one_write (Some c) e l i = cached c e l i
 
-  reads_in : (place : Option CBlock) (es : List Extent) (ws : List Want) → PlaceInside shape.geometry.cache_blocks place → ((e : Extent) → Contains es e → ExtentInside shape e) → AllInside shape ws → AllInside shape (map (read_step part place) es ++ ws)
-  reads_in place [] ws l i a = a
-  reads_in place (e ∷ es) ws l i a = (one_read place e l (i e (Contains-first e es)), reads_in place es ws l (λ x m. i x (Contains-behind e es x m)) a)
-
-  writes_in : (place : Option CBlock) (es : List Extent) (ws : List Want) → PlaceInside shape.geometry.cache_blocks place → ((e : Extent) → Contains es e → ExtentInside shape e) → AllInside shape ws → AllInside shape (map (write_step part place) es ++ ws)
-  writes_in place [] ws l i a = a
-  writes_in place (e ∷ es) ws l i a = (one_write place e l (i e (Contains-first e es)), writes_in place es ws l (λ x m. i x (Contains-behind e es x m)) a)
-
   copies_in : (from to : Option CBlock) (es : List Extent) (ws : List Want) → PlaceInside shape.geometry.cache_blocks from → PlaceInside shape.geometry.cache_blocks to → ((e : Extent) → Contains es e → ExtentInside shape e) → AllInside shape ws → AllInside shape (copies part from to es ++ ws)
   copies_in from to [] ws l m i a = a
   copies_in from to (e ∷ es) ws l m i a = (one_read from e l (i e (Contains-first e es)), (one_write to e m (i e (Contains-first e es)), copies_in from to es ws l m (λ x k. i x (Contains-behind e es x k)) a))
@@ -175,13 +170,26 @@ module _ (shape : Shape) (part : BlockRange) (p : PartInside shape part) where
   ending_in Clean None m l = (tt, (tt, (tt, tt)))
   ending_in Clean (Some c) m l = (l, (tt, (tt, tt)))
 
+  -- a read takes its extents from where its block stands, or from the origin
+  taken_inside : (mode : Mode) (place : Option CBlock) → PlaceInside shape.geometry.cache_blocks place → PlaceInside shape.geometry.cache_blocks (place_read mode place)
+  taken_inside Writeback place l = l
+  taken_inside Writethrough place l = l
+  taken_inside Passthrough place l = tt
+
   work_reads : (place : Option CBlock) (dirty : Bool) → PlaceInside shape.geometry.cache_blocks place → AllInside shape (work (Reading part) place dirty)
-  work_reads place dirty l = reads_in place part.extents _ l p.each (read_ends place)
+  work_reads = work_has (λ place dirty ws. PlaceInside shape.geometry.cache_blocks place → AllInside shape ws) (Reading part) (record {
+    each = λ place dirty e ws m r l. (one_read (place_read part.mode place) e (taken_inside part.mode place l) (p.each e m), r l);
+    last = λ place dirty l. read_ends (place_read part.mode place);
+  })
 
   work_writes : (place : Option CBlock) (dirty : Bool) → PlaceInside shape.geometry.cache_blocks place → AllInside shape (work (Writing part) place dirty)
-  work_writes None dirty l = writes_in None part.extents _ l p.each (write_ends None)
-  work_writes (Some c) true l = writes_in (Some c) part.extents _ l p.each (write_ends (Some c))
-  work_writes (Some c) false l = (l, writes_in (Some c) part.extents _ l p.each (write_ends (Some c)))
+  work_writes = work_has (λ place dirty ws. PlaceInside shape.geometry.cache_blocks place → AllInside shape ws) (Writing part) (record {
+    seal = λ c ws back r l. (l, r l);
+    home = λ dirty e ws m r l. (one_write None e tt (p.each e m), r l);
+    cached = λ c dirty e ws sealed m r l. (one_write (Some c) e l (p.each e m), r l);
+    through = λ c dirty e ws other m r l. (one_write None e tt (p.each e m), r l);
+    last = λ place dirty l. write_ends place;
+  })
 
   work_migrates : (migration : Migration) (place : Option CBlock) (dirty : Bool) → MigrationInside shape migration → PlaceInside shape.geometry.cache_blocks place → AllInside shape (work (Migrating migration part) place dirty)
   work_migrates (Promote c) place dirty m l = copies_in None (Some c) part.extents _ tt m p.each (ending_in (Promote c) place m l)

@@ -4,15 +4,18 @@ use Rattle.std.specs.Prelude.{IsPermutation}
 use Rattle.std.proofs.lemmas.List.{append_assoc}
 use Rattle.wb_types.specs.declared.extent.Extent.{Extent}
 use Rattle.wb_types.specs.Extents.{sectors_in, sectors_of, IsCutInto}
+use Rattle.wb_types.specs.declared.mode.Mode.TheVariants.{Writeback}
 use Rattle.wb_types.specs.declared.refusal.Refusal.TheVariants.{Failed, Busy, Worn}
 use Rattle.wb_words.specs.declared.word.Word.TheVariants.{Cell as LockWord, Seal as SealWord, Number, Count as CountWord, Fail}
+use Rattle.wb_words.specs.declared.word.Access.TheVariants.{Owned}
 use Rattle.wb_words.specs.declared.step.CellStep.{CellStep}
 use Rattle.wb_words.specs.declared.step.CellStep.TheVariants.{Look, Take, Release, Seal, Finish, Count, SetFailed, SetSuspended}
 use Rattle.wb_words.specs.declared.step.CellResult.TheVariants.{Done as Won, Lost as CellLost}
 use Rattle.wb_words.specs.declared.card.Card.{Card}
 use Rattle.wb_words.specs.SharedWords.{Words, word_at}
 use Rattle.wb_words.specs.Effects.{result_of}
-use Rattle.wb_tasks.specs.Tables.{BlockJob, BlockRange, Reading, Writing, OnBlock, cache_extent, read_step, write_step, work}
+use Rattle.wb_tasks.specs.Tables.{BlockJob, BlockRange, Reading, Writing, OnBlock, cache_extent, dirtying, read_step, write_step, write_count, work}
+use Rattle.wb_tasks.proofs.Working.{write_work_back}
 use Rattle.wb_tasks.specs.Plan.{Plan, after, may_take, is_worn, exchange, gives_back, work_of, got_of}
 use Rattle.wb_tasks.specs.Ready.{Has, IsRest, IsParting}
 use Rattle.wb_tasks.specs.declared.step.Answer.{Answer}
@@ -125,10 +128,13 @@ write_moves shape whole cut m i seal = by_place (place_in seal) (dirty_in seal)
     part : BlockRange
     part = block_range shape whole cut
 
+    back : (place : Option CBlock) (dirty : Bool) → homes shape whole (extents_left (dirtying Writeback part.block place dirty ++ map (write_step part place) cut ++ Cell (Finish part.block) ∷ write_count place ∷ Cell (Release Owned part.block) ∷ [])) ≡ cut
+    back None dirty = writes_home shape whole part refl None cut _ (cut_own shape whole cut m i) refl
+    back (Some c) true = writes_home shape whole part refl (Some c) cut _ (cut_own shape whole cut m i) refl
+    back (Some c) false = writes_home shape whole part refl (Some c) cut _ (cut_own shape whole cut m i) refl
+
     by_place : (place : Option CBlock) (dirty : Bool) → homes shape whole (extents_left (work (Writing part) place dirty)) ≡ cut
-    by_place None dirty = writes_home shape whole part refl None cut _ (cut_own shape whole cut m i) refl
-    by_place (Some c) true = writes_home shape whole part refl (Some c) cut _ (cut_own shape whole cut m i) refl
-    by_place (Some c) false = writes_home shape whole part refl (Some c) cut _ (cut_own shape whole cut m i) refl
+    by_place place dirty = ap (λ (ws : List Want). homes shape whole (extents_left ws)) (write_work_back part refl place dirty) ∙ back place dirty
 
 -- a refused task is answered otherwise
 undone : (P : Type 0) (refusal : _) → Refuses refusal ≡ Finished → P

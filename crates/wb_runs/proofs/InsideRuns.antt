@@ -6,6 +6,7 @@ use Rattle.std.proofs.Math.Nat.{div-add-mod, mod-lt}
 use Rattle.wb_types.specs.Extents.{IsCutInto}
 use Rattle.wb_types.specs.declared.extent.Extent.{Extent}
 use Rattle.wb_types.specs.declared.mode.Mode.{Mode}
+use Rattle.wb_types.specs.declared.mode.Mode.TheVariants.{Writeback}
 use Rattle.wb_types.specs.declared.mode.Dev.{Dev}
 use Rattle.wb_types.specs.declared.mode.Dev.TheVariants.{Metadata, Cache, Origin}
 use Rattle.wb_types.specs.declared.number.OBlock.{OBlock}
@@ -90,7 +91,7 @@ in_one_block b first count q some many f l =
     let less = mod-lt (first + count - 1) some in
     omega (arith, low', high', less, many)
 
-part_inside : (shape : Shape) (whole : Extent) (block : OBlock) (cut : List Extent) → MayStart shape whole → IsCutInto whole cut → PartInside shape (record { block_sectors = block_size shape; block = block; extents = cut })
+part_inside : (shape : Shape) (whole : Extent) (block : OBlock) (cut : List Extent) → MayStart shape whole → IsCutInto whole cut → PartInside shape (record { mode = Writeback; block_sectors = block_size shape; block = block; extents = cut })
 part_inside shape whole block cut m i =
     let within = cut_within whole cut i in
     record {

@@ -30,7 +30,7 @@ use Rattle.wb_promise.specs.Happenings.{Chosen, Plain, Cut, Orders, Begins, Reac
 use Rattle.wb_promise.specs.Effects.{phase_then, phase_opened, phase_given, task_then, actor_then, stepped, with_actor, cleared, given, job_of, cut_of, device_done, device_failed, all_resting, after_what, after_happening, after_all, IsRun}
 use Rattle.wb_promise.specs.Clerk.{Notes, Doing, noted_step, noted_what, finished_note, begun, nobody, put, formatted}
 use Rattle.wb_promise.specs.Headline.{SkipsRightly, AllSkipRightly, note_happening, noted}
-use Rattle.wb_runs.specs.Laws.{RefusedBy, RefusedRightly, RefusesByCause, AllRefuseByCause, IsCovered, DoingCovers, AnswerCovers, AllCover}
+use Rattle.wb_runs.specs.Laws.{RefusedBy, RefusedRightly, AllAlong, RefusesByCause, IsCovered, DoingCovers, AnswerCovers}
 use Rattle.wb_runs.specs.Holding.{TaskSuits}
 use Rattle.wb_contents.proofs.Lists.{set_other, set_there, replicated, replicated_there}
 use Rattle.wb_runs.proofs.Lists.{rests, there_rests, free}
@@ -520,46 +520,24 @@ module _ (P A : Type 0) (shape : Shape) where
   refuses_rightly w n (Step a) (Stepped (End (Refuses refusal)) got) read chosen b h =
       let d = of_answer w n b a (Refuses refusal) (λ doing job. RefusedBy doing job refusal) got read chosen (λ x job plan doing s c e. refused_by job plan doing refusal c e) (slice_get w.actors a) refl h in
       subst (λ (o : Option (Option Doing)). RefusedRightly o refusal) (sym d.1) d.2
-  refuses_rightly w n (Step a) (Stepped (End Finished) got) read chosen b h = tt
-  refuses_rightly w n (Step a) (Stepped (Cell step) got) read chosen b h = tt
-  refuses_rightly w n (Step a) (Stepped (Device step) got) read chosen b h = tt
-  refuses_rightly w n (Step a) (Stepped (Desk step) got) read chosen b h = tt
-  refuses_rightly w n (Step a) Skipped read chosen b h = tt
-  refuses_rightly w n (Step a) (Refused refusal) read chosen b h = tt
-  refuses_rightly w n (Step a) Started read chosen b h = tt
-  refuses_rightly w n (Step a) Stopped read chosen b h = tt
-  refuses_rightly w n (Start a job) what read chosen b h = tt
-  refuses_rightly w n (FaultStep a choice) what read chosen b h = tt
-  refuses_rightly w n (Stop choice) what read chosen b h = tt
+  refuses_rightly w n event what read chosen b h = tt
 
   covers_rightly : (w : State P A) (n : Notes) (event : Event) (what : What) (read : List Bytes) (chosen : Chosen P A) → Base w n → MayBe shape w event what read chosen → AnswerCovers n event what
   covers_rightly w n (Step a) (Stepped (End answer) got) read chosen b h =
       let d = of_answer w n b a answer (λ doing job. IsCovered doing job answer) got read chosen (λ x job plan doing s c e. covered job plan x doing answer s c e) (slice_get w.actors a) refl h in
       subst (λ (o : Option (Option Doing)). DoingCovers o answer) (sym d.1) d.2
-  covers_rightly w n (Step a) (Stepped (Cell step) got) read chosen b h = tt
-  covers_rightly w n (Step a) (Stepped (Device step) got) read chosen b h = tt
-  covers_rightly w n (Step a) (Stepped (Desk step) got) read chosen b h = tt
-  covers_rightly w n (Step a) Skipped read chosen b h = tt
-  covers_rightly w n (Step a) (Refused refusal) read chosen b h = tt
-  covers_rightly w n (Step a) Started read chosen b h = tt
-  covers_rightly w n (Step a) Stopped read chosen b h = tt
-  covers_rightly w n (Start a job) what read chosen b h = tt
-  covers_rightly w n (FaultStep a choice) what read chosen b h = tt
-  covers_rightly w n (Stop choice) what read chosen b h = tt
+  covers_rightly w n event what read chosen b h = tt
 
-  all_refuse : (w : State P A) (n : Notes) (hs : List (Happening P A)) → Base w n → IsRun shape w hs → AllRefuseByCause shape w n hs
-  all_refuse w n [] b r = tt
-  all_refuse w n (h ∷ hs) b r = (refuses_rightly w n h.record_is.event h.record_is.what h.record_is.read.items h.chosen b r.0, all_refuse (after_happening shape w h) (note_happening shape w n h) hs (base_after w n h b r.0) r.1)
+  all_along : (Holds : Notes → Event → What → Type 0) → ((w : State P A) (n : Notes) (event : Event) (what : What) (read : List Bytes) (chosen : Chosen P A) → Base w n → MayBe shape w event what read chosen → Holds n event what) →
+      (w : State P A) (n : Notes) (hs : List (Happening P A)) → Base w n → IsRun shape w hs → AllAlong Holds shape w n hs
+  all_along Holds holds w n [] b r = tt
+  all_along Holds holds w n (h ∷ hs) b r = (holds w n h.record_is.event h.record_is.what h.record_is.read.items h.chosen b r.0, all_along Holds holds (after_happening shape w h) (note_happening shape w n h) hs (base_after w n h b r.0) r.1)
 
-  all_cover : (w : State P A) (n : Notes) (hs : List (Happening P A)) → Base w n → IsRun shape w hs → AllCover shape w n hs
-  all_cover w n [] b r = tt
-  all_cover w n (h ∷ hs) b r = (covers_rightly w n h.record_is.event h.record_is.what h.record_is.read.items h.chosen b r.0, all_cover (after_happening shape w h) (note_happening shape w n h) hs (base_after w n h b r.0) r.1)
+  pub run_refuses : (metadata : List History) (hs : List (Happening P A)) → IsFormatted shape.geometry metadata → length metadata ≡ shape.geometry.meta_sectors → IsRun shape (start shape metadata) hs → AllAlong RefusesByCause shape (start shape metadata) (formatted shape) hs
+  run_refuses metadata hs f size run = all_along RefusesByCause refuses_rightly (start shape metadata) (formatted shape) hs (base_start metadata f size) run
 
-  pub run_refuses : (metadata : List History) (hs : List (Happening P A)) → IsFormatted shape.geometry metadata → length metadata ≡ shape.geometry.meta_sectors → IsRun shape (start shape metadata) hs → AllRefuseByCause shape (start shape metadata) (formatted shape) hs
-  run_refuses metadata hs f size run = all_refuse (start shape metadata) (formatted shape) hs (base_start metadata f size) run
-
-  pub run_covers : (metadata : List History) (hs : List (Happening P A)) → IsFormatted shape.geometry metadata → length metadata ≡ shape.geometry.meta_sectors → IsRun shape (start shape metadata) hs → AllCover shape (start shape metadata) (formatted shape) hs
-  run_covers metadata hs f size run = all_cover (start shape metadata) (formatted shape) hs (base_start metadata f size) run
+  pub run_covers : (metadata : List History) (hs : List (Happening P A)) → IsFormatted shape.geometry metadata → length metadata ≡ shape.geometry.meta_sectors → IsRun shape (start shape metadata) hs → AllAlong AnswerCovers shape (start shape metadata) (formatted shape) hs
+  run_covers metadata hs f size run = all_along AnswerCovers covers_rightly (start shape metadata) (formatted shape) hs (base_start metadata f size) run
 
   -- ---- what is skipped
 

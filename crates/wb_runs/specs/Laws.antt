@@ -33,6 +33,11 @@ pub record CanBeRead (shape : Shape) (metadata : List Bytes) : Type 0 where
 abbrev pub MetadataAreRead : (P A : Type 0) → Type 0
 MetadataAreRead P A = InEveryRun P A (λ shape metadata hs. (sectors : List Bytes) → MayLeave (after_all shape (start shape metadata) hs).devices.metadata sectors → CanBeRead shape sectors)
 
+-- this holds of each happening of a run and of what is noted before it
+abbrev pub AllAlong : {P A : Type 0} → (Notes → Event → What → Type 0) → Shape → State P A → Notes → List (Happening P A) → Type 0
+AllAlong Holds shape w n [] = Unit {0}
+AllAlong Holds shape w n (h ∷ hs) = Holds n h.record_is.event h.record_is.what × AllAlong Holds shape (after_happening shape w h) (note_happening shape w n h) hs
+
 -- An opening that is refused has a cause: a step of it has failed on that device, memory was wanted, or no generation is left.
 abbrev pub RefusedBy : Doing → Job → Refusal → Type 0
 RefusedBy doing (Open mode) refusal = MayRefuse doing refusal
@@ -46,14 +51,9 @@ abbrev pub RefusesByCause : Notes → Event → What → Type 0
 RefusesByCause n (Step a) (Stepped (End (Refuses refusal)) got) = RefusedRightly (slice_get n.doings a) refusal
 RefusesByCause n event what = Unit {0}
 
--- every opening of a run that is refused does
-abbrev pub AllRefuseByCause : {P A : Type 0} → Shape → State P A → Notes → List (Happening P A) → Type 0
-AllRefuseByCause shape w n [] = Unit {0}
-AllRefuseByCause shape w n (h ∷ hs) = RefusesByCause n h.record_is.event h.record_is.what × AllRefuseByCause shape (after_happening shape w h) (note_happening shape w n h) hs
-
 -- no opening is refused for what the metadata hold
 abbrev pub OpeningsRefuseByCause : (P A : Type 0) → Type 0
-OpeningsRefuseByCause P A = InEveryRun P A (λ shape metadata hs. AllRefuseByCause shape (start shape metadata) (formatted shape) hs)
+OpeningsRefuseByCause P A = InEveryRun P A (λ shape metadata hs. AllAlong RefusesByCause shape (start shape metadata) (formatted shape) hs)
 
 -- A read that is answered done was given each of its sectors exactly once, and a write that is has entered each of its own so.
 abbrev pub IsCovered : Doing → Job → Answer → Type 0
@@ -71,12 +71,8 @@ AnswerCovers n (Step a) (Stepped (End answer) got) = DoingCovers (slice_get n.do
 AnswerCovers n event what = Unit {0}
 
 -- so it is of every answer of a run
-abbrev pub AllCover : {P A : Type 0} → Shape → State P A → Notes → List (Happening P A) → Type 0
-AllCover shape w n [] = Unit {0}
-AllCover shape w n (h ∷ hs) = AnswerCovers n h.record_is.event h.record_is.what × AllCover shape (after_happening shape w h) (note_happening shape w n h) hs
-
 abbrev pub AnswersCoverTheirSectors : (P A : Type 0) → Type 0
-AnswersCoverTheirSectors P A = InEveryRun P A (λ shape metadata hs. AllCover shape (start shape metadata) (formatted shape) hs)
+AnswersCoverTheirSectors P A = InEveryRun P A (λ shape metadata hs. AllAlong AnswerCovers shape (start shape metadata) (formatted shape) hs)
 
 -- in every run an event is skipped only where it does not apply
 abbrev pub EventsSkipRightly : (P A : Type 0) → Type 0

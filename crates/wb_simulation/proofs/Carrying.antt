@@ -1,5 +1,5 @@
 -- An actor of the run goes on with a migration, and its abstract actor goes on there.
-use Rattle.std.proofs.Common.{◌≢◌, eqb-true, Contains, ◌≡◌, ◌∙◌, ◌⊎◌, inl, inr, ℕ, Bool, true, false, List, [], ◌∷◌, Option, Some, None, refl, sym, ap, subst, slice_get, slice_set}
+use Rattle.std.proofs.Common.{◌≢◌, eqb-true, Contains, ◌≡◌, ◌∙◌, inl, inr, ℕ, Bool, true, false, List, [], ◌∷◌, Option, Some, None, refl, sym, ap, subst, slice_get, slice_set}
 use Rattle.wb_types.specs.declared.number.OBlock.{OBlock}
 use Rattle.wb_disk.specs.Device.{History}
 use Rattle.wb_contents.specs.Devices.{by_block}
@@ -25,10 +25,10 @@ use Rattle.wb_promise.specs.declared.job.Job.{Job}
 use Rattle.wb_promise.specs.declared.job.Job.TheVariants.{Migrate}
 use Rattle.wb_promise.specs.States.{Actor}
 use Rattle.wb_simulation.specs.Actors.{IsLate, IsBusyAt, StandsFor}
-use Rattle.wb_simulation.specs.Carried.{held, is_at, replacement_there, order_there, IsOrderFor, IsCarried, HasEnded, IsAtMigration}
+use Rattle.wb_simulation.specs.Carried.{held, is_at, replacement_there, order_there, IsOrderFor, IsCarried, IsAtMigration}
 use Rattle.wb_simulation.specs.Telling.{Carries, IsMigrating, IsNoEnd, AreCarried}
-use Rattle.wb_simulation.specs.Worlds.{zeros, Agrees, OrdersAgree, Turn, Stays, TurnedTo, DeskTurnedTo, FollowsBy}
-use Rattle.wb_simulation.proofs.Orders.{CarriesOthers, IsDone}
+use Rattle.wb_simulation.specs.Worlds.{zeros, Situation, Agrees, OrdersAgree, Turn, TurnedTo, DeskTurnedTo, WorldFollowsBy, WorldFollows}
+use Rattle.wb_simulation.proofs.Orders.{IsDone}
 use Rattle.wb_link.proofs.Actors.{job_on}
 use Rattle.wb_simulation.proofs.Among.{goes_on, goes_with}
 
@@ -71,17 +71,17 @@ under_among order os (Promote c) = refl
 under_among order os migration = refl
 
 -- two tasks that are the same are the same migration
-abbrev At : (size : ℕ) → Words → List (Option Order) → Devices (List History) → Actor → AbstractActor → Job → Plan → Type 0
-At size words orders devices x y (Migrate migration block) plan = IsAtMigration size words orders devices migration block plan x y
-At size words orders devices x y job plan = Unit {0}
+abbrev At : (size : ℕ) → Words → List (Option Order) → Actor → AbstractActor → Job → Plan → Type 0
+At size words orders x y (Migrate migration block) plan = IsAtMigration size words orders migration block plan x y
+At size words orders x y job plan = Unit {0}
 
-abbrev AtTask : (size : ℕ) → Words → List (Option Order) → Devices (List History) → Actor → AbstractActor → Option (Job × Plan) → Type 0
-AtTask size words orders devices x y None = Unit {0}
-AtTask size words orders devices x y (Some doing) = At size words orders devices x y doing.0 doing.1
+abbrev AtTask : (size : ℕ) → Words → List (Option Order) → Actor → AbstractActor → Option (Job × Plan) → Type 0
+AtTask size words orders x y None = Unit {0}
+AtTask size words orders x y (Some doing) = At size words orders x y doing.0 doing.1
 
-pub at_it : (size : ℕ) (words : Words) (orders : List (Option Order)) (devices : Devices (List History)) (x : Actor) (y : AbstractActor) (migration : Migration) (block : OBlock) (plan : Plan) (m : Migration) (b : OBlock) (p : Plan) → IsAtMigration size words orders devices migration block plan x y →
-    ◌≡◌ {A = Option (Job × Plan)} (Some (Migrate migration block, plan)) (Some (Migrate m b, p)) → IsAtMigration size words orders devices m b p x y
-at_it size words orders devices x y migration block plan m b p h e = subst (AtTask size words orders devices x y) e h
+pub at_it : (size : ℕ) (words : Words) (orders : List (Option Order)) (x : Actor) (y : AbstractActor) (migration : Migration) (block : OBlock) (plan : Plan) (m : Migration) (b : OBlock) (p : Plan) → IsAtMigration size words orders migration block plan x y →
+    ◌≡◌ {A = Option (Job × Plan)} (Some (Migrate migration block, plan)) (Some (Migrate m b, p)) → IsAtMigration size words orders m b p x y
+at_it size words orders x y migration block plan m b p h e = subst (AtTask size words orders x y) e h
 
 -- ---- where its block stands
 
@@ -104,7 +104,7 @@ stands_there m c o Clean b next own (inr is) e same some = absurd is
 
 -- ---- who is carried
 
-module _ (size : ℕ) (orders : List (Option Order)) (devices : Devices (List History)) (migration : Migration) (block : OBlock) (part : BlockRange) (steps : List Want) (answer : Answer) (x : Actor) (y : AbstractActor) (k : IsCarried size orders devices migration block part steps answer x y) where
+module _ (size : ℕ) (orders : List (Option Order)) (migration : Migration) (block : OBlock) (part : BlockRange) (steps : List Want) (answer : Answer) (x : Actor) (y : AbstractActor) (k : IsCarried size orders migration block part steps answer x y) where
   pub carried_order : y.order ≡ k.kept
   carried_order = ap (λ (v : AbstractActor). v.order) k.at.is
 
@@ -123,54 +123,39 @@ module _ (size : ℕ) (orders : List (Option Order)) (devices : Devices (List Hi
   carried_task : HasTask y.task
   carried_task = subst (λ (v : AbstractActor). HasTask v.task) (sym k.at.is) tt
 
-module _ (size : ℕ) (words : Words) (orders : List (Option Order)) (devices : Devices (List History)) (migration : Migration) (block : OBlock) (part : BlockRange) (plan : Plan) (x : Actor) (y : AbstractActor) where
-  -- it is at it still, or has only to answer
-  abbrev pub IsOn : Type 0
-  IsOn = IsCarried size orders devices migration block part plan.steps plan.answer x y ⊎ HasEnded words plan x y
-
-  on_leads : IsOn → y.leads ≡ false
-  on_leads (inl k) = carried_leads size orders devices migration block part plan.steps plan.answer x y k
-  on_leads (inr e) = e.0.leads
-
-  on_task : IsOn → HasTask y.task
-  on_task (inl k) = carried_task size orders devices migration block part plan.steps plan.answer x y k
-  on_task (inr e) = subst HasTask (sym e.0.task) tt
-
-  pub on_stands : (most : ℕ) → IsOn → x.task ≡ Some (Migrate migration block, plan) → StandsFor size most words x y
-  on_stands most (inl k) task = record {
-    at = subst (λ (t : Option (Job × Plan)). IsBusyAt size most words t x.card y) (sym task) tt;
-    below = carried_below size orders devices migration block part plan.steps plan.answer x y k;
-    among_others = carried_among size orders devices migration block part plan.steps plan.answer x y k;
-  }
-  on_stands most (inr e) task = record {
-    at = subst (λ (t : Option (Job × Plan)). IsBusyAt size most words t x.card y) (sym task) tt;
-    below = e.0.below;
-    among_others = ap is_alone e.0.task ∙ e.0.among_others;
+module _ (size : ℕ) (orders : List (Option Order)) (migration : Migration) (block : OBlock) (part : BlockRange) (plan : Plan) (x : Actor) (y : AbstractActor) (k : IsCarried size orders migration block part plan.steps plan.answer x y) (words : Words) (task : x.task ≡ Some (Migrate migration block, plan)) where
+  pub carried_stands : (most : ℕ) → StandsFor size most words x y
+  carried_stands most = record {
+    failed = false;
+    has_failed = λ e. absurd (cc);
+    at = subst (λ (t : Option (Job × Plan)). IsBusyAt size most false t x.card y) (sym task) tt;
+    below = carried_below size orders migration block part plan.steps plan.answer x y k;
+    among_others = carried_among size orders migration block part plan.steps plan.answer x y k;
   }
 
-  pub is_done : plan.job ≡ OnBlock (Migrating migration part) → IsOn → x.task ≡ Some (Migrate migration block, plan) → IsDone size words orders devices x y
-  is_done job on task m b p e = at_it size words orders devices x y migration block plan m b p (record { part = part; job = job; at = elim on [ inl k ↦ inl k | inr h ↦ inr (inl h) ] }) (sym task ∙ e)
+  pub is_done : plan.job ≡ OnBlock (Migrating migration part) → IsDone size words orders x y
+  is_done job m b p e = at_it size words orders x y migration block plan m b p (record { part = part; job = job; failed = false; has_failed = λ e. absurd (cc); at = inl k }) (sym task ∙ e)
 
 -- who is late is so at what it is at now
-pub late_done : (size : ℕ) (words : Words) (orders : List (Option Order)) (devices : Devices (List History)) (migration : Migration) (block : OBlock) (part : BlockRange) (plan : Plan) (x : Actor) (y : AbstractActor) → plan.job ≡ OnBlock (Migrating migration part) → x.task ≡ Some (Migrate migration block, plan) → IsLate words plan y → IsDone size words orders devices x y
-late_done size words orders devices migration block part plan x y job task l m b p e = at_it size words orders devices x y migration block plan m b p (record { part = part; job = job; at = inr (inr l) }) (sym task ∙ e)
+pub late_done : (size : ℕ) (words : Words) (orders : List (Option Order)) (migration : Migration) (block : OBlock) (part : BlockRange) (plan : Plan) (x : Actor) (y : AbstractActor) → plan.job ≡ OnBlock (Migrating migration part) → x.task ≡ Some (Migrate migration block, plan) → (failed : Bool) → (failed ≡ true → flag words.fail ≡ true) → IsLate failed plan y → IsDone size words orders x y
+late_done size words orders migration block part plan x y job task failed has l m b p e = at_it size words orders x y migration block plan m b p (record { part = part; job = job; failed = failed; has_failed = has; at = inr (inr l) }) (sym task ∙ e)
 
 -- ---- it goes on
 
-module _ (size most : ℕ) (words words' : Words) (up : flag words.fail ≡ true → flag words'.fail ≡ true) (committing : Bool) (orders : List (Option Order)) (devices devices' : Devices (List History)) (actors : List Actor) (a : ℕ) (x x' : Actor) (s : World) (y : AbstractActor)
-    (g : Agrees size most words committing orders devices actors s) (ex : slice_get actors a ≡ Some x) (ey : slice_get s.actors a ≡ Some y) (migration : Migration) (block : OBlock) (part : BlockRange) (plan : Plan) (task : x'.task ≡ Some (Migrate migration block, plan)) (job : plan.job ≡ OnBlock (Migrating migration part)) (migrates : IsMigratingOf y.task)
-    (results : List Got) (t : Shared) (may : MayGo s.actors a s.shared y y.task results) (is : shared_after s.shared y y.task results ≡ t) (words_agree : WordsAgree words' t) (origin : t.origin ≡ by_block size zeros devices'.origin) (cache : t.cache ≡ by_block size zeros devices'.cache) where
+module _ (now : Situation) (words' : Words) (up : flag now.words.fail ≡ true → flag words'.fail ≡ true) (devices' : Devices (List History)) (a : ℕ) (x x' : Actor) (s : World) (y : AbstractActor)
+    (g : Agrees now s) (ex : slice_get now.actors a ≡ Some x) (ey : slice_get s.actors a ≡ Some y) (migration : Migration) (block : OBlock) (part : BlockRange) (plan : Plan) (task : x'.task ≡ Some (Migrate migration block, plan)) (job : plan.job ≡ OnBlock (Migrating migration part)) (migrates : IsMigratingOf y.task)
+    (results : List Got) (t : Shared) (may : MayGo s.actors a s.shared y y.task results) (is : shared_after s.shared y y.task results ≡ t) (words_agree : WordsAgree words' t) (origin : t.origin ≡ by_block now.size zeros devices'.origin) (cache : t.cache ≡ by_block now.size zeros devices'.cache) where
   abbrev z : AbstractActor
   z = gone y y.task results
 
   -- under the order that it had
-  pub carry_on : IsOn size words' orders devices' migration block part plan x' z → z.order ≡ y.order → ((o : Order) → Contains (held x) o → Contains (held x') o) → SameImages s.shared t → CarriesOthers size orders orders devices devices' actors s a → FollowsBy Stays Carries size most a s words' committing orders devices' (slice_set actors a x')
-  carry_on on same own k carries = goes_on size most words words' up committing orders devices actors a x x' s y g ex ey Carries devices' results t (results, going results y y.task (on_task size words' orders devices' migration block part plan x' z on) migrates, refl) may is
-      (on_stands size words' orders devices' migration block part plan x' z most on task) (λ l. let bad : true ≡ false = sym l ∙ on_leads size words' orders devices' migration block part plan x' z on in absurd (cc)) words_agree origin cache k.mode k.committing k.broken (k.committed, k.running, k.root_written) (k.mapping, k.blocks)
-      same own carries (is_done size words' orders devices' migration block part plan x' z job on task)
+  pub carry_on : IsCarried now.size now.orders migration block part plan.steps plan.answer x' z → z.order ≡ y.order → ((o : Order) → Contains (held x) o → Contains (held x') o) → SameImages s.shared t → WorldFollows Carries a s (record now { words = words'; devices = devices' }) x'
+  carry_on f same own k = goes_on now words' up a x x' s y g ex ey Carries devices' results t (results, going results y y.task (carried_task now.size now.orders migration block part plan.steps plan.answer x' z f) migrates, refl) may is
+      (carried_stands now.size now.orders migration block part plan x' z f words' task now.most) (λ l. let bad : true ≡ false = sym l ∙ carried_leads now.size now.orders migration block part plan.steps plan.answer x' z f in absurd (cc)) words_agree origin cache k.mode k.committing k.broken (k.committed, k.running, k.root_written) (k.mapping, k.blocks)
+      same own (is_done now.size now.orders migration block part plan x' z f words' task job)
 
   -- its order is over
-  pub carry_over : (turn : Turn) (orders' : List (Option Order)) → IsOn size words' orders' devices' migration block part plan x' z → t.mode ≡ s.shared.mode → t.committing ≡ s.shared.committing → t.broken ≡ s.shared.broken → TurnedTo turn s.shared t → DeskTurnedTo turn s.shared t →
-      OrdersAgree size words' orders' devices' (slice_set actors a x') (with_own s a t z) → FollowsBy turn Carries size most a s words' committing orders' devices' (slice_set actors a x')
-  carry_over turn orders' on mode commits broken turned desk ordered = goes_with size most words words' up committing orders devices actors a x x' s y g ex ey turn Carries orders' devices' results t (results, going results y y.task (on_task size words' orders' devices' migration block part plan x' z on) migrates, refl) may is
-      (on_stands size words' orders' devices' migration block part plan x' z most on task) (λ l. let bad : true ≡ false = sym l ∙ on_leads size words' orders' devices' migration block part plan x' z on in absurd (cc)) words_agree origin cache mode commits broken turned desk ordered
+  pub carry_over : (turn : Turn) (orders' : List (Option Order)) → IsCarried now.size orders' migration block part plan.steps plan.answer x' z → t.mode ≡ s.shared.mode → t.committing ≡ s.shared.committing → t.broken ≡ s.shared.broken → TurnedTo turn s.shared t → DeskTurnedTo turn s.shared t →
+      OrdersAgree now.size words' orders' (slice_set now.actors a x') (with_own s a t z) → WorldFollowsBy turn Carries a s (record now { words = words'; orders = orders'; devices = devices' }) x'
+  carry_over turn orders' f mode commits broken turned desk ordered = goes_with now words' up a x x' s y g ex ey turn Carries orders' devices' results t (results, going results y y.task (carried_task now.size orders' migration block part plan.steps plan.answer x' z f) migrates, refl) may is
+      (carried_stands now.size orders' migration block part plan x' z f words' task now.most) (λ l. let bad : true ≡ false = sym l ∙ carried_leads now.size orders' migration block part plan.steps plan.answer x' z f in absurd (cc)) words_agree origin cache mode commits broken turned desk ordered

@@ -1,6 +1,6 @@
 -- A step of a job on a block on the shared words, for its own actor.
-use Rattle.std.proofs.Common.{◌≡◌, ◌∙◌, ◌⊎◌, inl, inr, ℕ, true, false, List, [], ◌∷◌, Option, Some, None, refl, sym, ap, subst, slice_get}
-use Rattle.wb_words.specs.SharedWords.{Words}
+use Rattle.std.proofs.Common.{◌≡◌, ◌∙◌, ◌⊎◌, inl, inr, ℕ, Bool, true, false, List, [], ◌∷◌, Option, Some, None, refl, sym, ap, subst, slice_get}
+use Rattle.wb_words.specs.SharedWords.{Words, flag}
 use Rattle.wb_words.specs.Rule.{LockRule}
 use Rattle.wb_words.specs.Effects.{result_of, words_after, card_after}
 use Rattle.wb_words.specs.declared.card.Card.{Card}
@@ -30,8 +30,8 @@ use Rattle.wb_simulation.specs.Actors.{IsLate}
 use Rattle.wb_simulation.specs.Worlds.{IsUnfinished}
 
 -- refused, and what it has it keeps; its job there is of this kind
-abbrev pub StoppedAs : (AbstractJob → Type 0) → Words → Plan → Card → Actor → Type 0
-StoppedAs Is words plan card y = (k : HasStopped words plan card y) × Is k.script.job
+abbrev pub StoppedAs : (AbstractJob → Type 0) → Bool → Plan → Card → Actor → Type 0
+StoppedAs Is failed plan card y = (k : HasStopped failed plan card y) × Is k.script.job
 
 -- who leads a commit has led it before, and if it has still something to do it had so
 abbrev pub Leading : Actor → Actor → Type 0
@@ -44,7 +44,9 @@ pub record Acted (At : Actor → Type 0) (Is : AbstractJob → Type 0) (actors :
   pub quiet : AreQuiet y.task results
   pub words_agree : WordsAgree words (shared_after s y y.task results)
   pub same : SameElse s (shared_after s y y.task results)
-  pub at : At (gone y y.task results) ⊎ StoppedAs Is words plan card (gone y y.task results) ⊎ IsLate words plan (gone y y.task results)
+  pub failed : Bool
+  pub has_failed : failed ≡ true → flag words.fail ≡ true
+  pub at : At (gone y y.task results) ⊎ StoppedAs Is failed plan card (gone y y.task results) ⊎ IsLate failed plan (gone y y.task results)
   pub below : IsBelow (gone y y.task results) card
   pub order : (gone y y.task results).order ≡ y.order
   pub leads : Leading y (gone y y.task results)
@@ -86,6 +88,8 @@ module _ (job : BlockJob) (Is : AbstractJob → Type 0) (words : Words) (actors 
         quiet = f.quiet;
         words_agree = f.words_agree;
         same = f.same;
+        failed = flag (words_after words step).fail;
+        has_failed = λ e. e;
         at = elim f.at [ inl i ↦ inl i | inr k ↦ inr (inl (k.0, subst Is (sym k.1) its)) ];
         below = elim f.at [ inl i ↦ held_below plan'.steps (card_after words step card) z (ap (λ (v : Actor). v.held) i.is) | inr k ↦ k.0.below ];
         order = f.order ∙ sym (ap (λ (v : Actor). v.order) is.is);
@@ -94,39 +98,43 @@ module _ (job : BlockJob) (Is : AbstractJob → Type 0) (words : Words) (actors 
       }
 
   -- nothing is done there
-  nothing : {At : Actor → Type 0} (words' : Words) (plan' : Plan) (card' : Card) → WordsAgree words' s → StoppedAs Is words' plan' card' y ⊎ IsLate words' plan' y → IsBelow y card' → is_alone y.task ≡ false → Acted At Is actors a s y words' plan' card'
-  nothing {At} words' plan' card' w' r below alone = record {
+  nothing : {At : Actor → Type 0} (words' : Words) (plan' : Plan) (card' : Card) → WordsAgree words' s → (failed : Bool) → (failed ≡ true → flag words'.fail ≡ true) → StoppedAs Is failed plan' card' y ⊎ IsLate failed plan' y → IsBelow y card' → is_alone y.task ≡ false → Acted At Is actors a s y words' plan' card'
+  nothing {At} words' plan' card' w' failed has r below alone = record {
     results = [];
     may = tt;
     quiet = quiet_none y.task;
     words_agree = subst (λ (t : Shared). WordsAgree words' t) (sym (shared_stays s y y.task)) w';
     same = subst (λ (t : Shared). SameElse s t) (sym (shared_stays s y y.task)) (same_else s);
-    at = inr (subst (λ (z : Actor). StoppedAs Is words' plan' card' z ⊎ IsLate words' plan' z) (sym (gone_nowhere y y.task)) r);
+    failed = failed;
+    has_failed = has;
+    at = inr (subst (λ (z : Actor). StoppedAs Is failed plan' card' z ⊎ IsLate failed plan' z) (sym (gone_nowhere y y.task)) r);
     below = subst (λ (z : Actor). IsBelow z card') (sym (gone_nowhere y y.task)) below;
     order = ap (λ (z : Actor). z.order) (gone_nowhere y y.task);
     leads = subst (Leading y) (sym (gone_nowhere y y.task)) (λ l. (l, λ more. more));
     among_others = ap (λ (z : Actor). is_alone z.task) (gone_nowhere y y.task) ∙ alone;
   }
 
-  -- it has nothing left but to give back the block, which is not taken there
-  stopped : {At : Actor → Type 0} (step : CellStep) (ws : List Want) → is_alone y.task ≡ false → StoppedAs Is words (plan_of job (Cell step ∷ ws) answer) card y → Goal At step ws
-  stopped (Release access b) [] alone k =
-      let below = holds_nothing y (card_after words (Release access b) card) k.0.free in
-      nothing (words_after words (Release access b)) (plan_of job [] answer) (card_after words (Release access b) card) (record { fail = w.fail; seals = w.seals })
-      (inl (record { over = tt; refused = k.0.refused; script = k.0.script; task = k.0.task; nothing = k.0.nothing; undone = k.0.undone; among_others = k.0.among_others; leads = k.0.leads; below = below; free = inl k.0.free }, k.1)) below alone
-  stopped step ws alone k = absurd k.0.over
+  -- what it is at may rest on this, that the target has failed
+  module _ (failed : Bool) (has : failed ≡ true → flag words.fail ≡ true) where
+    -- it has nothing left but to give back the block, which is not taken there
+    stopped : {At : Actor → Type 0} (step : CellStep) (ws : List Want) → is_alone y.task ≡ false → StoppedAs Is failed (plan_of job (Cell step ∷ ws) answer) card y → Goal At step ws
+    stopped (Release access b) [] alone k =
+        let below = holds_nothing y (card_after words (Release access b) card) k.0.free in
+        nothing (words_after words (Release access b)) (plan_of job [] answer) (card_after words (Release access b) card) (record { fail = w.fail; seals = w.seals }) failed has
+        (inl (record { over = tt; refused = k.0.refused; script = k.0.script; task = k.0.task; nothing = k.0.nothing; undone = k.0.undone; among_others = k.0.among_others; leads = k.0.leads; below = below; free = inl k.0.free }, k.1)) below alone
+    stopped step ws alone k = absurd k.0.over
 
-  -- it has no task there, and finds that the target has failed
-  late : {At : Actor → Type 0} (step : CellStep) (ws : List Want) → is_alone y.task ≡ false → IsBelow y card → IsLate words (plan_of job (Cell step ∷ ws) answer) y → Goal At step ws
-  late {At} step ws alone below l = elim l.at [
-    | inl e ↦ let steps : Cell step ∷ ws ≡ Cell (Look Fail) ∷ Cell (Look (LockWord (range_of job).block)) ∷ [] = ap (λ (p : Plan). p.steps) e in
-        let same : step ≡ Look Fail = cc in subst (λ (v : CellStep). Goal At v ws) (sym same)
-        (subst (λ (p : Plan). Acted At Is actors a s y words p (card_after words (Look Fail) card)) (sym (finds_failed words (OnBlock job) ws answer l.failed))
-        (nothing words (plan_of job [] (Refuses Failed)) (card_after words (Look Fail) card) w (inr (record { failed = l.failed; nothing = l.nothing; at = inr (refl, λ e. absurd (cc)) })) (record { owned = below.owned; shared = below.shared }) alone))
-    | inr e ↦ let bad : Cell step ∷ ws ≡ [] = e.0 in absurd (cc)
-  ]
+    -- it has no task there, and finds that the target has failed
+    late : {At : Actor → Type 0} (step : CellStep) (ws : List Want) → is_alone y.task ≡ false → IsBelow y card → IsLate failed (plan_of job (Cell step ∷ ws) answer) y → Goal At step ws
+    late {At} step ws alone below l = elim l.at [
+      | inl e ↦ let steps : Cell step ∷ ws ≡ Cell (Look Fail) ∷ Cell (Look (LockWord (range_of job).block)) ∷ [] = ap (λ (p : Plan). p.steps) e in
+          let same : step ≡ Look Fail = cc in subst (λ (v : CellStep). Goal At v ws) (sym same)
+          (subst (λ (p : Plan). Acted At Is actors a s y words p (card_after words (Look Fail) card)) (sym (finds_failed words (OnBlock job) ws answer (has l.has_failed)))
+          (nothing words (plan_of job [] (Refuses Failed)) (card_after words (Look Fail) card) w failed has (inr (record { has_failed = l.has_failed; nothing = l.nothing; at = inr (refl, λ e. absurd (cc)) })) (record { owned = below.owned; shared = below.shared }) alone))
+      | inr e ↦ let bad : Cell step ∷ ws ≡ [] = e.0 in absurd (cc)
+    ]
 
-  -- so where it is at nothing there, or has only to answer
-  pub acts_over : {At : Actor → Type 0} (step : CellStep) (ws : List Want) → IsBelow y card → is_alone y.task ≡ false → StoppedAs Is words (plan_of job (Cell step ∷ ws) answer) card y ⊎ IsLate words (plan_of job (Cell step ∷ ws) answer) y → Goal At step ws
-  acts_over step ws below alone (inl k) = stopped step ws alone k
-  acts_over step ws below alone (inr l) = late step ws alone below l
+    -- so where it is at nothing there, or has only to answer
+    pub acts_over : {At : Actor → Type 0} (step : CellStep) (ws : List Want) → IsBelow y card → is_alone y.task ≡ false → StoppedAs Is failed (plan_of job (Cell step ∷ ws) answer) card y ⊎ IsLate failed (plan_of job (Cell step ∷ ws) answer) y → Goal At step ws
+    acts_over step ws below alone (inl k) = stopped step ws alone k
+    acts_over step ws below alone (inr l) = late step ws alone below l

@@ -4,6 +4,7 @@ use Rattle.std.proofs.lemmas.List.Elements.{Contains-append_cases}
 use Rattle.std.proofs.lemmas.List.Sorted.{Contains-permutation}
 use Rattle.std.proofs.lemmas.Nat.{div-mul-add, mod-mul-add}
 use Rattle.wb_types.proofs.Lists.{Contains-first, Contains-behind, Contains-one}
+use Rattle.wb_types.specs.declared.mode.Mode.TheVariants.{Writeback}
 use Rattle.wb_types.specs.declared.extent.Extent.{Extent}
 use Rattle.wb_types.specs.declared.number.OBlock.{OBlock}
 use Rattle.wb_types.specs.Extents.{rising, sectors_in, sectors_of, IsCutInto}
@@ -67,8 +68,8 @@ module _ (size : ℕ) (block : OBlock) (some : 0 < size) where
   ]
 
   module _ (cut : List Extent) (i : IsCutInto (whole_block size block) cut) where
-    pub whole_part : IsPart size (record { block_sectors = size; block = block; extents = cut })
-    whole_part = record { some = some; sized = refl; each = each_of_block cut (cut_within (whole_block size block) cut i) }
+    pub whole_part : IsPart size (record { mode = Writeback; block_sectors = size; block = block; extents = cut })
+    whole_part = record { some = some; mode = refl; sized = refl; each = each_of_block cut (cut_within (whole_block size block) cut i) }
 
     pub whole_covered : Covers size (offsets size cut)
     whole_covered o l = offset_there cut o (cut_within (whole_block size block) cut i) (Contains-permutation (sectors_in (whole_block size block)) (sectors_of cut) (block.0 * size + o) i.each_once (rising_has (block.0 * size) size o l))

@@ -1,6 +1,6 @@
 -- Answers are followed.
-use Rattle.std.proofs.Common.{◌≡◌, ◌∙◌, ◌⊎◌, ◌++◌, inl, inr, ℕ, Bool, true, false, List, [], ◌∷◌, Option, Some, None, refl, sym, ap, subst, slice_get, slice_set, Contains}
-use Rattle.wb_disk.specs.Device.{Content, History}
+use Rattle.std.proofs.Common.{Bool, ◌≡◌, ◌∙◌, ◌⊎◌, ◌++◌, inl, inr, ℕ, true, false, List, [], ◌∷◌, Option, Some, None, refl, sym, ap, subst, slice_get, Contains}
+use Rattle.wb_disk.specs.Device.{Content}
 use Rattle.wb_words.specs.SharedWords.{Words, flag}
 use Rattle.wb_words.specs.declared.card.Card.{Card}
 use Rattle.wb_words.specs.declared.card.Hold.TheVariants.{Nothing as HoldsNothing}
@@ -11,7 +11,6 @@ use Rattle.wb_tasks.specs.Ready.{Suits}
 use Rattle.wb_tasks.specs.declared.step.Answer.{Answer}
 use Rattle.wb_tasks.specs.declared.step.Want.{Want}
 use Rattle.wb_tasks.specs.declared.step.Want.TheVariants.{End}
-use Rattle.wb_devices.specs.declared.devices.Devices.{Devices}
 use Rattle.wb_link.specs.Tables.{Script, Done as DoneThere}
 use Rattle.wb_link.specs.World.{World, Nothing, Record, Actor as AbstractActor}
 use Rattle.wb_refines.specs.Going.{records, shared_after, gone, MayGo}
@@ -24,11 +23,11 @@ use Rattle.wb_promise.specs.States.{Actor}
 use Rattle.wb_simulation.specs.Actors.{IsLate, IsRequestAt, IsDoing, StandsFor}
 use Rattle.wb_simulation.specs.Carried.{held}
 use Rattle.wb_simulation.specs.Telling.{Telling, Answers, IsTold}
-use Rattle.wb_simulation.specs.Worlds.{Agrees, Follows}
+use Rattle.wb_simulation.specs.Worlds.{Situation, Agrees, WorldFollows}
 use Rattle.wb_simulation.specs.Laws.{AnswersFollowed, IsRequestJob, content_of}
 use Rattle.wb_simulation.proofs.Cells.{Leading}
 use Rattle.wb_simulation.proofs.Telling.{nothing_told, answers_at, stopped_answers, late_answers_so}
-use Rattle.wb_simulation.proofs.Orders.{does_none, carries_same}
+use Rattle.wb_simulation.proofs.Orders.{does_none}
 use Rattle.wb_simulation.proofs.Among.{own_there, goes_on, stays_there}
 use Rattle.wb_simulation.proofs.Followed.{doing_of, answers_by}
 
@@ -42,59 +41,59 @@ pub record IsOver (words : Words) (y : AbstractActor) : Type 0 where
   pub free : ((y.held ≡ Nothing) × (y.leads ≡ false)) ⊎ (flag words.fail ≡ true)
 
 -- so it is where it was stopped, or is late
-pub stopped_over : (words : Words) (plan : Plan) (card : Card) (y : AbstractActor) → plan.steps ≡ [] → HasStopped words plan card y → IsOver words y
-stopped_over words plan card y e k = record { steps = subst IsNothingLeft (sym k.task) k.nothing; free = elim (subst (λ (ws : List Want). IsFree words ws y) e k.free) [ inl h ↦ inl (h, k.leads) | inr f ↦ inr f ] }
+pub stopped_over : (words : Words) (failed : Bool) → (failed ≡ true → flag words.fail ≡ true) → (plan : Plan) (card : Card) (y : AbstractActor) → plan.steps ≡ [] → HasStopped failed plan card y → IsOver words y
+stopped_over words failed has plan card y e k = record { steps = subst IsNothingLeft (sym k.task) k.nothing; free = elim (subst (λ (ws : List Want). IsFree failed ws y) e k.free) [ inl h ↦ inl (h, k.leads) | inr f ↦ inr (has f) ] }
 
-pub late_over : (words : Words) (plan : Plan) (y : AbstractActor) → IsLate words plan y → IsOver words y
-late_over words plan y l = record { steps = subst IsNothingLeft (sym l.nothing) tt; free = inr l.failed }
+pub late_over : (words : Words) (failed : Bool) → (failed ≡ true → flag words.fail ≡ true) → (plan : Plan) (y : AbstractActor) → IsLate failed plan y → IsOver words y
+late_over words failed has plan y l = record { steps = subst IsNothingLeft (sym l.nothing) tt; free = inr (has l.has_failed) }
 
-module _ (size most : ℕ) (words : Words) (committing : Bool) (orders : List (Option Order)) (devices : Devices (List History)) (actors : List Actor) (a : ℕ) (x : Actor) (s : World) (y : AbstractActor) (ex : slice_get actors a ≡ Some x) (ey : slice_get s.actors a ≡ Some y) (g : Agrees size most words committing orders devices actors s) (st : StandsFor size most words x y) where
+module _ (now : Situation) (a : ℕ) (x : Actor) (s : World) (y : AbstractActor) (ex : slice_get now.actors a ≡ Some x) (ey : slice_get s.actors a ≡ Some y) (g : Agrees now s) (st : StandsFor now.size now.most now.words x y) where
   -- It answers there, too, or has no task there; its orders it may put in another place.
   module _ (orders' awaiting' : List Order) (keeps : (o : Order) → Contains (held x) o → Contains (orders' ++ awaiting') o) where
     abbrev over : Actor
     over = record x { task = None; orders = orders'; awaiting = awaiting' }
 
-    pub answers : (telling : Telling) → IsTold telling a y.task (records a y.task (DoneThere ∷ [])) → IsOver words y → Follows telling size most a s words committing orders devices (slice_set actors a over)
+    pub answers : (telling : Telling) → IsTold telling a y.task (records a y.task (DoneThere ∷ [])) → IsOver now.words y → WorldFollows telling a s now over
     answers telling told o = by y.task refl
       where
-        rests : IsResting (record y { task = None }) ⊎ (flag words.fail ≡ true)
+        rests : IsResting (record y { task = None }) ⊎ (flag now.words.fail ≡ true)
         rests = elim o.free [ inl h ↦ inl (record { task = refl; held = h.0; leads = h.1 }) | inr f ↦ inr f ]
 
-        by : (task : Option Script) → y.task ≡ task → Follows telling size most a s words committing orders devices (slice_set actors a over)
-        by None e = stays_there size most words committing orders devices actors a x over s y g ex ey telling (subst (λ (rs : List Record). IsTold telling a y.task rs) (sym (nothing_told a y.task (DoneThere ∷ []) e)) told)
-            (record { at = (e, elim rests [ inl r ↦ inl (record { task = e; held = r.held; leads = r.leads }) | inr f ↦ inr f ]); below = st.below; among_others = st.among_others }) keeps (does_none _ _ _ _ _ _ tt)
+        by : (task : Option Script) → y.task ≡ task → WorldFollows telling a s now over
+        by None e = stays_there now a x over s y g ex ey telling (subst (λ (rs : List Record). IsTold telling a y.task rs) (sym (nothing_told a y.task (DoneThere ∷ []) e)) told)
+            (record { failed = flag now.words.fail; has_failed = λ k. k; at = (e, elim rests [ inl r ↦ inl (record { task = e; held = r.held; leads = r.leads }) | inr f ↦ inr f ]); below = st.below; among_others = st.among_others }) keeps (does_none _ _ _ _ _ tt)
         by (Some script) e =
             let is : y.task ≡ Some (record { job = script.job; steps = []; answer = script.answer }) = e ∙ ap (λ (ws : List _). Some (record { job = script.job; steps = ws; answer = script.answer })) (subst IsNothingLeft e o.steps) in
             let gone_is : gone y y.task (DoneThere ∷ []) ≡ record y { task = None } = ap (λ (t : Option Script). gone y t (DoneThere ∷ [])) is in
-            goes_on size most words words (λ f. f) committing orders devices actors a x over s y g ex ey telling devices (DoneThere ∷ []) s.shared told (subst (λ (t : Option Script). MayGo s.actors a s.shared y t (DoneThere ∷ [])) (sym is) (tt, tt, tt)) (ap (λ (t : Option Script). shared_after s.shared y t (DoneThere ∷ [])) is)
-            (subst (λ (z : AbstractActor). StandsFor size most words over z) (sym gone_is) (record { at = (refl, rests); below = record { owned = st.below.owned; shared = st.below.shared }; among_others = refl })) (subst (Leading y) (sym gone_is) (λ l. (l, λ more. absurd more)))
-            g.words_agree g.origin g.cache refl refl refl (refl, refl, refl) (refl, refl) (ap (λ (z : AbstractActor). z.order) gone_is) keeps (carries_same size orders devices actors s a) (does_none _ _ _ _ _ _ tt)
+            goes_on now now.words (λ f. f) a x over s y g ex ey telling now.devices (DoneThere ∷ []) s.shared told (subst (λ (t : Option Script). MayGo s.actors a s.shared y t (DoneThere ∷ [])) (sym is) (tt, tt, tt)) (ap (λ (t : Option Script). shared_after s.shared y t (DoneThere ∷ [])) is)
+            (subst (λ (z : AbstractActor). StandsFor now.size now.most now.words over z) (sym gone_is) (record { failed = flag now.words.fail; has_failed = λ k. k; at = (refl, rests); below = record { owned = st.below.owned; shared = st.below.shared }; among_others = refl })) (subst (Leading y) (sym gone_is) (λ l. (l, λ more. absurd more)))
+            g.words_agree g.origin g.cache refl refl refl (refl, refl, refl) (refl, refl) (ap (λ (z : AbstractActor). z.order) gone_is) keeps (does_none _ _ _ _ _ tt)
 
   abbrev Goal : Plan → Content → Answer → Type 0
-  Goal plan content answer = Follows (Answers (job_for size content plan.job) answer) size most a s words committing orders devices (slice_set actors a (record x { task = None }))
+  Goal plan content answer = WorldFollows (Answers (job_for now.size content plan.job) answer) a s now (record x { task = None })
 
-  of_request : (blocks : ℕ) (content : Content) (job_on : BlockRange → BlockJob) (plan : Plan) (answer : Answer) → want plan ≡ End answer → Suits blocks plan x.card → IsRequestAt size content words job_on plan x.card y → Goal plan content answer
+  of_request : (blocks : ℕ) (content : Content) (job_on : BlockRange → BlockJob) (plan : Plan) (answer : Answer) → want plan ≡ End answer → Suits blocks plan x.card → IsRequestAt now.size content st.failed job_on plan x.card y → Goal plan content answer
   of_request blocks content job_on plan answer e suits r = answers_by plan (OnBlock (job_on r.part)) answer r.job e (λ later k. (subst (λ (p : Plan). Suits blocks p x.card) (λ i. record { job = r.job i; steps = k i; answer = plan.answer }) suits).1.1.1)
       (λ p. Suits blocks p x.card → At p → Goal p content answer) (λ suits at. by suits.1 at) suits r.at
     where
       At : Plan → Type 0
-      At p = IsAt size content p x.card y ⊎ HasStopped words p x.card y ⊎ IsLate words p y
+      At p = IsAt now.size content p x.card y ⊎ HasStopped st.failed p x.card y ⊎ IsLate st.failed p y
 
       p : Plan
       p = record { job = OnBlock (job_on r.part); steps = []; answer = answer }
 
       by : x.card.hold ≡ HoldsNothing → At p → Goal p content answer
-      by h (inl i) = answers x.orders x.awaiting (λ o c. c) (Answers (job_for size content p.job) answer) (answers_at size content p.job answer y (ap (λ (v : AbstractActor). v.task) i.is), refl)
+      by h (inl i) = answers x.orders x.awaiting (λ o c. c) (Answers (job_for now.size content p.job) answer) (answers_at now.size content p.job answer y (ap (λ (v : AbstractActor). v.task) i.is), refl)
           (record { steps = subst (λ (v : AbstractActor). IsNothingLeft v.task) (sym i.is) refl; free = inl (ap (λ (v : AbstractActor). v.held) i.is ∙ ap held_of h, ap (λ (v : AbstractActor). v.leads) i.is) })
-      by h (inr (inl k)) = answers x.orders x.awaiting (λ o c. c) (Answers (job_for size content p.job) answer) (stopped_answers (job_for size content p.job) words p x.card answer y refl k, refl) (stopped_over words p x.card y refl k)
-      by h (inr (inr l)) = answers x.orders x.awaiting (λ o c. c) (Answers (job_for size content p.job) answer) (late_answers_so (job_for size content p.job) words p answer y refl (λ t. let bad = ap (λ (q : Plan). q.steps) t in absurd (cc)) l, refl) (late_over words p y l)
+      by h (inr (inl k)) = answers x.orders x.awaiting (λ o c. c) (Answers (job_for now.size content p.job) answer) (stopped_answers (job_for now.size content p.job) st.failed p x.card answer y refl k, refl) (stopped_over now.words st.failed st.has_failed p x.card y refl k)
+      by h (inr (inr l)) = answers x.orders x.awaiting (λ o c. c) (Answers (job_for now.size content p.job) answer) (late_answers_so (job_for now.size content p.job) st.failed p answer y refl (λ t. let bad = ap (λ (q : Plan). q.steps) t in absurd (cc)) l, refl) (late_over now.words st.failed st.has_failed p y l)
 
-  followed : (blocks : ℕ) (job : Job) (plan : Plan) (answer : Answer) → IsRequestJob job → want plan ≡ End answer → Suits blocks plan x.card → IsDoing size most words job plan x.card y → Goal plan (content_of job) answer
+  followed : (blocks : ℕ) (job : Job) (plan : Plan) (answer : Answer) → IsRequestJob job → want plan ≡ End answer → Suits blocks plan x.card → IsDoing now.size now.most st.failed job plan x.card y → Goal plan (content_of job) answer
   followed blocks (Read extent) plan answer q next suits d = of_request blocks [] Reading plan answer next suits d
   followed blocks (Write extent content) plan answer q next suits d = of_request blocks content Writing plan answer next suits d
   followed blocks job plan answer q next suits d = absurd q
 
 pub answers_followed : AnswersFollowed
-answers_followed size most blocks words committing orders devices actors a x job plan answer s q ex task suits next g =
-    let y = own_there size most words committing orders devices actors s g a x ex in
-    followed size most words committing orders devices actors a x s y.0 ex y.1 g y.2 blocks job plan answer q next suits (doing_of size most words x y.0 job plan y.2 task)
+answers_followed now blocks a x job plan answer s q wants suits =
+    let y = own_there now s wants.agrees a x wants.here in
+    followed now a x s y.0 wants.here y.1 wants.agrees y.2 blocks job plan answer q wants.asks suits (doing_of now.size now.most now.words x y.0 job plan y.2 wants.task)

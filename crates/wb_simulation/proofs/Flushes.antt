@@ -1,9 +1,9 @@
 -- Each step of a flush is followed, whatever it comes to.
-use Rattle.std.proofs.Common.{Contains, ◌++◌, ◌≡◌, ◌∙◌, ◌⊎◌, inl, inr, ℕ, Bool, true, false, List, [], ◌∷◌, Some, None, refl, sym, ap, subst, slice_get, slice_set, Option}
+use Rattle.std.proofs.Common.{Contains, ◌++◌, ◌≡◌, ◌∙◌, ◌⊎◌, inl, inr, ℕ, Bool, true, false, List, [], ◌∷◌, Some, None, refl, sym, ap, subst, slice_get, slice_set}
 use Rattle.wb_types.specs.declared.mode.Dev.TheVariants.{Metadata}
-use Rattle.wb_disk.specs.Device.{History, synced}
+use Rattle.wb_disk.specs.Device.{synced}
 use Rattle.wb_disk.specs.Failing.{synced_where}
-use Rattle.wb_words.specs.SharedWords.{Words, flag}
+use Rattle.wb_words.specs.SharedWords.{flag}
 use Rattle.wb_words.specs.Effects.{words_after}
 use Rattle.wb_words.specs.declared.step.CellStep.TheVariants.{Look, SetFailed}
 use Rattle.wb_words.specs.declared.word.Word.TheVariants.{Fail}
@@ -16,7 +16,6 @@ use Rattle.wb_tasks.specs.declared.step.DeskStep.TheVariants.{BeginCommit, EndCo
 use Rattle.wb_tasks.specs.declared.step.Want.{Want}
 use Rattle.wb_tasks.specs.declared.step.Want.TheVariants.{Cell, Device, Desk, End}
 use Rattle.wb_tasks.specs.declared.step.Got.TheVariants.{Done, Fault, Began, Refused}
-use Rattle.wb_devices.specs.declared.devices.Devices.{Devices}
 use Rattle.wb_devices.specs.Moving.{device_in}
 use Rattle.wb_link.specs.Tables.{Flushing as FlushingFor}
 use Rattle.wb_link.specs.World.{World, Nothing, Actor as AbstractActor}
@@ -25,8 +24,8 @@ use Rattle.wb_promise.specs.declared.job.Job.TheVariants.{Flush}
 use Rattle.wb_promise.specs.States.{Actor, with_device}
 use Rattle.wb_simulation.specs.Actors.{IsLate, IsFlushAt, IsLeading, IsOfFlush, LeadsAt, StandsFor}
 use Rattle.wb_simulation.specs.Telling.{Quietly, Answers, Releases}
-use Rattle.wb_simulation.specs.Worlds.{Agrees, Begins, Puts, Ends, GivesUp, FollowsBy, Follows}
-use Rattle.wb_simulation.specs.Laws.{FlushStepsFollowed, after_step, turn_of, went}
+use Rattle.wb_simulation.specs.Worlds.{Situation, Agrees, Begins, Puts, Ends, GivesUp, WorldFollowsBy, WorldFollows}
+use Rattle.wb_simulation.specs.Laws.{WantsNext, FlushStepsFollowed, after_step, turn_of, went}
 use Rattle.wb_types.specs.declared.number.OBlock.{OBlock}
 use Rattle.wb_simulation.specs.Carried.{held}
 use Rattle.wb_simulation.proofs.Among.{own_there}
@@ -36,108 +35,108 @@ use Rattle.wb_simulation.proofs.Telling.{answers_at, late_answers_so}
 use Rattle.wb_simulation.proofs.Leading.{by_flush}
 use Rattle.wb_simulation.proofs.Flushing.{leading, syncs, sync_falls, metadata_done, metadata_failed, is_on_metadata, is_refused, begins, ends, releases, gives_up, fails, looks, late_looks}
 
-module _ (size most : ℕ) (words : Words) (committing : Bool) (orders : List (Option Order)) (devices : Devices (List History)) (actors : List Actor) (a : ℕ) (x : Actor) (plan : Plan) (s : World) (ex : slice_get actors a ≡ Some x) (task : x.task ≡ Some (Flush, plan)) (g : Agrees size most words committing orders devices actors s) where
-  its : (y : AbstractActor) × (slice_get s.actors a ≡ Some y) × StandsFor size most words x y
-  its = own_there size most words committing orders devices actors s g a x ex
+module _ (now : Situation) (a : ℕ) (x : Actor) (plan : Plan) (s : World) (next : Want) (wants : WantsNext now a x s Flush plan next) where
+  its : (y : AbstractActor) × (slice_get s.actors a ≡ Some y) × StandsFor now.size now.most now.words x y
+  its = own_there now s wants.agrees a x wants.here
 
   abbrev y : AbstractActor
   y = its.0
 
-  f : IsFlushAt size most words plan its.0
-  f = doing_of size most words x its.0 Flush plan its.2 task
+  f : IsFlushAt now.size now.most its.2.failed plan its.0
+  f = doing_of now.size now.most now.words x its.0 Flush plan its.2 wants.task
 
   abbrev serves : List OBlock
   serves = f.serves
 
   -- what holds of what is left, with this step next, holds of it
-  at_flush : (next : Want) → want plan ≡ next → IsWithin next → (P : Plan → Type 0) → ((later : List Want) (leads : Bool) → LeadsAt leads (next ∷ later) → IsOfFlush most (next ∷ later) → IsFlushing size [] (flushing serves most (next ∷ later) plan.answer) leads y → P (flushing serves most (next ∷ later) plan.answer)) → P plan
-  at_flush next e within P h = by_flush size most words plan next y e within f P h
+  at_flush : IsWithin next → (P : Plan → Type 0) → ((later : List Want) (leads : Bool) → LeadsAt leads (next ∷ later) → IsOfFlush now.most (next ∷ later) → IsFlushing now.size [] (flushing serves now.most (next ∷ later) plan.answer) leads y → P (flushing serves now.most (next ∷ later) plan.answer)) → P plan
+  at_flush within P h = by_flush now.size now.most its.2.failed plan next y wants.asks within f P h
 
   -- where it leads no commit, or does
-  not_leading : (next : Want) (later : List Want) (leads : Bool) → leads ≡ false → IsFlushing size [] (flushing serves most (next ∷ later) plan.answer) leads y → IsFlushing size [] (flushing serves most (next ∷ later) plan.answer) false y
-  not_leading next later leads l is = subst (λ (b : Bool). IsFlushing size [] (flushing serves most (next ∷ later) plan.answer) b y) l is
+  not_leading : (next : Want) (later : List Want) (leads : Bool) → leads ≡ false → IsFlushing now.size [] (flushing serves now.most (next ∷ later) plan.answer) leads y → IsFlushing now.size [] (flushing serves now.most (next ∷ later) plan.answer) false y
+  not_leading next later leads l is = subst (λ (b : Bool). IsFlushing now.size [] (flushing serves now.most (next ∷ later) plan.answer) b y) l is
 
   -- it asks for a commit
-  at_begin : (allowed : ℕ) (clean : Bool) → want plan ≡ Desk (BeginCommit clean allowed) → (P : Plan → Type 0) → (IsFlushing size [] (flushing serves most (Desk (BeginCommit false most) ∷ []) plan.answer) false y → P (flushing serves most (Desk (BeginCommit false most) ∷ []) plan.answer)) → P plan
-  at_begin allowed clean e P h = at_flush (Desk (BeginCommit clean allowed)) e tt P (λ later leads l o is.
-      let same : flushing serves most (Desk (BeginCommit false most) ∷ []) plan.answer ≡ flushing serves most (Desk (BeginCommit clean allowed) ∷ later) plan.answer = (λ i. flushing serves most (Desk (BeginCommit (sym o.0 i) (sym o.1 i)) ∷ sym o.2 i) plan.answer) in
-      subst P same (h (subst (λ (p : Plan). IsFlushing size [] p false y) (sym same) (not_leading (Desk (BeginCommit clean allowed)) later leads l is))))
+  at_begin : (allowed : ℕ) (clean : Bool) → want plan ≡ Desk (BeginCommit clean allowed) → (P : Plan → Type 0) → (IsFlushing now.size [] (flushing serves now.most (Desk (BeginCommit false now.most) ∷ []) plan.answer) false y → P (flushing serves now.most (Desk (BeginCommit false now.most) ∷ []) plan.answer)) → P plan
+  at_begin allowed clean e P h = by_flush now.size now.most its.2.failed plan (Desk (BeginCommit clean allowed)) y e tt f P (λ later leads l o is.
+      let same : flushing serves now.most (Desk (BeginCommit false now.most) ∷ []) plan.answer ≡ flushing serves now.most (Desk (BeginCommit clean allowed) ∷ later) plan.answer = (λ i. flushing serves now.most (Desk (BeginCommit (sym o.0 i) (sym o.1 i)) ∷ sym o.2 i) plan.answer) in
+      subst P same (h (subst (λ (p : Plan). IsFlushing now.size [] p false y) (sym same) (not_leading (Desk (BeginCommit clean allowed)) later leads l is))))
 
-  look : want plan ≡ Cell (Look Fail) → Follows Quietly size most a s words committing orders devices (slice_set actors a (went words Flush plan (Look Fail) x))
-  look e = first plan (Flushing serves most) (Cell (Look Fail)) f.job e (λ p. IsOfFlush most p.steps → At p → Follows Quietly size most a s words committing orders devices (slice_set actors a (went words Flush p (Look Fail) x))) (λ later k o at. by later o at) (λ k q. absurd (cc)) f.steps f.at
+  look : want plan ≡ Cell (Look Fail) → WorldFollows Quietly a s now (went now.words Flush plan (Look Fail) x)
+  look e = first plan (Flushing serves now.most) (Cell (Look Fail)) f.job e (λ p. IsOfFlush now.most p.steps → At p → WorldFollows Quietly a s now (went now.words Flush p (Look Fail) x)) (λ later k o at. by later o at) (λ k q. absurd (cc)) f.steps f.at
     where
       At : Plan → Type 0
-      At p = IsLeading size words p y ⊎ IsLate words p y
+      At p = IsLeading now.size its.2.failed p y ⊎ IsLate its.2.failed p y
 
-      by : (later : List Want) → later ≡ Desk (BeginCommit false most) ∷ [] → At (flushing serves most (Cell (Look Fail) ∷ later) plan.answer) → Follows Quietly size most a s words committing orders devices (slice_set actors a (went words Flush (flushing serves most (Cell (Look Fail) ∷ later) plan.answer) (Look Fail) x))
-      by later o (inl l) = looks size most serves words committing orders devices actors a x s y ex its.1 g later plan.answer o (not_leading (Cell (Look Fail)) later l.leads l.at l.is)
-      by later o (inr l) = late_looks size most serves words committing orders devices actors a x s y ex its.1 g later plan.answer l its.2
+      by : (later : List Want) → later ≡ Desk (BeginCommit false now.most) ∷ [] → At (flushing serves now.most (Cell (Look Fail) ∷ later) plan.answer) → WorldFollows Quietly a s now (went now.words Flush (flushing serves now.most (Cell (Look Fail) ∷ later) plan.answer) (Look Fail) x)
+      by later o (inl l) = looks now serves a x s y wants.here its.1 wants.agrees later plan.answer o (not_leading (Cell (Look Fail)) later l.leads l.at l.is)
+      by later o (inr l) = late_looks now serves a x s y wants.here its.1 wants.agrees later plan.answer its.2 l
 
   -- it answers; one that leads a commit still has failed
-  answered : (orders' awaiting' : List Order) → ((o : Order) → Contains (held x) o → Contains (orders' ++ awaiting') o) → (answer : Answer) → want plan ≡ End answer → Follows (Answers (FlushingFor None) answer) size most a s words committing orders devices (slice_set actors a (record x { task = None; orders = orders'; awaiting = awaiting' }))
-  answered orders' awaiting' keeps answer e = answers_by plan (Flushing serves most) answer f.job e (λ later k. subst (λ (us : List Want). IsOfFlush most us) k f.steps) (λ p. IsLeading size words p y ⊎ IsLate words p y → Goal) by f.at
+  answered : (orders' awaiting' : List Order) → ((o : Order) → Contains (held x) o → Contains (orders' ++ awaiting') o) → (answer : Answer) → want plan ≡ End answer → WorldFollows (Answers (FlushingFor None) answer) a s now (record x { task = None; orders = orders'; awaiting = awaiting' })
+  answered orders' awaiting' keeps answer e = answers_by plan (Flushing serves now.most) answer f.job e (λ later k. subst (λ (us : List Want). IsOfFlush now.most us) k f.steps) (λ p. IsLeading now.size its.2.failed p y ⊎ IsLate its.2.failed p y → Goal) by f.at
     where
       p : Plan
-      p = flushing serves most [] answer
+      p = flushing serves now.most [] answer
 
       Goal : Type 0
-      Goal = Follows (Answers (FlushingFor None) answer) size most a s words committing orders devices (slice_set actors a (record x { task = None; orders = orders'; awaiting = awaiting' }))
+      Goal = WorldFollows (Answers (FlushingFor None) answer) a s now (record x { task = None; orders = orders'; awaiting = awaiting' })
 
-      by : IsLeading size words p y ⊎ IsLate words p y → Goal
-      by (inl l) = answers size most words committing orders devices actors a x s y ex its.1 g its.2 orders' awaiting' keeps (Answers (FlushingFor None) answer) (answers_at size [] (Flushing serves most) answer y (ap (λ (v : AbstractActor). v.task) l.is.is), refl)
+      by : IsLeading now.size its.2.failed p y ⊎ IsLate its.2.failed p y → Goal
+      by (inl l) = answers now a x s y wants.here its.1 wants.agrees its.2 orders' awaiting' keeps (Answers (FlushingFor None) answer) (answers_at now.size [] (Flushing serves now.most) answer y (ap (λ (v : AbstractActor). v.task) l.is.is), refl)
           (record { steps = subst (λ (v : AbstractActor). IsNothingLeft v.task) (sym l.is.is) refl; free = by_lead l.leads refl })
         where
-          by_lead : (b : Bool) → l.leads ≡ b → ((y.held ≡ Nothing) × (y.leads ≡ false)) ⊎ (flag words.fail ≡ true)
+          by_lead : (b : Bool) → l.leads ≡ b → ((y.held ≡ Nothing) × (y.leads ≡ false)) ⊎ (flag now.words.fail ≡ true)
           by_lead false k = inl (ap (λ (v : AbstractActor). v.held) l.is.is, ap (λ (v : AbstractActor). v.leads) l.is.is ∙ k)
-          by_lead true k = inr (l.failed k refl)
-      by (inr l) = answers size most words committing orders devices actors a x s y ex its.1 g its.2 orders' awaiting' keeps (Answers (FlushingFor None) answer) (late_answers_so (FlushingFor None) words p answer y refl (λ t. let bad = ap (λ (q : Plan). q.steps) t in absurd (cc)) l, refl) (late_over words p y l)
+          by_lead true k = inr (its.2.has_failed (l.has_failed k refl))
+      by (inr l) = answers now a x s y wants.here its.1 wants.agrees its.2 orders' awaiting' keeps (Answers (FlushingFor None) answer) (late_answers_so (FlushingFor None) its.2.failed p answer y refl (λ t. let bad = ap (λ (q : Plan). q.steps) t in absurd (cc)) l, refl) (late_over now.words its.2.failed its.2.has_failed p y l)
 
 pub flush_steps_followed : FlushStepsFollowed
 flush_steps_followed = record {
-  looks = λ size most words committing orders devices actors a x plan s ex t e g. look size most words committing orders devices actors a x plan s ex t g e;
-  begins = λ size most nodes allowed clean words orders devices actors a x plan s ex t e g.
-      let u = its size most words false orders devices actors a x plan s ex t g in let n = serves size most words false orders devices actors a x plan s ex t g in
-      at_begin size most words false orders devices actors a x plan s ex t g allowed clean e (λ p. FollowsBy Begins Quietly size most a s words true orders devices (slice_set actors a (after_step Flush p (Began nodes) x))) (λ is. begins size most n words false orders devices actors a x s u.0 ex u.1 g nodes plan.answer refl is);
-  is_refused = λ size most allowed clean refusal words committing orders devices actors a x plan s no ex t e g.
-      let u = its size most words committing orders devices actors a x plan s ex t g in let n = serves size most words committing orders devices actors a x plan s ex t g in
-      at_begin size most words committing orders devices actors a x plan s ex t g allowed clean e (λ p. Follows Quietly size most a s words committing orders devices (slice_set actors a (after_step Flush p (Refused refusal) x))) (λ is. is_refused size most n words committing orders devices actors a x s u.0 ex u.1 g refusal plan.answer no is);
-  syncs = λ size most device words committing orders devices actors a x plan s h ex t e g.
-      let u = its size most words committing orders devices actors a x plan s ex t g in let n = serves size most words committing orders devices actors a x plan s ex t g in
-      at_flush size most words committing orders devices actors a x plan s ex t g (Device (Sync device)) e tt (λ p. Follows Quietly size most a s words committing orders (with_device device devices (synced (device_in device devices))) (slice_set actors a (after_step Flush p Done x)))
-      (λ later leads l o is. syncs size most n words committing orders devices actors a x s u.0 ex u.1 g device h later plan.answer o (leading size most n words committing orders devices actors a x s u.0 ex u.1 g (Device (Sync device)) later plan.answer leads l is));
-  sync_fails = λ size most device lands words committing orders devices actors a x plan s h ex t e g.
-      let u = its size most words committing orders devices actors a x plan s ex t g in let n = serves size most words committing orders devices actors a x plan s ex t g in
-      at_flush size most words committing orders devices actors a x plan s ex t g (Device (Sync device)) e tt (λ p. Follows Quietly size most a s words committing orders (with_device device devices (synced_where lands (device_in device devices))) (slice_set actors a (after_step Flush p Fault x)))
-      (λ later leads l o is. sync_falls size most n words committing orders devices actors a x s u.0 ex u.1 g lands device h later plan.answer (leading size most n words committing orders devices actors a x s u.0 ex u.1 g (Device (Sync device)) later plan.answer leads l is));
-  on_metadata = λ size most step metadata words committing orders devices actors a x plan s d ex t e g.
-      let u = its size most words committing orders devices actors a x plan s ex t g in let n = serves size most words committing orders devices actors a x plan s ex t g in
-      at_flush size most words committing orders devices actors a x plan s ex t g (Device step) e tt (λ p. FollowsBy (turn_of step) Quietly size most a s words committing orders (with_device Metadata devices metadata) (slice_set actors a (after_step Flush p Done x)))
-      (λ later leads l o is. metadata_done size most n words committing orders devices actors a x s u.0 ex u.1 g metadata step later plan.answer d o (leading size most n words committing orders devices actors a x s u.0 ex u.1 g (Device step) later plan.answer leads l is));
-  metadata_fails = λ size most step metadata words committing orders devices actors a x plan s d ex t e g.
-      let u = its size most words committing orders devices actors a x plan s ex t g in let n = serves size most words committing orders devices actors a x plan s ex t g in
-      at_flush size most words committing orders devices actors a x plan s ex t g (Device step) e tt (λ p. (written : Bool) × IsWrittenAfter step s.shared.root_written written × FollowsBy (Puts written) Quietly size most a s words committing orders (with_device Metadata devices metadata) (slice_set actors a (after_step Flush p Fault x)))
-      (λ later leads l o is. metadata_failed size most n words committing orders devices actors a x s u.0 ex u.1 g metadata step later plan.answer (is_on_metadata size most n words committing orders devices actors a x s u.0 ex u.1 g step later d o) (leading size most n words committing orders devices actors a x s u.0 ex u.1 g (Device step) later plan.answer leads l is));
-  ends = λ size most words committing orders devices actors a x plan s ex t e g.
-      let u = its size most words committing orders devices actors a x plan s ex t g in let n = serves size most words committing orders devices actors a x plan s ex t g in
-      at_flush size most words committing orders devices actors a x plan s ex t g (Desk EndCommit) e tt (λ p. FollowsBy Ends Quietly size most a s words false orders devices (slice_set actors a (after_step Flush p Done x)))
-      (λ later leads l o is. last size most n words committing orders devices actors a x s u.0 ex u.1 g later plan.answer o (leading size most n words committing orders devices actors a x s u.0 ex u.1 g (Desk EndCommit) later plan.answer leads l is));
-  releases = λ size most block words committing orders devices actors a x plan s ex t e g.
-      let u = its size most words committing orders devices actors a x plan s ex t g in let n = serves size most words committing orders devices actors a x plan s ex t g in
-      at_flush size most words committing orders devices actors a x plan s ex t g (Desk (ReleaseOrder block)) e tt (λ p. Follows Quietly size most a s words committing orders devices (slice_set actors a (after_step Flush p Done x)))
-      (λ later leads l o is. releases size most n words committing orders devices actors a x s u.0 ex u.1 g block later plan.answer o (not_leading size most words committing orders devices actors a x plan s ex t g (Desk (ReleaseOrder block)) later leads l is));
-  gives_up = λ size most block words committing orders devices actors a x plan c order awaiting' s ex t e slot only g.
-      let u = its size most words committing orders devices actors a x plan s ex t g in let n = serves size most words committing orders devices actors a x plan s ex t g in
-      at_flush size most words committing orders devices actors a x plan s ex t g (Desk (ReleaseOrder block)) e tt (λ p. FollowsBy (GivesUp c) Releases size most a s words committing (slice_set orders c None) devices (slice_set actors a (record (after_step Flush p Done x) { awaiting = awaiting' })))
-      (λ later leads l o is. gives_up size most n words committing orders devices actors a x s u.0 ex u.1 g block later plan.answer o (not_leading size most words committing orders devices actors a x plan s ex t g (Desk (ReleaseOrder block)) later leads l is) c order awaiting' slot only);
-  fails = λ size most failures suspensions words committing orders devices actors a x plan s w ex t e g.
-      let u = its size most words committing orders devices actors a x plan s ex t g in let n = serves size most words committing orders devices actors a x plan s ex t g in
-      at_flush size most words committing orders devices actors a x plan s ex t g (Cell SetFailed) e tt (λ p. Follows Quietly size most a s (words_after words SetFailed) committing orders devices (slice_set actors a (went words Flush p SetFailed x)))
-      (λ later leads l o is. let same : [] ≡ later = sym o in subst (λ (ws : List Want). Follows Quietly size most a s (words_after words SetFailed) committing orders devices (slice_set actors a (went words Flush (flushing n most (Cell SetFailed ∷ ws) plan.answer) SetFailed x))) same
-      (fails size most n words committing orders devices actors a x s u.0 ex u.1 g failures suspensions plan.answer w (subst (λ (ws : List Want). IsFlushing size [] (flushing n most (Cell SetFailed ∷ ws) plan.answer) true u.0) o (leading size most n words committing orders devices actors a x s u.0 ex u.1 g (Cell SetFailed) later plan.answer leads l is))));
-  answers = λ size most answer words committing orders devices actors a x plan orders' awaiting' s ex t e keeps g. answered size most words committing orders devices actors a x plan s ex t g orders' awaiting' keeps answer e;
+  looks = λ now a x plan s wants. look now a x plan s _ wants wants.asks;
+  begins = λ now nodes allowed clean a x plan s wants idle.
+      let u = its now a x plan s _ wants in let n = serves now a x plan s _ wants in
+      at_begin now a x plan s _ wants allowed clean wants.asks (λ p. WorldFollowsBy Begins Quietly a s (record now { committing = true }) (after_step Flush p (Began nodes) x)) (λ is. begins now n a x s u.0 wants.here u.1 wants.agrees nodes plan.answer idle is);
+  is_refused = λ now allowed clean refusal a x plan s no wants.
+      let u = its now a x plan s _ wants in let n = serves now a x plan s _ wants in
+      at_begin now a x plan s _ wants allowed clean wants.asks (λ p. WorldFollows Quietly a s now (after_step Flush p (Refused refusal) x)) (λ is. is_refused now n a x s u.0 wants.here u.1 wants.agrees refusal plan.answer no is);
+  syncs = λ now device a x plan s h wants.
+      let u = its now a x plan s _ wants in let n = serves now a x plan s _ wants in
+      at_flush now a x plan s _ wants tt (λ p. WorldFollows Quietly a s (record now { devices = with_device device now.devices (synced (device_in device now.devices)) }) (after_step Flush p Done x))
+      (λ later leads l o is. syncs now n a x s u.0 wants.here u.1 wants.agrees device h later plan.answer o (leading now n a x s u.0 wants.here u.1 wants.agrees (Device (Sync device)) later plan.answer leads l is));
+  sync_fails = λ now device lands a x plan s h wants.
+      let u = its now a x plan s _ wants in let n = serves now a x plan s _ wants in
+      at_flush now a x plan s _ wants tt (λ p. WorldFollows Quietly a s (record now { devices = with_device device now.devices (synced_where lands (device_in device now.devices)) }) (after_step Flush p Fault x))
+      (λ later leads l o is. sync_falls now n a x s u.0 wants.here u.1 wants.agrees lands device h later plan.answer (leading now n a x s u.0 wants.here u.1 wants.agrees (Device (Sync device)) later plan.answer leads l is));
+  on_metadata = λ now step metadata a x plan s d wants.
+      let u = its now a x plan s _ wants in let n = serves now a x plan s _ wants in
+      at_flush now a x plan s _ wants tt (λ p. WorldFollowsBy (turn_of step) Quietly a s (record now { devices = with_device Metadata now.devices metadata }) (after_step Flush p Done x))
+      (λ later leads l o is. metadata_done now n a x s u.0 wants.here u.1 wants.agrees metadata step later plan.answer d o (leading now n a x s u.0 wants.here u.1 wants.agrees (Device step) later plan.answer leads l is));
+  metadata_fails = λ now step metadata a x plan s d wants.
+      let u = its now a x plan s _ wants in let n = serves now a x plan s _ wants in
+      at_flush now a x plan s _ wants tt (λ p. (written : Bool) × IsWrittenAfter step s.shared.root_written written × WorldFollowsBy (Puts written) Quietly a s (record now { devices = with_device Metadata now.devices metadata }) (after_step Flush p Fault x))
+      (λ later leads l o is. metadata_failed now n a x s u.0 wants.here u.1 wants.agrees metadata step later plan.answer (is_on_metadata now n a x s u.0 wants.here u.1 wants.agrees step later d o) (leading now n a x s u.0 wants.here u.1 wants.agrees (Device step) later plan.answer leads l is));
+  ends = λ now a x plan s wants.
+      let u = its now a x plan s _ wants in let n = serves now a x plan s _ wants in
+      at_flush now a x plan s _ wants tt (λ p. WorldFollowsBy Ends Quietly a s (record now { committing = false }) (after_step Flush p Done x))
+      (λ later leads l o is. last now n a x s u.0 wants.here u.1 wants.agrees later plan.answer o (leading now n a x s u.0 wants.here u.1 wants.agrees (Desk EndCommit) later plan.answer leads l is));
+  releases = λ now block a x plan s wants.
+      let u = its now a x plan s _ wants in let n = serves now a x plan s _ wants in
+      at_flush now a x plan s _ wants tt (λ p. WorldFollows Quietly a s now (after_step Flush p Done x))
+      (λ later leads l o is. releases now n a x s u.0 wants.here u.1 wants.agrees block later plan.answer o (not_leading now a x plan s _ wants (Desk (ReleaseOrder block)) later leads l is));
+  gives_up = λ now block a x plan c order awaiting' s wants slot only.
+      let u = its now a x plan s _ wants in let n = serves now a x plan s _ wants in
+      at_flush now a x plan s _ wants tt (λ p. WorldFollowsBy (GivesUp c) Releases a s (record now { orders = slice_set now.orders c None }) (record (after_step Flush p Done x) { awaiting = awaiting' }))
+      (λ later leads l o is. gives_up now n a x s u.0 wants.here u.1 wants.agrees block later plan.answer o (not_leading now a x plan s _ wants (Desk (ReleaseOrder block)) later leads l is) c order awaiting' slot only);
+  fails = λ now failures suspensions a x plan s w wants.
+      let u = its now a x plan s _ wants in let n = serves now a x plan s _ wants in
+      at_flush now a x plan s _ wants tt (λ p. WorldFollows Quietly a s (record now { words = words_after now.words SetFailed }) (went now.words Flush p SetFailed x))
+      (λ later leads l o is. let same : [] ≡ later = sym o in subst (λ (ws : List Want). WorldFollows Quietly a s (record now { words = words_after now.words SetFailed }) (went now.words Flush (flushing n now.most (Cell SetFailed ∷ ws) plan.answer) SetFailed x)) same
+      (fails now n a x s u.0 wants.here u.1 wants.agrees failures suspensions plan.answer w (subst (λ (ws : List Want). IsFlushing now.size [] (flushing n now.most (Cell SetFailed ∷ ws) plan.answer) true u.0) o (leading now n a x s u.0 wants.here u.1 wants.agrees (Cell SetFailed) later plan.answer leads l is))));
+  answers = λ now answer a x plan orders' awaiting' s wants keeps. answered now a x plan s _ wants orders' awaiting' keeps answer wants.asks;
 }
   where
-    last : (size most : ℕ) (blocks : List OBlock) (words : Words) (committing : Bool) (orders : List (Option Order)) (devices : Devices (List History)) (actors : List Actor) (a : ℕ) (x : Actor) (s : World) (y : AbstractActor) (ex : slice_get actors a ≡ Some x) (ey : slice_get s.actors a ≡ Some y) (g : Agrees size most words committing orders devices actors s) → (later : List Want) (answer : Answer) →
-        IsOfFlush most (Desk EndCommit ∷ later) → IsFlushing size [] (flushing blocks most (Desk EndCommit ∷ later) answer) true y → FollowsBy Ends Quietly size most a s words false orders devices (slice_set actors a (after_step Flush (flushing blocks most (Desk EndCommit ∷ later) answer) Done x))
-    last size most blocks words committing orders devices actors a x s v ex ev g [] answer o is = ends size most blocks words committing orders devices actors a x s v ex ev g answer is
-    last size most blocks words committing orders devices actors a x s v ex ev g (next ∷ ws) answer o is = absurd o
+    last : (now : Situation) (blocks : List OBlock) (a : ℕ) (x : Actor) (s : World) (y : AbstractActor) (ex : slice_get now.actors a ≡ Some x) (ey : slice_get s.actors a ≡ Some y) (g : Agrees now s) → (later : List Want) (answer : Answer) →
+        IsOfFlush now.most (Desk EndCommit ∷ later) → IsFlushing now.size [] (flushing blocks now.most (Desk EndCommit ∷ later) answer) true y → WorldFollowsBy Ends Quietly a s (record now { committing = false }) (after_step Flush (flushing blocks now.most (Desk EndCommit ∷ later) answer) Done x)
+    last now blocks a x s v ex ev g [] answer o is = ends now blocks a x s v ex ev g answer is
+    last now blocks a x s v ex ev g (next ∷ ws) answer o is = absurd o

@@ -1,14 +1,14 @@
 -- Each step of a read or a write on the shared words is followed.
-use Rattle.std.proofs.Common.{◌≡◌, ◌≢◌, ◌∙◌, ◌⊎◌, inl, inr, ℕ, Bool, List, [], ◌∷◌, Option, Some, refl, sym, ap, subst, slice_get, slice_set}
-use Rattle.wb_disk.specs.Device.{Content, History}
+use Rattle.std.proofs.Common.{Bool, ◌≡◌, ◌≢◌, ◌∙◌, ◌⊎◌, inl, inr, ℕ, List, [], ◌∷◌, Option, Some, refl, sym, ap, subst, slice_get}
+use Rattle.wb_disk.specs.Device.{Content}
 use Rattle.wb_words.specs.SharedWords.{Words, word_at}
 use Rattle.wb_words.specs.Rule.{LockRule}
 use Rattle.wb_words.specs.Effects.{result_of, words_after, card_after}
 use Rattle.wb_words.specs.declared.card.Card.{Card}
+use Rattle.wb_types.specs.declared.mode.Mode.TheVariants.{Writeback}
 use Rattle.wb_words.specs.declared.step.CellStep.{CellStep}
 use Rattle.wb_words.specs.declared.step.CellStep.TheVariants.{Look, Release}
 use Rattle.wb_words.specs.declared.word.Word.TheVariants.{Fail}
-use Rattle.wb_policy.specs.declared.order.Order.{Order}
 use Rattle.wb_tasks.specs.Tables.{BlockRange, BlockJob, TaskJob, Reading, Writing, OnBlock, range_of}
 use Rattle.wb_tasks.specs.Plan.{Plan, table, want, after, got_of, first_step, work_of}
 use Rattle.wb_tasks.specs.Ready.{Suits}
@@ -16,7 +16,6 @@ use Rattle.wb_tasks.specs.declared.step.Want.{Want}
 use Rattle.wb_tasks.specs.declared.step.Answer.{Answer}
 use Rattle.wb_tasks.specs.declared.step.Want.TheVariants.{Cell, End}
 use Rattle.wb_tasks.proofs.Readiness.{job_stays}
-use Rattle.wb_devices.specs.declared.devices.Devices.{Devices}
 use Rattle.wb_link.specs.Tables.{Job as AbstractJob}
 use Rattle.wb_link.specs.World.{World, Actor as AbstractActor}
 use Rattle.wb_refines.specs.Going.{records, shared_after, gone}
@@ -30,17 +29,17 @@ use Rattle.wb_runs.specs.Holding.{cards_of}
 use Rattle.wb_simulation.specs.Steps.{IsPart, AreOfBlock}
 use Rattle.wb_simulation.specs.Actors.{IsLate, IsRequestAt, IsDoing, IsBusyAt, StandsFor}
 use Rattle.wb_simulation.specs.Telling.{Telling, Quietly, IsTold}
-use Rattle.wb_simulation.specs.Worlds.{Agrees, Follows}
+use Rattle.wb_simulation.specs.Worlds.{Situation, Agrees, WorldFollows}
 use Rattle.wb_simulation.specs.Laws.{CellStepsFollowed, IsRequestJob, went}
 use Rattle.wb_simulation.proofs.Telling.{quiet_are_unnoted}
 use Rattle.wb_simulation.proofs.Steps.{read_of_block, write_of_block, after_cell}
 use Rattle.wb_simulation.proofs.Cells.{Acted, acts_in_role, acts_over, tells}
-use Rattle.wb_simulation.proofs.Orders.{MigratesNot, IsDone, does_none, carries_same}
+use Rattle.wb_simulation.proofs.Orders.{MigratesNot, IsDone, does_none}
 use Rattle.wb_simulation.proofs.Among.{card_there, own_there, takes, failed_stays, goes_on}
 
 -- who does a read or write is at it
-pub doing_of : (size most : ℕ) (words : Words) (x : Actor) (y : AbstractActor) (job : Job) (plan : Plan) → StandsFor size most words x y → x.task ≡ Some (job, plan) → IsDoing size most words job plan x.card y
-doing_of size most words x y job plan st e = subst (λ (t : Option (Job × Plan)). IsBusyAt size most words t x.card y) e st.at
+pub doing_of : (size most : ℕ) (words : Words) (x : Actor) (y : AbstractActor) (job : Job) (plan : Plan) (st : StandsFor size most words x y) → x.task ≡ Some (job, plan) → IsDoing size most st.failed job plan x.card y
+doing_of size most words x y job plan st e = subst (λ (t : Option (Job × Plan)). IsBusyAt size most st.failed t x.card y) e st.at
 
 -- What holds of a plan of this job: with its next step first, for whatever comes after it; or with nothing left, where that is its answer.
 pub first : (plan : Plan) (job : TaskJob) (next : Want) → plan.job ≡ job → want plan ≡ next → (P : Plan → Type 0) → ((rest : List Want) → plan.steps ≡ next ∷ rest → P (record { job = job; steps = next ∷ rest; answer = plan.answer })) → (plan.steps ≡ [] → End plan.answer ≡ next → P (record { job = job; steps = []; answer = plan.answer })) → P plan
@@ -64,8 +63,8 @@ IsWithin (End answer) = ⊥
 IsWithin next = Unit {0}
 
 -- who is late takes none, nor who has only to answer
-pub never_late : (words : Words) (plan : Plan) (job : TaskJob) (next : Want) (y : AbstractActor) → plan.job ≡ job → want (table job) ≡ Cell (Look Fail) → want plan ≡ next → IsWithin next → IsLate words plan y → ⊥
-never_late words plan job next y j begins e within l = elim l.at [
+pub never_late : (failed : Bool) (plan : Plan) (job : TaskJob) (next : Want) (y : AbstractActor) → plan.job ≡ job → want (table job) ≡ Cell (Look Fail) → want plan ≡ next → IsWithin next → IsLate failed plan y → ⊥
+never_late failed plan job next y j begins e within l = elim l.at [
   | inl t ↦ subst IsWithin (sym e ∙ ap want (t ∙ ap (λ k. table k) j) ∙ begins) within
   | inr n ↦ subst IsWithin (sym e ∙ ap (λ (ws : List Want). first_step ws plan.answer) n.0) within
 ]
@@ -82,73 +81,76 @@ never_over plan next e within over = by plan.steps over (subst IsWithin (sym e) 
 pub answers_by : (plan : Plan) (job : TaskJob) (answer : Answer) → plan.job ≡ job → want plan ≡ End answer → ((ws : List Want) → plan.steps ≢ End answer ∷ ws) → (P : Plan → Type 0) → P (record { job = job; steps = []; answer = answer }) → P plan
 answers_by plan job answer j e never P h = first plan job (End answer) j e P (λ rest k. absurd (never rest k)) (λ k is. let same : answer ≡ plan.answer = cc in subst (λ (v : Answer). P (record { job = job; steps = []; answer = v })) same h)
 
-module _ (size most blocks : ℕ) (words : Words) (committing : Bool) (orders : List (Option Order)) (devices : Devices (List History)) (actors : List Actor) (a : ℕ) (x : Actor) (job : Job) (step : CellStep) (s : World) (y : AbstractActor)
-    (rule : LockRule blocks words (cards_of actors)) (ex : slice_get actors a ≡ Some x) (ey : slice_get s.actors a ≡ Some y) (g : Agrees size most words committing orders devices actors s) where
+module _ (now : Situation) (blocks : ℕ) (a : ℕ) (x : Actor) (job : Job) (step : CellStep) (s : World) (y : AbstractActor)
+    (rule : LockRule blocks now.words (cards_of now.actors)) (ex : slice_get now.actors a ≡ Some x) (ey : slice_get s.actors a ≡ Some y) (g : Agrees now s) where
   -- what its actor did on the words, among all others
-  pub among_all : {At : AbstractActor → Type 0} {Is : AbstractJob → Type 0} (plan : Plan) (telling : Telling) (acted : Acted At Is s.actors a s.shared y (words_after words step) (after plan (got_of (result_of words step))) (card_after words step x.card)) → IsTold telling a y.task (records a y.task acted.results) →
-      IsDoing size most (words_after words step) job (after plan (got_of (result_of words step))) (card_after words step x.card) (gone y y.task acted.results) → IsDone size (words_after words step) orders devices (went words job plan step x) (gone y y.task acted.results) →
-      Follows telling size most a s (words_after words step) committing orders devices (slice_set actors a (went words job plan step x))
+  pub among_all : {At : AbstractActor → Type 0} {Is : AbstractJob → Type 0} (plan : Plan) (telling : Telling) (acted : Acted At Is s.actors a s.shared y (words_after now.words step) (after plan (got_of (result_of now.words step))) (card_after now.words step x.card)) → IsTold telling a y.task (records a y.task acted.results) →
+      IsDoing now.size now.most acted.failed job (after plan (got_of (result_of now.words step))) (card_after now.words step x.card) (gone y y.task acted.results) → IsDone now.size (words_after now.words step) now.orders (went now.words job plan step x) (gone y y.task acted.results) →
+      WorldFollows telling a s (record now { words = words_after now.words step }) (went now.words job plan step x)
   among_all plan telling acted told doing its =
       let k = acted.same.images in
-      goes_on size most words (words_after words step) (failed_stays words step _ _ rule.logs.fail) committing orders devices actors a x (went words job plan step x) s y g ex ey telling devices acted.results (shared_after s.shared y y.task acted.results) told acted.may refl
-      (record { at = doing; below = acted.below; among_others = acted.among_others }) acted.leads acted.words_agree (acted.same.origin ∙ g.origin) (acted.same.cache ∙ g.cache) k.mode k.committing k.broken (k.committed, k.running, k.root_written) (k.mapping, k.blocks) acted.order (λ o h. h) (carries_same size orders devices actors s a) its
+      goes_on now (words_after now.words step) (failed_stays now.words step _ _ rule.logs.fail) a x (went now.words job plan step x) s y g ex ey telling now.devices acted.results (shared_after s.shared y y.task acted.results) told acted.may refl
+      (record { failed = acted.failed; has_failed = acted.has_failed; at = doing; below = acted.below; among_others = acted.among_others }) acted.leads acted.words_agree (acted.same.origin ∙ g.origin) (acted.same.cache ∙ g.cache) k.mode k.committing k.broken (k.committed, k.running, k.root_written) (k.mapping, k.blocks) acted.order (λ o h. h) its
 
   abbrev Goal : Plan → Type 0
-  Goal plan = Follows Quietly size most a s (words_after words step) committing orders devices (slice_set actors a (went words job plan step x))
+  Goal plan = WorldFollows Quietly a s (record now { words = words_after now.words step }) (went now.words job plan step x)
 
   -- a request's
-  of_request : (content : Content) (job_on : BlockRange → BlockJob) → ((part : BlockRange) → IsRequest (job_on part) × (range_of (job_on part) ≡ part)) → ((part : BlockRange) → IsPart size part → (seal : ℕ) → AreOfBlock size part.block.0 (work_of (OnBlock (job_on part)) seal)) →
-      ((p : Plan) (card : Card) (z : AbstractActor) → IsRequestAt size content (words_after words step) job_on p card z → IsDoing size most (words_after words step) job p card z) → MigratesNot job → (plan : Plan) → Suits blocks plan x.card → want plan ≡ Cell step → StandsFor size most words x y → IsRequestAt size content words job_on plan x.card y → Goal plan
-  of_request content job_on request works does other plan suits next st r = first plan (OnBlock (job_on r.part)) (Cell step) r.job next (λ p. Suits blocks p x.card → AreOfBlock size r.part.block.0 p.steps → At p → Goal p)
-      (λ rest k suits of at. by rest suits (tells size r.part.block.0 step rest of) at) (λ k q. absurd (cc)) suits r.of_block r.at
+  of_request : (content : Content) (job_on : BlockRange → BlockJob) → ((part : BlockRange) → IsRequest (job_on part) × (range_of (job_on part) ≡ part)) → ((part : BlockRange) → IsPart now.size part → (seal : ℕ) → AreOfBlock now.size part.block.0 (work_of (OnBlock (job_on part)) seal)) →
+      ((failed : Bool) (p : Plan) (card : Card) (z : AbstractActor) → IsRequestAt now.size content failed job_on p card z → IsDoing now.size now.most failed job p card z) → MigratesNot job → (plan : Plan) → Suits blocks plan x.card → want plan ≡ Cell step → (st : StandsFor now.size now.most now.words x y) → IsRequestAt now.size content st.failed job_on plan x.card y → Goal plan
+  of_request content job_on request works does other plan suits next st r = first plan (OnBlock (job_on r.part)) (Cell step) r.job next (λ p. Suits blocks p x.card → AreOfBlock now.size r.part.block.0 p.steps → At p → Goal p)
+      (λ rest k suits of at. by rest suits (tells now.size r.part.block.0 step rest of) at) (λ k q. absurd (cc)) suits r.of_block r.at
     where
       At : Plan → Type 0
-      At p = IsAt size content p x.card y ⊎ HasStopped words p x.card y ⊎ IsLate words p y
+      At p = IsAt now.size content p x.card y ⊎ HasStopped st.failed p x.card y ⊎ IsLate st.failed p y
 
-      sized : size ≡ (range_of (job_on r.part)).block_sectors
+      sized : now.size ≡ (range_of (job_on r.part)).block_sectors
       sized = r.is_part.sized ∙ ap (λ (p : BlockRange). p.block_sectors) (sym (request r.part).1)
 
-      by : (rest : List Want) → Suits blocks (plan_of (job_on r.part) (Cell step ∷ rest) plan.answer) x.card → TellsPlace step × AreOfBlock size r.part.block.0 rest → At (plan_of (job_on r.part) (Cell step ∷ rest) plan.answer) → Goal (plan_of (job_on r.part) (Cell step ∷ rest) plan.answer)
-      by rest suits t at = among_all of Quietly acted (acted.results, quiet_are_unnoted y.task acted.results acted.quiet, refl) (does then_plan then_card _ (record {
+      in_back : (range_of (job_on r.part)).mode ≡ Writeback
+      in_back = ap (λ (p : BlockRange). p.mode) (request r.part).1 ∙ r.is_part.mode
+
+      by : (rest : List Want) → Suits blocks (plan_of (job_on r.part) (Cell step ∷ rest) plan.answer) x.card → TellsPlace step × AreOfBlock now.size r.part.block.0 rest → At (plan_of (job_on r.part) (Cell step ∷ rest) plan.answer) → Goal (plan_of (job_on r.part) (Cell step ∷ rest) plan.answer)
+      by rest suits t at = among_all of Quietly acted (acted.results, quiet_are_unnoted y.task acted.results acted.quiet, refl) (does acted.failed then_plan then_card _ (record {
         part = r.part;
         job = same_job;
         is_part = r.is_part;
-        of_block = after_cell (AreOfBlock size r.part.block.0) (OnBlock (job_on r.part)) words step rest plan.answer tt t.1 (λ seen. tt) (λ b e. works r.part r.is_part (word_at words.seals b)) tt;
-        at = elim acted.at [ inl i ↦ inl (at_request size content (job_on r.part) then_plan then_card _ same_job i) | inr o ↦ inr (elim o [ inl k ↦ inl k.0 | inr l ↦ inr l ]) ];
-      })) (does_none _ _ _ _ _ _ other)
+        of_block = after_cell (AreOfBlock now.size r.part.block.0) (OnBlock (job_on r.part)) now.words step rest plan.answer tt t.1 (λ seen. tt) (λ b e. works r.part r.is_part (word_at now.words.seals b)) tt;
+        at = elim acted.at [ inl i ↦ inl (at_request now.size content (job_on r.part) then_plan then_card _ same_job i) | inr o ↦ inr (elim o [ inl k ↦ inl k.0 | inr l ↦ inr l ]) ];
+      })) (does_none _ _ _ _ _ other)
         where
           of : Plan
           of = plan_of (job_on r.part) (Cell step ∷ rest) plan.answer
 
           then_plan : Plan
-          then_plan = after of (got_of (result_of words step))
+          then_plan = after of (got_of (result_of now.words step))
 
           then_card : Card
-          then_card = card_after words step x.card
+          then_card = card_after now.words step x.card
 
           same_job : then_plan.job ≡ OnBlock (job_on r.part)
-          same_job = job_stays of (got_of (result_of words step))
+          same_job = job_stays of (got_of (result_of now.words step))
 
           role : Role
-          role = request_role size content (job_on r.part)
+          role = request_role now.size content (job_on r.part)
 
-          acts : At of → Acted (IsAs role then_plan then_card) (λ j. Unit {0}) s.actors a s.shared y (words_after words step) then_plan then_card
-          acts (inl i) = acts_in_role (job_on r.part) (λ j. Unit {0}) words s.actors a x.card s.shared y plan.answer g.words_agree role (requests_play size content (job_on r.part) (request r.part).0 r.is_part.some sized) tt blocks (cards_of actors) step rest rule (card_there actors a x ex)
-              (takes size most words committing orders devices actors s g role a x.card step (λ b e seal k. tt)) t.0 suits (as_request size content (job_on r.part) (Cell step ∷ rest) plan.answer x.card y i)
-          acts (inr (inl k)) = acts_over (job_on r.part) (λ j. Unit {0}) words s.actors a x.card s.shared y plan.answer g.words_agree step rest st.below st.among_others (inl (k, tt))
-          acts (inr (inr l)) = acts_over (job_on r.part) (λ j. Unit {0}) words s.actors a x.card s.shared y plan.answer g.words_agree step rest st.below st.among_others (inr l)
+          acts : At of → Acted (IsAs role then_plan then_card) (λ j. Unit {0}) s.actors a s.shared y (words_after now.words step) then_plan then_card
+          acts (inl i) = acts_in_role (job_on r.part) (λ j. Unit {0}) now.words s.actors a x.card s.shared y plan.answer g.words_agree role (requests_play now.size content (job_on r.part) (request r.part).0 in_back r.is_part.some sized) tt blocks (cards_of now.actors) step rest rule (card_there now.actors a x ex)
+              (takes now s g role a x.card step (λ b e seal k. tt)) t.0 suits (as_request now.size content (job_on r.part) (Cell step ∷ rest) plan.answer x.card y i)
+          acts (inr (inl k)) = acts_over (job_on r.part) (λ j. Unit {0}) now.words s.actors a x.card s.shared y plan.answer g.words_agree st.failed st.has_failed step rest st.below st.among_others (inl (k, tt))
+          acts (inr (inr l)) = acts_over (job_on r.part) (λ j. Unit {0}) now.words s.actors a x.card s.shared y plan.answer g.words_agree st.failed st.has_failed step rest st.below st.among_others (inr l)
 
-          acted : Acted (IsAs role then_plan then_card) (λ j. Unit {0}) s.actors a s.shared y (words_after words step) then_plan then_card
+          acted : Acted (IsAs role then_plan then_card) (λ j. Unit {0}) s.actors a s.shared y (words_after now.words step) then_plan then_card
           acted = acts at
 
-followed : (size most blocks : ℕ) (words : Words) (committing : Bool) (orders : List (Option Order)) (devices : Devices (List History)) (actors : List Actor) (a : ℕ) (x : Actor) (job : Job) (plan : Plan) (step : CellStep) (s : World) (y : AbstractActor) →
-    LockRule blocks words (cards_of actors) → slice_get actors a ≡ Some x → slice_get s.actors a ≡ Some y → IsRequestJob job → Suits blocks plan x.card → want plan ≡ Cell step → Agrees size most words committing orders devices actors s → StandsFor size most words x y → IsDoing size most words job plan x.card y →
-    Follows Quietly size most a s (words_after words step) committing orders devices (slice_set actors a (went words job plan step x))
-followed size most blocks words committing orders devices actors a x (Read extent) plan step s y rule ex ey q suits next g st d = of_request size most blocks words committing orders devices actors a x (Read extent) step s y rule ex ey g [] Reading (λ part. (tt, refl)) (read_of_block size) (λ p card z r. r) tt plan suits next st d
-followed size most blocks words committing orders devices actors a x (Write extent content) plan step s y rule ex ey q suits next g st d = of_request size most blocks words committing orders devices actors a x (Write extent content) step s y rule ex ey g content Writing (λ part. (tt, refl)) (write_of_block size) (λ p card z r. r) tt plan suits next st d
-followed size most blocks words committing orders devices actors a x job plan step s y rule ex ey q suits next g st d = absurd q
+followed : (now : Situation) (blocks : ℕ) (a : ℕ) (x : Actor) (job : Job) (plan : Plan) (step : CellStep) (s : World) (y : AbstractActor) →
+    LockRule blocks now.words (cards_of now.actors) → slice_get now.actors a ≡ Some x → slice_get s.actors a ≡ Some y → IsRequestJob job → Suits blocks plan x.card → want plan ≡ Cell step → Agrees now s → (st : StandsFor now.size now.most now.words x y) → IsDoing now.size now.most st.failed job plan x.card y →
+    WorldFollows Quietly a s (record now { words = words_after now.words step }) (went now.words job plan step x)
+followed now blocks a x (Read extent) plan step s y rule ex ey q suits next g st d = of_request now blocks a x (Read extent) step s y rule ex ey g [] Reading (λ part. (tt, refl)) (read_of_block now.size) (λ failed p card z r. r) tt plan suits next st d
+followed now blocks a x (Write extent content) plan step s y rule ex ey q suits next g st d = of_request now blocks a x (Write extent content) step s y rule ex ey g content Writing (λ part. (tt, refl)) (write_of_block now.size) (λ failed p card z r. r) tt plan suits next st d
+followed now blocks a x job plan step s y rule ex ey q suits next g st d = absurd q
 
 pub cell_steps_followed : CellStepsFollowed
-cell_steps_followed size most blocks words committing orders devices actors a x job plan step s q rule ex task suits next g =
-    let y = own_there size most words committing orders devices actors s g a x ex in
-    followed size most blocks words committing orders devices actors a x job plan step s y.0 rule ex y.1 q suits next g y.2 (doing_of size most words x y.0 job plan y.2 task)
+cell_steps_followed now blocks a x job plan step s q rule wants suits =
+    let y = own_there now s wants.agrees a x wants.here in
+    followed now blocks a x job plan step s y.0 rule wants.here y.1 q suits wants.asks wants.agrees y.2 (doing_of now.size now.most now.words x y.0 job plan y.2 wants.task)

@@ -1,5 +1,4 @@
 pub mod Steps
-mod Kept
 pub mod Orders
 mod Telling
 mod Cells

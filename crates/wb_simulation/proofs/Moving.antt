@@ -1,5 +1,5 @@
 -- Each step of a read or a write on an extent of a device is followed.
-use Rattle.std.proofs.Common.{None, zero, suc, Some, ◌%◌, length, replicate, map, ◌≡◌, ◌≤◌, ◌+◌, ◌∙◌, ◌⊎◌, inl, inr, ℕ, Bool, true, false, List, [], ◌∷◌, Option, refl, sym, ap, subst, slice_get, slice_set}
+use Rattle.std.proofs.Common.{None, zero, suc, Some, ◌%◌, length, replicate, map, ◌≡◌, ◌≤◌, ◌+◌, ◌∙◌, ◌⊎◌, inl, inr, ℕ, Bool, true, false, List, [], ◌∷◌, Option, refl, sym, ap, subst, slice_get}
 use Rattle.wb_types.specs.declared.extent.Extent.{Extent}
 use Rattle.wb_types.specs.declared.mode.Dev.{Dev}
 use Rattle.wb_types.specs.declared.refusal.Refusal.TheVariants.{Io}
@@ -9,7 +9,6 @@ use Rattle.wb_disk.specs.Extents.{GivesEach, written_each, written_where}
 use Rattle.wb_contents.specs.Devices.{by_block}
 use Rattle.wb_words.specs.SharedWords.{Words, word_at}
 use Rattle.wb_words.specs.declared.card.Card.{Card}
-use Rattle.wb_policy.specs.declared.order.Order.{Order}
 use Rattle.wb_tasks.specs.Tables.{BlockRange, BlockJob, Reading, Writing, TaskJob, OnBlock, range_of}
 use Rattle.wb_tasks.specs.Plan.{Plan, want, after, first_step, device_of}
 use Rattle.wb_tasks.specs.Ready.{Suits, HoldsBlocks}
@@ -38,19 +37,19 @@ use Rattle.wb_types.specs.Extents.{rising}
 use Rattle.wb_simulation.specs.Steps.{IsPart, AreOfBlock}
 use Rattle.wb_simulation.specs.Actors.{IsLate, IsRequestAt, IsDoing, StandsFor}
 use Rattle.wb_simulation.specs.Telling.{Telling, IsTold, Quietly, Reads, Writes, reading as reading_script, AreUnnoted}
-use Rattle.wb_simulation.specs.Worlds.{zeros, Agrees, Follows}
+use Rattle.wb_simulation.specs.Worlds.{Situation, zeros, Agrees, WorldFollows}
 use Rattle.wb_simulation.specs.Laws.{ExtentStepsFollowed, after_step}
-use Rattle.wb_simulation.proofs.Orders.{MigratesNot, does_none, carries_on}
+use Rattle.wb_simulation.proofs.Orders.{MigratesNot, does_none}
 use Rattle.wb_simulation.proofs.Among.{own_there, goes_on}
 use Rattle.wb_simulation.proofs.Followed.{doing_of, begins_by}
 
 -- who has a step on a device to take is at its task there
-at_device : (size : ℕ) (content : Content) (words : Words) (job_on : BlockRange → BlockJob) (part : BlockRange) (step : DeviceStep) (ws : List Want) (answer : Answer) (card : Card) (y : AbstractActor) →
-    IsAt size content (plan_of (job_on part) (Device step ∷ ws) answer) card y ⊎ HasStopped words (plan_of (job_on part) (Device step ∷ ws) answer) card y ⊎ IsLate words (plan_of (job_on part) (Device step ∷ ws) answer) y →
+at_device : (size : ℕ) (content : Content) (failed : Bool) (job_on : BlockRange → BlockJob) (part : BlockRange) (step : DeviceStep) (ws : List Want) (answer : Answer) (card : Card) (y : AbstractActor) →
+    IsAt size content (plan_of (job_on part) (Device step ∷ ws) answer) card y ⊎ HasStopped failed (plan_of (job_on part) (Device step ∷ ws) answer) card y ⊎ IsLate failed (plan_of (job_on part) (Device step ∷ ws) answer) y →
     IsAt size content (plan_of (job_on part) (Device step ∷ ws) answer) card y
-at_device size content words job_on part step ws answer card y (inl i) = i
-at_device size content words job_on part step ws answer card y (inr (inl k)) = absurd k.over
-at_device size content words job_on part step ws answer card y (inr (inr l)) = elim l.at [
+at_device size content failed job_on part step ws answer card y (inl i) = i
+at_device size content failed job_on part step ws answer card y (inr (inl k)) = absurd k.over
+at_device size content failed job_on part step ws answer card y (inr (inr l)) = elim l.at [
   | inl e ↦ let steps = ap (λ (p : Plan). first_step p.steps p.answer) e in absurd (cc)
   | inr e ↦ let bad : Device step ∷ ws ≡ [] = e.0 in absurd (cc)
 ]
@@ -59,40 +58,40 @@ at_device size content words job_on part step ws answer card y (inr (inr l)) = e
 pub words_beside : (words : Words) (to : Option ℕ) (s t : Shared) → SameBeside to s t → WordsAgree words s → WordsAgree words t
 words_beside words to s t b w = record { fail = b.fail ∙ w.fail; seals = λ block. subst (λ (f : ℕ → Seal). SealAgrees (word_at words.seals block) (f block.0)) (sym b.seals) (w.seals block) }
 
-module _ (size most : ℕ) (words : Words) (committing : Bool) (orders : List (Option Order)) (devices : Devices (List History)) (actors : List Actor) (a : ℕ) (x : Actor) (s : World) (y : AbstractActor) (ex : slice_get actors a ≡ Some x) (ey : slice_get s.actors a ≡ Some y) (g : Agrees size most words committing orders devices actors s) where
+module _ (now : Situation) (a : ℕ) (x : Actor) (s : World) (y : AbstractActor) (ex : slice_get now.actors a ≡ Some x) (ey : slice_get s.actors a ≡ Some y) (g : Agrees now s) where
   -- the device of a location is its list
-  pub side_of : (device : Dev) (e : Extent) → HoldsBlocks device → IsSide size zeros (location_at size device e) (device_in device devices) s.shared
+  pub side_of : (device : Dev) (e : Extent) → HoldsBlocks device → IsSide now.size zeros (location_at now.size device e) (device_in device now.devices) s.shared
   side_of Cache e h = g.cache
   side_of Origin e h = g.origin
   side_of Metadata e h = absurd h
 
   -- and where that is another list now, the other device stays
-  pub sides : (device : Dev) (e : Extent) → HoldsBlocks device → (list : List History) (t : Shared) → IsSide size zeros (location_at size device e) list t → SameBeside (location_at size device e) s.shared t →
-      (t.origin ≡ by_block size zeros (with_device device devices list).origin) × (t.cache ≡ by_block size zeros (with_device device devices list).cache)
+  pub sides : (device : Dev) (e : Extent) → HoldsBlocks device → (list : List History) (t : Shared) → IsSide now.size zeros (location_at now.size device e) list t → SameBeside (location_at now.size device e) s.shared t →
+      (t.origin ≡ by_block now.size zeros (with_device device now.devices list).origin) × (t.cache ≡ by_block now.size zeros (with_device device now.devices list).cache)
   sides Cache e h list t side beside = (beside.other ∙ g.origin, side)
   sides Origin e h list t side beside = (side, beside.other ∙ g.cache)
   sides Metadata e h list t side beside = absurd h
 
   -- an actor of a request has moved an extent, and its device is this list now
-  moved : (telling : Telling) (job : Job) (content : Content) (job_on : BlockRange → BlockJob) (plan : Plan) (device : Dev) (e : Extent) (got : AbstractGot) (list : List History) (z : AbstractActor) → IsTold telling a y.task (records a y.task (got ∷ [])) → HoldsBlocks device →
-      Moves size zeros s.actors a s.shared y y.task (location_at size device e) got list z → IsAt size content plan x.card z → is_alone z.task ≡ false → IsDoing size most words job plan x.card z →
-      y.order ≡ None → MigratesNot job → Follows telling size most a s words committing orders (with_device device devices list) (slice_set actors a (record x { task = Some (job, plan) }))
-  moved telling job content job_on plan device e got list z told h m at alone doing own other =
+  moved : (telling : Telling) (job : Job) (content : Content) (plan : Plan) (device : Dev) (e : Extent) (got : AbstractGot) (list : List History) (z : AbstractActor) → IsTold telling a y.task (records a y.task (got ∷ [])) → HoldsBlocks device →
+      Moves now.size zeros s.actors a s.shared y y.task (location_at now.size device e) got list z → IsAt now.size content plan x.card z → is_alone z.task ≡ false → IsDoing now.size now.most false job plan x.card z →
+      y.order ≡ None → MigratesNot job → WorldFollows telling a s (record now { devices = with_device device now.devices list }) (record x { task = Some (job, plan) })
+  moved telling job content plan device e got list z told h m at alone doing own other =
       let t = shared_after s.shared y y.task (got ∷ []) in
       let k = m.beside.images in
-      let now = sides device e h list t m.side_is m.beside in
-      goes_on size most words words (λ f. f) committing orders devices actors a x (record x { task = Some (job, plan) }) s y g ex ey telling (with_device device devices list) (got ∷ []) t told m.may refl
-      (subst (λ (v : AbstractActor). StandsFor size most words (record x { task = Some (job, plan) }) v) (sym m.is) (record { at = doing; below = has_no_more size content plan x.card z at; among_others = alone }))
-      (λ l. let bad : true ≡ false = sym l ∙ ap (λ (v : AbstractActor). v.leads) (m.is ∙ at.is) in absurd (cc)) (words_beside words (location_at size device e) s.shared t m.beside g.words_agree)
-      now.0 now.1 k.mode k.committing k.broken (k.committed, k.running, k.root_written) (k.mapping, k.blocks) (ap (λ (v : AbstractActor). v.order) (m.is ∙ at.is) ∙ sym own) (λ o h. h) (carries_on size orders devices (with_device device devices list) actors s a) (does_none _ _ _ _ _ _ other)
+      let both = sides device e h list t m.side_is m.beside in
+      goes_on now now.words (λ f. f) a x (record x { task = Some (job, plan) }) s y g ex ey telling (with_device device now.devices list) (got ∷ []) t told m.may refl
+      (subst (λ (v : AbstractActor). StandsFor now.size now.most now.words (record x { task = Some (job, plan) }) v) (sym m.is) (record { failed = false; has_failed = λ e. absurd (cc); at = doing; below = has_no_more now.size content plan x.card z at; among_others = alone }))
+      (λ l. let bad : true ≡ false = sym l ∙ ap (λ (v : AbstractActor). v.leads) (m.is ∙ at.is) in absurd (cc)) (words_beside now.words (location_at now.size device e) s.shared t m.beside g.words_agree)
+      both.0 both.1 k.mode k.committing k.broken (k.committed, k.running, k.root_written) (k.mapping, k.blocks) (ap (λ (v : AbstractActor). v.order) (m.is ∙ at.is) ∙ sym own) (λ o h. h) (does_none _ _ _ _ _ other)
 
 pub same_device : (device : Dev) (devices : Devices (List History)) → HoldsBlocks device → with_device device devices (device_in device devices) ≡ devices
 same_device Cache devices h = refl
 same_device Origin devices h = refl
 same_device Metadata devices h = absurd h
 
-module _ (size most blocks : ℕ) (words : Words) (committing : Bool) (orders : List (Option Order)) (devices : Devices (List History)) (actors : List Actor) (a : ℕ) (x : Actor) (s : World) (y : AbstractActor) (ex : slice_get actors a ≡ Some x) (ey : slice_get s.actors a ≡ Some y) (g : Agrees size most words committing orders devices actors s)
-    (part : BlockRange) (is_part : IsPart size part) (device : Dev) (e : Extent) (ws : List Want) (answer : Answer) (h : HoldsBlocks device) where
+module _ (now : Situation) (blocks : ℕ) (a : ℕ) (x : Actor) (s : World) (y : AbstractActor) (ex : slice_get now.actors a ≡ Some x) (ey : slice_get s.actors a ≡ Some y) (g : Agrees now s)
+    (part : BlockRange) (is_part : IsPart now.size part) (device : Dev) (e : Extent) (ws : List Want) (answer : Answer) (h : HoldsBlocks device) where
   abbrev reading : Plan
   reading = plan_of (Reading part) (Device (ReadExtent device e) ∷ ws) answer
 
@@ -100,49 +99,49 @@ module _ (size most blocks : ℕ) (words : Words) (committing : Bool) (orders : 
   writing = plan_of (Writing part) (Device (WriteExtent device e) ∷ ws) answer
 
   abbrev Then : Telling → Devices (List History) → Job → Plan → Got → Type 0
-  Then telling devices' job plan got = Follows telling size most a s words committing orders devices' (slice_set actors a (after_step job plan got x))
+  Then telling devices' job plan got = WorldFollows telling a s (record now { devices = devices' }) (after_step job plan got x)
 
   abbrev list : List History
-  list = device_in device devices
+  list = device_in device now.devices
 
-  side : IsSide size zeros (location_at size device e) list s.shared
-  side = side_of size most words committing orders devices actors a x s y ex ey g device e h
+  side : IsSide now.size zeros (location_at now.size device e) list s.shared
+  side = side_of now a x s y ex ey g device e h
 
   -- what it does there, whose task this is
-  by_task : (content : Content) (plan : Plan) (got : AbstractGot) (list : List History) (z : AbstractActor) → IsAt size content plan x.card y → Moves size zeros s.actors a s.shared y (Some (script_for size content plan)) (location_at size device e) got list z → Moves size zeros s.actors a s.shared y y.task (location_at size device e) got list z
-  by_task content plan got list z is m = subst (λ (task : Option Script). Moves size zeros s.actors a s.shared y task (location_at size device e) got list z) (sym (ap (λ (v : AbstractActor). v.task) is.is)) m
+  by_task : (content : Content) (plan : Plan) (got : AbstractGot) (list : List History) (z : AbstractActor) → IsAt now.size content plan x.card y → Moves now.size zeros s.actors a s.shared y (Some (script_for now.size content plan)) (location_at now.size device e) got list z → Moves now.size zeros s.actors a s.shared y y.task (location_at now.size device e) got list z
+  by_task content plan got list z is m = subst (λ (task : Option Script). Moves now.size zeros s.actors a s.shared y task (location_at now.size device e) got list z) (sym (ap (λ (v : AbstractActor). v.task) is.is)) m
 
-  read_done : (extent : Extent) (contents : List Content) → AreOfBlock size part.block.0 (Device (ReadExtent device e) ∷ ws) → Suits blocks reading x.card → length contents ≡ e.count → GivesEach list e.first contents → IsAt size [] reading x.card y → Then (Reads part.block.0 (e.first % size) contents) devices (Read extent) reading Done
+  read_done : (extent : Extent) (contents : List Content) → AreOfBlock now.size part.block.0 (Device (ReadExtent device e) ∷ ws) → Suits blocks reading x.card → length contents ≡ e.count → GivesEach list e.first contents → IsAt now.size [] reading x.card y → Then (Reads part.block.0 (e.first % now.size) contents) now.devices (Read extent) reading Done
   read_done extent contents o suits n given is =
-      let there = newest_at s.shared (location_at size device e) part.block.0 in
-      let at = goes_on_at size [] (Reading part) (ReadExtent device e) ws answer x.card y there (rest_plain (Reading part) suits.1.1.0 ws suits.1.1.1.1) is in
-      subst (λ (ds : Devices (List History)). Then (Reads part.block.0 (e.first % size) contents) ds (Read extent) reading Done) (same_device device devices h)
-      (moved size most words committing orders devices actors a x s y ex ey g (Reads part.block.0 (e.first % size) contents) (Read extent) [] Reading (after reading Done) device e (Gave there) list _
-      (record { location = location_at size device e; all = offsets size part.extents; rest = wants_of size (job_for size [] (OnBlock (Reading part))) ws; answer = answer_for (job_for size [] (OnBlock (Reading part))) answer; there = there; given = told_so there; at = ap (λ (v : AbstractActor). v.task) is.is ∙ ap counted (sym n); told_is = refl })
-      h (by_task [] reading (Gave there) list _ is (extents_followed.read_done size zeros s.actors a s.shared y _ (location_at size device e) part.block.0 (offsets_in size e) _ _ list side)) at refl
+      let there = newest_at s.shared (location_at now.size device e) part.block.0 in
+      let at = goes_on_at now.size [] (Reading part) (ReadExtent device e) ws answer x.card y there (rest_plain (Reading part) suits.1.1.0 ws suits.1.1.1.1) is in
+      subst (λ (ds : Devices (List History)). Then (Reads part.block.0 (e.first % now.size) contents) ds (Read extent) reading Done) (same_device device now.devices h)
+      (moved now a x s y ex ey g (Reads part.block.0 (e.first % now.size) contents) (Read extent) [] (after reading Done) device e (Gave there) list _
+      (record { location = location_at now.size device e; all = offsets now.size part.extents; rest = wants_of now.size (job_for now.size [] (OnBlock (Reading part))) ws; answer = answer_for (job_for now.size [] (OnBlock (Reading part))) answer; there = there; given = told_so; at = ap (λ (v : AbstractActor). v.task) is.is ∙ ap counted (sym n); told_is = refl })
+      h (by_task [] reading (Gave there) list _ is (extents_followed.read_done now.size zeros s.actors a s.shared y _ (location_at now.size device e) part.block.0 (offsets_in now.size e) _ _ list side)) at refl
       (record { part = part; job = refl; is_part = is_part; of_block = o.1; at = inl at }) (ap (λ (v : AbstractActor). v.order) is.is) tt)
     where
-      told_so : (there : ℕ → Content) → contents ≡ map (newest_at s.shared (location_at size device e) part.block.0) (rising (e.first % size) (length contents))
-      told_so there = extents_followed.reads size zeros s.shared part.block.0 device e list contents o.0 side n given ∙ (λ i. map (newest_at s.shared (location_at size device e) part.block.0) (rising (e.first % size) (sym n i)))
+      told_so : contents ≡ map (newest_at s.shared (location_at now.size device e) part.block.0) (rising (e.first % now.size) (length contents))
+      told_so = extents_followed.reads now.size zeros s.shared part.block.0 device e list contents o.0 side n given ∙ (λ i. map (newest_at s.shared (location_at now.size device e) part.block.0) (rising (e.first % now.size) (sym n i)))
 
       counted : ℕ → Option Script
-      counted k = Some (reading_script part.block.0 (offsets size part.extents) (Read_all (location_at size device e) part.block.0 (rising (e.first % size) k) ∷ wants_of size (job_for size [] (OnBlock (Reading part))) ws) (answer_for (job_for size [] (OnBlock (Reading part))) answer))
+      counted k = Some (reading_script part.block.0 (offsets now.size part.extents) (Read_all (location_at now.size device e) part.block.0 (rising (e.first % now.size) k) ∷ wants_of now.size (job_for now.size [] (OnBlock (Reading part))) ws) (answer_for (job_for now.size [] (OnBlock (Reading part))) answer))
 
-  read_fails : (extent : Extent) → AreOfBlock size part.block.0 (Device (ReadExtent device e) ∷ ws) → IsAt size [] reading x.card y → Then Quietly devices (Read extent) reading Fault
+  read_fails : (extent : Extent) → AreOfBlock now.size part.block.0 (Device (ReadExtent device e) ∷ ws) → IsAt now.size [] reading x.card y → Then Quietly now.devices (Read extent) reading Fault
   read_fails extent o is =
-      let at : IsAt size [] (after reading Fault) x.card (record y { task = Some (script_for size [] (after reading Fault)) }) = record { buffer = is.buffer; is = ap (λ (v : AbstractActor). record v { task = Some (script_for size [] (after reading Fault)) }) is.is; saw = tt } in
-      subst (λ (ds : Devices (List History)). Then Quietly ds (Read extent) reading Fault) (same_device device devices h)
-      (moved size most words committing orders devices actors a x s y ex ey g Quietly (Read extent) [] Reading (after reading Fault) device e read_fault list _ (read_fault ∷ [], subst (λ (v : AbstractActor). AreUnnoted v.task (read_fault ∷ [])) (sym is.is) (tt, tt), refl)
-      h (by_task [] reading read_fault list _ is (extents_followed.read_fails size zeros s.actors a s.shared y _ (location_at size device e) part.block.0 (offsets_in size e) _ _ list side)) at refl
+      let at : IsAt now.size [] (after reading Fault) x.card (record y { task = Some (script_for now.size [] (after reading Fault)) }) = record { buffer = is.buffer; is = ap (λ (v : AbstractActor). record v { task = Some (script_for now.size [] (after reading Fault)) }) is.is; saw = tt } in
+      subst (λ (ds : Devices (List History)). Then Quietly ds (Read extent) reading Fault) (same_device device now.devices h)
+      (moved now a x s y ex ey g Quietly (Read extent) [] (after reading Fault) device e read_fault list _ (read_fault ∷ [], subst (λ (v : AbstractActor). AreUnnoted v.task (read_fault ∷ [])) (sym is.is) (tt, tt), refl)
+      h (by_task [] reading read_fault list _ is (extents_followed.read_fails now.size zeros s.actors a s.shared y _ (location_at now.size device e) part.block.0 (offsets_in now.size e) _ _ list side)) at refl
       (record { part = part; job = refl; is_part = is_part; of_block = tt; at = inl at }) (ap (λ (v : AbstractActor). v.order) is.is) tt)
 
   -- what it is told as, whatever comes of it
-  write_told : (content : Content) (got : AbstractGot) → IsAt size content writing x.card y → IsTold (Writes part.block.0 (e.first % size) e.count content) a y.task (records a y.task (got ∷ []))
+  write_told : (content : Content) (got : AbstractGot) → IsAt now.size content writing x.card y → IsTold (Writes part.block.0 (e.first % now.size) e.count content) a y.task (records a y.task (got ∷ []))
   write_told content got is = record {
-    location = location_at size device e;
-    all = offsets size part.extents;
-    rest = wants_of size (job_for size content (OnBlock (Writing part))) ws;
-    answer = answer_for (job_for size content (OnBlock (Writing part))) answer;
+    location = location_at now.size device e;
+    all = offsets now.size part.extents;
+    rest = wants_of now.size (job_for now.size content (OnBlock (Writing part))) ws;
+    answer = answer_for (job_for now.size content (OnBlock (Writing part))) answer;
     got = got;
     at = ap (λ (v : AbstractActor). v.task) is.is;
     told_is = refl;
@@ -152,27 +151,27 @@ module _ (size most blocks : ℕ) (words : Words) (committing : Bool) (orders : 
   one_content content zero o = refl
   one_content content (suc count) o = ap (λ cs. content ∷ cs) (one_content content count (o + 1))
 
-  write_done : (extent : Extent) (content : Content) → AreOfBlock size part.block.0 (Device (WriteExtent device e) ∷ ws) → Suits blocks writing x.card → e.first + e.count ≤ length list → IsAt size content writing x.card y →
-      Then (Writes part.block.0 (e.first % size) e.count content) (with_device device devices (written_each list e.first (replicate e.count content))) (Write extent content) writing Done
+  write_done : (extent : Extent) (content : Content) → AreOfBlock now.size part.block.0 (Device (WriteExtent device e) ∷ ws) → Suits blocks writing x.card → e.first + e.count ≤ length list → IsAt now.size content writing x.card y →
+      Then (Writes part.block.0 (e.first % now.size) e.count content) (with_device device now.devices (written_each list e.first (replicate e.count content))) (Write extent content) writing Done
   write_done extent content o suits room is =
-      let at = goes_on_at size content (Writing part) (WriteExtent device e) ws answer x.card y y.buffer (rest_plain (Writing part) suits.1.1.0 ws suits.1.1.1.1) is in
-      subst (λ (cs : List Content). Then (Writes part.block.0 (e.first % size) e.count content) (with_device device devices (written_each list e.first cs)) (Write extent content) writing Done) (one_content content e.count (e.first % size))
-      (moved size most words committing orders devices actors a x s y ex ey g (Writes part.block.0 (e.first % size) e.count content) (Write extent content) content Writing (after writing Done) device e DoneThere _ _ (write_told content DoneThere is)
-      h (by_task content writing DoneThere _ _ is (extents_followed.write_done size zeros s.actors a s.shared y _ part.block.0 device e _ _ list o.0 side room)) at refl
+      let at = goes_on_at now.size content (Writing part) (WriteExtent device e) ws answer x.card y y.buffer (rest_plain (Writing part) suits.1.1.0 ws suits.1.1.1.1) is in
+      subst (λ (cs : List Content). Then (Writes part.block.0 (e.first % now.size) e.count content) (with_device device now.devices (written_each list e.first cs)) (Write extent content) writing Done) (one_content content e.count (e.first % now.size))
+      (moved now a x s y ex ey g (Writes part.block.0 (e.first % now.size) e.count content) (Write extent content) content (after writing Done) device e DoneThere _ _ (write_told content DoneThere is)
+      h (by_task content writing DoneThere _ _ is (extents_followed.write_done now.size zeros s.actors a s.shared y _ part.block.0 device e _ _ list o.0 side room)) at refl
       (record { part = part; job = refl; is_part = is_part; of_block = o.1; at = inl at }) (ap (λ (v : AbstractActor). v.order) is.is) tt)
 
-  write_fails : (extent : Extent) (content : Content) (lands : ℕ → Bool) → AreOfBlock size part.block.0 (Device (WriteExtent device e) ∷ ws) → e.first + e.count ≤ length list → IsAt size content writing x.card y →
-      Then (Writes part.block.0 (e.first % size) e.count content) (with_device device devices (written_where lands list e.first (replicate e.count content))) (Write extent content) writing Fault
+  write_fails : (extent : Extent) (content : Content) (lands : ℕ → Bool) → AreOfBlock now.size part.block.0 (Device (WriteExtent device e) ∷ ws) → e.first + e.count ≤ length list → IsAt now.size content writing x.card y →
+      Then (Writes part.block.0 (e.first % now.size) e.count content) (with_device device now.devices (written_where lands list e.first (replicate e.count content))) (Write extent content) writing Fault
   write_fails extent content lands o room is =
-      let fault = write_fault size (location_at size device e) part.block.0 lands in
-      let at : IsAt size content (after writing Fault) x.card (record y { task = Some (script_for size content (after writing Fault)) }) = record { buffer = is.buffer; is = ap (λ (v : AbstractActor). record v { task = Some (script_for size content (after writing Fault)) }) is.is; saw = (Io (device_of (WriteExtent device e)), refl) } in
-      subst (λ (cs : List Content). Then (Writes part.block.0 (e.first % size) e.count content) (with_device device devices (written_where lands list e.first cs)) (Write extent content) writing Fault) (one_content content e.count (e.first % size))
-      (moved size most words committing orders devices actors a x s y ex ey g (Writes part.block.0 (e.first % size) e.count content) (Write extent content) content Writing (after writing Fault) device e fault _ _ (write_told content fault is)
-      h (by_task content writing fault _ _ is (extents_followed.write_fails size zeros s.actors a s.shared y _ part.block.0 device e _ _ list lands o.0 side room)) at refl
+      let fault = write_fault now.size (location_at now.size device e) part.block.0 lands in
+      let at : IsAt now.size content (after writing Fault) x.card (record y { task = Some (script_for now.size content (after writing Fault)) }) = record { buffer = is.buffer; is = ap (λ (v : AbstractActor). record v { task = Some (script_for now.size content (after writing Fault)) }) is.is; saw = (Io (device_of (WriteExtent device e)), refl) } in
+      subst (λ (cs : List Content). Then (Writes part.block.0 (e.first % now.size) e.count content) (with_device device now.devices (written_where lands list e.first cs)) (Write extent content) writing Fault) (one_content content e.count (e.first % now.size))
+      (moved now a x s y ex ey g (Writes part.block.0 (e.first % now.size) e.count content) (Write extent content) content (after writing Fault) device e fault _ _ (write_told content fault is)
+      h (by_task content writing fault _ _ is (extents_followed.write_fails now.size zeros s.actors a s.shared y _ part.block.0 device e _ _ list lands o.0 side room)) at refl
       (record { part = part; job = refl; is_part = is_part; of_block = tt; at = inl at }) (ap (λ (v : AbstractActor). v.order) is.is) tt)
 
 -- a request of this part whose next step is on a device, as it is there
-pub record HasStep (size : ℕ) (content : Content) (words : Words) (job_on : BlockRange → BlockJob) (part : BlockRange) (step : DeviceStep) (plan : Plan) (card : Card) (y : AbstractActor) : Type 0 where
+pub record HasStep (size : ℕ) (content : Content) (job_on : BlockRange → BlockJob) (part : BlockRange) (step : DeviceStep) (plan : Plan) (card : Card) (y : AbstractActor) : Type 0 where
   pub is_part : IsPart size part
   pub later : List Want
   pub is : plan ≡ plan_of (job_on part) (Device step ∷ later) plan.answer
@@ -183,18 +182,18 @@ abbrev part_in : BlockRange → TaskJob → BlockRange
 part_in other (OnBlock job) = range_of job
 part_in other job = other
 
-has_step : (size : ℕ) (content : Content) (words : Words) (job_on : BlockRange → BlockJob) → ((part : BlockRange) → range_of (job_on part) ≡ part) → (part : BlockRange) (step : DeviceStep) (plan : Plan) (card : Card) (y : AbstractActor) → want plan ≡ Device step → plan.job ≡ OnBlock (job_on part) →
-    IsRequestAt size content words job_on plan card y → HasStep size content words job_on part step plan card y
-has_step size content words job_on range part step plan card y next of_part r = subst (λ (p : BlockRange). HasStep size content words job_on p step plan card y) same (record {
+has_step : (size : ℕ) (content : Content) (failed : Bool) (job_on : BlockRange → BlockJob) → ((part : BlockRange) → range_of (job_on part) ≡ part) → (part : BlockRange) (step : DeviceStep) (plan : Plan) (card : Card) (y : AbstractActor) → want plan ≡ Device step → plan.job ≡ OnBlock (job_on part) →
+    IsRequestAt size content failed job_on plan card y → HasStep size content job_on part step plan card y
+has_step size content failed job_on range part step plan card y next of_part r = subst (λ (p : BlockRange). HasStep size content job_on p step plan card y) same (record {
   is_part = r.is_part;
   later = b.0;
   is = is;
   of_block = subst (λ (ws : List Want). AreOfBlock size r.part.block.0 ws) b.1 r.of_block;
-  at = at_device size content words job_on r.part step b.0 plan.answer card y (subst At is r.at);
+  at = at_device size content failed job_on r.part step b.0 plan.answer card y (subst At is r.at);
 })
   where
     At : Plan → Type 0
-    At p = IsAt size content p card y ⊎ HasStopped words p card y ⊎ IsLate words p y
+    At p = IsAt size content p card y ⊎ HasStopped failed p card y ⊎ IsLate failed p y
 
     b : (ws : List Want) × (plan.steps ≡ Device step ∷ ws)
     b = begins_by plan (Device step) next (λ answer k. absurd (cc))
@@ -207,24 +206,24 @@ has_step size content words job_on range part step plan card y next of_part r = 
 
 pub extent_steps_followed : ExtentStepsFollowed
 extent_steps_followed = record {
-  read_done = λ size most blocks words committing orders devices actors a x extent part plan device e contents s ex task of_part suits next h n given g.
-      let y = own_there size most words committing orders devices actors s g a x ex in
-      let k = has_step size [] words Reading (λ p. refl) part (ReadExtent device e) plan x.card y.0 next of_part (doing_of size most words x y.0 (Read extent) plan (g.each a x y.0 ex y.1) task) in
-      subst (λ (p : Plan). Follows (Reads part.block.0 (e.first % size) contents) size most a s words committing orders devices (slice_set actors a (after_step (Read extent) p Done x))) (sym k.is)
-      (read_done size most blocks words committing orders devices actors a x s y.0 ex y.1 g part k.is_part device e k.later plan.answer h extent contents k.of_block (subst (λ (p : Plan). Suits blocks p x.card) k.is suits) n given k.at);
-  read_fails = λ size most blocks words committing orders devices actors a x extent part plan device e s ex task of_part suits next h g.
-      let y = own_there size most words committing orders devices actors s g a x ex in
-      let k = has_step size [] words Reading (λ p. refl) part (ReadExtent device e) plan x.card y.0 next of_part (doing_of size most words x y.0 (Read extent) plan (g.each a x y.0 ex y.1) task) in
-      subst (λ (p : Plan). Follows Quietly size most a s words committing orders devices (slice_set actors a (after_step (Read extent) p Fault x))) (sym k.is)
-      (read_fails size most blocks words committing orders devices actors a x s y.0 ex y.1 g part k.is_part device e k.later plan.answer h extent k.of_block k.at);
-  write_done = λ size most blocks words committing orders devices actors a x extent content part plan device e s ex task of_part suits next h room g.
-      let y = own_there size most words committing orders devices actors s g a x ex in
-      let k = has_step size content words Writing (λ p. refl) part (WriteExtent device e) plan x.card y.0 next of_part (doing_of size most words x y.0 (Write extent content) plan (g.each a x y.0 ex y.1) task) in
-      subst (λ (p : Plan). Follows (Writes part.block.0 (e.first % size) e.count content) size most a s words committing orders (with_device device devices (written_each (device_in device devices) e.first (replicate e.count content))) (slice_set actors a (after_step (Write extent content) p Done x))) (sym k.is)
-      (write_done size most blocks words committing orders devices actors a x s y.0 ex y.1 g part k.is_part device e k.later plan.answer h extent content k.of_block (subst (λ (p : Plan). Suits blocks p x.card) k.is suits) room k.at);
-  write_fails = λ size most blocks words committing orders devices actors a x extent content part plan device e lands s ex task of_part suits next h room g.
-      let y = own_there size most words committing orders devices actors s g a x ex in
-      let k = has_step size content words Writing (λ p. refl) part (WriteExtent device e) plan x.card y.0 next of_part (doing_of size most words x y.0 (Write extent content) plan (g.each a x y.0 ex y.1) task) in
-      subst (λ (p : Plan). Follows (Writes part.block.0 (e.first % size) e.count content) size most a s words committing orders (with_device device devices (written_where lands (device_in device devices) e.first (replicate e.count content))) (slice_set actors a (after_step (Write extent content) p Fault x))) (sym k.is)
-      (write_fails size most blocks words committing orders devices actors a x s y.0 ex y.1 g part k.is_part device e k.later plan.answer h extent content lands k.of_block room k.at);
+  read_done = λ now blocks a x extent part plan device e contents s wants of_part suits h n given.
+      let y = own_there now s wants.agrees a x wants.here in
+      let k = has_step now.size [] _ Reading (λ p. refl) part (ReadExtent device e) plan x.card y.0 wants.asks of_part (doing_of now.size now.most now.words x y.0 (Read extent) plan (wants.agrees.each a x y.0 wants.here y.1) wants.task) in
+      subst (λ (p : Plan). WorldFollows (Reads part.block.0 (e.first % now.size) contents) a s now (after_step (Read extent) p Done x)) (sym k.is)
+      (read_done now blocks a x s y.0 wants.here y.1 wants.agrees part k.is_part device e k.later plan.answer h extent contents k.of_block (subst (λ (p : Plan). Suits blocks p x.card) k.is suits) n given k.at);
+  read_fails = λ now blocks a x extent part plan device e s wants of_part suits h.
+      let y = own_there now s wants.agrees a x wants.here in
+      let k = has_step now.size [] _ Reading (λ p. refl) part (ReadExtent device e) plan x.card y.0 wants.asks of_part (doing_of now.size now.most now.words x y.0 (Read extent) plan (wants.agrees.each a x y.0 wants.here y.1) wants.task) in
+      subst (λ (p : Plan). WorldFollows Quietly a s now (after_step (Read extent) p Fault x)) (sym k.is)
+      (read_fails now blocks a x s y.0 wants.here y.1 wants.agrees part k.is_part device e k.later plan.answer h extent k.of_block k.at);
+  write_done = λ now blocks a x extent content part plan device e s wants of_part suits h room.
+      let y = own_there now s wants.agrees a x wants.here in
+      let k = has_step now.size content _ Writing (λ p. refl) part (WriteExtent device e) plan x.card y.0 wants.asks of_part (doing_of now.size now.most now.words x y.0 (Write extent content) plan (wants.agrees.each a x y.0 wants.here y.1) wants.task) in
+      subst (λ (p : Plan). WorldFollows (Writes part.block.0 (e.first % now.size) e.count content) a s (record now { devices = with_device device now.devices (written_each (device_in device now.devices) e.first (replicate e.count content)) }) (after_step (Write extent content) p Done x)) (sym k.is)
+      (write_done now blocks a x s y.0 wants.here y.1 wants.agrees part k.is_part device e k.later plan.answer h extent content k.of_block (subst (λ (p : Plan). Suits blocks p x.card) k.is suits) room k.at);
+  write_fails = λ now blocks a x extent content part plan device e lands s wants of_part suits h room.
+      let y = own_there now s wants.agrees a x wants.here in
+      let k = has_step now.size content _ Writing (λ p. refl) part (WriteExtent device e) plan x.card y.0 wants.asks of_part (doing_of now.size now.most now.words x y.0 (Write extent content) plan (wants.agrees.each a x y.0 wants.here y.1) wants.task) in
+      subst (λ (p : Plan). WorldFollows (Writes part.block.0 (e.first % now.size) e.count content) a s (record now { devices = with_device device now.devices (written_where lands (device_in device now.devices) e.first (replicate e.count content)) }) (after_step (Write extent content) p Fault x)) (sym k.is)
+      (write_fails now blocks a x s y.0 wants.here y.1 wants.agrees part k.is_part device e k.later plan.answer h extent content lands k.of_block room k.at);
 }

@@ -391,47 +391,47 @@ module _ (size a : ℕ) (s : World) (y : AbstractActor) (n : Notes) (m : Abstrac
 
 pub notes_followed : NotesFollowed
 notes_followed = record {
-  quiet = λ turn size most a s words committing orders devices actors f y n m ey among g.
+  quiet = λ turn a s now x f y n m ey among g.
       let t = f.told y ey in
-      subst (λ (rs : List Record). NotesAgree size n (after_all s rs) (told m rs)) (sym t.2) (unnoted_after size a s y n m ey among g t.0 t.1);
-  read = λ block offset contents turn size most a s words committing orders devices actors f y n m ey among g.
+      subst (λ (rs : List Record). NotesAgree now.size n (after_all s rs) (told m rs)) (sym t.2) (unnoted_after now.size a s y n m ey among g t.0 t.1);
+  read = λ block offset contents turn a s now x f y n m ey among g.
       let t = f.told y ey in
-      subst (λ (rs : List Record). NotesAgree size n (after_all s rs) (told m rs)) (sym t.told_is)
-      (unnoted_after size a s y n m ey among g (Gave t.there ∷ []) (subst (λ (k : Option Script). AreUnnoted k (Gave t.there ∷ [])) (sym t.at) (tt, tt)));
-  write = λ block offset count content turn size most a s words committing orders devices actors f y n m ey among g doing here l inside.
+      subst (λ (rs : List Record). NotesAgree now.size n (after_all s rs) (told m rs)) (sym t.told_is)
+      (unnoted_after now.size a s y n m ey among g (Gave t.there ∷ []) (subst (λ (k : Option Script). AreUnnoted k (Gave t.there ∷ [])) (sym t.at) (tt, tt)));
+  write = λ block offset count content turn a s now x f y n m ey among g doing here l inside.
       let t = f.told y ey in
-      let n' = write_note n a doing (enter_each content (rising (block * size + offset) count) (entering n doing)) in
-      subst (λ (rs : List Record). NotesAgree size n' (after_all s rs) (told m rs)) (sym t.told_is)
-      (write_after size a s y n m ey among g block offset count content t.location t.all t.rest t.answer t.got doing t.at here l inside);
-  read_answered = λ block os turn size most a s words committing orders devices actors f y n m ey among g.
+      let n' = write_note n a doing (enter_each content (rising (block * now.size + offset) count) (entering n doing)) in
+      subst (λ (rs : List Record). NotesAgree now.size n' (after_all s rs) (told m rs)) (sym t.told_is)
+      (write_after now.size a s y n m ey among g block offset count content t.location t.all t.rest t.answer t.got doing t.at here l inside);
+  read_answered = λ block os turn a s now x f y n m ey among g.
       let t = f.told y ey in let k = script_of (Reading false block os) y.task t.0 in
-      subst (λ (rs : List Record). NotesAgree size (put n a None) (after_all s rs) (told m rs)) (sym t.1) (read_answers size a s y n m ey among g block os k.script k.at k.none k.done k.is);
-  write_answered = λ block os content turn size most a s words committing orders devices actors f y n m ey among g doing here.
+      subst (λ (rs : List Record). NotesAgree now.size (put n a None) (after_all s rs) (told m rs)) (sym t.1) (read_answers now.size a s y n m ey among g block os k.script k.at k.none k.done k.is);
+  write_answered = λ block os content turn a s now x f y n m ey among g doing here.
       let t = f.told y ey in let k = script_of (Writing false block os content) y.task t.0 in
-      subst (λ (rs : List Record). NotesAgree size (put (record n { finished = all_raised n.finished doing.entered }) a None) (after_all s rs) (told m rs)) (sym t.1)
-      (write_answers size a s y n m ey among g block os content k.script doing k.at k.none k.done k.is here);
-  flush_answered = λ turn size most a s words committing orders devices actors f y n m ey among g doing here long.
+      subst (λ (rs : List Record). NotesAgree now.size (put (record n { finished = all_raised n.finished doing.entered }) a None) (after_all s rs) (told m rs)) (sym t.1)
+      (write_answers now.size a s y n m ey among g block os content k.script doing k.at k.none k.done k.is here);
+  flush_answered = λ turn a s now x f y n m ey among g doing here long.
       let t = f.told y ey in let k = script_of (Flushing None) y.task t.0 in
-      subst (λ (rs : List Record). NotesAgree size (put (record n { floors = greater_of n.floors doing.then_finished }) a None) (after_all s rs) (told m rs)) (sym t.1)
-      (flush_answers size a s y n m ey among g k.script doing k.at k.none k.done k.is here long);
-  refused = λ job refusal turn size most a s words committing orders devices actors f y n m ey among g.
+      subst (λ (rs : List Record). NotesAgree now.size (put (record n { floors = greater_of n.floors doing.then_finished }) a None) (after_all s rs) (told m rs)) (sym t.1)
+      (flush_answers now.size a s y n m ey among g k.script doing k.at k.none k.done k.is here long);
+  refused = λ job refusal turn a s now x f y n m ey among g.
       let t = f.told y ey in
-      subst (λ (rs : List Record). NotesAgree size (put n a None) (after_all s rs) (told m rs)) (sym t.1) (by_task size a s y n m ey among g job refusal y.task refl t.0);
-  starts = λ abstract_job job turn size most a s words committing orders devices actors f y n m ey among g was here.
-      subst (λ (rs : List Record). NotesAgree size (put n a (Some (begun n job))) (after_all s rs) (told m rs)) (sym (f.told y ey)) (start_after size a s y n m ey among g abstract_job job was here);
-  starts_late = λ job turn size most a s words committing orders devices actors f y n m ey among g none.
+      subst (λ (rs : List Record). NotesAgree now.size (put n a None) (after_all s rs) (told m rs)) (sym t.1) (by_task now.size a s y n m ey among g job refusal y.task refl t.0);
+  starts = λ abstract_job job turn a s now x f y n m ey among g was here.
+      subst (λ (rs : List Record). NotesAgree now.size (put n a (Some (begun n job))) (after_all s rs) (told m rs)) (sym (f.told y ey)) (start_after now.size a s y n m ey among g abstract_job job was here);
+  starts_late = λ job turn a s now x f y n m ey among g none.
       let t = f.told y ey in
-      subst (λ (rs : List Record). NotesAgree size (put n a (Some (begun n job))) (after_all s rs) (told m rs)) (sym t.2) (late_after size a s y n m ey among g t.0 job none);
-  resumes = λ job turn size most a s words committing orders devices actors f y n m ey among g was here. resumed size a s y n m ey among g job was here f.records (f.told y ey);
-  carries = λ turn size most a s words committing orders devices actors f y n m ey among g.
+      subst (λ (rs : List Record). NotesAgree now.size (put n a (Some (begun n job))) (after_all s rs) (told m rs)) (sym t.2) (late_after now.size a s y n m ey among g t.0 job none);
+  resumes = λ job turn a s now x f y n m ey among g was here. resumed now.size a s y n m ey among g job was here f.records (f.told y ey);
+  carries = λ turn a s now x f y n m ey among g.
       let t = f.told y ey in
-      subst (λ (rs : List Record). NotesAgree size n (after_all s rs) (told m rs)) (sym t.2) (carried_after size a s y n m ey among g t.0 t.1);
-  released = λ turn size most a s words committing orders devices actors f y n m ey among g.
+      subst (λ (rs : List Record). NotesAgree now.size n (after_all s rs) (told m rs)) (sym t.2) (carried_after now.size a s y n m ey among g t.0 t.1);
+  released = λ turn a s now x f y n m ey among g.
       let t = f.told y ey in
-      subst (λ (rs : List Record). NotesAgree size n (after_all s rs) (told m rs)) (sym t.1) (release_after size n s m t.0 g);
-  rests = λ turn size most a s words committing orders devices actors f y n m ey among g.
+      subst (λ (rs : List Record). NotesAgree now.size n (after_all s rs) (told m rs)) (sym t.1) (release_after now.size n s m t.0 g);
+  rests = λ turn a s now x f y n m ey among g.
       let t = f.told y ey in
-      subst (λ (rs : List Record). NotesAgree size (put n a None) (after_all s rs) (told m rs)) (sym t.1) (rests_after size a s y n m ey among g y.task refl t.0);
+      subst (λ (rs : List Record). NotesAgree now.size (put n a None) (after_all s rs) (told m rs)) (sym t.1) (rests_after now.size a s y n m ey among g y.task refl t.0);
   redone = λ size n s m a doing doing' g here e f. record {
     histories = g.histories;
     finished = g.finished;
@@ -461,9 +461,9 @@ notes_followed = record {
     floors_as_many = length-map shown (λ (c : Content). 0) ∙ sym (length-map shown only);
     each = λ b z l e. subst (λ (v : AbstractActor). IsNotedSo size (length (map only shown)) v.task (slice_get (begins many shown).doings b) b (opened view)) (replicated (length s.actors) b resting z e) tt;
   };
-  newest_read = λ turn size most a block offset contents s words committing orders devices actors f y n m ey among g right.
+  newest_read = λ turn block offset contents a s now x f y n m ey among g right.
       let t = f.told y ey in
-      let job = subst (λ (k : Option Script). IsJob m a k) t.at (is_job size (length n.histories) y.task (slice_get n.doings a) a m (g.each a y among ey)) in
+      let job = subst (λ (k : Option Script). IsJob m a k) t.at (is_job now.size (length n.histories) y.task (slice_get n.doings a) a m (g.each a y among ey)) in
       subst (λ (h : ℕ → ℕ → History). AreNewest h block offset contents) g.histories
       (reads_newest t.location block t.all contents t.there offset m a job t.given
       (subst (λ (k : Option Script). AllRight m (map (λ (r : Record). On r) (records a k (Gave t.there ∷ [])))) t.at (subst (λ (rs : List Record). AllRight m (map (λ (r : Record). On r) rs)) t.told_is right)).0);

@@ -23,8 +23,6 @@ use Rattle.wb_link.specs.Tables.{Order as AbstractOrder}
 use Rattle.wb_simulation.specs.Carried.{live_there}
 use Rattle.wb_simulation.specs.Worlds.{OrdersAgree, IsThere}
 use Rattle.wb_promise.specs.States.{Actor}
-use Rattle.wb_disk.specs.Device.{History}
-use Rattle.wb_devices.specs.declared.devices.Devices.{Devices}
 use Rattle.wb_link.specs.Openings.{opened_on}
 use Rattle.wb_types.specs.declared.mode.Mode.TheVariants.{Writeback}
 use Rattle.wb_simulation.specs.Opened.{OpenedFollowed}
@@ -204,8 +202,8 @@ module _ (origin_blocks cache_blocks : ℕ) (clean : Bool) (entries : List (Opti
           })
 
 -- nobody has an order, nor is any aside, and none lives
-pub no_orders : (size : ℕ) (words : Words) (devices : Devices (List History)) (actors : List Actor) (caches many : ℕ) (t : Shared) → ((a : ℕ) (x : Actor) → slice_get actors a ≡ Some x → x.task ≡ None) → OrdersAgree size words (replicate caches None) devices actors (record { shared = t; actors = replicate many idle; waiting = λ k. None })
-no_orders size words devices actors caches many t rest = record {
+pub no_orders : (size : ℕ) (words : Words) (actors : List Actor) (caches many : ℕ) (t : Shared) → ((a : ℕ) (x : Actor) → slice_get actors a ≡ Some x → x.task ≡ None) → OrdersAgree size words (replicate caches None) actors (record { shared = t; actors = replicate many idle; waiting = λ k. None })
+no_orders size words actors caches many t rest = record {
   live = λ c o e p at. let none = replicated caches c None o e in (λ l. let bad : None ≡ Some p = ap (live_there t.mapping c) none ∙ l in absurd (cc), λ h. absurd (nothing p h));
   once = λ a y p e f. absurd (nobody a y p e f);
   waits = λ k p w. absurd (let bad : None ≡ Some p = w in cc);
@@ -239,11 +237,13 @@ opened_followed size most origin_blocks cache_blocks clean entries learnt blocks
   one_leads = λ a b y z e f l m. absurd (nobody a y e l);
   many = length-replicate (length actors) idle;
   each = λ a x y e f. subst (λ (v : AbstractActor). StandsFor size most words x v) (replicated (length actors) a idle y f) (record {
-    at = subst (λ t. IsBusyAt size most words t x.card idle) (sym (rest a x e)) (refl, inl (record { task = refl; held = refl; leads = refl }));
+    failed = false;
+    has_failed = λ e. absurd (cc);
+    at = subst (λ t. IsBusyAt size most false t x.card idle) (sym (rest a x e)) (refl, inl (record { task = refl; held = refl; leads = refl }));
     below = holds_nothing idle x.card refl;
     among_others = refl;
   });
-  orders_agree = no_orders size words devices actors cache_blocks (length actors) (opened_on s Writeback learnt blocks) rest;
+  orders_agree = no_orders size words actors cache_blocks (length actors) (opened_on s Writeback learnt blocks) rest;
 }
   where
     words : Words

@@ -2,18 +2,17 @@
 use Rattle.std.proofs.Common.{◌≡◌, ◌≢◌, ◌∙◌, ◌⊎◌, inl, inr, ℕ, Bool, true, false, List, Option, Some, None, refl, sym, ap, subst, Contains, slice_get, slice_set}
 use Rattle.std.proofs.lemmas.Bool.{cases_eq}
 use Rattle.wb_types.specs.declared.number.OBlock.{OBlock}
-use Rattle.wb_disk.specs.Device.{Content, History}
+use Rattle.wb_disk.specs.Device.{Content}
 use Rattle.wb_contents.specs.Volume.{Locations, changed}
 use Rattle.wb_contents.proofs.Positions.{changed_same, changed_other}
 use Rattle.wb_words.specs.SharedWords.{Words, flag}
 use Rattle.wb_policy.specs.declared.order.Order.{Order}
 use Rattle.wb_policy.specs.declared.order.Order.TheVariants.{Promote, Replace, Demote, Clean}
-use Rattle.wb_tasks.specs.Tables.{BlockRange, Migrating, OnBlock}
+use Rattle.wb_tasks.specs.Tables.{BlockRange, Migrating}
 use Rattle.wb_tasks.specs.Plan.{Plan}
 use Rattle.wb_tasks.specs.declared.step.Answer.{Answer}
 use Rattle.wb_tasks.specs.declared.step.Migration.{Migration}
 use Rattle.wb_tasks.specs.declared.step.Want.{Want}
-use Rattle.wb_devices.specs.declared.devices.Devices.{Devices}
 use Rattle.wb_link.specs.Tables.{Order as AbstractOrder}
 use Rattle.wb_link.specs.World.{aside, World, Shared, Actor as AbstractActor}
 use Rattle.wb_link.proofs.Aside.{aside_cases}
@@ -28,8 +27,6 @@ use Rattle.wb_promise.specs.States.{Actor}
 use Rattle.wb_simulation.specs.Steps.{AreOfBlock, ArePaired}
 use Rattle.wb_simulation.specs.Carried.{HasRead, IsUnder, held, is_at, replacement_there, order_there, live_there, IsOf, IsCarried, IsAtMigration}
 use Rattle.wb_simulation.specs.Worlds.{IsThere, OrdersAgree}
-use Rattle.wb_simulation.specs.Telling.{IsMigrating}
-use Rattle.wb_simulation.proofs.Kept.{late_on, ended_on}
 
 -- an order of the desk is on its cache block there too
 pub cache_there : (m : Locations) (c : ℕ) (o : Order) → (order_there m c o).cache ≡ c
@@ -71,7 +68,7 @@ aside_has waiting (Some q) p one w = elim (cases_eq p.cache q.cache) [
   | inr n ↦ elim w [ inl k ↦ changed_other waiting q.cache p.cache (Some q) n ∙ k | inr e ↦ (let same : q ≡ p = cc in absurd (n (ap (λ (v : AbstractOrder). v.cache) (sym same)))) ]
 ]
 
-module _ (size : ℕ) (words : Words) (orders : List (Option Order)) (devices : Devices (List History)) (actors : List Actor) (a : ℕ) (s : World) (y : AbstractActor) (ey : slice_get s.actors a ≡ Some y) (g : OrdersAgree size words orders devices actors s) (c : ℕ) (o : Option Order) (e : slice_get orders c ≡ Some o) (p : AbstractOrder) (at : p.cache ≡ c) where
+module _ (size : ℕ) (words : Words) (orders : List (Option Order)) (actors : List Actor) (a : ℕ) (s : World) (y : AbstractActor) (ey : slice_get s.actors a ≡ Some y) (g : OrdersAgree size words orders actors s) (c : ℕ) (o : Option Order) (e : slice_get orders c ≡ Some o) (p : AbstractOrder) (at : p.cache ≡ c) where
   one : IsThere s p → (q : AbstractOrder) → y.order ≡ Some q → q.cache ≡ p.cache → q ≡ p
   one h q f k = let both : Some q ≡ Some p = sym ((g.live c o e q (k ∙ at)).1 (inr (a, y, ey, f))) ∙ (g.live c o e p at).1 h in cc
 
@@ -88,14 +85,6 @@ module _ (size : ℕ) (words : Words) (orders : List (Option Order)) (devices : 
 
 -- ---- migrations
 
--- what is carried for others is so still
-abbrev pub CarriesOthers : (size : ℕ) (orders orders' : List (Option Order)) (devices devices' : Devices (List History)) (actors : List Actor) (s : World) (a : ℕ) → Type 0
-CarriesOthers size orders orders' devices devices' actors s a = (b : ℕ) (z : Actor) (u : AbstractActor) (migration : Migration) (block : OBlock) (part : BlockRange) (plan : Plan) → b ≢ a → slice_get actors b ≡ Some z → slice_get s.actors b ≡ Some u → z.task ≡ Some (Migrate migration block, plan) → plan.job ≡ OnBlock (Migrating migration part) →
-    IsCarried size orders devices migration block part plan.steps plan.answer z u → IsCarried size orders' devices' migration block part plan.steps plan.answer z u
-
-pub carries_same : (size : ℕ) (orders : List (Option Order)) (devices : Devices (List History)) (actors : List Actor) (s : World) (a : ℕ) → CarriesOthers size orders orders devices devices actors s a
-carries_same size orders devices actors s a b z u migration block part plan n ez eu task job k = k
-
 -- what a migration has still to do is its own, and nothing was written that it has not read
 pub record GoesOn (size : ℕ) (part : BlockRange) (us : List Want) (buffer : List Content) (there : ℕ → Content) : Type 0 where
   pub of_block : AreOfBlock size part.block.0 us
@@ -103,18 +92,14 @@ pub record GoesOn (size : ℕ) (part : BlockRange) (us : List Want) (buffer : Li
   pub read : HasRead size us buffer there
 
 -- a migration that is carried has this left now
-pub carried_again : (size : ℕ) (orders orders' : List (Option Order)) (devices devices' : Devices (List History)) (migration : Migration) (block : OBlock) (part : BlockRange) (steps us : List Want) (answer then_answer : Answer) (x x' : Actor) (y z : AbstractActor) (k : IsCarried size orders devices migration block part steps answer x y) (kept : Option AbstractOrder) →
-    IsUnder (slice_get orders' k.c.0) k.order (order_on part k.c k.next) kept x'.orders us → IsMigrationAt part k.c k.next migration kept (plan_of (Migrating migration part) us then_answer) x'.card z → GoesOn size part us x'.buffer z.buffer → IsCarried size orders' devices' migration block part us then_answer x' z
-carried_again size orders orders' devices devices' migration block part steps us answer then_answer x x' y z k kept has at on = record { block_is = k.block_is; is_part = k.is_part; c = k.c; small = k.small; fills = k.fills; of_block = on.of_block; paired = on.paired; next = k.next; order = k.order; of = k.of; kept = kept; has = has; at = at; read = on.read }
-
--- whatever becomes of the devices
-pub carries_on : (size : ℕ) (orders : List (Option Order)) (devices devices' : Devices (List History)) (actors : List Actor) (s : World) (a : ℕ) → CarriesOthers size orders orders devices devices' actors s a
-carries_on size orders devices devices' actors s a b z u migration block part plan n ez eu task job k = carried_again size orders orders devices devices' migration block part plan.steps plan.steps plan.answer plan.answer z z u u k k.kept k.has k.at (record { of_block = k.of_block; paired = k.paired; read = k.read })
+pub carried_again : (size : ℕ) (orders orders' : List (Option Order)) (migration : Migration) (block : OBlock) (part : BlockRange) (steps us : List Want) (answer then_answer : Answer) (x x' : Actor) (y z : AbstractActor) (k : IsCarried size orders migration block part steps answer x y) (kept : Option AbstractOrder) →
+    IsUnder (slice_get orders' k.c.0) k.order (order_on part k.c k.next) kept x'.orders us → IsMigrationAt part k.c k.next migration kept (plan_of (Migrating migration part) us then_answer) x'.card z → GoesOn size part us x'.buffer z.buffer → IsCarried size orders' migration block part us then_answer x' z
+carried_again size orders orders' migration block part steps us answer then_answer x x' y z k kept has at on = record { block_is = k.block_is; is_part = k.is_part; c = k.c; small = k.small; fills = k.fills; of_block = on.of_block; paired = on.paired; next = k.next; order = k.order; of = k.of; kept = kept; has = has; at = at; read = on.read }
 
 -- it is so still where its own order's cache block has what it had
-pub carried_beside : (size : ℕ) (orders orders' : List (Option Order)) (devices : Devices (List History)) (migration : Migration) (block : OBlock) (part : BlockRange) (steps : List Want) (answer : Answer) (x : Actor) (y : AbstractActor) → ((p : AbstractOrder) → y.order ≡ Some p → slice_get orders' p.cache ≡ slice_get orders p.cache) →
-    IsCarried size orders devices migration block part steps answer x y → IsCarried size orders' devices migration block part steps answer x y
-carried_beside size orders orders' devices migration block part steps answer x y beside k = carried_again size orders orders' devices devices migration block part steps steps answer answer x x y y k k.kept
+pub carried_beside : (size : ℕ) (orders orders' : List (Option Order)) (migration : Migration) (block : OBlock) (part : BlockRange) (steps : List Want) (answer : Answer) (x : Actor) (y : AbstractActor) → ((p : AbstractOrder) → y.order ≡ Some p → slice_get orders' p.cache ≡ slice_get orders p.cache) →
+    IsCarried size orders migration block part steps answer x y → IsCarried size orders' migration block part steps answer x y
+carried_beside size orders orders' migration block part steps answer x y beside k = carried_again size orders orders' migration block part steps steps answer answer x x y y k k.kept
     (elim k.has [
       | inl l ↦ inl (beside (order_on part k.c k.next) (ap (λ (v : AbstractActor). v.order) k.at.is ∙ l.1) ∙ l.0, l.1, l.2)
       | inr tail ↦ inr tail
@@ -122,8 +107,8 @@ carried_beside size orders orders' devices migration block part steps answer x y
     k.at (record { of_block = k.of_block; paired = k.paired; read = k.read })
 
 -- what its actor is at from now on
-abbrev pub IsDone : (size : ℕ) → Words → List (Option Order) → Devices (List History) → Actor → AbstractActor → Type 0
-IsDone size words orders devices x y = (migration : Migration) (block : OBlock) (plan : Plan) → x.task ≡ Some (Migrate migration block, plan) → IsAtMigration size words orders devices migration block plan x y
+abbrev pub IsDone : (size : ℕ) → Words → List (Option Order) → Actor → AbstractActor → Type 0
+IsDone size words orders x y = (migration : Migration) (block : OBlock) (plan : Plan) → x.task ≡ Some (Migrate migration block, plan) → IsAtMigration size words orders migration block plan x y
 
 abbrev pub MigratesNot : Job → Type 0
 MigratesNot (Migrate migration block) = ⊥
@@ -134,25 +119,11 @@ IsNoMigration None = Unit {0}
 IsNoMigration (Some doing) = MigratesNot doing.0
 
 -- a task that is no migration
-pub does_none : (size : ℕ) (words : Words) (orders : List (Option Order)) (devices : Devices (List History)) (x : Actor) (y : AbstractActor) → IsNoMigration x.task → IsDone size words orders devices x y
-does_none size words orders devices x y n migration block plan e = absurd (subst (λ (t : Option (Job × Plan)). IsNoMigration t) e n)
+pub does_none : (size : ℕ) (words : Words) (orders : List (Option Order)) (x : Actor) (y : AbstractActor) → IsNoMigration x.task → IsDone size words orders x y
+does_none size words orders x y n migration block plan e = absurd (subst (λ (t : Option (Job × Plan)). IsNoMigration t) e n)
 
-module _ (size : ℕ) (words words' : Words) (up : flag words.fail ≡ true → flag words'.fail ≡ true) (orders orders' : List (Option Order)) (devices devices' : Devices (List History)) (actors : List Actor) (a : ℕ) (x x' : Actor) (s : World) (y y' : AbstractActor) (ex : slice_get actors a ≡ Some x) (ey : slice_get s.actors a ≡ Some y)
-    (g : OrdersAgree size words orders devices actors s) (carries : CarriesOthers size orders orders' devices devices' actors s a) (its : IsDone size words' orders' devices' x' y') where
-  at_on : (migration : Migration) (block : OBlock) (plan : Plan) (z : Actor) (u : AbstractActor) (b : ℕ) → b ≢ a → slice_get actors b ≡ Some z → slice_get s.actors b ≡ Some u → z.task ≡ Some (Migrate migration block, plan) → IsAtMigration size words orders devices migration block plan z u → IsAtMigration size words' orders' devices' migration block plan z u
-  at_on migration block plan z u b n ez eu task d = record {
-    part = d.part;
-    job = d.job;
-    at = elim d.at [
-      | inl k ↦ inl (carries b z u migration block d.part plan n ez eu task d.job k)
-      | inr o ↦ elim o [ inl e ↦ inr (inl (ended_on size size words words' up u IsMigrating plan z.card e)) | inr l ↦ inr (inr (late_on size size words words' up u plan l)) ]
-    ];
-  }
-
-  carried_on : (b : ℕ) (z : Actor) (v : AbstractActor) (migration : Migration) (block : OBlock) (plan : Plan) → slice_get (slice_set actors a x') b ≡ Some z → slice_get (slice_set s.actors a y') b ≡ Some v → z.task ≡ Some (Migrate migration block, plan) → IsAtMigration size words' orders' devices' migration block plan z v
-  carried_on b z v migration block plan ez ev task = by_pair actors s.actors a x x' y y' ex ey (λ k q u. (m : Migration) (c : OBlock) (p : Plan) → q.task ≡ Some (Migrate m c, p) → IsAtMigration size words' orders' devices' m c p q u) its
-      (λ k q u n eq eu m c p e. at_on m c p q u k n eq eu e (g.carried k q u m c p eq eu e)) b z v ez ev migration block plan task
-
+module _ (size : ℕ) (words words' : Words) (up : flag words.fail ≡ true → flag words'.fail ≡ true) (orders orders' : List (Option Order)) (actors : List Actor) (a : ℕ) (x x' : Actor) (s : World) (y y' : AbstractActor) (ex : slice_get actors a ≡ Some x) (ey : slice_get s.actors a ≡ Some y)
+    (g : OrdersAgree size words orders actors s) (its : IsDone size words' orders' x' y') where
   -- who was there and is not aside is this actor, which has the order still, or another one
   moved : (p : AbstractOrder) → (y.order ≡ Some p → y'.order ≡ Some p) → IsThere s p → (s.waiting p.cache ≡ Some p) ⊎ (y'.order ≡ Some p) ⊎ ((b : ℕ) × (v : AbstractActor) × (b ≢ a) × (slice_get s.actors b ≡ Some v) × (v.order ≡ Some p))
   moved p stays (inl w) = inl w
@@ -198,7 +169,24 @@ module _ (size : ℕ) (words words' : Words) (up : flag words.fail ≡ true → 
       | inr r ↦ k d z q r.1 f at ∙ sym same
     ]
 
-    pub orders_so : OrdersAgree size words' orders' devices' (slice_set actors a x') then_is
+    -- what others migrate they migrate still, each under its own order
+    at_on : (migration : Migration) (block : OBlock) (plan : Plan) (z : Actor) (u : AbstractActor) (b : ℕ) → b ≢ a → slice_get s.actors b ≡ Some u → IsAtMigration size words orders migration block plan z u → IsAtMigration size words' orders' migration block plan z u
+    at_on migration block plan z u b n eu d = record {
+      part = d.part;
+      job = d.job;
+      failed = d.failed;
+      has_failed = λ e. up (d.has_failed e);
+      at = elim d.at [
+        | inl k ↦ inl (carried_beside size orders orders' migration block d.part plan.steps plan.answer z u (λ p e. beside p.cache (alone b u p n eu e)) k)
+        | inr o ↦ inr o
+      ];
+    }
+
+    carried_on : (b : ℕ) (z : Actor) (v : AbstractActor) (migration : Migration) (block : OBlock) (plan : Plan) → slice_get (slice_set actors a x') b ≡ Some z → slice_get (slice_set s.actors a y') b ≡ Some v → z.task ≡ Some (Migrate migration block, plan) → IsAtMigration size words' orders' migration block plan z v
+    carried_on b z v migration block plan ez ev task = by_pair actors s.actors a x x' y y' ex ey (λ k q u. (m : Migration) (c : OBlock) (p : Plan) → q.task ≡ Some (Migrate m c, p) → IsAtMigration size words' orders' m c p q u) its
+        (λ k q u n eq eu m c p e. at_on m c p q u k n eu (g.carried k q u m c p eq eu e)) b z v ez ev migration block plan task
+
+    pub orders_so : OrdersAgree size words' orders' (slice_set actors a x') then_is
     orders_so = record {
       live = λ c o e p at. elim (here_or c) [
         | inl k ↦ let l = lives c o p k e at in (λ f. inr (a, y', set_there s.actors a y y' ey, l.0 f), λ h. l.1 (its_own p (subst Here (sym at) k) h))
@@ -228,7 +216,7 @@ module _ (size : ℕ) (words words' : Words) (up : flag words.fail ≡ true → 
   -- it has gone on; on cache blocks of this kind its order is over
   pub goes_so : (Over : ℕ → Type 0) (over_or : (d : ℕ) → Over d ⊎ (Over d → ⊥)) → ((p : AbstractOrder) → y'.order ≡ Some p → (y.order ≡ Some p) × (Over p.cache → ⊥)) → ((p : AbstractOrder) → y.order ≡ Some p → (Over p.cache → ⊥) → y'.order ≡ Some p) → ((d : ℕ) → (Over d → ⊥) → slice_get orders' d ≡ slice_get orders d) → ((d : ℕ) (o : Option Order) → Over d → slice_get orders' d ≡ Some o → o ≡ None) →
       ((k : ℕ) (p : AbstractOrder) → Over k → s.waiting k ≡ Some p → ⊥) → ((b : ℕ) (v : AbstractActor) (p : AbstractOrder) → b ≢ a → slice_get s.actors b ≡ Some v → v.order ≡ Some p → Over p.cache → ⊥) → ((o : Order) → Contains (held x) o → ((p : AbstractOrder) → y'.order ≡ Some p → slice_get orders p.cache ≡ Some (Some o) → Contains (held x') o)) → (t : Shared) →
-      ((d : ℕ) (o : Option Order) → (Over d → ⊥) → slice_get orders d ≡ Some o → live_there t.mapping d o ≡ live_there s.shared.mapping d o) → OrdersAgree size words' orders' devices' (slice_set actors a x') (with_own s a t y')
+      ((d : ℕ) (o : Option Order) → (Over d → ⊥) → slice_get orders d ≡ Some o → live_there t.mapping d o ≡ live_there s.shared.mapping d o) → OrdersAgree size words' orders' (slice_set actors a x') (with_own s a t y')
   goes_so Over over_or keeps stays beside none waits_not alone still t turns = orders_so Over over_or s.waiting t beside turns alone waits_not
       (λ d o p k e at. (λ l. let bad : None ≡ Some p = ap (live_there t.mapping d) (sym (none d o k e)) ∙ l in absurd (cc), λ f. absurd ((keeps p f).1 (subst Over (sym at) k))))
       (λ p e. let k = keeps p e in let r = g.ours a x y p ex ey k.0 in (r.0, beside p.cache k.1 ∙ r.1, still r.0 r.2 p e r.1)) (λ p n e. let k = keeps p e in (k.0, (g.once a y p ey k.0).0)) (λ k p n w. inr w)
@@ -237,30 +225,30 @@ module _ (size : ℕ) (words words' : Words) (up : flag words.fail ≡ true → 
   -- it has begun something, and taken on the order of these cache blocks
   pub begins_so : (Taken : ℕ → Type 0) (taken_or : (d : ℕ) → Taken d ⊎ (Taken d → ⊥)) (waiting : ℕ → Option AbstractOrder) → ((p : AbstractOrder) → y'.order ≡ Some p → Taken p.cache × ((o : Option Order) → slice_get orders' p.cache ≡ Some o → live_there s.shared.mapping p.cache o ≡ Some p) × IsOf orders' (held x') p) →
       ((d : ℕ) (o : Option Order) (p : AbstractOrder) → Taken d → slice_get orders' d ≡ Some o → live_there s.shared.mapping d o ≡ Some p → y'.order ≡ Some p) → ((d : ℕ) → (Taken d → ⊥) → slice_get orders' d ≡ slice_get orders d) → ((d : ℕ) → (Taken d → ⊥) → waiting d ≡ aside s.waiting y.order d) → ((d : ℕ) (p : AbstractOrder) → Taken d → waiting d ≡ Some p → ⊥) →
-      ((b : ℕ) (v : AbstractActor) (p : AbstractOrder) → b ≢ a → slice_get s.actors b ≡ Some v → v.order ≡ Some p → Taken p.cache → ⊥) → (t : Shared) → t.mapping ≡ s.shared.mapping → OrdersAgree size words' orders' devices' (slice_set actors a x') (record { shared = t; actors = slice_set s.actors a y'; waiting = waiting })
+      ((b : ℕ) (v : AbstractActor) (p : AbstractOrder) → b ≢ a → slice_get s.actors b ≡ Some v → v.order ≡ Some p → Taken p.cache → ⊥) → (t : Shared) → t.mapping ≡ s.shared.mapping → OrdersAgree size words' orders' (slice_set actors a x') (record { shared = t; actors = slice_set s.actors a y'; waiting = waiting })
   begins_so Taken taken_or waiting own takes beside put gone alone t same_map = orders_so Taken taken_or waiting t beside (λ d o n e. ap (λ (m : Locations). live_there m d o) same_map) alone gone
       (λ d o p k e at. (λ l. takes d o p k e (sym (ap (λ (m : Locations). live_there m d o) same_map) ∙ l), λ f. ap (λ (m : Locations). live_there m d o) same_map ∙ ap (λ i. live_there s.shared.mapping i o) (sym at) ∙ (own p f).1 o (ap (slice_get orders') at ∙ e)))
       (λ p e. (own p e).2) (λ p n e. absurd (n (own p e).0)) (λ k p n w. elim (aside_cases s.waiting y.order k p (sym (put k n) ∙ w)) [ inl r ↦ inl (r.0, r.1) | inr r ↦ inr r.0 ])
-      (λ c o p e at n h. elim (aside_or size words orders devices actors a s y ey g c o e p at h) [ inl w ↦ inl (put p.cache (λ v. n (subst Taken at v)) ∙ w) | inr k ↦ inr (inr k) ])
+      (λ c o p e at n h. elim (aside_or size words orders actors a s y ey g c o e p at h) [ inl w ↦ inl (put p.cache (λ v. n (subst Taken at v)) ∙ w) | inr k ↦ inr (inr k) ])
 
 -- ---- the two that change no order
 
 -- it has gone on, under the order that it had
-pub orders_on : (size : ℕ) (words words' : Words) → (flag words.fail ≡ true → flag words'.fail ≡ true) → (orders : List (Option Order)) (devices devices' : Devices (List History)) (actors : List Actor) (a : ℕ) (x x' : Actor) (s : World) (y y' : AbstractActor) (t : Shared) → slice_get actors a ≡ Some x → slice_get s.actors a ≡ Some y → OrdersAgree size words orders devices actors s →
-    y'.order ≡ y.order → ((o : Order) → Contains (held x) o → Contains (held x') o) → t.mapping ≡ s.shared.mapping → CarriesOthers size orders orders devices devices' actors s a → IsDone size words' orders devices' x' y' → OrdersAgree size words' orders devices' (slice_set actors a x') (with_own s a t y')
-orders_on size words words' up orders devices devices' actors a x x' s y y' t ex ey g same own same_map carries its = goes_so size words words' up orders orders devices devices' actors a x x' s y y' ex ey g carries its (λ d. ⊥) (λ d. inr (λ v. v))
+pub orders_on : (size : ℕ) (words words' : Words) → (flag words.fail ≡ true → flag words'.fail ≡ true) → (orders : List (Option Order)) (actors : List Actor) (a : ℕ) (x x' : Actor) (s : World) (y y' : AbstractActor) (t : Shared) → slice_get actors a ≡ Some x → slice_get s.actors a ≡ Some y → OrdersAgree size words orders actors s →
+    y'.order ≡ y.order → ((o : Order) → Contains (held x) o → Contains (held x') o) → t.mapping ≡ s.shared.mapping → IsDone size words' orders x' y' → OrdersAgree size words' orders (slice_set actors a x') (with_own s a t y')
+orders_on size words words' up orders actors a x x' s y y' t ex ey g same own same_map its = goes_so size words words' up orders orders actors a x x' s y y' ex ey g its (λ d. ⊥) (λ d. inr (λ v. v))
     (λ p e. (sym same ∙ e, λ v. v)) (λ p e n. same ∙ e) (λ d n. refl) (λ d o v. absurd v) (λ k p v. absurd v) (λ b v p n ev e k. k) (λ o h p e l. own o h) t (λ d o n e. ap (λ (m : Locations). live_there m d o) same_map)
 
 -- it has begun something under no order
-pub orders_begun : (size : ℕ) (words : Words) (orders : List (Option Order)) (devices : Devices (List History)) (actors : List Actor) (a : ℕ) (x x' : Actor) (s : World) (y y' : AbstractActor) (t : Shared) → slice_get actors a ≡ Some x → slice_get s.actors a ≡ Some y → OrdersAgree size words orders devices actors s →
-    y'.order ≡ None → t.mapping ≡ s.shared.mapping → IsDone size words orders devices x' y' → OrdersAgree size words orders devices (slice_set actors a x') (record { shared = t; actors = slice_set s.actors a y'; waiting = aside s.waiting y.order })
-orders_begun size words orders devices actors a x x' s y y' t ex ey g none same_map its = begins_so size words words (λ f. f) orders orders devices devices actors a x x' s y y' ex ey g (carries_same size orders devices actors s a) its (λ d. ⊥) (λ d. inr (λ v. v)) (aside s.waiting y.order)
+pub orders_begun : (size : ℕ) (words : Words) (orders : List (Option Order)) (actors : List Actor) (a : ℕ) (x x' : Actor) (s : World) (y y' : AbstractActor) (t : Shared) → slice_get actors a ≡ Some x → slice_get s.actors a ≡ Some y → OrdersAgree size words orders actors s →
+    y'.order ≡ None → t.mapping ≡ s.shared.mapping → IsDone size words orders x' y' → OrdersAgree size words orders (slice_set actors a x') (record { shared = t; actors = slice_set s.actors a y'; waiting = aside s.waiting y.order })
+orders_begun size words orders actors a x x' s y y' t ex ey g none same_map its = begins_so size words words (λ f. f) orders orders actors a x x' s y y' ex ey g its (λ d. ⊥) (λ d. inr (λ v. v)) (aside s.waiting y.order)
     (λ p e. let bad : None ≡ Some p = sym none ∙ e in absurd (cc)) (λ d o p v. absurd v) (λ d n. refl) (λ d n. refl) (λ d p v. absurd v) (λ b v p n ev e k. k) t same_map
 
 -- ---- an order that turns into another one
 
 -- Its order goes on as another one on its cache block, which is what lives there then.
-module _ (size : ℕ) (words : Words) (orders : List (Option Order)) (devices : Devices (List History)) (actors : List Actor) (a : ℕ) (x x' : Actor) (s : World) (y y' : AbstractActor) (ex : slice_get actors a ≡ Some x) (ey : slice_get s.actors a ≡ Some y) (g : OrdersAgree size words orders devices actors s) (its : IsDone size words orders devices x' y')
+module _ (size : ℕ) (words : Words) (orders : List (Option Order)) (actors : List Actor) (a : ℕ) (x x' : Actor) (s : World) (y y' : AbstractActor) (ex : slice_get actors a ≡ Some x) (ey : slice_get s.actors a ≡ Some y) (g : OrdersAgree size words orders actors s) (its : IsDone size words orders x' y')
     (own own' : AbstractOrder) (under : y.order ≡ Some own) (under' : y'.order ≡ Some own') (same : own'.cache ≡ own.cache) (t : Shared) (order : Order) (slot : slice_get orders own.cache ≡ Some (Some order)) (lives : live_there t.mapping own.cache (Some order) ≡ Some own') (mine : Contains (held x') order)
     (turns : (d : ℕ) (o : Option Order) → d ≢ own.cache → slice_get orders d ≡ Some o → live_there t.mapping d o ≡ live_there s.shared.mapping d o) where
   -- nothing else is on its cache block
@@ -271,8 +259,8 @@ module _ (size : ℕ) (words : Words) (orders : List (Option Order)) (devices : 
       let both : Some p ≡ Some own = sym there ∙ here in
       (g.once a y own ey under).0 (ap s.waiting (sym at) ∙ w ∙ both)
 
-  pub turns_so : OrdersAgree size words orders devices (slice_set actors a x') (with_own s a t y')
-  turns_so = orders_so size words words (λ e. e) orders orders devices devices actors a x x' s y y' ex ey g (carries_same size orders devices actors s a) its (λ d. d ≡ own.cache) (λ d. elim (cases_eq d own.cache) [ inl e ↦ inl e | inr n ↦ inr n ]) s.waiting t (λ d n. refl) turns
+  pub turns_so : OrdersAgree size words orders (slice_set actors a x') (with_own s a t y')
+  turns_so = orders_so size words words (λ e. e) orders orders actors a x x' s y y' ex ey g its (λ d. d ≡ own.cache) (λ d. elim (cases_eq d own.cache) [ inl e ↦ inl e | inr n ↦ inr n ]) s.waiting t (λ d n. refl) turns
       (λ b v p n ev e at. n ((g.once a y own ey under).1 b v p ev e at)) not_aside_so
       (λ d o p here e at.
       let both : Some (Some order) ≡ Some o = sym slot ∙ ap (slice_get orders) (sym here) ∙ e in
@@ -281,4 +269,4 @@ module _ (size : ℕ) (words : Words) (orders : List (Option Order)) (devices : 
       (λ l. under' ∙ sym now ∙ l, λ f. now ∙ sym under' ∙ f))
       (λ p e. let both : Some own' ≡ Some p = sym under' ∙ e in let is : own' ≡ p = cc in subst (λ (q : AbstractOrder). IsOf orders (held x') q) is (order, ap (slice_get orders) same ∙ slot, mine))
       (λ p n e. absurd (let both : Some own' ≡ Some p = sym under' ∙ e in let is : own' ≡ p = cc in n (ap (λ (q : AbstractOrder). q.cache) (sym is) ∙ same))) (λ k p n w. inr w)
-      (λ c o p e at n h. moved size words words (λ e. e) orders orders devices devices actors a x x' s y y' ex ey g (carries_same size orders devices actors s a) its p (λ f. absurd (let both : Some own ≡ Some p = sym under ∙ f in let is : own ≡ p = cc in n (sym at ∙ ap (λ (q : AbstractOrder). q.cache) (sym is)))) h)
+      (λ c o p e at n h. moved size words words (λ e. e) orders orders actors a x x' s y y' ex ey g its p (λ f. absurd (let both : Some own ≡ Some p = sym under ∙ f in let is : own ≡ p = cc in n (sym at ∙ ap (λ (q : AbstractOrder). q.cache) (sym is)))) h)

@@ -1,5 +1,5 @@
 -- A target that was just made agrees with the abstract world that begins.
-use Rattle.std.proofs.Common.{◌≡◌, ◌+◌, ◌*◌, ◌∙◌, inl, ℕ, zero, suc, Bool, true, false, cond, nat_lt, unwrap_or, Some, None, replicate, refl, sym, ap, subst, slice_get, []}
+use Rattle.std.proofs.Common.{◌≡◌, ◌+◌, ◌*◌, ◌∙◌, inl, ℕ, zero, suc, Bool, true, false, cond, nat_lt, unwrap_or, Some, None, replicate, refl, sym, ap, subst, slice_get}
 use Rattle.std.proofs.lemmas.List.{length-replicate}
 use Rattle.wb_disk.specs.Device.{Content, only}
 use Rattle.wb_contents.specs.Devices.{by_block}
@@ -28,7 +28,7 @@ empty_device c size count = λ i b o. here (nat_lt o size) (b * size + o) i
     here false at = refl
 
 rests : (size most blocks : ℕ) → StandsFor size most (fresh_words blocks) resting idle
-rests size most blocks = record { at = (refl, inl (record { task = refl; held = refl; leads = refl })); below = holds_nothing idle resting.card refl; among_others = refl }
+rests size most blocks = record { failed = false; has_failed = λ e. absurd (cc); at = (refl, inl (record { task = refl; held = refl; leads = refl })); below = holds_nothing idle resting.card refl; among_others = refl }
 
 pub can_agree : CanAgree
 can_agree size most blocks caches cache origin many = record {
@@ -44,7 +44,7 @@ can_agree size most blocks caches cache origin many = record {
   many = length-replicate many idle ∙ sym (length-replicate many resting);
   each = λ a x y e f. subst (λ (v : Actor). StandsFor size most (fresh_words blocks) v y) (replicated many a resting x e)
       (subst (λ (v : AbstractActor). StandsFor size most (fresh_words blocks) resting v) (replicated many a idle y f) (rests size most blocks));
-  orders_agree = no_orders size (fresh_words blocks) (record { metadata = []; cache = replicate cache (only zeros); origin = replicate origin (only zeros) }) (replicate many resting) caches many (world_begins many zeros).shared
+  orders_agree = no_orders size (fresh_words blocks) (replicate many resting) caches many (world_begins many zeros).shared
       (λ a x e. ap (λ (v : Actor). v.task) (sym (replicated many a resting x e)));
 }
   where

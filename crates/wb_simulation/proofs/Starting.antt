@@ -1,11 +1,9 @@
 -- Starts are followed.
-use Rattle.std.proofs.Common.{◌≡◌, ◌∙◌, ◌⊎◌, inl, inr, ℕ, Bool, true, false, List, [], ◌∷◌, Option, Some, None, refl, sym, ap, subst, slice_get, slice_set}
-use Rattle.wb_disk.specs.Device.{History}
+use Rattle.std.proofs.Common.{◌≡◌, ◌∙◌, ◌⊎◌, inl, inr, ℕ, true, false, List, [], ◌∷◌, Option, Some, None, refl, sym, ap, subst, slice_get, slice_set}
 use Rattle.wb_words.specs.SharedWords.{Words, flag}
 use Rattle.wb_policy.specs.declared.order.Order.{Order}
 use Rattle.wb_tasks.specs.Tables.{BlockRange, Reading, Writing, OnBlock, Flushing}
 use Rattle.wb_tasks.specs.Plan.{Plan, table}
-use Rattle.wb_devices.specs.declared.devices.Devices.{Devices}
 use Rattle.wb_link.specs.Tables.{Job as AbstractJob, Order as AbstractOrder, Flushing as FlushingFor}
 use Rattle.wb_link.specs.World.{World, Shared, Record, Start, MayStart, IsRun, Actor as AbstractActor, job_alone, order_of, aside, given, reserved, start_actor, after_all}
 use Rattle.wb_refines.specs.Translation.{job_for, script_for}
@@ -19,7 +17,7 @@ use Rattle.wb_promise.specs.States.{Actor}
 use Rattle.wb_simulation.specs.Steps.{IsPart}
 use Rattle.wb_simulation.specs.Actors.{IsLate, IsBusyAt, IsDoing, StandsFor}
 use Rattle.wb_simulation.specs.Telling.{Telling, Quietly, Starts, IsTold}
-use Rattle.wb_simulation.specs.Worlds.{Agrees, OrdersAgree, Turn, Stays, TurnedTo, DeskTurnedTo, FollowsBy}
+use Rattle.wb_simulation.specs.Worlds.{Situation, Agrees, OrdersAgree, Turn, Stays, TurnedTo, DeskTurnedTo, WorldFollowsBy}
 use Rattle.wb_simulation.specs.Laws.{StartsFollowed, Begun}
 use Rattle.wb_simulation.proofs.Telling.{unnoted_none}
 use Rattle.wb_simulation.proofs.Cells.{Leading}
@@ -41,34 +39,34 @@ pub record IsGiven (words : Words) (turn : Turn) (s t : Shared) : Type 0 where
 pub given_nothing : (words : Words) (s : Shared) → WordsAgree words s → IsGiven words Stays s s
 given_nothing words s w = record { words_agree = w; origin = refl; cache = refl; mode = refl; commits = refl; broken = refl; mapping = refl; turned = (refl, refl, refl); desk = (refl, refl) }
 
-module _ (size most : ℕ) (words : Words) (committing : Bool) (orders : List (Option Order)) (devices : Devices (List History)) (actors : List Actor) (a : ℕ) (x x' : Actor) (s : World) (y : AbstractActor) (g : Agrees size most words committing orders devices actors s) (ex : slice_get actors a ≡ Some x) (ey : slice_get s.actors a ≡ Some y) where
+module _ (now : Situation) (a : ℕ) (x x' : Actor) (s : World) (y : AbstractActor) (g : Agrees now s) (ex : slice_get now.actors a ≡ Some x) (ey : slice_get s.actors a ≡ Some y) where
   -- These records give it something to do, and its actor there is this one then.
-  pub begins : (turn : Turn) (telling : Telling) (orders' : List (Option Order)) (rs : List Record) (waiting : ℕ → Option AbstractOrder) (t : Shared) (y' : AbstractActor) → IsRun size s rs → after_all s rs ≡ record { shared = t; actors = slice_set s.actors a y'; waiting = waiting } → IsTold telling a y.task rs → IsGiven words turn s.shared t → Leading y y' → StandsFor size most words x' y' →
-      OrdersAgree size words orders' devices (slice_set actors a x') (record { shared = t; actors = slice_set s.actors a y'; waiting = waiting }) → FollowsBy turn telling size most a s words committing orders' devices (slice_set actors a x')
-  begins turn telling orders' rs waiting t y' run is told i leading st ordered = follows_by size most words words (λ f. f) committing orders devices actors a x x' s y g ex ey turn telling committing orders' devices rs _ run is told
-      (agrees_on size most words words (λ f. f) committing orders devices actors a x x' s y g ex ey orders' devices waiting t y' leading st i.words_agree (i.origin ∙ g.origin) (i.cache ∙ g.cache) i.mode i.commits i.broken ordered) i.turned i.desk
+  pub begins : (turn : Turn) (telling : Telling) (orders' : List (Option Order)) (rs : List Record) (waiting : ℕ → Option AbstractOrder) (t : Shared) (y' : AbstractActor) → IsRun now.size s rs → after_all s rs ≡ record { shared = t; actors = slice_set s.actors a y'; waiting = waiting } → IsTold telling a y.task rs → IsGiven now.words turn s.shared t → Leading y y' → StandsFor now.size now.most now.words x' y' →
+      OrdersAgree now.size now.words orders' (slice_set now.actors a x') (record { shared = t; actors = slice_set s.actors a y'; waiting = waiting }) → WorldFollowsBy turn telling a s (record now { orders = orders' }) x'
+  begins turn telling orders' rs waiting t y' run is told i leading st ordered = follows_by now now.words (λ f. f) a x x' s y g ex ey turn telling now.committing orders' now.devices rs _ run is told
+      (agrees_on now now.words (λ f. f) a x x' s y g ex ey orders' now.devices waiting t y' leading st i.words_agree (i.origin ∙ g.origin) (i.cache ∙ g.cache) i.mode i.commits i.broken ordered) i.turned i.desk
 
 pub rests : (size most : ℕ) (words : Words) (x : Actor) (y : AbstractActor) → StandsFor size most words x y → x.task ≡ None → (y.task ≡ None) × (IsResting y ⊎ (flag words.fail ≡ true))
-rests size most words x y st e = subst (λ t. IsBusyAt size most words t x.card y) e st.at
+rests size most words x y st e = let r = subst (λ t. IsBusyAt size most st.failed t x.card y) e st.at in (r.0, elim r.1 [ inl i ↦ inl i | inr f ↦ inr (st.has_failed f) ])
 
-module _ (size most : ℕ) (words : Words) (committing : Bool) (orders : List (Option Order)) (devices : Devices (List History)) (actors : List Actor) (a : ℕ) (x : Actor) (s : World) (ex : slice_get actors a ≡ Some x) (none : x.task ≡ None) (g : Agrees size most words committing orders devices actors s) where
-  its : (y : AbstractActor) × (slice_get s.actors a ≡ Some y) × StandsFor size most words x y
-  its = own_there size most words committing orders devices actors s g a x ex
+module _ (now : Situation) (a : ℕ) (x : Actor) (s : World) (ex : slice_get now.actors a ≡ Some x) (none : x.task ≡ None) (g : Agrees now s) where
+  its : (y : AbstractActor) × (slice_get s.actors a ≡ Some y) × StandsFor now.size now.most now.words x y
+  its = own_there now s g a x ex
 
   abbrev y : AbstractActor
   y = its.0
 
   -- The same job is started there, or nothing is, since the actor has kept something.
-  starts : (job : Job) (plan : Plan) (there : AbstractJob) → MigratesNot job → MayStart size s there → reserved s.shared there ≡ s.shared → order_of there ≡ None → job_alone there ≡ false → plan ≡ table plan.job → (IsResting y → IsDoing size most words job plan x.card (given y there)) → (IsLate words plan y → IsDoing size most words job plan x.card y) →
-      Begun there size most a s words committing orders devices (slice_set actors a (record x { task = Some (job, plan) }))
-  starts job plan there other may same no_order among begun doing late = elim (rests size most words x y its.2 none).1 [
-    | inl idle ↦ inl (begins size most words committing orders devices actors a x x' s y g ex its.1 Stays (Starts there) orders (Start a there ∷ []) (aside s.waiting y.order) s.shared (given y there)
-        ((y, record { actor = its.1; task = idle.task; free = inl (idle.held, idle.leads); nobody_alone = nobody_alone size most words committing orders devices actors s g; may = may }), tt)
-        (ap (λ (o : Option AbstractActor). start_actor s a o there) its.1 ∙ ap (λ (u : Shared). record { shared = u; actors = slice_set s.actors a (given y there); waiting = aside s.waiting y.order }) same) refl (given_nothing words s.shared g.words_agree)
-        (λ l. let bad : true ≡ false = sym l ∙ idle.leads in absurd (cc)) (record { at = doing idle; below = holds_nothing (given y there) x.card idle.held; among_others = among })
-        (orders_begun size words orders devices actors a x x' s y (given y there) s.shared ex its.1 g.orders_agree no_order refl (does_none _ _ _ _ _ _ other)))
-    | inr f ↦ inr (stays_there size most words committing orders devices actors a x x' s y g ex its.1 Quietly ([], unnoted_none y.task, refl)
-        (record { at = late (record { failed = f; nothing = (rests size most words x y its.2 none).0; at = inl begun }); below = its.2.below; among_others = its.2.among_others }) (λ o h. h) (does_none _ _ _ _ _ _ other))
+  starts : (job : Job) (plan : Plan) (there : AbstractJob) → MigratesNot job → MayStart now.size s there → reserved s.shared there ≡ s.shared → order_of there ≡ None → job_alone there ≡ false → plan ≡ table plan.job → (IsResting y → IsDoing now.size now.most (flag now.words.fail) job plan x.card (given y there)) → (IsLate (flag now.words.fail) plan y → IsDoing now.size now.most (flag now.words.fail) job plan x.card y) →
+      Begun there a s now (record x { task = Some (job, plan) })
+  starts job plan there other may same no_order among begun doing late = elim (rests now.size now.most now.words x y its.2 none).1 [
+    | inl idle ↦ inl (begins now a x x' s y g ex its.1 Stays (Starts there) now.orders (Start a there ∷ []) (aside s.waiting y.order) s.shared (given y there)
+        ((y, record { actor = its.1; task = idle.task; free = inl (idle.held, idle.leads); nobody_alone = nobody_alone now s g; may = may }), tt)
+        (ap (λ (o : Option AbstractActor). start_actor s a o there) its.1 ∙ ap (λ (u : Shared). record { shared = u; actors = slice_set s.actors a (given y there); waiting = aside s.waiting y.order }) same) refl (given_nothing now.words s.shared g.words_agree)
+        (λ l. let bad : true ≡ false = sym l ∙ idle.leads in absurd (cc)) (record { failed = flag now.words.fail; has_failed = λ e. e; at = doing idle; below = holds_nothing (given y there) x.card idle.held; among_others = among })
+        (orders_begun now.size now.words now.orders now.actors a x x' s y (given y there) s.shared ex its.1 g.orders_agree no_order refl (does_none _ _ _ _ _ other)))
+    | inr f ↦ inr (stays_there now a x x' s y g ex its.1 Quietly ([], unnoted_none y.task, refl)
+        (record { failed = flag now.words.fail; has_failed = λ e. e; at = late (record { has_failed = f; nothing = (rests now.size now.most now.words x y its.2 none).0; at = inl begun }); below = its.2.below; among_others = its.2.among_others }) (λ o h. h) (does_none _ _ _ _ _ other))
   ]
     where
       x' : Actor
@@ -79,22 +77,22 @@ all_inside size part is e c = (is.each e c).room
 
 pub starts_followed : StartsFollowed
 starts_followed = record {
-  read = λ size most words committing orders devices actors a x extent part s ex none hold is g.
+  read = λ now a x extent part s ex none hold is g.
       let plan = table (OnBlock (Reading part)) in
-      let u = y size most words committing orders devices actors a x s ex none g in
-      starts size most words committing orders devices actors a x s ex none g (Read extent) plan (job_for size [] (OnBlock (Reading part))) tt (within_offsets size part.extents (all_inside size part is)) refl refl refl refl
-      (λ idle. record { part = part; job = refl; is_part = is; of_block = tt; at = inl (record { buffer = u.buffer; is = λ i. record { task = Some (script_for size [] plan); held = (idle.held ∙ ap held_of (sym hold)) i; order = None; leads = idle.leads i; buffer = u.buffer }; saw = tt }) })
+      let u = y now a x s ex none g in
+      starts now a x s ex none g (Read extent) plan (job_for now.size [] (OnBlock (Reading part))) tt (within_offsets now.size part.extents (all_inside now.size part is)) refl refl refl refl
+      (λ idle. record { part = part; job = refl; is_part = is; of_block = tt; at = inl (record { buffer = u.buffer; is = λ i. record { task = Some (script_for now.size [] plan); held = (idle.held ∙ ap held_of (sym hold)) i; order = None; leads = idle.leads i; buffer = u.buffer }; saw = tt }) })
       (λ l. record { part = part; job = refl; is_part = is; of_block = tt; at = inr (inr l) });
-  write = λ size most words committing orders devices actors a x extent content part s ex none hold is g.
+  write = λ now a x extent content part s ex none hold is g.
       let plan = table (OnBlock (Writing part)) in
-      let u = y size most words committing orders devices actors a x s ex none g in
-      starts size most words committing orders devices actors a x s ex none g (Write extent content) plan (job_for size content (OnBlock (Writing part))) tt (within_offsets size part.extents (all_inside size part is), g.mode) refl refl refl refl
-      (λ idle. record { part = part; job = refl; is_part = is; of_block = tt; at = inl (record { buffer = u.buffer; is = λ i. record { task = Some (script_for size content plan); held = (idle.held ∙ ap held_of (sym hold)) i; order = None; leads = idle.leads i; buffer = u.buffer }; saw = tt }) })
+      let u = y now a x s ex none g in
+      starts now a x s ex none g (Write extent content) plan (job_for now.size content (OnBlock (Writing part))) tt (within_offsets now.size part.extents (all_inside now.size part is), g.mode) refl refl refl refl
+      (λ idle. record { part = part; job = refl; is_part = is; of_block = tt; at = inl (record { buffer = u.buffer; is = λ i. record { task = Some (script_for now.size content plan); held = (idle.held ∙ ap held_of (sym hold)) i; order = None; leads = idle.leads i; buffer = u.buffer }; saw = tt }) })
       (λ l. record { part = part; job = refl; is_part = is; of_block = tt; at = inr (inr l) });
-  flush = λ size most words committing orders devices actors a x serves s ex none g.
-      let plan = table (Flushing serves most) in
-      let u = y size most words committing orders devices actors a x s ex none g in
-      starts size most words committing orders devices actors a x s ex none g Flush plan (FlushingFor None) tt refl refl refl refl refl
-      (λ idle. record { serves = serves; job = refl; steps = refl; at = inl (record { leads = false; at = refl; failed = λ e n. absurd (cc); is = record { buffer = u.buffer; is = λ i. record { task = Some (script_for size [] plan); held = idle.held i; order = None; leads = idle.leads i; buffer = u.buffer } } }) })
+  flush = λ now a x serves s ex none g.
+      let plan = table (Flushing serves now.most) in
+      let u = y now a x s ex none g in
+      starts now a x s ex none g Flush plan (FlushingFor None) tt refl refl refl refl refl
+      (λ idle. record { serves = serves; job = refl; steps = refl; at = inl (record { leads = false; at = refl; has_failed = λ e n. absurd (cc); is = record { buffer = u.buffer; is = λ i. record { task = Some (script_for now.size [] plan); held = idle.held i; order = None; leads = idle.leads i; buffer = u.buffer } } }) })
       (λ l. record { serves = serves; job = refl; steps = refl; at = inr l });
 }

@@ -12,7 +12,7 @@ use Rattle.wb_words.specs.declared.step.CellResult.TheVariants.{Done as Won, Los
 use Rattle.wb_words.specs.declared.word.Word.TheVariants.{Cell as LockWord, Seal as SealWord, Number, Fail}
 use Rattle.wb_types.specs.declared.number.OBlock.{OBlock}
 use Rattle.wb_types.specs.declared.refusal.Refusal.TheVariants.{Failed, Worn, Busy}
-use Rattle.wb_tasks.specs.Tables.{TaskJob, BlockRange, Reading, Writing, Migrating, OnBlock, read_step, read_count, write_count, cache_extent, copies, ending, work}
+use Rattle.wb_tasks.specs.Tables.{TaskJob, BlockRange, Reading, Writing, Migrating, OnBlock, place_read, read_step, read_count, write_count, cache_extent, copies, ending, work}
 use Rattle.wb_tasks.specs.Plan.{work_of, after, got_of, onward, refused, may_take, exchange, is_worn, gives_back}
 use Rattle.wb_tasks.specs.declared.step.Answer.{Answer}
 use Rattle.wb_tasks.specs.declared.step.Migration.TheVariants.{Promote, Demote, Clean}
@@ -47,18 +47,18 @@ module _ (size : ℕ) (part : BlockRange) (is : IsPart size part) where
 
   -- what a read or write does once it has seen its block's seal
   pub read_of_block : (seal : ℕ) → AreOfBlock size part.block.0 (work_of (OnBlock (Reading part)) seal)
-  read_of_block seal = work_has (λ place dirty ws. AreOfBlock size part.block.0 ws) (Reading part) (record { each = each; last = last }) (place_in seal) (dirty_in seal)
+  read_of_block seal = work_has (λ place dirty ws. AreOfBlock size part.block.0 ws) (Reading part) (record { each = λ place dirty e ws m w. each (place_read part.mode place) e ws m w; last = λ place dirty. last (place_read part.mode place) }) (place_in seal) (dirty_in seal)
     where
-      each : (place : Option CBlock) (dirty : Bool) (e : Extent) (ws : List Want) → Contains part.extents e → AreOfBlock size part.block.0 ws → AreOfBlock size part.block.0 (read_step part place e ∷ ws)
-      each None dirty e ws m w = (on_origin e (is.each e m), w)
-      each (Some c) dirty e ws m w = (on_cache c e (is.each e m), w)
+      each : (place : Option CBlock) (e : Extent) (ws : List Want) → Contains part.extents e → AreOfBlock size part.block.0 ws → AreOfBlock size part.block.0 (read_step part place e ∷ ws)
+      each None e ws m w = (on_origin e (is.each e m), w)
+      each (Some c) e ws m w = (on_cache c e (is.each e m), w)
 
-      last : (place : Option CBlock) (dirty : Bool) → AreOfBlock size part.block.0 (read_count place ∷ Cell (Release Shared part.block) ∷ [])
-      last None dirty = tt
-      last (Some c) dirty = tt
+      last : (place : Option CBlock) → AreOfBlock size part.block.0 (read_count place ∷ Cell (Release Shared part.block) ∷ [])
+      last None = tt
+      last (Some c) = tt
 
   pub write_of_block : (seal : ℕ) → AreOfBlock size part.block.0 (work_of (OnBlock (Writing part)) seal)
-  write_of_block seal = work_has Of (Writing part) (record { seal = λ c ws w t. (t true, w t); home = λ dirty e ws m w t. (on_origin e (is.each e m), w t); cached = λ c e ws m w t. (on_cache c e (is.each e m), w t); last = last })
+  write_of_block seal = work_has Of (Writing part) (record { seal = λ c ws back w t. (t true, w t); home = λ dirty e ws m w t. (on_origin e (is.each e m), w t); cached = λ c dirty e ws sealed m w t. (on_cache c e (is.each e m), w t); through = λ c dirty e ws other m w t. (on_origin e (is.each e m), w t); last = last })
       (place_in seal) (dirty_in seal) (λ d. seal_tells seal d)
     where
       -- where a seal can tell that place

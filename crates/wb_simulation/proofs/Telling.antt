@@ -1,7 +1,6 @@
 -- What steps of an actor are told as.
-use Rattle.std.proofs.Common.{◌≡◌, ◌≢◌, inl, inr, sym, subst, ℕ, List, [], ◌∷◌, Option, Some, None, refl}
+use Rattle.std.proofs.Common.{Bool, ◌≡◌, ◌≢◌, inl, inr, sym, subst, ℕ, List, [], ◌∷◌, Option, Some, None, refl}
 use Rattle.wb_disk.specs.Device.{Content}
-use Rattle.wb_words.specs.SharedWords.{Words}
 use Rattle.wb_words.specs.declared.card.Card.{Card}
 use Rattle.wb_tasks.specs.Tables.{TaskJob}
 use Rattle.wb_tasks.specs.Plan.{Plan, table}
@@ -43,13 +42,13 @@ pub answers_at : (size : ℕ) (content : Content) (job : TaskJob) (answer : Answ
 answers_at size content job Finished y e = subst (λ (t : Option Script). AnswersSo (job_for size content job) Finished t) (sym e) (refl, refl, refl)
 answers_at size content job (Refuses refusal) y e = subst (λ (t : Option Script). AnswersSo (job_for size content job) (Refuses refusal) t) (sym e) (refl, refused_undone (job_for size content job) refusal)
 
-pub stopped_answers : (job : AbstractJob) (words : Words) (plan : Plan) (card : Card) (answer : Answer) (y : AbstractActor) → plan.answer ≡ answer → HasStopped words plan card y → AnswersSo job answer y.task
-stopped_answers job words plan card Finished y e k = absurd (k.refused e)
-stopped_answers job words plan card (Refuses refusal) y e k = subst (λ (t : Option Script). AnswersSo job (Refuses refusal) t) (sym k.task) (k.nothing, k.undone)
+pub stopped_answers : (job : AbstractJob) (failed : Bool) (plan : Plan) (card : Card) (answer : Answer) (y : AbstractActor) → plan.answer ≡ answer → HasStopped failed plan card y → AnswersSo job answer y.task
+stopped_answers job failed plan card Finished y e k = absurd (k.refused e)
+stopped_answers job failed plan card (Refuses refusal) y e k = subst (λ (t : Option Script). AnswersSo job (Refuses refusal) t) (sym k.task) (k.nothing, k.undone)
 
 -- who is late has been refused
-pub late_answers_so : (job : AbstractJob) (words : Words) (plan : Plan) (answer : Answer) (y : AbstractActor) → plan.answer ≡ answer → (plan ≡ table plan.job → ⊥) → IsLate words plan y → AnswersSo job answer y.task
-late_answers_so job words plan answer y e begun l = elim l.at [ inl t ↦ absurd (begun t) | inr n ↦ by answer e n.1 ]
+pub late_answers_so : (job : AbstractJob) (failed : Bool) (plan : Plan) (answer : Answer) (y : AbstractActor) → plan.answer ≡ answer → (plan ≡ table plan.job → ⊥) → IsLate failed plan y → AnswersSo job answer y.task
+late_answers_so job failed plan answer y e begun l = elim l.at [ inl t ↦ absurd (begun t) | inr n ↦ by answer e n.1 ]
   where
     by : (answer : Answer) → plan.answer ≡ answer → plan.answer ≢ Finished → AnswersSo job answer y.task
     by Finished e n = absurd (n e)

@@ -2,9 +2,9 @@
 use Rattle.std.specs.Prelude.{◌==◌, ◌++◌, Bool, false, ◌≡◌, ◌⊎◌, ◌<◌, ◌^◌, ℕ, true, List, ◌∷◌, Option, Some, None, Contains, map, slice_get}
 use Rattle.wb_types.specs.declared.number.CBlock.{CBlock}
 use Rattle.wb_types.specs.declared.number.OBlock.{OBlock}
-use Rattle.wb_disk.specs.Device.{Content, History}
+use Rattle.wb_disk.specs.Device.{Content}
 use Rattle.wb_contents.specs.Volume.{Locations}
-use Rattle.wb_words.specs.SharedWords.{Words}
+use Rattle.wb_words.specs.SharedWords.{Words, flag}
 use Rattle.wb_policy.specs.declared.order.Order.{Order}
 use Rattle.wb_policy.specs.declared.order.Order.TheVariants.{Promote, Replace, Demote, Clean}
 use Rattle.wb_tasks.specs.Tables.{BlockRange, Migrating, OnBlock}
@@ -15,7 +15,6 @@ use Rattle.wb_tasks.specs.declared.step.Migration.{Migration}
 use Rattle.wb_tasks.specs.declared.step.Migration.TheVariants.{Promote as PromoteInto, Demote as DemoteOne}
 use Rattle.wb_tasks.specs.declared.step.Want.{Want}
 use Rattle.wb_tasks.specs.declared.step.Want.TheVariants.{Device}
-use Rattle.wb_devices.specs.declared.devices.Devices.{Devices}
 use Rattle.wb_link.specs.Tables.{Order as AbstractOrder}
 use Rattle.wb_link.specs.World.{Actor as AbstractActor}
 use Rattle.wb_refines.specs.Translation.{offsets_in}
@@ -78,7 +77,7 @@ HasRead size (Device (Write device e) ∷ later) buffer there = buffer ≡ map t
 HasRead size steps buffer there = Unit {0}
 
 -- These steps of a migration are left there too, under the same order, with what the actor's card counts.
-pub record IsCarried (size : ℕ) (orders : List (Option Order)) (devices : Devices (List History)) (migration : Migration) (block : OBlock) (part : BlockRange) (steps : List Want) (answer : Answer) (x : Actor) (y : AbstractActor) : Type 0 where
+pub record IsCarried (size : ℕ) (orders : List (Option Order)) (migration : Migration) (block : OBlock) (part : BlockRange) (steps : List Want) (answer : Answer) (x : Actor) (y : AbstractActor) : Type 0 where
   pub block_is : part.block ≡ block
   pub is_part : IsPart size part
   pub c : CBlock
@@ -95,11 +94,13 @@ pub record IsCarried (size : ℕ) (orders : List (Option Order)) (devices : Devi
   pub read : HasRead size steps x.buffer y.buffer
 
 -- it has kept what it has at a failure, and has only to answer
-abbrev pub HasEnded : Words → Plan → Actor → AbstractActor → Type 0
-HasEnded words plan x y = (k : HasStopped words plan x.card y) × IsMigrating k.script.job
+abbrev pub HasEnded : Bool → Plan → Actor → AbstractActor → Type 0
+HasEnded failed plan x y = (k : HasStopped failed plan x.card y) × IsMigrating k.script.job
 
 -- a migration is at the same there, has kept what it has at a failure, or is late
-pub record IsAtMigration (size : ℕ) (words : Words) (orders : List (Option Order)) (devices : Devices (List History)) (migration : Migration) (block : OBlock) (plan : Plan) (x : Actor) (y : AbstractActor) : Type 0 where
+pub record IsAtMigration (size : ℕ) (words : Words) (orders : List (Option Order)) (migration : Migration) (block : OBlock) (plan : Plan) (x : Actor) (y : AbstractActor) : Type 0 where
   pub part : BlockRange
   pub job : plan.job ≡ OnBlock (Migrating migration part)
-  pub at : IsCarried size orders devices migration block part plan.steps plan.answer x y ⊎ HasEnded words plan x y ⊎ IsLate words plan y
+  pub failed : Bool
+  pub has_failed : failed ≡ true → flag words.fail ≡ true
+  pub at : IsCarried size orders migration block part plan.steps plan.answer x y ⊎ HasEnded failed plan x y ⊎ IsLate failed plan y

@@ -1,5 +1,5 @@
 -- How what actors of a run do is followed in the abstract world, where a target stands.
-use Rattle.std.specs.Prelude.{◌++◌, Contains, ◌%◌, ◌≡◌, ◌≤◌, ◌+◌, ◌⊎◌, ℕ, Bool, true, false, List, [], Some, None, length, replicate, slice_get, slice_set, Option}
+use Rattle.std.specs.Prelude.{◌++◌, Contains, ◌%◌, ◌≡◌, ◌≤◌, ◌+◌, ◌⊎◌, ℕ, Bool, true, false, List, [], Some, None, length, replicate, slice_get, slice_set}
 use Rattle.wb_types.specs.declared.extent.Extent.{Extent}
 use Rattle.wb_types.specs.declared.mode.Dev.{Dev}
 use Rattle.wb_types.specs.declared.mode.Dev.TheVariants.{Metadata}
@@ -20,13 +20,13 @@ use Rattle.wb_tasks.specs.Tables.{BlockRange, Reading, Writing, OnBlock, Flushin
 use Rattle.wb_tasks.specs.declared.step.Answer.{Answer}
 use Rattle.wb_words.specs.declared.card.Hold.TheVariants.{Nothing}
 use Rattle.wb_tasks.specs.Ready.{Suits, HoldsBlocks}
+use Rattle.wb_tasks.specs.declared.step.Want.{Want}
 use Rattle.wb_tasks.specs.declared.step.Want.TheVariants.{Cell, Device, Desk, End}
 use Rattle.wb_tasks.specs.declared.step.DeskStep.TheVariants.{BeginCommit, EndCommit, ReleaseOrder}
 use Rattle.wb_tasks.specs.declared.step.DeviceStep.{DeviceStep}
 use Rattle.wb_tasks.specs.declared.step.DeviceStep.TheVariants.{Read as ReadExtent, Write as WriteExtent, Sync, WriteRoot}
 use Rattle.wb_tasks.specs.declared.step.Got.{Got}
 use Rattle.wb_tasks.specs.declared.step.Got.TheVariants.{Done, Fault, Began, Refused}
-use Rattle.wb_devices.specs.declared.devices.Devices.{Devices}
 use Rattle.wb_devices.specs.Moving.{device_in}
 use Rattle.wb_link.specs.Tables.{Job as AbstractJob, Flushing as FlushingFor}
 use Rattle.wb_refines.specs.Translation.{job_for}
@@ -39,7 +39,14 @@ use Rattle.wb_runs.specs.Holding.{cards_of}
 use Rattle.wb_simulation.specs.Carried.{held}
 use Rattle.wb_simulation.specs.Steps.{IsPart}
 use Rattle.wb_simulation.specs.Telling.{Quietly, Reads, Writes, Answers, Starts, Releases}
-use Rattle.wb_simulation.specs.Worlds.{zeros, Agrees, Turn, Stays, Begins, Puts, Ends, GivesUp, FollowsBy, Follows}
+use Rattle.wb_simulation.specs.Worlds.{zeros, Situation, Agrees, Turn, Stays, Begins, Puts, Ends, GivesUp, WorldFollowsBy, WorldFollows}
+
+-- This actor, which is at this task, wants this next, and the run stands where the world does.
+pub record WantsNext (now : Situation) (a : ℕ) (x : Actor) (s : World) (job : Job) (plan : Plan) (next : Want) : Type 0 where
+  pub here : slice_get now.actors a ≡ Some x
+  pub task : x.task ≡ Some (job, plan)
+  pub asks : want plan ≡ next
+  pub agrees : Agrees now s
 
 abbrev pub IsRequestJob : Job → Type 0
 IsRequestJob (Read extent) = Unit {0}
@@ -52,9 +59,9 @@ went words job plan step x = record x { task = Some (job, after plan (got_of (re
 
 -- A step of a read or a write on the shared words, which keep their rule, among all others who have tasks.
 abbrev pub CellStepsFollowed : Type 0
-CellStepsFollowed = (size most blocks : ℕ) (words : Words) (committing : Bool) (orders : List (Option Order)) (devices : Devices (List History)) (actors : List Actor) (a : ℕ) (x : Actor) (job : Job) (plan : Plan) (step : CellStep) (s : World) →
-    IsRequestJob job → LockRule blocks words (cards_of actors) → slice_get actors a ≡ Some x → x.task ≡ Some (job, plan) → Suits blocks plan x.card → want plan ≡ Cell step → Agrees size most words committing orders devices actors s →
-    Follows Quietly size most a s (words_after words step) committing orders devices (slice_set actors a (went words job plan step x))
+CellStepsFollowed = (now : Situation) (blocks : ℕ) (a : ℕ) (x : Actor) (job : Job) (plan : Plan) (step : CellStep) (s : World) →
+    IsRequestJob job → LockRule blocks now.words (cards_of now.actors) → WantsNext now a x s job plan (Cell step) → Suits blocks plan x.card →
+    WorldFollows Quietly a s (record now { words = words_after now.words step }) (went now.words job plan step x)
 
 -- an actor that has gone on with its task, and knows what it knew
 abbrev pub after_step : Job → Plan → Got → Actor → Actor
@@ -62,34 +69,34 @@ after_step job plan got x = record x { task = Some (job, after plan got) }
 
 -- A step of a read or a write on an extent of a device, done or failing; of a write that fails each sector has landed or not.
 pub record ExtentStepsFollowed : Type 0 where
-  pub read_done : (size most blocks : ℕ) (words : Words) (committing : Bool) (orders : List (Option Order)) (devices : Devices (List History)) (actors : List Actor) (a : ℕ) (x : Actor) (extent : Extent) (part : BlockRange) (plan : Plan) (device : Dev) (e : Extent) (contents : List Content) (s : World) →
-      slice_get actors a ≡ Some x → x.task ≡ Some (Read extent, plan) → plan.job ≡ OnBlock (Reading part) → Suits blocks plan x.card → want plan ≡ Device (ReadExtent device e) → HoldsBlocks device → length contents ≡ e.count → GivesEach (device_in device devices) e.first contents →
-      Agrees size most words committing orders devices actors s → Follows (Reads part.block.0 (e.first % size) contents) size most a s words committing orders devices (slice_set actors a (after_step (Read extent) plan Done x))
-  pub read_fails : (size most blocks : ℕ) (words : Words) (committing : Bool) (orders : List (Option Order)) (devices : Devices (List History)) (actors : List Actor) (a : ℕ) (x : Actor) (extent : Extent) (part : BlockRange) (plan : Plan) (device : Dev) (e : Extent) (s : World) →
-      slice_get actors a ≡ Some x → x.task ≡ Some (Read extent, plan) → plan.job ≡ OnBlock (Reading part) → Suits blocks plan x.card → want plan ≡ Device (ReadExtent device e) → HoldsBlocks device →
-      Agrees size most words committing orders devices actors s → Follows Quietly size most a s words committing orders devices (slice_set actors a (after_step (Read extent) plan Fault x))
-  pub write_done : (size most blocks : ℕ) (words : Words) (committing : Bool) (orders : List (Option Order)) (devices : Devices (List History)) (actors : List Actor) (a : ℕ) (x : Actor) (extent : Extent) (content : Content) (part : BlockRange) (plan : Plan) (device : Dev) (e : Extent) (s : World) →
-      slice_get actors a ≡ Some x → x.task ≡ Some (Write extent content, plan) → plan.job ≡ OnBlock (Writing part) → Suits blocks plan x.card → want plan ≡ Device (WriteExtent device e) → HoldsBlocks device → e.first + e.count ≤ length (device_in device devices) →
-      Agrees size most words committing orders devices actors s → Follows (Writes part.block.0 (e.first % size) e.count content) size most a s words committing orders (with_device device devices (written_each (device_in device devices) e.first (replicate e.count content))) (slice_set actors a (after_step (Write extent content) plan Done x))
-  pub write_fails : (size most blocks : ℕ) (words : Words) (committing : Bool) (orders : List (Option Order)) (devices : Devices (List History)) (actors : List Actor) (a : ℕ) (x : Actor) (extent : Extent) (content : Content) (part : BlockRange) (plan : Plan) (device : Dev) (e : Extent) (lands : ℕ → Bool) (s : World) →
-      slice_get actors a ≡ Some x → x.task ≡ Some (Write extent content, plan) → plan.job ≡ OnBlock (Writing part) → Suits blocks plan x.card → want plan ≡ Device (WriteExtent device e) → HoldsBlocks device → e.first + e.count ≤ length (device_in device devices) →
-      Agrees size most words committing orders devices actors s → Follows (Writes part.block.0 (e.first % size) e.count content) size most a s words committing orders (with_device device devices (written_where lands (device_in device devices) e.first (replicate e.count content))) (slice_set actors a (after_step (Write extent content) plan Fault x))
+  pub read_done : (now : Situation) (blocks : ℕ) (a : ℕ) (x : Actor) (extent : Extent) (part : BlockRange) (plan : Plan) (device : Dev) (e : Extent) (contents : List Content) (s : World) →
+      WantsNext now a x s (Read extent) plan (Device (ReadExtent device e)) → plan.job ≡ OnBlock (Reading part) → Suits blocks plan x.card → HoldsBlocks device → length contents ≡ e.count → GivesEach (device_in device now.devices) e.first contents →
+      WorldFollows (Reads part.block.0 (e.first % now.size) contents) a s now (after_step (Read extent) plan Done x)
+  pub read_fails : (now : Situation) (blocks : ℕ) (a : ℕ) (x : Actor) (extent : Extent) (part : BlockRange) (plan : Plan) (device : Dev) (e : Extent) (s : World) →
+      WantsNext now a x s (Read extent) plan (Device (ReadExtent device e)) → plan.job ≡ OnBlock (Reading part) → Suits blocks plan x.card → HoldsBlocks device →
+      WorldFollows Quietly a s now (after_step (Read extent) plan Fault x)
+  pub write_done : (now : Situation) (blocks : ℕ) (a : ℕ) (x : Actor) (extent : Extent) (content : Content) (part : BlockRange) (plan : Plan) (device : Dev) (e : Extent) (s : World) →
+      WantsNext now a x s (Write extent content) plan (Device (WriteExtent device e)) → plan.job ≡ OnBlock (Writing part) → Suits blocks plan x.card → HoldsBlocks device → e.first + e.count ≤ length (device_in device now.devices) →
+      WorldFollows (Writes part.block.0 (e.first % now.size) e.count content) a s (record now { devices = with_device device now.devices (written_each (device_in device now.devices) e.first (replicate e.count content)) }) (after_step (Write extent content) plan Done x)
+  pub write_fails : (now : Situation) (blocks : ℕ) (a : ℕ) (x : Actor) (extent : Extent) (content : Content) (part : BlockRange) (plan : Plan) (device : Dev) (e : Extent) (lands : ℕ → Bool) (s : World) →
+      WantsNext now a x s (Write extent content) plan (Device (WriteExtent device e)) → plan.job ≡ OnBlock (Writing part) → Suits blocks plan x.card → HoldsBlocks device → e.first + e.count ≤ length (device_in device now.devices) →
+      WorldFollows (Writes part.block.0 (e.first % now.size) e.count content) a s (record now { devices = with_device device now.devices (written_where lands (device_in device now.devices) e.first (replicate e.count content)) }) (after_step (Write extent content) plan Fault x)
 
 -- The job is given to the actor there too, or to nobody, since the actor has kept something at a failure.
-abbrev pub Begun : AbstractJob → (size most a : ℕ) → World → Words → Bool → List (Option Order) → Devices (List History) → List Actor → Type 0
-Begun job size most a s words committing orders devices actors = Follows (Starts job) size most a s words committing orders devices actors ⊎ Follows Quietly size most a s words committing orders devices actors
+abbrev pub Begun : AbstractJob → ℕ → World → Situation → Actor → Type 0
+Begun job a s now x = WorldFollows (Starts job) a s now x ⊎ WorldFollows Quietly a s now x
 
 -- A read or write of one part of a block, or a flush, begins, whether its actor has kept something at a failure or not.
 pub record StartsFollowed : Type 0 where
-  pub read : (size most : ℕ) (words : Words) (committing : Bool) (orders : List (Option Order)) (devices : Devices (List History)) (actors : List Actor) (a : ℕ) (x : Actor) (extent : Extent) (part : BlockRange) (s : World) →
-      slice_get actors a ≡ Some x → x.task ≡ None → x.card.hold ≡ Nothing → IsPart size part → Agrees size most words committing orders devices actors s →
-      Begun (job_for size [] (OnBlock (Reading part))) size most a s words committing orders devices (slice_set actors a (record x { task = Some (Read extent, table (OnBlock (Reading part))) }))
-  pub write : (size most : ℕ) (words : Words) (committing : Bool) (orders : List (Option Order)) (devices : Devices (List History)) (actors : List Actor) (a : ℕ) (x : Actor) (extent : Extent) (content : Content) (part : BlockRange) (s : World) →
-      slice_get actors a ≡ Some x → x.task ≡ None → x.card.hold ≡ Nothing → IsPart size part → Agrees size most words committing orders devices actors s →
-      Begun (job_for size content (OnBlock (Writing part))) size most a s words committing orders devices (slice_set actors a (record x { task = Some (Write extent content, table (OnBlock (Writing part))) }))
-  pub flush : (size most : ℕ) (words : Words) (committing : Bool) (orders : List (Option Order)) (devices : Devices (List History)) (actors : List Actor) (a : ℕ) (x : Actor) (serves : List OBlock) (s : World) →
-      slice_get actors a ≡ Some x → x.task ≡ None → Agrees size most words committing orders devices actors s →
-      Begun (FlushingFor None) size most a s words committing orders devices (slice_set actors a (record x { task = Some (Flush, table (Flushing serves most)) }))
+  pub read : (now : Situation) (a : ℕ) (x : Actor) (extent : Extent) (part : BlockRange) (s : World) →
+      slice_get now.actors a ≡ Some x → x.task ≡ None → x.card.hold ≡ Nothing → IsPart now.size part → Agrees now s →
+      Begun (job_for now.size [] (OnBlock (Reading part))) a s now (record x { task = Some (Read extent, table (OnBlock (Reading part))) })
+  pub write : (now : Situation) (a : ℕ) (x : Actor) (extent : Extent) (content : Content) (part : BlockRange) (s : World) →
+      slice_get now.actors a ≡ Some x → x.task ≡ None → x.card.hold ≡ Nothing → IsPart now.size part → Agrees now s →
+      Begun (job_for now.size content (OnBlock (Writing part))) a s now (record x { task = Some (Write extent content, table (OnBlock (Writing part))) })
+  pub flush : (now : Situation) (a : ℕ) (x : Actor) (serves : List OBlock) (s : World) →
+      slice_get now.actors a ≡ Some x → x.task ≡ None → Agrees now s →
+      Begun (FlushingFor None) a s now (record x { task = Some (Flush, table (Flushing serves now.most)) })
 
 -- what a job writes to each of its sectors
 abbrev pub content_of : Job → Content
@@ -98,9 +105,9 @@ content_of job = []
 
 -- A read or write is answered, whether it was done, refused, or stopped by a failure.
 abbrev pub AnswersFollowed : Type 0
-AnswersFollowed = (size most blocks : ℕ) (words : Words) (committing : Bool) (orders : List (Option Order)) (devices : Devices (List History)) (actors : List Actor) (a : ℕ) (x : Actor) (job : Job) (plan : Plan) (answer : Answer) (s : World) →
-    IsRequestJob job → slice_get actors a ≡ Some x → x.task ≡ Some (job, plan) → Suits blocks plan x.card → want plan ≡ End answer → Agrees size most words committing orders devices actors s →
-    Follows (Answers (job_for size (content_of job) plan.job) answer) size most a s words committing orders devices (slice_set actors a (record x { task = None }))
+AnswersFollowed = (now : Situation) (blocks : ℕ) (a : ℕ) (x : Actor) (job : Job) (plan : Plan) (answer : Answer) (s : World) →
+    IsRequestJob job → WantsNext now a x s job plan (End answer) → Suits blocks plan x.card →
+    WorldFollows (Answers (job_for now.size (content_of job) plan.job) answer) a s now (record x { task = None })
 
 -- a step of a commit on the metadata writes the root, or is nothing to the images
 abbrev pub turn_of : DeviceStep → Turn
@@ -113,46 +120,53 @@ IsOnlyOf actors a order = (b : ℕ) (z : Actor) → slice_get actors b ≡ Some 
 
 -- Each step of a flush, with each result that it may have: on the words, on the desk, and on the devices, done or failing.
 pub record FlushStepsFollowed : Type 0 where
-  pub looks : (size most : ℕ) (words : Words) (committing : Bool) (orders : List (Option Order)) (devices : Devices (List History)) (actors : List Actor) (a : ℕ) (x : Actor) (plan : Plan) (s : World) →
-      slice_get actors a ≡ Some x → x.task ≡ Some (Flush, plan) → want plan ≡ Cell (Look Fail) → Agrees size most words committing orders devices actors s →
-      Follows Quietly size most a s words committing orders devices (slice_set actors a (went words Flush plan (Look Fail) x))
-  pub begins : (size most nodes allowed : ℕ) (clean : Bool) (words : Words) (orders : List (Option Order)) (devices : Devices (List History)) (actors : List Actor) (a : ℕ) (x : Actor) (plan : Plan) (s : World) →
-      slice_get actors a ≡ Some x → x.task ≡ Some (Flush, plan) → want plan ≡ Desk (BeginCommit clean allowed) → Agrees size most words false orders devices actors s →
-      FollowsBy Begins Quietly size most a s words true orders devices (slice_set actors a (after_step Flush plan (Began nodes) x))
-  pub is_refused : (size most allowed : ℕ) (clean : Bool) (refusal : Refusal) (words : Words) (committing : Bool) (orders : List (Option Order)) (devices : Devices (List History)) (actors : List Actor) (a : ℕ) (x : Actor) (plan : Plan) (s : World) → IsNoBegin refusal →
-      slice_get actors a ≡ Some x → x.task ≡ Some (Flush, plan) → want plan ≡ Desk (BeginCommit clean allowed) → Agrees size most words committing orders devices actors s →
-      Follows Quietly size most a s words committing orders devices (slice_set actors a (after_step Flush plan (Refused refusal) x))
-  pub syncs : (size most : ℕ) (device : Dev) (words : Words) (committing : Bool) (orders : List (Option Order)) (devices : Devices (List History)) (actors : List Actor) (a : ℕ) (x : Actor) (plan : Plan) (s : World) → HoldsBlocks device →
-      slice_get actors a ≡ Some x → x.task ≡ Some (Flush, plan) → want plan ≡ Device (Sync device) → Agrees size most words committing orders devices actors s →
-      Follows Quietly size most a s words committing orders (with_device device devices (synced (device_in device devices))) (slice_set actors a (after_step Flush plan Done x))
-  pub sync_fails : (size most : ℕ) (device : Dev) (lands : ℕ → Bool) (words : Words) (committing : Bool) (orders : List (Option Order)) (devices : Devices (List History)) (actors : List Actor) (a : ℕ) (x : Actor) (plan : Plan) (s : World) → HoldsBlocks device →
-      slice_get actors a ≡ Some x → x.task ≡ Some (Flush, plan) → want plan ≡ Device (Sync device) → Agrees size most words committing orders devices actors s →
-      Follows Quietly size most a s words committing orders (with_device device devices (synced_where lands (device_in device devices))) (slice_set actors a (after_step Flush plan Fault x))
+  pub looks : (now : Situation) (a : ℕ) (x : Actor) (plan : Plan) (s : World) →
+      WantsNext now a x s Flush plan (Cell (Look Fail)) →
+      WorldFollows Quietly a s now (went now.words Flush plan (Look Fail) x)
+  pub begins : (now : Situation) (nodes allowed : ℕ) (clean : Bool) (a : ℕ) (x : Actor) (plan : Plan) (s : World) →
+      WantsNext now a x s Flush plan (Desk (BeginCommit clean allowed)) → now.committing ≡ false →
+      WorldFollowsBy Begins Quietly a s (record now { committing = true }) (after_step Flush plan (Began nodes) x)
+  pub is_refused : (now : Situation) (allowed : ℕ) (clean : Bool) (refusal : Refusal) (a : ℕ) (x : Actor) (plan : Plan) (s : World) → IsNoBegin refusal →
+      WantsNext now a x s Flush plan (Desk (BeginCommit clean allowed)) →
+      WorldFollows Quietly a s now (after_step Flush plan (Refused refusal) x)
+  pub syncs : (now : Situation) (device : Dev) (a : ℕ) (x : Actor) (plan : Plan) (s : World) → HoldsBlocks device →
+      WantsNext now a x s Flush plan (Device (Sync device)) →
+      WorldFollows Quietly a s (record now { devices = with_device device now.devices (synced (device_in device now.devices)) }) (after_step Flush plan Done x)
+  pub sync_fails : (now : Situation) (device : Dev) (lands : ℕ → Bool) (a : ℕ) (x : Actor) (plan : Plan) (s : World) → HoldsBlocks device →
+      WantsNext now a x s Flush plan (Device (Sync device)) →
+      WorldFollows Quietly a s (record now { devices = with_device device now.devices (synced_where lands (device_in device now.devices)) }) (after_step Flush plan Fault x)
   -- whatever the step leaves of the metadata
-  pub on_metadata : (size most : ℕ) (step : DeviceStep) (metadata : List History) (words : Words) (committing : Bool) (orders : List (Option Order)) (devices : Devices (List History)) (actors : List Actor) (a : ℕ) (x : Actor) (plan : Plan) (s : World) → device_of step ≡ Metadata →
-      slice_get actors a ≡ Some x → x.task ≡ Some (Flush, plan) → want plan ≡ Device step → Agrees size most words committing orders devices actors s →
-      FollowsBy (turn_of step) Quietly size most a s words committing orders (with_device Metadata devices metadata) (slice_set actors a (after_step Flush plan Done x))
-  pub metadata_fails : (size most : ℕ) (step : DeviceStep) (metadata : List History) (words : Words) (committing : Bool) (orders : List (Option Order)) (devices : Devices (List History)) (actors : List Actor) (a : ℕ) (x : Actor) (plan : Plan) (s : World) → device_of step ≡ Metadata →
-      slice_get actors a ≡ Some x → x.task ≡ Some (Flush, plan) → want plan ≡ Device step → Agrees size most words committing orders devices actors s →
-      (written : Bool) × IsWrittenAfter step s.shared.root_written written × FollowsBy (Puts written) Quietly size most a s words committing orders (with_device Metadata devices metadata) (slice_set actors a (after_step Flush plan Fault x))
-  pub ends : (size most : ℕ) (words : Words) (committing : Bool) (orders : List (Option Order)) (devices : Devices (List History)) (actors : List Actor) (a : ℕ) (x : Actor) (plan : Plan) (s : World) →
-      slice_get actors a ≡ Some x → x.task ≡ Some (Flush, plan) → want plan ≡ Desk EndCommit → Agrees size most words committing orders devices actors s →
-      FollowsBy Ends Quietly size most a s words false orders devices (slice_set actors a (after_step Flush plan Done x))
+  pub on_metadata : (now : Situation) (step : DeviceStep) (metadata : List History) (a : ℕ) (x : Actor) (plan : Plan) (s : World) → device_of step ≡ Metadata →
+      WantsNext now a x s Flush plan (Device step) →
+      WorldFollowsBy (turn_of step) Quietly a s (record now { devices = with_device Metadata now.devices metadata }) (after_step Flush plan Done x)
+  pub metadata_fails : (now : Situation) (step : DeviceStep) (metadata : List History) (a : ℕ) (x : Actor) (plan : Plan) (s : World) → device_of step ≡ Metadata →
+      WantsNext now a x s Flush plan (Device step) →
+      (written : Bool) × IsWrittenAfter step s.shared.root_written written × WorldFollowsBy (Puts written) Quietly a s (record now { devices = with_device Metadata now.devices metadata }) (after_step Flush plan Fault x)
+  pub ends : (now : Situation) (a : ℕ) (x : Actor) (plan : Plan) (s : World) →
+      WantsNext now a x s Flush plan (Desk EndCommit) →
+      WorldFollowsBy Ends Quietly a s (record now { committing = false }) (after_step Flush plan Done x)
   -- an order that waits for it is given up, or none is
-  pub gives_up : (size most : ℕ) (block : OBlock) (words : Words) (committing : Bool) (orders : List (Option Order)) (devices : Devices (List History)) (actors : List Actor) (a : ℕ) (x : Actor) (plan : Plan) (c : ℕ) (order : Order) (awaiting' : List Order) (s : World) →
-      slice_get actors a ≡ Some x → x.task ≡ Some (Flush, plan) → want plan ≡ Desk (ReleaseOrder block) → slice_get orders c ≡ Some (Some order) → IsOnlyOf actors a order → Agrees size most words committing orders devices actors s →
-      FollowsBy (GivesUp c) Releases size most a s words committing (slice_set orders c None) devices (slice_set actors a (record (after_step Flush plan Done x) { awaiting = awaiting' }))
-  pub releases : (size most : ℕ) (block : OBlock) (words : Words) (committing : Bool) (orders : List (Option Order)) (devices : Devices (List History)) (actors : List Actor) (a : ℕ) (x : Actor) (plan : Plan) (s : World) →
-      slice_get actors a ≡ Some x → x.task ≡ Some (Flush, plan) → want plan ≡ Desk (ReleaseOrder block) → Agrees size most words committing orders devices actors s →
-      Follows Quietly size most a s words committing orders devices (slice_set actors a (after_step Flush plan Done x))
-  pub fails : (size most failures suspensions : ℕ) (words : Words) (committing : Bool) (orders : List (Option Order)) (devices : Devices (List History)) (actors : List Actor) (a : ℕ) (x : Actor) (plan : Plan) (s : World) → words.fail ≡ fail_word failures suspensions →
-      slice_get actors a ≡ Some x → x.task ≡ Some (Flush, plan) → want plan ≡ Cell SetFailed → Agrees size most words committing orders devices actors s →
-      Follows Quietly size most a s (words_after words SetFailed) committing orders devices (slice_set actors a (went words Flush plan SetFailed x))
-  pub answers : (size most : ℕ) (answer : Answer) (words : Words) (committing : Bool) (orders : List (Option Order)) (devices : Devices (List History)) (actors : List Actor) (a : ℕ) (x : Actor) (plan : Plan) (orders' awaiting' : List Order) (s : World) →
-      slice_get actors a ≡ Some x → x.task ≡ Some (Flush, plan) → want plan ≡ End answer → ((o : Order) → Contains (held x) o → Contains (orders' ++ awaiting') o) → Agrees size most words committing orders devices actors s →
-      Follows (Answers (FlushingFor None) answer) size most a s words committing orders devices (slice_set actors a (record x { task = None; orders = orders'; awaiting = awaiting' }))
+  pub gives_up : (now : Situation) (block : OBlock) (a : ℕ) (x : Actor) (plan : Plan) (c : ℕ) (order : Order) (awaiting' : List Order) (s : World) →
+      WantsNext now a x s Flush plan (Desk (ReleaseOrder block)) → slice_get now.orders c ≡ Some (Some order) → IsOnlyOf now.actors a order →
+      WorldFollowsBy (GivesUp c) Releases a s (record now { orders = slice_set now.orders c None }) (record (after_step Flush plan Done x) { awaiting = awaiting' })
+  pub releases : (now : Situation) (block : OBlock) (a : ℕ) (x : Actor) (plan : Plan) (s : World) →
+      WantsNext now a x s Flush plan (Desk (ReleaseOrder block)) →
+      WorldFollows Quietly a s now (after_step Flush plan Done x)
+  pub fails : (now : Situation) (failures suspensions : ℕ) (a : ℕ) (x : Actor) (plan : Plan) (s : World) → now.words.fail ≡ fail_word failures suspensions →
+      WantsNext now a x s Flush plan (Cell SetFailed) →
+      WorldFollows Quietly a s (record now { words = words_after now.words SetFailed }) (went now.words Flush plan SetFailed x)
+  pub answers : (now : Situation) (answer : Answer) (a : ℕ) (x : Actor) (plan : Plan) (orders' awaiting' : List Order) (s : World) →
+      WantsNext now a x s Flush plan (End answer) → ((o : Order) → Contains (held x) o → Contains (orders' ++ awaiting') o) →
+      WorldFollows (Answers (FlushingFor None) answer) a s now (record x { task = None; orders = orders'; awaiting = awaiting' })
 
 -- a target that was just made over empty devices of these sizes, with so many actors who have nothing to do, and no order
 abbrev pub CanAgree : Type 0
-CanAgree = (size most blocks caches cache origin many : ℕ) →
-    Agrees size most (fresh_words blocks) false (replicate caches None) (record { metadata = []; cache = replicate cache (only zeros); origin = replicate origin (only zeros) }) (replicate many resting) (world_begins many zeros)
+CanAgree = (size most blocks caches cache origin many : ℕ) → Agrees (record {
+  size = size;
+  most = most;
+  words = fresh_words blocks;
+  committing = false;
+  orders = replicate caches None;
+  devices = record { metadata = []; cache = replicate cache (only zeros); origin = replicate origin (only zeros) };
+  actors = replicate many resting;
+}) (world_begins many zeros)

@@ -1,13 +1,10 @@
 -- How the two clerks' notes stay alike by what the abstract one is told, and what it says of reads.
-use Rattle.std.specs.Prelude.{false, ◌≡◌, ◌<◌, ◌≤◌, ◌+◌, ◌*◌, ℕ, Bool, List, [], ◌∷◌, Option, Some, None, length, map, slice_get}
+use Rattle.std.specs.Prelude.{false, ◌≡◌, ◌<◌, ◌≤◌, ◌+◌, ◌*◌, ℕ, List, [], ◌∷◌, Option, Some, None, length, map, slice_get}
 use Rattle.wb_types.specs.Extents.{rising}
 use Rattle.wb_disk.specs.Device.{Content, History, newest, only}
 use Rattle.wb_contents.specs.Devices.{by_block}
-use Rattle.wb_words.specs.SharedWords.{Words}
-use Rattle.wb_policy.specs.declared.order.Order.{Order}
 use Rattle.wb_tasks.specs.declared.step.Answer.TheVariants.{Done as Finished, Refused as Refuses}
 use Rattle.wb_types.specs.declared.refusal.Refusal.{Refusal}
-use Rattle.wb_devices.specs.declared.devices.Devices.{Devices}
 use Rattle.wb_link.specs.Tables.{Job as AbstractJob, Reading, Writing, Flushing}
 use Rattle.wb_link.specs.World.{World, Shared, Record, Actor as AbstractActor, after_all}
 use Rattle.wb_link.specs.Clerk.{Notes as AbstractNotes, opened}
@@ -17,7 +14,7 @@ use Rattle.wb_promise.specs.Clerk.{Notes, Doing, begins, begun, put, nobody, ent
 use Rattle.wb_promise.specs.States.{Actor}
 use Rattle.wb_simulation.specs.Noting.{NotesAgree}
 use Rattle.wb_simulation.specs.Telling.{Telling, Quietly, Reads, Writes, Answers, Starts, Resumes, Carries, Rests, Releases}
-use Rattle.wb_simulation.specs.Worlds.{zeros, Turn, FollowsBy}
+use Rattle.wb_simulation.specs.Worlds.{zeros, Situation, Turn, WorldFollowsBy}
 
 -- the abstract notes after these records
 abbrev pub told : AbstractNotes → List Record → AbstractNotes
@@ -30,8 +27,8 @@ AreNewest histories b o (c ∷ contents) = (c ≡ newest (histories b o)) × Are
 
 -- What a run of the abstract world that follows a happening makes of notes that agree, whose actor is this one there before it.
 abbrev pub Kept : Telling → ((size : ℕ) (n : Notes) (a : ℕ) (y : AbstractActor) → (Notes → Type 0) → Type 0) → Type 0
-Kept telling Premise = (turn : Turn) (size most a : ℕ) (s : World) (words : Words) (committing : Bool) (orders : List (Option Order)) (devices : Devices (List History)) (actors : List Actor) (f : FollowsBy turn telling size most a s words committing orders devices actors) (y : AbstractActor) (n : Notes) (m : AbstractNotes) →
-    slice_get s.actors a ≡ Some y → a < length n.doings → NotesAgree size n s m → Premise size n a y (λ (n' : Notes). NotesAgree size n' (after_all s f.records) (told m f.records))
+Kept telling Premise = (turn : Turn) (a : ℕ) (s : World) (now : Situation) (x : Actor) (f : WorldFollowsBy turn telling a s now x) (y : AbstractActor) (n : Notes) (m : AbstractNotes) →
+    slice_get s.actors a ≡ Some y → a < length n.doings → NotesAgree now.size n s m → Premise now.size n a y (λ (n' : Notes). NotesAgree now.size n' (after_all s f.records) (told m f.records))
 
 pub record NotesFollowed : Type 0 where
   -- nothing is noted
@@ -62,5 +59,5 @@ pub record NotesFollowed : Type 0 where
   -- an opening that is answered done begins notes anew with what it shows
   pub anew : (size many : ℕ) (shown : List Content) (view : ℕ → ℕ → Content) (s : World) (t : Shared) → by_block size zeros (map only shown) ≡ (λ b o. only (view b o)) → NotesAgree size (begins many shown) (emptied s t) (opened view)
   -- where the records are right, what a read is given are the last entries of the histories
-  pub newest_read : (turn : Turn) (size most a block offset : ℕ) (contents : List Content) (s : World) (words : Words) (committing : Bool) (orders : List (Option Order)) (devices : Devices (List History)) (actors : List Actor) (f : FollowsBy turn (Reads block offset contents) size most a s words committing orders devices actors) (y : AbstractActor) (n : Notes) (m : AbstractNotes) →
-      slice_get s.actors a ≡ Some y → a < length n.doings → NotesAgree size n s m → AllRight m (map (λ (r : Record). On r) f.records) → AreNewest (by_block size zeros n.histories) block offset contents
+  pub newest_read : (turn : Turn) (block offset : ℕ) (contents : List Content) (a : ℕ) (s : World) (now : Situation) (x : Actor) (f : WorldFollowsBy turn (Reads block offset contents) a s now x) (y : AbstractActor) (n : Notes) (m : AbstractNotes) →
+      slice_get s.actors a ≡ Some y → a < length n.doings → NotesAgree now.size n s m → AllRight m (map (λ (r : Record). On r) f.records) → AreNewest (by_block now.size zeros n.histories) block offset contents

@@ -28,4 +28,12 @@ abbrev pub OpenedFollowed : Type 0
 OpenedFollowed = (size most origin_blocks cache_blocks : ℕ) (clean : Bool) (entries : List (Option Entry)) (learnt : Learnt) (blocks : ℕ → Block) (s : Shared) (devices : Devices (List History)) (actors : List Actor) →
     IsMapping cache_blocks origin_blocks entries → cache_blocks ≤ 2 ^ 32 → (clean ≡ true → (block : ℕ) → located entries block ≡ None) → learnt.locations ≡ located entries → ((block : ℕ) → learnt.clean block ≡ false) →
     s.origin ≡ by_block size zeros devices.origin → s.cache ≡ by_block size zeros devices.cache → AreAtRest actors →
-    Agrees size most (words_by (fresh_words origin_blocks) (sealing_steps clean 0 entries)) false (replicate cache_blocks None) devices actors (record { shared = opened_on s Writeback learnt blocks; actors = replicate (length actors) idle; waiting = λ k. None })
+    Agrees (record {
+      size = size;
+      most = most;
+      words = words_by (fresh_words origin_blocks) (sealing_steps clean 0 entries);
+      committing = false;
+      orders = replicate cache_blocks None;
+      devices = devices;
+      actors = actors;
+    }) (record { shared = opened_on s Writeback learnt blocks; actors = replicate (length actors) idle; waiting = λ k. None })

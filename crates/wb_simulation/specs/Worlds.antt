@@ -1,5 +1,5 @@
 -- When a state of a run, where a target stands, is a state of the abstract world; and when what happens there is a run of that world.
-use Rattle.std.specs.Prelude.{◌≡◌, ◌≢◌, ◌⊎◌, ℕ, Bool, true, false, List, [], Option, Some, None, length, replicate, slice_get}
+use Rattle.std.specs.Prelude.{◌≡◌, ◌≢◌, ◌⊎◌, ℕ, Bool, true, false, List, [], Option, Some, None, length, replicate, slice_get, slice_set}
 use Rattle.wb_types.specs.declared.mode.Mode.TheVariants.{Writeback}
 use Rattle.wb_disk.specs.Device.{Content, History}
 use Rattle.wb_contents.specs.Devices.{by_block}
@@ -34,7 +34,7 @@ IsThere s p = (s.waiting p.cache ≡ Some p) ⊎ ((b : ℕ) × (z : AbstractActo
 
 -- The orders that live at the desk, each in the slot of its cache block, are those that live there, and each is an actor's or aside; what
 -- an actor of the run is at under one of them, its abstract actor is at there.
-pub record OrdersAgree (size : ℕ) (words : Words) (orders : List (Option Order)) (devices : Devices (List History)) (actors : List Actor) (s : World) : Type 0 where
+pub record OrdersAgree (size : ℕ) (words : Words) (orders : List (Option Order)) (actors : List Actor) (s : World) : Type 0 where
   -- what lives on a cache block lives there, and nothing else does
   pub live : (c : ℕ) (order : Option Order) → slice_get orders c ≡ Some order → (p : AbstractOrder) → p.cache ≡ c → ((live_there s.shared.mapping c order ≡ Some p) → IsThere s p) × (IsThere s p → live_there s.shared.mapping c order ≡ Some p)
   -- an actor's order is no other actor's, and not aside too
@@ -44,25 +44,35 @@ pub record OrdersAgree (size : ℕ) (words : Words) (orders : List (Option Order
   -- an actor's order is one of those that the run's actor has
   pub ours : (a : ℕ) (x : Actor) (y : AbstractActor) (p : AbstractOrder) → slice_get actors a ≡ Some x → slice_get s.actors a ≡ Some y → y.order ≡ Some p → IsOf orders (held x) p
   -- and what the run's actor migrates it migrates there
-  pub carried : (a : ℕ) (x : Actor) (y : AbstractActor) (migration : Migration) (block : OBlock) (plan : Plan) → slice_get actors a ≡ Some x → slice_get s.actors a ≡ Some y → x.task ≡ Some (Migrate migration block, plan) → IsAtMigration size words orders devices migration block plan x y
+  pub carried : (a : ℕ) (x : Actor) (y : AbstractActor) (migration : Migration) (block : OBlock) (plan : Plan) → slice_get actors a ≡ Some x → slice_get s.actors a ≡ Some y → x.task ≡ Some (Migrate migration block, plan) → IsAtMigration size words orders migration block plan x y
 
--- These words, devices, actors, and whether the desk has a commit that runs, are those of the world. Blocks have so many sectors,
--- and images at most so many nodes. Each actor of the run is one of the world.
-pub record Agrees (size most : ℕ) (words : Words) (committing : Bool) (orders : List (Option Order)) (devices : Devices (List History)) (actors : List Actor) (s : World) : Type 0 where
-  pub words_agree : WordsAgree words s.shared
-  pub origin : s.shared.origin ≡ by_block size zeros devices.origin
-  pub cache : s.shared.cache ≡ by_block size zeros devices.cache
+-- Where a run stands, with a target: how many sectors blocks have, and how many nodes an image has at most; the target's words, whether its
+-- desk has a commit that runs, and the orders that live there, by cache block; the devices, and the actors.
+pub record Situation : Type 0 where
+  pub size : ℕ
+  pub most : ℕ
+  pub words : Words
+  pub committing : Bool
+  pub orders : List (Option Order)
+  pub devices : Devices (List History)
+  pub actors : List Actor
+
+-- The run stands where this state of the world stands for it. Each actor of the run is one of the world.
+pub record Agrees (now : Situation) (s : World) : Type 0 where
+  pub words_agree : WordsAgree now.words s.shared
+  pub origin : s.shared.origin ≡ by_block now.size zeros now.devices.origin
+  pub cache : s.shared.cache ≡ by_block now.size zeros now.devices.cache
   pub mode : s.shared.mode ≡ Writeback
-  pub commits : s.shared.committing ≡ committing
+  pub commits : s.shared.committing ≡ now.committing
   -- a commit that was broken runs for good
   pub broken : s.shared.broken ≡ true → s.shared.committing ≡ true
   -- One actor at most leads a commit, while one runs; until it is broken, it has still to end it.
   pub led : (a : ℕ) (y : AbstractActor) → slice_get s.actors a ≡ Some y → y.leads ≡ true → s.shared.committing ≡ true
   pub whole : (a : ℕ) (y : AbstractActor) → slice_get s.actors a ≡ Some y → y.leads ≡ true → IsUnfinished y.task → s.shared.broken ≡ false
   pub one_leads : (a b : ℕ) (y z : AbstractActor) → slice_get s.actors a ≡ Some y → slice_get s.actors b ≡ Some z → y.leads ≡ true → z.leads ≡ true → a ≡ b
-  pub many : length s.actors ≡ length actors
-  pub each : (a : ℕ) (x : Actor) (y : AbstractActor) → slice_get actors a ≡ Some x → slice_get s.actors a ≡ Some y → StandsFor size most words x y
-  pub orders_agree : OrdersAgree size words orders devices actors s
+  pub many : length s.actors ≡ length now.actors
+  pub each : (a : ℕ) (x : Actor) (y : AbstractActor) → slice_get now.actors a ≡ Some x → slice_get s.actors a ≡ Some y → StandsFor now.size now.most now.words x y
+  pub orders_agree : OrdersAgree now.size now.words now.orders now.actors s
 
 -- What comes of the desk and of the images that the metadata stand for: they stay; a commit begins, from the desk's mapping; its root is
 -- written, or not; it ends; a cache block is reserved for an order; an order ends by an entry of the mapping that comes, or by one that goes;
@@ -102,15 +112,16 @@ blocks_by turn s = s.blocks
 abbrev pub DeskTurnedTo : Turn → (s t : Shared) → Type 0
 DeskTurnedTo turn s t = (t.mapping ≡ mapping_by turn s) × (t.blocks ≡ blocks_by turn s)
 
--- The world can go on by some records of this actor, so that these are its state then, and this comes of its desk and images.
-pub record FollowsBy (turn : Turn) (telling : Telling) (size most a : ℕ) (s : World) (words : Words) (committing : Bool) (orders : List (Option Order)) (devices : Devices (List History)) (actors : List Actor) : Type 0 where
+-- The world can go on by some records of this actor, to where the run stands now with that actor as this one, and this comes of its desk and
+-- images.
+pub record WorldFollowsBy (turn : Turn) (telling : Telling) (a : ℕ) (s : World) (now : Situation) (x : Actor) : Type 0 where
   pub records : List Record
-  pub run : IsRun size s records
-  pub agrees : Agrees size most words committing orders devices actors (after_all s records)
+  pub run : IsRun now.size s records
+  pub agrees : Agrees (record now { actors = slice_set now.actors a x }) (after_all s records)
   pub turned : TurnedTo turn s.shared (after_all s records).shared
   pub desk : DeskTurnedTo turn s.shared (after_all s records).shared
   pub told : (y : AbstractActor) → slice_get s.actors a ≡ Some y → IsTold telling a y.task records
 
 -- the same, and desk and images stay
-abbrev pub Follows : Telling → (size most a : ℕ) → World → Words → Bool → List (Option Order) → Devices (List History) → List Actor → Type 0
-Follows telling size most a s words committing orders devices actors = FollowsBy Stays telling size most a s words committing orders devices actors
+abbrev pub WorldFollows : Telling → ℕ → World → Situation → Actor → Type 0
+WorldFollows telling a s now x = WorldFollowsBy Stays telling a s now x

@@ -15,18 +15,18 @@ use Rattle.wb_tasks.specs.Plan.{Plan, table}
 use Rattle.wb_tasks.specs.declared.step.Answer.{Answer}
 use Rattle.wb_tasks.specs.declared.step.Answer.TheVariants.{Done as Finished, Refused as Refuses}
 use Rattle.wb_tasks.specs.declared.step.Migration.TheVariants.{Promote as Promoting, Demote as Demoting}
-use Rattle.wb_target.specs.Works.{WorkState, WasPerformed}
+use Rattle.wb_target.specs.Works.{WorkState, DeskTold, WasPerformed}
 use Rattle.wb_target.specs.Carried.{Runs, WasDone, WereDone, migration_of, flush_of, jobs_of}
 use Rattle.wb_target.proofs.Tries.{SoFar}
 
 -- a run, of the job and in the sizes that it is told of
-pub run_of : {D : Type 0} (tells : Type 0) (size : D → ℕ) (contents : D → List History) (faults : D → ℕ) (blocks blocks' : ℕ) (plan : Plan) (job job' : TaskJob) (old new : WorkState D) (answer answer' : Answer)
-    → plan ≡ table job → job ≡ job' → blocks ≡ blocks' → answer ≡ answer' → WasPerformed tells size contents faults blocks plan old answer new → Runs tells size contents faults blocks' job' old answer' new
-run_of {D} tells size contents faults blocks blocks' plan job job' old new answer answer' is same many told performed =
-    let one : WasPerformed tells size contents faults blocks (table job) old answer new = subst (λ (p : Plan). WasPerformed tells size contents faults blocks p old answer new) is performed in
-    let two : WasPerformed tells size contents faults blocks (table job') old answer new = subst (λ (j : TaskJob). WasPerformed tells size contents faults blocks (table j) old answer new) same one in
-    let three : WasPerformed tells size contents faults blocks' (table job') old answer new = subst (λ (n : ℕ). WasPerformed tells size contents faults n (table job') old answer new) many two in
-    subst (λ (a : Answer). WasPerformed tells size contents faults blocks' (table job') old a new) told three
+pub run_of : {D : Type 0} (tells : Type 0) (size : D → ℕ) (contents : D → List History) (faults : D → ℕ) (asked : List Order → DeskTold) (held : List Order) (blocks blocks' : ℕ) (plan : Plan) (job job' : TaskJob) (old new : WorkState D) (answer answer' : Answer)
+    → plan ≡ table job → job ≡ job' → blocks ≡ blocks' → answer ≡ answer' → WasPerformed tells size contents faults (asked held) blocks plan old answer new → Runs tells size contents faults asked blocks' held job' old answer' new
+run_of {D} tells size contents faults asked held blocks blocks' plan job job' old new answer answer' is same many told performed =
+    let one : WasPerformed tells size contents faults (asked held) blocks (table job) old answer new = subst (λ (p : Plan). WasPerformed tells size contents faults (asked held) blocks p old answer new) is performed in
+    let two : WasPerformed tells size contents faults (asked held) blocks (table job') old answer new = subst (λ (j : TaskJob). WasPerformed tells size contents faults (asked held) blocks (table j) old answer new) same one in
+    let three : WasPerformed tells size contents faults (asked held) blocks' (table job') old answer new = subst (λ (n : ℕ). WasPerformed tells size contents faults (asked held) n (table job') old answer new) many two in
+    subst (λ (a : Answer). WasPerformed tells size contents faults (asked held) blocks' (table job') old a new) told three
 
 -- A job after runs of it that were refused as busy.
 module _ {D : Type 0} (runs : TaskJob → WorkState D → Answer → WorkState D → Type 0) (job : TaskJob) where
@@ -37,23 +37,26 @@ module _ {D : Type 0} (runs : TaskJob → WorkState D → Answer → WorkState D
   done_then old mid new so run = record { tries = so.0; before = mid; tried = so.1; ended = run }
 
 -- an order of one job
-module _ {D A : Type 0} (runs : TaskJob → WorkState D → Answer → WorkState D → Type 0) (r : Result A Refusal) (job : TaskJob) (jobs : List TaskJob) (is : jobs ≡ job ∷ []) (old new : WorkState D) where
-  pub one_done : OnOk r (WasDone runs job old new) → OnOk r (WereDone runs jobs old new)
-  one_done h = subst (λ (js : List TaskJob). OnOk r (WereDone runs js old new)) (sym is) (on_ok_weaker r (λ (d : WasDone runs job old new). (new, d, refl)) h)
+module _ {D A : Type 0} (runs : List Order → TaskJob → WorkState D → Answer → WorkState D → Type 0) (r : Result A Refusal) (job : TaskJob) (jobs : Order → List TaskJob) (order given : Order) (is : order ≡ given) (single : jobs given ≡ job ∷ []) (old new : WorkState D) where
+  pub one_done : OnOk r (WasDone (runs (given ∷ [])) job old new) → OnOk r (WereDone (runs (order ∷ [])) (jobs order) old new)
+  one_done h =
+      subst (λ (o : Order). OnOk r (WereDone (runs (o ∷ [])) (jobs o) old new)) (sym is)
+      (subst (λ (js : List TaskJob). OnOk r (WereDone (runs (given ∷ [])) js old new)) (sym single) (on_ok_weaker r (λ (d : WasDone (runs (given ∷ [])) job old new). (new, d, refl)) h))
 
 -- ---- a replacement's three jobs, in the sizes that stay
 
-module _ {D : Type 0} (tells : Type 0) (size : D → ℕ) (contents : D → List History) (faults : D → ℕ) where
-  abbrev pub runs_in : Geometry → TaskJob → WorkState D → Answer → WorkState D → Type 0
-  runs_in geometry = Runs tells size contents faults geometry.origin_blocks
+module _ {D : Type 0} (tells : Type 0) (size : D → ℕ) (contents : D → List History) (faults : D → ℕ) (asked : List Order → DeskTold) where
+  abbrev pub runs_in : Geometry → List Order → TaskJob → WorkState D → Answer → WorkState D → Type 0
+  runs_in geometry = Runs tells size contents faults asked geometry.origin_blocks
 
-  pub jobs_in : (order : Order) (one first : Geometry) (old new : WorkState D) → one ≡ first → WereDone (runs_in one) (jobs_of one order) old new → WereDone (runs_in first) (jobs_of first order) old new
-  jobs_in order one first old new same h = subst (λ (g : Geometry). WereDone (runs_in g) (jobs_of g order) old new) same h
+  pub jobs_in : (order : Order) (one first : Geometry) (old new : WorkState D) → one ≡ first → WereDone (runs_in one (order ∷ [])) (jobs_of one order) old new → WereDone (runs_in first (order ∷ [])) (jobs_of first order) old new
+  jobs_in order one first old new same h = subst (λ (g : Geometry). WereDone (runs_in g (order ∷ [])) (jobs_of g order) old new) same h
 
   pub replaced : {A : Type 0} (r : Result A Refusal) (order : Order) (v x : OBlock) (to : CBlock) (first one two : Geometry) (s0 s1 s2 s3 : WorkState D) → order ≡ Replace v x to → one ≡ first → two ≡ one
-      → WasDone (runs_in first) (migration_of first Demoting v) s0 s1 → WasDone (runs_in one) (flush_of one (Some x)) s1 s2 → OnOk r (WasDone (runs_in two) (migration_of two (Promoting to) x) s2 s3) → OnOk r (WereDone (runs_in first) (jobs_of first order) s0 s3)
+      → WasDone (runs_in first (Replace v x to ∷ [])) (migration_of first Demoting v) s0 s1 → WasDone (runs_in one (Replace v x to ∷ [])) (flush_of one (Some x)) s1 s2 → OnOk r (WasDone (runs_in two (Replace v x to ∷ [])) (migration_of two (Promoting to) x) s2 s3)
+      → OnOk r (WereDone (runs_in first (order ∷ [])) (jobs_of first order) s0 s3)
   replaced r order v x to first one two s0 s1 s2 s3 is a b demoted flushed promoted =
-      let there : WasDone (runs_in first) (flush_of first (Some x)) s1 s2 = subst (λ (g : Geometry). WasDone (runs_in g) (flush_of g (Some x)) s1 s2) a flushed in
-      subst (λ (o : Order). OnOk r (WereDone (runs_in first) (jobs_of first o) s0 s3)) (sym is)
-      (on_ok_weaker r (λ (p : WasDone (runs_in first) (migration_of first (Promoting to) x) s2 s3). (s1, demoted, (s2, there, (s3, p, refl))))
-      (subst (λ (g : Geometry). OnOk r (WasDone (runs_in g) (migration_of g (Promoting to) x) s2 s3)) (b ∙ a) promoted))
+      let there : WasDone (runs_in first (Replace v x to ∷ [])) (flush_of first (Some x)) s1 s2 = subst (λ (g : Geometry). WasDone (runs_in g (Replace v x to ∷ [])) (flush_of g (Some x)) s1 s2) a flushed in
+      subst (λ (o : Order). OnOk r (WereDone (runs_in first (o ∷ [])) (jobs_of first o) s0 s3)) (sym is)
+      (on_ok_weaker r (λ (p : WasDone (runs_in first (Replace v x to ∷ [])) (migration_of first (Promoting to) x) s2 s3). (s1, demoted, (s2, there, (s3, p, refl))))
+      (subst (λ (g : Geometry). OnOk r (WasDone (runs_in g (Replace v x to ∷ [])) (migration_of g (Promoting to) x) s2 s3)) (b ∙ a) promoted))

@@ -24,7 +24,7 @@ use Rattle.wb_devices.specs.Stepping.{Goes}
 use Rattle.wb_devices.specs.declared.devices.Devices.{Devices}
 use Rattle.wb_devices.specs.declared.running.RunningCommit.{RunningCommit}
 use Rattle.wb_port.specs.Moves.{IsSynced}
-use Rattle.wb_target.specs.Works.{WorksOn, MayCommit}
+use Rattle.wb_target.specs.Works.{DeskTold, WorksOn, MayCommit}
 use Rattle.wb_target.proofs.Syncing.{synced_now}
 
 -- So much is known where these steps come: what each node or root that is to be written asks for, each sync being known from
@@ -73,7 +73,7 @@ still_runs : (size : ℕ) (commit commit' : Option RunningCommit) (step : Device
 still_runs size None commit' step got g r = absurd (cc)
 still_runs size (Some commit) commit' step got g r = (g.0, g.1)
 
-module _ {D S : Type 0} (tells : Type 0) (size : D → ℕ) (contents : D → List History) (faults : D → ℕ) (devices : S → Devices D) (buffer : S → List Bytes) (commit : S → Option RunningCommit) where
+module _ {D S : Type 0} (tells : Type 0) (size : D → ℕ) (contents : D → List History) (faults : D → ℕ) (asked : S → DeskTold) (devices : S → Devices D) (buffer : S → List Bytes) (commit : S → Option RunningCommit) where
   abbrev C : S → Type 0
   C s = tells → IsSynced (contents (devices s).cache)
 
@@ -87,7 +87,7 @@ module _ {D S : Type 0} (tells : Type 0) (size : D → ℕ) (contents : D → Li
   Knows s = CommitsFrom (C s) (O s) (R s)
 
   abbrev Did : S → Want → Got → S → Type 0
-  Did s w g t = WorksOn tells size contents faults (devices s) (buffer s) (commit s) w g (devices t) (buffer t) (commit t)
+  Did s w g t = WorksOn tells size contents faults (asked s) (devices s) (buffer s) (commit s) w g (devices t) (buffer t) (commit t)
 
   same_devices : (s t : S) (ws : List Want) → devices t ≡ devices s → (R s → R t) → Knows s ws → Knows t ws
   same_devices s t ws e r = weaken (C s) (O s) (R s) (C t) (O t) (R t) (subst (λ (ds : Devices D). tells → IsSynced (contents ds.cache)) (sym e)) (subst (λ (ds : Devices D). tells → IsSynced (contents ds.origin)) (sym e)) r ws

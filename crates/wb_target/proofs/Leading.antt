@@ -8,6 +8,7 @@ use Rattle.wb_tasks.specs.declared.step.Got.TheVariants.{Fault}
 use Rattle.wb_devices.specs.OpeningLed.{LedOpening}
 use Rattle.wb_devices.specs.Openings.{MayGoOn}
 use Rattle.wb_devices.specs.declared.opening_stage.OpeningStage.{OpeningStage}
+use Rattle.std.specs.Prelude.{Result, Ok, Err, IfErr}
 
 pub led_on : {D : Type 0} (tells : Type 0) (size : D → ℕ) (contents : D → List History) (faults : D → ℕ) (old before new : OpeningStage D) (want : Want) (got : Got)
     → before.devices ≡ old.devices → before.opening.commit ≡ old.opening.commit → before.opening.geometry ≡ old.opening.geometry
@@ -20,3 +21,8 @@ led_on tells size contents faults old before new (Device step) got d c g led = (
 led_on tells size contents faults old before new (Cell step) got d c g led = absurd led
 led_on tells size contents faults old before new (Desk step) got d c g led = absurd led
 led_on tells size contents faults old before new (End answer) got d c g led = absurd led
+
+-- what holds of every refusal holds of the one that there is
+pub err_anyway : {T E : Type 0} (r : Result T E) (Q : E → Type 0) → ((e : E) → Q e) → IfErr r Q
+err_anyway (Ok x) Q f = tt
+err_anyway (Err e) Q f = f e

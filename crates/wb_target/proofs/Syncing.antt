@@ -24,7 +24,8 @@ use Rattle.wb_devices.specs.Moving.{device_in}
 use Rattle.wb_devices.specs.declared.devices.Devices.{Devices}
 use Rattle.wb_port.specs.Moves.{IsSynced}
 use Rattle.wb_port.proofs.Letting.{not_done}
-use Rattle.wb_target.specs.Works.{WorkState, WorkStep}
+use Rattle.wb_policy.specs.declared.order.Order.{Order}
+use Rattle.wb_target.specs.Works.{DeskTold, WorkState, WorkStep}
 use Rattle.wb_target.specs.Carried.{AreSynced, Runs, WasDone}
 
 pub synced_now : (histories : List History) → IsSynced (synced histories)
@@ -55,9 +56,9 @@ nodes_commit : (nodes first : ℕ) → AreCommits (node_writes nodes first ++ ro
 nodes_commit zero first = tt
 nodes_commit (suc nodes) first = nodes_commit nodes (first + 1)
 
-module _ {D : Type 0} (tells : Type 0) (size : D → ℕ) (contents : D → List History) (faults : D → ℕ) (blocks : ℕ) (told : tells) (serves : List OBlock) (most : ℕ) where
+module _ {D : Type 0} (tells : Type 0) (size : D → ℕ) (contents : D → List History) (faults : D → ℕ) (asked : List Order → DeskTold) (held : List Order) (blocks : ℕ) (told : tells) (serves : List OBlock) (most : ℕ) where
   abbrev led : WorkState D → Want → Got → WorkState D → Type 0
-  led = WorkStep tells size contents faults blocks
+  led = WorkStep tells size contents faults (asked held) blocks
 
   abbrev going : List Want → Plan
   going ws = record { job = Flushing serves most; steps = ws; answer = Finished }
@@ -201,5 +202,5 @@ module _ {D : Type 0} (tells : Type 0) (size : D → ℕ) (contents : D → List
       let commit = began two.1 steps (subst (λ (w : Want). Fits w two.1) run.0 run.1) run.2 in
       all_synced commit.0 steps l.2.0 new commit.1 l.2.2
 
-  pub synced_after : (old new : WorkState D) → WasDone (Runs tells size contents faults blocks) (Flushing serves most) old new → AreSynced contents new.hand.devices
+  pub synced_after : (old new : WorkState D) → WasDone (Runs tells size contents faults asked blocks held) (Flushing serves most) old new → AreSynced contents new.hand.devices
   synced_after old new h = flushed h.ended.steps h.before new h.ended.run h.ended.leads

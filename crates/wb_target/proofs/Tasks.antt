@@ -11,7 +11,8 @@ use Rattle.wb_tasks.specs.declared.step.Answer.{Answer}
 use Rattle.wb_tasks.specs.declared.step.Want.{Want}
 use Rattle.wb_tasks.specs.declared.step.Got.{Got}
 use Rattle.wb_stage.specs.Jobs.{MayRun}
-use Rattle.wb_target.specs.Works.{WorkState, WorkStep, WorkLed, WasPerformed, IsReadyToWork, MayWork, MayMigrate, MayCommit}
+use Rattle.wb_policy.specs.declared.order.Order.{Order}
+use Rattle.wb_target.specs.Works.{DeskTold, WorkState, WorkStep, WorkLed, WasPerformed, IsReadyToWork, MayWork, MayMigrate, MayCommit}
 use Rattle.wb_target.specs.declared.gate.Point.{Point}
 use Rattle.wb_target.specs.declared.working.WorkStage.{WorkStage}
 use Rattle.wb_port.proofs.Passing.{made_by_pass, same_table}
@@ -22,10 +23,10 @@ use Rattle.wb_target.proofs.Committing.{CommitsFrom, IsRunning, commits_there, b
 abbrev working_at : {R D P G : Type 0} → WorkStage R D P G → WorkState D
 working_at x = record { hand = x.hand.now; buffer = x.buffer.now; commit = x.commit.now }
 
-module _ {R D P G : Type 0} (tells : Type 0) (size : D → ℕ) (contents : D → List History) (faults : D → ℕ) (answers : G → Point → Bool → Type 0) (s : Plan) (job : TaskJob) (steps : List (Want × Got)) (old new : WorkStage R D P G)
-    (begun : s ≡ table job) (leads : Leads (WorkLed tells size contents faults answers) old steps new) where
+module _ {R D P G : Type 0} (tells : Type 0) (size : D → ℕ) (contents : D → List History) (faults : D → ℕ) (asked : List Order → DeskTold) (answers : G → Point → Bool → Type 0) (s : Plan) (job : TaskJob) (steps : List (Want × Got)) (old new : WorkStage R D P G)
+    (begun : s ≡ table job) (leads : Leads (WorkLed tells size contents faults asked answers) old steps new) where
   abbrev led : WorkStage R D P G → Want → Got → WorkStage R D P G → Type 0
-  led = WorkLed tells size contents faults answers
+  led = WorkLed tells size contents faults asked answers
 
   pub same_hand : new.hand.ghost_name ≡ old.hand.ghost_name
   same_hand = kept_by led (λ x. x.hand.ghost_name) (λ x w g y h. h.same_hand) old steps new leads
@@ -63,7 +64,7 @@ module _ {R D P G : Type 0} (tells : Type 0) (size : D → ℕ) (contents : D �
       by_job : (job : TaskJob) → s ≡ table job → MayRun old.cells.now.blocks job → MayCommit tells contents new.hand.now.devices new.commit.now (want (left_by s steps))
       by_job (OnBlock block_job) b m = block_commits tells contents new.hand.now.devices new.commit.now block_job (want (left_by s steps)) (own (OnBlock block_job) b m steps new f leads)
       by_job (Flushing serves most) b m =
-          commits_there tells size contents faults (λ (x : WorkStage R D P G). x.hand.now.devices) (λ x. x.buffer.now) (λ x. x.commit.now) led (λ x w g y h. h.works) serves most s old steps new (ap (λ (t : Plan). t.job) b) (own (Flushing serves most) b m)
+          commits_there tells size contents faults (λ (x : WorkStage R D P G). asked x.held.now) (λ (x : WorkStage R D P G). x.hand.now.devices) (λ x. x.buffer.now) (λ x. x.commit.now) led (λ x w g y h. h.works) serves most s old steps new (ap (λ (t : Plan). t.job) b) (own (Flushing serves most) b m)
           (subst (λ (t : Plan). CommitsFrom (tells → IsSynced (contents old.hand.now.devices.cache)) (tells → IsSynced (contents old.hand.now.devices.origin)) (IsRunning old.commit.now) t.steps) (sym b) tt) f leads
       by_job (Opening left) b m = absurd m
 
@@ -75,9 +76,14 @@ module _ {R D P G : Type 0} (tells : Type 0) (size : D → ℕ) (contents : D �
   pub idle_then : (answer : Answer) → MayRun old.cells.now.blocks job → old.hand.now.pass.card.hold ≡ Nothing → IsRunOf s steps answer → new.hand.now.pass.card.hold ≡ Nothing
   idle_then answer may idle run = work_idle led (λ x. x.hand.now.pass.card) (λ x w g y h. made_by_pass x.cells.now.blocks x.hand.now.pass y.hand.now.pass w g h.by_pass) old.cells.now.blocks s job old begun may idle steps answer new run leads
 
-  pub performed : (answer : Answer) → IsRunOf s steps answer → WasPerformed tells size contents faults old.cells.now.blocks s (working_at old) answer (working_at new)
+  pub performed : (answer : Answer) → IsRunOf s steps answer → WasPerformed tells size contents faults (asked old.held.now) old.cells.now.blocks s (working_at old) answer (working_at new)
   performed answer run = record { steps = steps; run = run; leads = plainly old steps leads }
     where
-      plainly : (x : WorkStage R D P G) (done : List (Want × Got)) → Leads led x done new → Leads (WorkStep tells size contents faults x.cells.now.blocks) (working_at x) done (working_at new)
+      plainly : (x : WorkStage R D P G) (done : List (Want × Got)) → Leads led x done new → Leads (WorkStep tells size contents faults (asked x.held.now) x.cells.now.blocks) (working_at x) done (working_at new)
       plainly x [] e = ap (λ (y : WorkStage R D P G). working_at y) e
-      plainly x (step ∷ done) l = (working_at l.0, (l.1.by_pass, l.1.works), subst (λ c. Leads (WorkStep tells size contents faults c.now.blocks) (working_at l.0) done (working_at new)) l.1.cells (plainly l.0 done l.2))
+      plainly x (step ∷ done) l = (
+        working_at l.0,
+        (l.1.by_pass, l.1.works),
+        subst (λ h. Leads (WorkStep tells size contents faults (asked h.now) x.cells.now.blocks) (working_at l.0) done (working_at new)) l.1.held
+            (subst (λ c. Leads (WorkStep tells size contents faults (asked l.0.held.now) c.now.blocks) (working_at l.0) done (working_at new)) l.1.cells (plainly l.0 done l.2)),
+      )

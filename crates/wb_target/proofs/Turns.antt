@@ -1,7 +1,7 @@
 -- What becomes of an order that is given up, and of a worker's turns.
-use Rattle.std.proofs.Common.{◌≡◌, ◌≢◌, ◌∙◌, ◌<◌, ◌⊎◌, inl, inr, ℕ, Bool, true, List, ◌∷◌, Some, Result, length, sym, ap, subst}
+use Rattle.std.proofs.Common.{◌≡◌, ◌≢◌, ◌∙◌, ◌<◌, ◌⊎◌, inl, inr, ℕ, Bool, true, List, [], ◌∷◌, Some, None, Result, length, sym, ap, subst}
 use Rattle.std.proofs.lemmas.Result.{IfErr-weaker}
-use Rattle.std.specs.Prelude.{IfErr}
+use Rattle.std.specs.Prelude.{IfErr, OnOk}
 use Rattle.wb_types.specs.declared.geometry.Geometry.{Geometry}
 use Rattle.wb_types.specs.declared.number.OBlock.{OBlock}
 use Rattle.wb_types.specs.declared.number.CBlock.{CBlock}
@@ -16,7 +16,7 @@ use Rattle.wb_tasks.specs.declared.step.Answer.TheVariants.{Refused as Refuses}
 use Rattle.wb_tasks.specs.declared.step.Migration.TheVariants.{Promote as Promoting, Demote as Demoting}
 use Rattle.wb_port.specs.Hands.{saw_fail_word}
 use Rattle.wb_port.specs.declared.port.Port.{Port}
-use Rattle.wb_target.specs.Works.{WorkState}
+use Rattle.wb_target.specs.Works.{DeskTold, WorkState}
 use Rattle.wb_target.specs.Carried.{state_of, looked_at_fail, HasBegun, Runs, WasDone, migration_of, flush_of, jobs_of}
 use Rattle.wb_target.specs.declared.gate.Point.{Point}
 use Rattle.wb_target.specs.declared.gate.Point.TheVariants.{Order as BeforeOrder, Idle}
@@ -45,52 +45,71 @@ module _ {D : Type 0} (runs : TaskJob → WorkState D → Answer → WorkState D
   pub refused_then : (refusal : Refusal) (old mid new last : WorkState D) → refusal ≢ Busy → Before runs job old mid → runs job mid (Refuses refusal) new → (word : ℕ) × (last ≡ looked_at_fail word new) → WasRefused runs job refusal old last
   refused_then refusal old mid new last not so run look = (not, (new, look.0, record { tries = so.0; before = mid; tried = so.1; ended = run }, look.1))
 
+-- ---- an order of one job
+
+module _ {D A : Type 0} (runs : List Order → TaskJob → WorkState D → Answer → WorkState D → Type 0) (r : Result A Refusal) (job : TaskJob) (jobs : Order → List TaskJob) (order given : Order) (is : order ≡ given) (single : jobs given ≡ job ∷ []) (old new : WorkState D) where
+  pub one_given_up : IfErr r (λ refusal. WasRefused (runs (given ∷ [])) job refusal old new) → IfErr r (λ refusal. GaveUpAmong (runs (order ∷ [])) (jobs order) refusal old new)
+  one_given_up h =
+      subst (λ (o : Order). IfErr r (λ refusal. GaveUpAmong (runs (o ∷ [])) (jobs o) refusal old new)) (sym is)
+      (subst (λ (js : List TaskJob). IfErr r (λ refusal. GaveUpAmong (runs (given ∷ [])) js refusal old new)) (sym single)
+      (IfErr-weaker r (λ refusal. WasRefused (runs (given ∷ [])) job refusal old new) (λ refusal. GaveUpAmong (runs (given ∷ [])) (job ∷ []) refusal old new) (λ refusal w. inl w) h))
+
 -- ---- a replacement, in the sizes that stay
 
-module _ {D : Type 0} (tells : Type 0) (size : D → ℕ) (contents : D → List History) (faults : D → ℕ) (order : Order) (v x : OBlock) (to : CBlock) (first : Geometry) (is : order ≡ Replace v x to) where
-  abbrev runs_in : Geometry → TaskJob → WorkState D → Answer → WorkState D → Type 0
-  runs_in geometry = Runs tells size contents faults geometry.origin_blocks
+module _ {D : Type 0} (tells : Type 0) (size : D → ℕ) (contents : D → List History) (faults : D → ℕ) (asked : List Order → DeskTold) (order : Order) (v x : OBlock) (to : CBlock) (first : Geometry) (is : order ≡ Replace v x to) where
+  abbrev runs_in : Geometry → List Order → TaskJob → WorkState D → Answer → WorkState D → Type 0
+  runs_in geometry = Runs tells size contents faults asked geometry.origin_blocks
+
+  abbrev runs_so : Geometry → TaskJob → WorkState D → Answer → WorkState D → Type 0
+  runs_so geometry = runs_in geometry (Replace v x to ∷ [])
 
   abbrev Among : Refusal → WorkState D → WorkState D → Type 0
-  Among refusal old new = GaveUpAmong (runs_in first) (jobs_of first order) refusal old new
+  Among refusal old new = GaveUpAmong (runs_in first (order ∷ [])) (jobs_of first order) refusal old new
 
-  named : (refusal : Refusal) (old new : WorkState D) → GaveUpAmong (runs_in first) (jobs_of first (Replace v x to)) refusal old new → Among refusal old new
-  named refusal old new h = subst (λ (o : Order). GaveUpAmong (runs_in first) (jobs_of first o) refusal old new) (sym is) h
+  named : (refusal : Refusal) (old new : WorkState D) → GaveUpAmong (runs_so first) (jobs_of first (Replace v x to)) refusal old new → Among refusal old new
+  named refusal old new h = subst (λ (o : Order). GaveUpAmong (runs_in first (o ∷ [])) (jobs_of first o) refusal old new) (sym is) h
 
-  pub flush_given_up : (refusal : Refusal) (one : Geometry) (s0 s1 s2 : WorkState D) → one ≡ first → WasDone (runs_in first) (migration_of first Demoting v) s0 s1
-      → WasRefused (runs_in one) (flush_of one (Some x)) refusal s1 s2 ⊎ DidNotBegin (runs_in one) (flush_of one (Some x)) refusal s1 s2 → Among refusal s0 s2
+  pub demotion_given_up : (refusal : Refusal) (s0 s1 : WorkState D) → WasRefused (runs_so first) (migration_of first Demoting v) refusal s0 s1 → Among refusal s0 s1
+  demotion_given_up refusal s0 s1 h = named refusal s0 s1 (inl h)
+
+  pub flush_given_up : (refusal : Refusal) (one : Geometry) (s0 s1 s2 : WorkState D) → one ≡ first → WasDone (runs_so first) (migration_of first Demoting v) s0 s1
+      → WasRefused (runs_so one) (flush_of one (Some x)) refusal s1 s2 ⊎ DidNotBegin (runs_so one) (flush_of one (Some x)) refusal s1 s2 → Among refusal s0 s2
   flush_given_up refusal one s0 s1 s2 same demoted h =
-      let there : WasRefused (runs_in first) (flush_of first (Some x)) refusal s1 s2 ⊎ DidNotBegin (runs_in first) (flush_of first (Some x)) refusal s1 s2
-      = subst (λ (g : Geometry). WasRefused (runs_in g) (flush_of g (Some x)) refusal s1 s2 ⊎ DidNotBegin (runs_in g) (flush_of g (Some x)) refusal s1 s2) same h in
+      let there : WasRefused (runs_so first) (flush_of first (Some x)) refusal s1 s2 ⊎ DidNotBegin (runs_so first) (flush_of first (Some x)) refusal s1 s2
+      = subst (λ (g : Geometry). WasRefused (runs_so g) (flush_of g (Some x)) refusal s1 s2 ⊎ DidNotBegin (runs_so g) (flush_of g (Some x)) refusal s1 s2) same h in
       named refusal s0 s2 (inr (inr (s1, demoted, elim there [ inl w ↦ inl w | inr n ↦ inr (inl n) ])))
 
-  pub promotion_given_up : {A : Type 0} (r : Result A Refusal) (one two : Geometry) (s0 s1 s2 s3 : WorkState D) → one ≡ first → two ≡ one → WasDone (runs_in first) (migration_of first Demoting v) s0 s1 → WasDone (runs_in one) (flush_of one (Some x)) s1 s2
-      → IfErr r (λ refusal. WasRefused (runs_in two) (migration_of two (Promoting to) x) refusal s2 s3) → IfErr r (λ refusal. Among refusal s0 s3)
+  pub promotion_given_up : {A : Type 0} (r : Result A Refusal) (one two : Geometry) (s0 s1 s2 s3 : WorkState D) → one ≡ first → two ≡ one → WasDone (runs_so first) (migration_of first Demoting v) s0 s1 → WasDone (runs_so one) (flush_of one (Some x)) s1 s2
+      → IfErr r (λ refusal. WasRefused (runs_so two) (migration_of two (Promoting to) x) refusal s2 s3) → IfErr r (λ refusal. Among refusal s0 s3)
   promotion_given_up r one two s0 s1 s2 s3 a b demoted flushed h =
-      let there : WasDone (runs_in first) (flush_of first (Some x)) s1 s2 = subst (λ (g : Geometry). WasDone (runs_in g) (flush_of g (Some x)) s1 s2) a flushed in
-      IfErr-weaker r (λ refusal. WasRefused (runs_in first) (migration_of first (Promoting to) x) refusal s2 s3) (λ refusal. Among refusal s0 s3)
+      let there : WasDone (runs_so first) (flush_of first (Some x)) s1 s2 = subst (λ (g : Geometry). WasDone (runs_so g) (flush_of g (Some x)) s1 s2) a flushed in
+      IfErr-weaker r (λ refusal. WasRefused (runs_so first) (migration_of first (Promoting to) x) refusal s2 s3) (λ refusal. Among refusal s0 s3)
       (λ refusal w. named refusal s0 s3 (inr (inr (s1, demoted, inr (inr (s2, there, inl w))))))
-      (subst (λ (g : Geometry). IfErr r (λ refusal. WasRefused (runs_in g) (migration_of g (Promoting to) x) refusal s2 s3)) (b ∙ a) h)
+      (subst (λ (g : Geometry). IfErr r (λ refusal. WasRefused (runs_so g) (migration_of g (Promoting to) x) refusal s2 s3)) (b ∙ a) h)
 
 -- ---- turns, in the sizes that stay
 
-module _ {D : Type 0} (tells : Type 0) (size : D → ℕ) (contents : D → List History) (faults : D → ℕ) (first here : Geometry) (same : here ≡ first) where
-  abbrev runs_at : Geometry → TaskJob → WorkState D → Answer → WorkState D → Type 0
-  runs_at geometry = Runs tells size contents faults geometry.origin_blocks
+module _ {D : Type 0} (tells : Type 0) (size : D → ℕ) (contents : D → List History) (faults : D → ℕ) (asked : List Order → DeskTold) (first here : Geometry) (same : here ≡ first) where
+  abbrev runs_at : Geometry → List Order → TaskJob → WorkState D → Answer → WorkState D → Type 0
+  runs_at geometry = Runs tells size contents faults asked geometry.origin_blocks
 
-  pub gave_up_in : (order : Order) (refusal : Refusal) (old new : WorkState D) → GaveUpAmong (runs_at here) (jobs_of here order) refusal old new → GaveUpAmong (runs_at first) (jobs_of first order) refusal old new
-  gave_up_in order refusal old new h = subst (λ (g : Geometry). GaveUpAmong (runs_at g) (jobs_of g order) refusal old new) same h
+  pub gave_up_in : (order : Order) (refusal : Refusal) (old new : WorkState D) → GaveUpAmong (runs_at here (order ∷ [])) (jobs_of here order) refusal old new → GaveUpAmong (runs_at first (order ∷ [])) (jobs_of first order) refusal old new
+  gave_up_in order refusal old new h = subst (λ (g : Geometry). GaveUpAmong (runs_at g (order ∷ [])) (jobs_of g order) refusal old new) same h
+
+  pub flush_done_in : {A : Type 0} (r : Result A Refusal) (old old' new : WorkState D) → old ≡ old' → OnOk r (WasDone (runs_at here []) (flush_of here None) old new) → OnOk r (WasDone (runs_at first []) (flush_of first None) old' new)
+  flush_done_in r old old' new e h =
+      subst (λ (g : Geometry). OnOk r (WasDone (runs_at g []) (flush_of g None) old' new)) same (subst (λ (s : WorkState D). OnOk r (WasDone (runs_at here []) (flush_of here None) s new)) e h)
 
   pub flush_refused_in : (refusal : Refusal) (old old' new : WorkState D) → old ≡ old' → FlushRefused (runs_at here) here refusal old new → FlushRefused (runs_at first) first refusal old' new
   flush_refused_in refusal old old' new e h = subst (λ (g : Geometry). FlushRefused (runs_at g) g refusal old' new) same (subst (λ (s : WorkState D). FlushRefused (runs_at here) here refusal s new) e h)
 
-  pub stopped_at : (order : Order) (cause : Refusal) (old begun mid new : WorkState D) (word : ℕ) → HasBuffer old begun → GaveUpAmong (runs_at here) (jobs_of here order) cause begun mid → 0 < word → new ≡ looked_at_fail word mid → StoppedAt (runs_at first) first old new
+  pub stopped_at : (order : Order) (cause : Refusal) (old begun mid new : WorkState D) (word : ℕ) → HasBuffer old begun → GaveUpAmong (runs_at here (order ∷ [])) (jobs_of here order) cause begun mid → 0 < word → new ≡ looked_at_fail word mid → StoppedAt (runs_at first) first old new
   stopped_at order cause old begun mid new word buffer h set is =
       record { order = order; cause = cause; begun = begun; mid = mid; word = word; buffer = buffer; gave_up = gave_up_in order cause begun mid h; set = set; new_is = is }
 
-module _ {D G : Type 0} (tells : Type 0) (size : D → ℕ) (contents : D → List History) (faults : D → ℕ) (answers : G → Point → Bool → Type 0) (gate : G) (first here : Geometry) (same : here ≡ first) where
-  abbrev runs_by : Geometry → TaskJob → WorkState D → Answer → WorkState D → Type 0
-  runs_by geometry = Runs tells size contents faults geometry.origin_blocks
+module _ {D G : Type 0} (tells : Type 0) (size : D → ℕ) (contents : D → List History) (faults : D → ℕ) (asked : List Order → DeskTold) (answers : G → Point → Bool → Type 0) (gate : G) (first here : Geometry) (same : here ≡ first) where
+  abbrev runs_by : Geometry → List Order → TaskJob → WorkState D → Answer → WorkState D → Type 0
+  runs_by geometry = Runs tells size contents faults asked geometry.origin_blocks
 
   abbrev pub OneTurn : WorkState D → WorkState D → Type 0
   OneTurn = Turn (runs_by first) first answers gate

@@ -3,6 +3,7 @@ use Rattle.std.specs.Prelude.{◌≡◌, ◌<◌, ℕ, List, [], ◌∷◌, Opti
 use Rattle.wb_types.specs.Limits.{node_count}
 use Rattle.wb_types.specs.Extents.{pieces}
 use Rattle.wb_types.specs.declared.geometry.Geometry.{Geometry}
+use Rattle.wb_types.specs.declared.mode.Mode.TheVariants.{Writeback}
 use Rattle.wb_types.specs.declared.number.OBlock.{OBlock}
 use Rattle.wb_types.specs.declared.refusal.Refusal.TheVariants.{Busy}
 use Rattle.wb_disk.specs.Device.{History}
@@ -20,7 +21,7 @@ use Rattle.wb_port.specs.Moves.{IsSynced}
 use Rattle.wb_port.specs.declared.moving.TheConstants.{LONGEST}
 use Rattle.wb_port.specs.declared.port.Port.{Port}
 use Rattle.wb_target.specs.Tries.{EndedAfter}
-use Rattle.wb_target.specs.Works.{WorkState, WasPerformed}
+use Rattle.wb_target.specs.Works.{WorkState, DeskTold, WasPerformed}
 
 -- what a client is at
 abbrev pub state_of : {D : Type 0} → Port D → WorkState D
@@ -39,9 +40,9 @@ pub record HasBegun {D : Type 0} (old new : WorkState D) : Type 0 where
 
 -- ---- a job
 
--- one run of a job's table on a client, with this answer
-abbrev pub Runs : {D : Type 0} → Type 0 → (D → ℕ) → (D → List History) → (D → ℕ) → ℕ → TaskJob → WorkState D → Answer → WorkState D → Type 0
-Runs tells size contents faults blocks job old answer new = WasPerformed tells size contents faults blocks (table job) old answer new
+-- one run of a job's table on a client that has taken these orders, with this answer
+abbrev pub Runs : {D : Type 0} → Type 0 → (D → ℕ) → (D → List History) → (D → ℕ) → (List Order → DeskTold) → ℕ → List Order → TaskJob → WorkState D → Answer → WorkState D → Type 0
+Runs tells size contents faults asked blocks held job old answer new = WasPerformed tells size contents faults (asked held) blocks (table job) old answer new
 
 -- A job was done: after runs that were refused as busy, if any, another was answered done.
 abbrev pub WasDone : {D : Type 0} → (TaskJob → WorkState D → Answer → WorkState D → Type 0) → TaskJob → WorkState D → WorkState D → Type 0
@@ -56,7 +57,7 @@ WereDone {D} runs (job ∷ jobs) old new = (mid : WorkState D) × WasDone runs j
 
 -- a migration of a whole block
 abbrev pub migration_of : Geometry → Migration → OBlock → TaskJob
-migration_of geometry migration block = OnBlock (Migrating migration (record { block_sectors = geometry.block; block = block; extents = pieces LONGEST (whole_block geometry.block block) }))
+migration_of geometry migration block = OnBlock (Migrating migration (record { mode = Writeback; block_sectors = geometry.block; block = block; extents = pieces LONGEST (whole_block geometry.block block) }))
 
 -- a flush that serves the order of this block, if any
 abbrev pub serving : Option OBlock → List OBlock

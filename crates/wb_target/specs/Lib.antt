@@ -1,5 +1,6 @@
 pub mod Tries
 pub mod Works
+pub mod Told
 pub mod Carried
 pub mod Blocking
 pub mod Making

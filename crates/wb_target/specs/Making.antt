@@ -5,9 +5,14 @@ use Rattle.wb_tasks.specs.declared.step.Got.TheVariants.{Fault}
 use Rattle.wb_devices.specs.OpeningLed.{LedOpening}
 use Rattle.wb_devices.specs.declared.opening_stage.OpeningStage.{OpeningStage}
 use Rattle.wb_tasks.specs.Ready.{IsOpenings}
+use Rattle.wb_tasks.specs.Tables.{Opening as OpeningJob}
+use Rattle.wb_tasks.specs.Plan.{table}
+use Rattle.wb_tasks.specs.Run.{IsRunOf, Leads}
+use Rattle.wb_tasks.specs.declared.step.Answer.{Answer}
 use Rattle.wb_tasks.specs.declared.step.Want.{Want}
 use Rattle.wb_tasks.specs.declared.step.Got.{Got}
-use Rattle.wb_devices.specs.Openings.{MayGoOn}
+use Rattle.wb_devices.specs.Openings.{MayGoOn, HasNotBegun}
+use Rattle.wb_devices.specs.declared.devices.Devices.{Devices}
 use Rattle.wb_target.specs.declared.making.MakingStage.{MakingStage}
 
 -- it serves the steps of an opening, and no others
@@ -22,3 +27,15 @@ GoesOn {D} tells size contents faults old want got new =
     × (((before : OpeningStage D) × (before.devices ≡ old.stage.devices) × (before.opening.commit ≡ old.stage.opening.commit)
     × (before.opening.geometry ≡ old.stage.opening.geometry) × LedOpening tells size contents faults before want got new.stage)
     ⊎ ((got ≡ Fault) × (new.stage.devices ≡ old.stage.devices)))
+
+-- An opening that had not begun was run over these devices, by its table up to this answer, and what its devices are then is handed back.
+pub record WasRun {D : Type 0} (P : Type 0) (tells : Type 0) (size : D → ℕ) (contents : D → List History) (faults : D → ℕ) (devices : Devices D) (answer : Answer) (back : Devices D) : Type 0 where
+  pub left : ℕ
+  pub first : MakingStage D P
+  pub last : MakingStage D P
+  pub over : first.stage.devices ≡ devices
+  pub not_begun : HasNotBegun first.stage.opening
+  pub steps : List (Want × Got)
+  pub run : IsRunOf (table (OpeningJob left)) steps answer
+  pub leads : Leads (GoesOn tells size contents faults) first steps last
+  pub back_is : back ≡ last.stage.devices

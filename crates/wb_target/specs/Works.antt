@@ -1,4 +1,5 @@
--- What a step of a migration or a flush does to a client's stage. Of the desk, under its lock, it tells the kind of the answer.
+-- What a step of a migration or a flush does to a client's stage. Of the desk, under its lock, it tells that one was asked for it by one
+-- call, and answered so: whoever cannot show such a desk cannot say that the step was made.
 use Rattle.std.specs.Prelude.{◌≡◌, ◌<◌, ◌⊎◌, ℕ, Bool, true, false, List, [], ◌∷◌, Option, Some, None, length}
 use Rattle.wb_disk.specs.Device.{History, Content as Bytes}
 use Rattle.wb_meta.specs.declared.commit_steps.CommitSteps.TheVariants.{NodesWritten}
@@ -25,7 +26,8 @@ use Rattle.wb_devices.specs.Moving.{OthersStay, device_in}
 use Rattle.wb_devices.specs.Stepping.{CommitGoes, DidStep, BufferStays}
 use Rattle.wb_devices.specs.declared.devices.Devices.{Devices}
 use Rattle.wb_devices.specs.declared.running.RunningCommit.{RunningCommit}
-use Rattle.wb_stage.specs.Stages.{IsServed, is_all_done}
+use Rattle.wb_desk.specs.Desks.{DeskState}
+use Rattle.wb_stage.specs.Stages.{DidAsk, IsServed, is_all_done}
 use Rattle.wb_port.specs.Hands.{DoneByPass, IsReadyOn}
 use Rattle.wb_port.specs.declared.hand.Hand.{Hand}
 use Rattle.wb_target.specs.declared.gate.Point.{Point}
@@ -44,17 +46,26 @@ DidAskDesk (BeginCommit clean most) got commit commit' = commit' ≡ commit
 DidAskDesk EndCommit got commit commit' = EndsIf (is_all_done commit) commit commit'
 DidAskDesk step got commit commit' = commit' ≡ commit
 
+-- what is told of a step on the desk, by its answer and the commit of who asks, before and after
+abbrev pub DeskTold : Type 1
+DeskTold = DeskStep → Got → Option RunningCommit → Option RunningCommit → Type 0
+
+-- Some desk was asked for this step, for who has taken these orders, and answered so. Only under the lock does anybody have a desk that
+-- tells policy of these entries.
+abbrev pub WasAsked : {P : Type 0} → (P → ℕ → ℕ → P) → (P → ℕ → P) → List Order → DeskTold
+WasAsked {P} with_entry without_entry held step got commit commit' = (old : DeskState P) × ((new : DeskState P) × DidAsk with_entry without_entry held step got old commit new commit')
+
 -- A step on a device is one on its own device alone, and leads the commit on where it comes next of it; no other step is on a
 -- device.
-abbrev pub WorksOn : {D : Type 0} → Type 0 → (D → ℕ) → (D → List History) → (D → ℕ) → Devices D → List Bytes → Option RunningCommit → Want → Got → Devices D → List Bytes → Option RunningCommit → Type 0
-WorksOn tells size contents faults old buffer commit (Device step) got new buffer' commit' =
+abbrev pub WorksOn : {D : Type 0} → Type 0 → (D → ℕ) → (D → List History) → (D → ℕ) → DeskTold → Devices D → List Bytes → Option RunningCommit → Want → Got → Devices D → List Bytes → Option RunningCommit → Type 0
+WorksOn tells size contents faults asked old buffer commit (Device step) got new buffer' commit' =
     OthersStay (device_of step) old new
     × (size (device_in (device_of step) new) ≡ size (device_in (device_of step) old))
     × BufferStays step buffer buffer'
     × CommitGoes (size old.metadata) commit step got commit'
     × (tells → DidStep commit step got (size (device_in (device_of step) old)) (contents (device_in (device_of step) old)) (faults (device_in (device_of step) old)) buffer buffer' (contents (device_in (device_of step) new)) (faults (device_in (device_of step) new)))
-WorksOn tells size contents faults old buffer commit (Desk step) got new buffer' commit' = (new ≡ old) × (buffer' ≡ buffer) × DidAskDesk step got commit commit'
-WorksOn tells size contents faults old buffer commit want got new buffer' commit' = (new ≡ old) × (buffer' ≡ buffer) × (commit' ≡ commit)
+WorksOn tells size contents faults asked old buffer commit (Desk step) got new buffer' commit' = (new ≡ old) × (buffer' ≡ buffer) × DidAskDesk step got commit commit' × asked step got commit commit'
+WorksOn tells size contents faults asked old buffer commit want got new buffer' commit' = (new ≡ old) × (buffer' ≡ buffer) × (commit' ≡ commit)
 
 -- What a task of a client is at: a hand, a buffer, and the commit that it runs.
 pub record WorkState (D : Type 0) : Type 0 where
@@ -63,16 +74,16 @@ pub record WorkState (D : Type 0) : Type 0 where
   pub commit : Option RunningCommit
 
 -- what a step of it does, on words of so many blocks
-abbrev pub WorkStep : {D : Type 0} → Type 0 → (D → ℕ) → (D → List History) → (D → ℕ) → ℕ → WorkState D → Want → Got → WorkState D → Type 0
-WorkStep tells size contents faults blocks s want got t =
+abbrev pub WorkStep : {D : Type 0} → Type 0 → (D → ℕ) → (D → List History) → (D → ℕ) → DeskTold → ℕ → WorkState D → Want → Got → WorkState D → Type 0
+WorkStep tells size contents faults asked blocks s want got t =
     DoneByPass blocks s.hand.pass want got t.hand.pass
-    × WorksOn tells size contents faults s.hand.devices s.buffer s.commit want got t.hand.devices t.buffer t.commit
+    × WorksOn tells size contents faults asked s.hand.devices s.buffer s.commit want got t.hand.devices t.buffer t.commit
 
 -- A task was performed, with this answer: its steps are those of its table, and led from the one state to the other.
-pub record WasPerformed {D : Type 0} (tells : Type 0) (size : D → ℕ) (contents : D → List History) (faults : D → ℕ) (blocks : ℕ) (plan : Plan) (old : WorkState D) (answer : Answer) (new : WorkState D) : Type 0 where
+pub record WasPerformed {D : Type 0} (tells : Type 0) (size : D → ℕ) (contents : D → List History) (faults : D → ℕ) (asked : DeskTold) (blocks : ℕ) (plan : Plan) (old : WorkState D) (answer : Answer) (new : WorkState D) : Type 0 where
   pub steps : List (Want × Got)
   pub run : IsRunOf plan steps answer
-  pub leads : Leads (WorkStep tells size contents faults blocks) old steps new
+  pub leads : Leads (WorkStep tells size contents faults asked blocks) old steps new
 
 -- ---- what it may move
 
@@ -118,7 +129,7 @@ abbrev pub IsAsked : {G : Type 0} → (G → Point → Bool → Type 0) → G �
 IsAsked answers gate (Device step) = (go : Bool) × answers gate AtDevice go
 IsAsked answers gate want = Unit {0}
 
-pub record WorkLed {R D P G : Type 0} (tells : Type 0) (size : D → ℕ) (contents : D → List History) (faults : D → ℕ) (answers : G → Point → Bool → Type 0) (old : WorkStage R D P G) (want : Want) (got : Got) (new : WorkStage R D P G) : Type 0 where
+pub record WorkLed {R D P G : Type 0} (tells : Type 0) (size : D → ℕ) (contents : D → List History) (faults : D → ℕ) (told : List Order → DeskTold) (answers : G → Point → Bool → Type 0) (old : WorkStage R D P G) (want : Want) (got : Got) (new : WorkStage R D P G) : Type 0 where
   pub cells : new.cells ≡ old.cells
   pub held : new.held ≡ old.held
   pub gate : new.gate ≡ old.gate
@@ -128,4 +139,4 @@ pub record WorkLed {R D P G : Type 0} (tells : Type 0) (size : D → ℕ) (conte
   pub same_commit : new.commit.ghost_name ≡ old.commit.ghost_name
   pub sized : new.hand.now.block_sectors ≡ old.hand.now.block_sectors
   pub by_pass : DoneByPass old.cells.now.blocks old.hand.now.pass want got new.hand.now.pass
-  pub works : WorksOn tells size contents faults old.hand.now.devices old.buffer.now old.commit.now want got new.hand.now.devices new.buffer.now new.commit.now
+  pub works : WorksOn tells size contents faults (told old.held.now) old.hand.now.devices old.buffer.now old.commit.now want got new.hand.now.devices new.buffer.now new.commit.now

@@ -6,8 +6,9 @@ ghost use Rattle.wb_tasks.specs.Tables.{TaskJob};
 ghost use Rattle.wb_tasks.specs.Plan.{table};
 ghost use Rattle.wb_stage.specs.Jobs.{MayRun};
 ghost use Rattle.wb_port.specs.Moves.{copied_to};
-ghost use Rattle.wb_target.specs.Works.{WasPerformed, IsOrdered, MayMigrate};
+ghost use Rattle.wb_target.specs.Works.{WasAsked, WasPerformed, IsOrdered, MayMigrate};
 ghost use Rattle.wb_target.specs.Carried.{state_of, looked_at_fail, HasBegun, Runs, WasDone, WereDone, migration_of, serving, flush_of, jobs_of, IsThere, AreSynced};
+ghost use Rattle.wb_target.specs.Told.{HadTick, WasNext, WasGivenUp};
 ghost use Rattle.wb_target.specs.Workers.{WasRefused, DidNotBegin, GaveUpAmong, OrderRefused, FlushRefused, TickRefused};
 
 use crate::client::Client;
@@ -41,7 +42,7 @@ fn work<R: Wait, D: Disk + Drop, P: Policy, G: Gate, T: Task>(
     task: &mut T,
 ) -> Answer
     requires begun { (job : TaskJob) × (T.plan task.old ≡ table job) × MayRun port.old.geometry.origin_blocks job × MayMigrate port.old.geometry.block held.now job }
-    ensures performed { WasPerformed D.tells D.size D.contents D.faults port.old.geometry.origin_blocks (T.plan task.old) (state_of port.old) result (state_of port.new) }
+    ensures performed { WasPerformed D.tells D.size D.contents D.faults (WasAsked P.with_entry P.without_entry held.now) port.old.geometry.origin_blocks (T.plan task.old) (state_of port.old) result (state_of port.new) }
     ensures geometry { port.new.geometry ≡ port.old.geometry }
 {
     perform_task(
@@ -94,8 +95,8 @@ fn migrate<R: Wait, D: Disk + Drop, P: Policy, G: Gate>(
 ) -> Result<(), Refusal>
     requires there { block.0 < port.old.geometry.origin_blocks }
     requires ordered { IsOrdered (order ∷ []) block (copied_to migration) }
-    ensures done { OnOk result (WasDone (Runs D.tells D.size D.contents D.faults port.old.geometry.origin_blocks) (migration_of port.old.geometry migration block) (state_of port.old) (state_of port.new)) }
-    ensures refused { IfErr result (λ refusal. WasRefused (Runs D.tells D.size D.contents D.faults port.old.geometry.origin_blocks) (migration_of port.old.geometry migration block) refusal (state_of port.old) (state_of port.new)) }
+    ensures done { OnOk result (WasDone (Runs D.tells D.size D.contents D.faults (WasAsked P.with_entry P.without_entry) port.old.geometry.origin_blocks (order ∷ [])) (migration_of port.old.geometry migration block) (state_of port.old) (state_of port.new)) }
+    ensures refused { IfErr result (λ refusal. WasRefused (Runs D.tells D.size D.contents D.faults (WasAsked P.with_entry P.without_entry) port.old.geometry.origin_blocks (order ∷ [])) (migration_of port.old.geometry migration block) refusal (state_of port.old) (state_of port.new)) }
     ensures geometry { port.new.geometry ≡ port.old.geometry }
 {
     let held = [order];
@@ -126,8 +127,8 @@ fn flush<R: Wait, D: Disk + Drop, P: Policy, G: Gate>(
     held: &[Order],
     serves: Option<OBlock>,
 ) -> Result<(), Refusal>
-    ensures done { OnOk result (WasDone (Runs D.tells D.size D.contents D.faults port.old.geometry.origin_blocks) (flush_of port.old.geometry serves) (state_of port.old) (state_of port.new)) }
-    ensures refused { IfErr result (λ refusal. WasRefused (Runs D.tells D.size D.contents D.faults port.old.geometry.origin_blocks) (flush_of port.old.geometry serves) refusal (state_of port.old) (state_of port.new) ⊎ DidNotBegin (Runs D.tells D.size D.contents D.faults port.old.geometry.origin_blocks) (flush_of port.old.geometry serves) refusal (state_of port.old) (state_of port.new)) }
+    ensures done { OnOk result (WasDone (Runs D.tells D.size D.contents D.faults (WasAsked P.with_entry P.without_entry) port.old.geometry.origin_blocks held.now) (flush_of port.old.geometry serves) (state_of port.old) (state_of port.new)) }
+    ensures refused { IfErr result (λ refusal. WasRefused (Runs D.tells D.size D.contents D.faults (WasAsked P.with_entry P.without_entry) port.old.geometry.origin_blocks held.now) (flush_of port.old.geometry serves) refusal (state_of port.old) (state_of port.new) ⊎ DidNotBegin (Runs D.tells D.size D.contents D.faults (WasAsked P.with_entry P.without_entry) port.old.geometry.origin_blocks held.now) (flush_of port.old.geometry serves) refusal (state_of port.old) (state_of port.new)) }
     ensures geometry { port.new.geometry ≡ port.old.geometry }
 {
     let most = port.geometry.node_count();
@@ -169,7 +170,9 @@ fn served(alloc: Global, block: Option<OBlock>) -> Result<Vec<OBlock>, Refusal>
 }
 
 /// Gives up the order of a block, which is one of these.
-fn give_up<R: Wait, P: Policy>(rt: &R, target: &Target<P>, held: &[Order], block: Option<OBlock>) {
+fn give_up<R: Wait, P: Policy>(rt: &R, target: &Target<P>, held: &[Order], block: Option<OBlock>)
+    ensures { (one : _) → block ≡ Some one → WasGivenUp P held.now one }
+{
     if let Some(block) = block {
         target.release(rt, held, block);
     }
@@ -184,8 +187,8 @@ pub(crate) fn carry_out<R: Wait, D: Disk + Drop, P: Policy, G: Gate>(
     order: Order,
 ) -> Result<(), Refusal>
     requires { IsThere port.old.geometry order }
-    ensures carried { OnOk result (WereDone (Runs D.tells D.size D.contents D.faults port.old.geometry.origin_blocks) (jobs_of port.old.geometry order) (state_of port.old) (state_of port.new)) }
-    ensures given_up { IfErr result (λ refusal. GaveUpAmong (Runs D.tells D.size D.contents D.faults port.old.geometry.origin_blocks) (jobs_of port.old.geometry order) refusal (state_of port.old) (state_of port.new)) }
+    ensures carried { OnOk result (WereDone (Runs D.tells D.size D.contents D.faults (WasAsked P.with_entry P.without_entry) port.old.geometry.origin_blocks (order ∷ [])) (jobs_of port.old.geometry order) (state_of port.old) (state_of port.new)) }
+    ensures given_up { IfErr result (λ refusal. GaveUpAmong (Runs D.tells D.size D.contents D.faults (WasAsked P.with_entry P.without_entry) port.old.geometry.origin_blocks (order ∷ [])) (jobs_of port.old.geometry order) refusal (state_of port.old) (state_of port.new)) }
     ensures geometry { port.new.geometry ≡ port.old.geometry }
 {
     match order {
@@ -224,9 +227,10 @@ impl<'t, D: Disk + Drop, P: Policy> Client<'t, D, P> {
     /// `Failed` where the target has failed; `Memory` where there is none; `Io` where a step failed; `GenerationEnd` where a
     /// replacement's commit has no next generation; `Range` for an order of blocks that are not there, of which none is given.
     pub fn work_one<R: Wait>(&mut self, rt: &R) -> Result<Option<Order>, Refusal>
-        ensures carried { IfOk result (λ told. IfSome told (λ order. (begun : _) × HasBegun (state_of self.old.port) begun × WereDone (Runs D.tells D.size D.contents D.faults self.old.port.geometry.origin_blocks) (jobs_of self.old.port.geometry order) begun (state_of self.new.port))) }
+        ensures carried { IfOk result (λ told. IfSome told (λ order. (begun : _) × HasBegun (state_of self.old.port) begun × WereDone (Runs D.tells D.size D.contents D.faults (WasAsked P.with_entry P.without_entry) self.old.port.geometry.origin_blocks (order ∷ [])) (jobs_of self.old.port.geometry order) begun (state_of self.new.port))) }
+        ensures next { IfOk result (WasNext P) }
         ensures idle { IfOk result (λ told. IfNone told (HasBegun (state_of self.old.port) (state_of self.new.port))) }
-        ensures refused { IfErr result (λ refusal. OrderRefused (Runs D.tells D.size D.contents D.faults self.old.port.geometry.origin_blocks) self.old.port.geometry refusal (state_of self.old.port) (state_of self.new.port)) }
+        ensures refused { IfErr result (λ refusal. OrderRefused (Runs D.tells D.size D.contents D.faults (WasAsked P.with_entry P.without_entry) self.old.port.geometry.origin_blocks) self.old.port.geometry refusal (state_of self.old.port) (state_of self.new.port)) }
         ensures target { self.new.target ≡ self.old.target }
         ensures geometry { self.new.port.geometry ≡ self.old.port.geometry }
     {
@@ -250,9 +254,9 @@ impl<'t, D: Disk + Drop, P: Policy> Client<'t, D, P> {
     /// `Failed` where the target has failed; `Io` where a step failed; `Memory` where there is none; `GenerationEnd` where there
     /// is no next generation.
     pub fn flush<R: Wait>(&mut self, rt: &R) -> Result<Flushed, Refusal>
-        ensures flushed { OnOk result (WasDone (Runs D.tells D.size D.contents D.faults self.old.port.geometry.origin_blocks) (flush_of self.old.port.geometry None) (state_of self.old.port) (state_of self.new.port)) }
+        ensures flushed { OnOk result (WasDone (Runs D.tells D.size D.contents D.faults (WasAsked P.with_entry P.without_entry) self.old.port.geometry.origin_blocks []) (flush_of self.old.port.geometry None) (state_of self.old.port) (state_of self.new.port)) }
         ensures synced { OnOk result (D.tells → AreSynced D.contents self.new.port.hand.devices) }
-        ensures refused { IfErr result (λ refusal. FlushRefused (Runs D.tells D.size D.contents D.faults self.old.port.geometry.origin_blocks) self.old.port.geometry refusal (state_of self.old.port) (state_of self.new.port)) }
+        ensures refused { IfErr result (λ refusal. FlushRefused (Runs D.tells D.size D.contents D.faults (WasAsked P.with_entry P.without_entry) self.old.port.geometry.origin_blocks) self.old.port.geometry refusal (state_of self.old.port) (state_of self.new.port)) }
         ensures target { self.new.target ≡ self.old.target }
         ensures geometry { self.new.port.geometry ≡ self.old.port.geometry }
     {
@@ -267,9 +271,10 @@ impl<'t, D: Disk + Drop, P: Policy> Client<'t, D, P> {
     /// `Failed` where the target has failed, and `Memory` where there is none for the list of dirty blocks: then the policy was
     /// told nothing. Else as `flush`, and then the orders stay.
     pub fn tick<R: Wait>(&mut self, rt: &R) -> Result<Flushed, Refusal>
-        ensures flushed { OnOk result (WasDone (Runs D.tells D.size D.contents D.faults self.old.port.geometry.origin_blocks) (flush_of self.old.port.geometry None) (looked_at_fail 0 (state_of self.old.port)) (state_of self.new.port)) }
+        ensures ticked { OnOk result (HadTick P.cleaned P.ticked) }
+        ensures flushed { OnOk result (WasDone (Runs D.tells D.size D.contents D.faults (WasAsked P.with_entry P.without_entry) self.old.port.geometry.origin_blocks []) (flush_of self.old.port.geometry None) (looked_at_fail 0 (state_of self.old.port)) (state_of self.new.port)) }
         ensures synced { OnOk result (D.tells → AreSynced D.contents self.new.port.hand.devices) }
-        ensures refused { IfErr result (λ refusal. TickRefused (Runs D.tells D.size D.contents D.faults self.old.port.geometry.origin_blocks) self.old.port.geometry refusal (state_of self.old.port) (state_of self.new.port)) }
+        ensures refused { IfErr result (λ refusal. TickRefused (Runs D.tells D.size D.contents D.faults (WasAsked P.with_entry P.without_entry) self.old.port.geometry.origin_blocks) self.old.port.geometry refusal (state_of self.old.port) (state_of self.new.port)) }
         ensures target { self.new.target ≡ self.old.target }
         ensures geometry { self.new.port.geometry ≡ self.old.port.geometry }
     {

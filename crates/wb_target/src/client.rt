@@ -1,7 +1,8 @@
 //! A client of a target.
 
-ghost use Rattle.std.specs.Prelude.{◌≡◌, []};
+ghost use Rattle.std.specs.Prelude.{◌≡◌, ◌<◌, [], length};
 ghost use Rattle.std.specs.Bool.{OnTrue, OnFalse};
+ghost use Rattle.wb_target.specs.Told.{WereSettled};
 
 use crate::target::Target;
 use std::sync::Wait;
@@ -47,6 +48,7 @@ impl<'t, D: Disk + Drop, P: Policy> Client<'t, D, P> {
     /// Settles its accesses: the policy is told of each, in order, and orders that it gives wait to be taken.
     pub fn settle<R: Wait>(&mut self, rt: &R)
         ensures target { self.new.target ≡ self.old.target }
+        ensures told { 0 < length self.old.port.accesses.items → WereSettled P.ordered P.settled self.old.port.accesses.items }
         ensures settled { self.new.port.accesses.items ≡ [] }
         ensures hand { self.new.port.hand ≡ self.old.port.hand }
         ensures geometry { self.new.port.geometry ≡ self.old.port.geometry }
@@ -60,6 +62,7 @@ impl<'t, D: Disk + Drop, P: Policy> Client<'t, D, P> {
     /// time to time seldom has to wait in `settle`.
     pub fn try_settle(&mut self) -> bool
         ensures target { self.new.target ≡ self.old.target }
+        ensures told { OnTrue result (WereSettled P.ordered P.settled self.old.port.accesses.items) }
         ensures settled { OnTrue result (self.new.port.accesses.items ≡ []) }
         ensures kept { OnFalse result (self.new.port ≡ self.old.port) }
         ensures hand { self.new.port.hand ≡ self.old.port.hand }
@@ -73,6 +76,7 @@ impl<'t, D: Disk + Drop, P: Policy> Client<'t, D, P> {
 
 /// Settles a port's accesses.
 fn settle_all<R: Wait, D: Disk + Drop, P: Policy>(rt: &R, target: &Target<P>, port: &mut Port<D>)
+    ensures told { 0 < length port.old.accesses.items → WereSettled P.ordered P.settled port.old.accesses.items }
     ensures settled { port.new.accesses.items ≡ [] }
     ensures hand { port.new.hand ≡ port.old.hand }
     ensures geometry { port.new.geometry ≡ port.old.geometry }
@@ -86,6 +90,7 @@ fn settle_all<R: Wait, D: Disk + Drop, P: Policy>(rt: &R, target: &Target<P>, po
 
 /// Settles a port's accesses if nobody else is at the desk: whether none is unsettled.
 fn try_settle_all<D: Disk + Drop, P: Policy>(target: &Target<P>, port: &mut Port<D>) -> bool
+    ensures told { OnTrue result (WereSettled P.ordered P.settled port.old.accesses.items) }
     ensures settled { OnTrue result (port.new.accesses.items ≡ []) }
     ensures kept { OnFalse result (port.new ≡ port.old) }
     ensures hand { port.new.hand ≡ port.old.hand }

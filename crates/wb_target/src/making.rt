@@ -1,9 +1,12 @@
 //! Where a target is opened: an opening of its devices that makes the target of what was read before it writes the root.
 
-ghost use Rattle.std.specs.Prelude.{◌≡◌, ℕ};
+ghost use Rattle.std.specs.Prelude.{◌≡◌, ℕ, List, OnOk};
 ghost use Rattle.wb_tasks.specs.Tables.{Opening as OpeningJob};
 ghost use Rattle.wb_tasks.specs.Plan.{table};
-ghost use Rattle.wb_devices.specs.Openings.{MayGoOn};
+ghost use Rattle.wb_tasks.specs.Run.{IsRunOf, Leads};
+ghost use Rattle.wb_tasks.specs.declared.step.Want.{Want as WantTerm};
+ghost use Rattle.wb_tasks.specs.declared.step.Got.{Got as GotTerm};
+ghost use Rattle.wb_devices.specs.Openings.{MayGoOn, HasNotBegun};
 ghost use Rattle.wb_target.specs.Making.{IsReadyToMake, GoesOn};
 
 use crate::opening::over;
@@ -38,7 +41,9 @@ impl<'k, D: Disk + Drop, P: Policy> MakingStage<'k, D, P> {
         mode: Mode,
         keys: &'k [(Key, u64)],
     ) -> MakingStage<'k, D, P>
-        ensures { MayGoOn (D.size result.stage.devices.metadata) result.stage.opening }
+        ensures goes_on { MayGoOn (D.size result.stage.devices.metadata) result.stage.opening }
+        ensures devices { result.stage.devices ≡ devices }
+        ensures begins { HasNotBegun result.stage.opening }
     {
         let stage = OpeningStage::new(alloc, devices, geometry);
         MakingStage {
@@ -54,6 +59,7 @@ impl<'k, D: Disk + Drop, P: Policy> MakingStage<'k, D, P> {
     pub(crate) fn run<T: Task>(&mut self, task: &mut T) -> Answer
         requires begun { (left : ℕ) × (T.plan task.old ≡ table (OpeningJob left)) }
         requires goes_on { MayGoOn (D.size self.old.stage.devices.metadata) self.old.stage.opening }
+        ensures run { (steps : List (WantTerm × GotTerm)) × IsRunOf (T.plan task.old) steps result × Leads (GoesOn D.tells D.size D.contents D.faults) self.old steps self.new }
     {
         drive(task, self)
     }
@@ -61,6 +67,7 @@ impl<'k, D: Disk + Drop, P: Policy> MakingStage<'k, D, P> {
     /// The devices, and the target, or why there is none: why it could not be made, else why the opening was refused.
     pub(crate) fn finish(self, answer: Answer) -> (Devices<D>, Result<Target<P>, Refusal>)
         ensures devices { result.0 ≡ self.entry.stage.devices }
+        ensures done { OnOk result.1 (answer ≡ Answer.Done) }
     {
         let MakingStage { stage, made, .. } = self;
         let (devices, _) = stage.finish();

@@ -1,7 +1,11 @@
 //! What lies under a target's lock.
 
-ghost use Rattle.std.specs.Prelude.{◌≡◌, ◌<◌, ◌++◌, ◌∷◌, [], IfOk, IfErr, IfSome, length, vec_capacity};
-ghost use Rattle.wb_desk.specs.Desks.{holdings, mapped_now};
+ghost use Rattle.std.specs.Prelude.{◌≡◌, ◌<◌, ◌+◌, ◌++◌, ◌∷◌, [], List, IfOk, IfErr, IfSome, OnOk, length, vec_capacity};
+ghost use Rattle.wb_types.specs.declared.number.CBlock.{CBlock as CBlockValue};
+ghost use Rattle.wb_types.specs.declared.number.OBlock.{OBlock as OBlockValue};
+ghost use Rattle.wb_desk.specs.Desks.{holdings};
+ghost use Rattle.wb_desk.specs.Settling.{IsTicked};
+ghost use Rattle.wb_target.specs.Told.{AreShown};
 ghost use Rattle.wb_desk.proofs.Seen.{AreSeen};
 ghost use Rattle.wb_policy.specs.Law.{IsMappedAt};
 
@@ -49,7 +53,7 @@ impl<P: Policy> Office<P> {
 
     /// What the status line tells, as the words and the desk are now.
     pub(crate) fn fields(&mut self) -> Fields<'static>
-        ensures mapped { result.mapped ≡ mapped_now self.old.desk }
+        ensures { AreShown self.old.desk result }
     {
         let counts = self.desk.counts();
         let geometry = self.desk.geometry();
@@ -79,6 +83,7 @@ impl<P: Policy> Office<P> {
     /// The policy's tick, over the mapped blocks whose seals are dirty now. `Memory` where there is none for the list of them,
     /// and then the policy was told nothing.
     pub(crate) fn tick(&mut self, alloc: Global) -> Result<(), Refusal>
+        ensures ticked { OnOk result ((dirty : List (CBlockValue × OBlockValue)) × IsTicked P.cleaned P.ticked dirty (self.old.desk.geometry.cache_blocks + 1) 0 self.old.desk self.new.desk) }
         ensures refused { IfErr result (λ refusal. refusal ≡ Refusal.Memory) }
     {
         let dirty = self.dirty_blocks(alloc)?;

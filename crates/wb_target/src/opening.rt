@@ -1,6 +1,8 @@
 //! Opening a target over what three devices hold.
 
-ghost use Rattle.std.specs.Prelude.{◌≡◌, ◌≤◌, ◌<◌, IfOk, IfErr, length};
+ghost use Rattle.std.specs.Prelude.{◌≡◌, ◌≤◌, ◌<◌, ◌⊎◌, IfOk, IfErr, OnOk, length};
+ghost use Rattle.wb_tasks.specs.declared.step.Answer.{Answer as AnswerTerm};
+ghost use Rattle.wb_target.specs.Making.{WasRun};
 ghost use Rattle.wb_words.specs.declared.card.Hold.TheVariants.{Nothing};
 ghost use Rattle.wb_tree.specs.Mapping.{IsMapping};
 ghost use Rattle.wb_meta.specs.Reads.{FitsDevice};
@@ -19,6 +21,7 @@ use wb_flow::OpenTask;
 use wb_meta::State;
 use wb_policy::Policy;
 use wb_port::Seat;
+use wb_tasks::Answer;
 use wb_tree::Tree;
 use wb_types::{CBlock, Entry, Geometry, Key, Mode, Refusal};
 
@@ -36,7 +39,10 @@ impl<P: Policy> Target<P> {
         block: u64,
         mode: Mode,
         keys: &[(Key, u64)],
-    ) -> (Devices<D>, Result<Target<P>, Refusal>) {
+    ) -> (Devices<D>, Result<Target<P>, Refusal>)
+        ensures opened { OnOk result.1 (WasRun P D.tells D.size D.contents D.faults devices Answer.Done result.0) }
+        ensures refused { IfErr result.1 (λ refusal. ((refusal ≡ Refusal.Geometry) × (result.0 ≡ devices)) ⊎ ((answer : AnswerTerm) × WasRun P D.tells D.size D.contents D.faults devices answer result.0)) }
+    {
         let geometry = match measure(&devices, block) {
             Ok(geometry) => geometry,
             Err(refusal) => return (devices, Err(refusal)),

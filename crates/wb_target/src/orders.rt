@@ -5,7 +5,7 @@ ghost use Rattle.wb_words.specs.declared.card.Hold.TheVariants.{Nothing};
 ghost use Rattle.wb_tasks.specs.Tables.{TaskJob};
 ghost use Rattle.wb_tasks.specs.Plan.{table};
 ghost use Rattle.wb_stage.specs.Jobs.{MayRun};
-ghost use Rattle.wb_target.specs.Works.{WasPerformed, MayMigrate};
+ghost use Rattle.wb_target.specs.Works.{WasAsked, WasPerformed, MayMigrate};
 
 use crate::gate::Gate;
 use crate::target::Target;
@@ -25,7 +25,7 @@ impl<'a, R: Wait, D: Disk, P: Policy, G: Gate> WorkStage<'a, R, D, P, G> {
         requires begun { (job : TaskJob) × (T.plan task.old ≡ table job) × MayRun self.old.cells.now.blocks job × MayMigrate self.old.hand.now.block_sectors self.old.held.now job }
         requires at { self.old.hand.now.pass.table ≡ self.old.cells.now.table }
         requires idle { self.old.hand.now.pass.card.hold ≡ Nothing }
-        ensures performed { WasPerformed D.tells D.size D.contents D.faults self.old.cells.now.blocks (T.plan task.old) (record { hand = self.old.hand.now; buffer = self.old.buffer.now; commit = self.old.commit.now }) result (record { hand = self.new.hand.now; buffer = self.new.buffer.now; commit = self.new.commit.now }) }
+        ensures performed { WasPerformed D.tells D.size D.contents D.faults (WasAsked P.with_entry P.without_entry self.old.held.now) self.old.cells.now.blocks (T.plan task.old) (record { hand = self.old.hand.now; buffer = self.old.buffer.now; commit = self.old.commit.now }) result (record { hand = self.new.hand.now; buffer = self.new.buffer.now; commit = self.new.commit.now }) }
         ensures same_hand { self.new.hand.ghost_name ≡ self.old.hand.ghost_name }
         ensures same_buffer { self.new.buffer.ghost_name ≡ self.old.buffer.ghost_name }
         ensures same_commit { self.new.commit.ghost_name ≡ self.old.commit.ghost_name }
@@ -52,7 +52,7 @@ pub(crate) fn perform_task<'a, R: Wait, D: Disk, P: Policy, G: Gate, T: Task>(
     requires begun { (job : TaskJob) × (T.plan task.old ≡ table job) × MayRun cells.now.blocks job × MayMigrate hand.old.block_sectors held.now job }
     requires at { hand.old.pass.table ≡ cells.now.table }
     requires idle { hand.old.pass.card.hold ≡ Nothing }
-    ensures performed { WasPerformed D.tells D.size D.contents D.faults cells.now.blocks (T.plan task.old) (record { hand = hand.old; buffer = buffer.old; commit = commit.old }) result (record { hand = hand.new; buffer = buffer.new; commit = commit.new }) }
+    ensures performed { WasPerformed D.tells D.size D.contents D.faults (WasAsked P.with_entry P.without_entry held.now) cells.now.blocks (T.plan task.old) (record { hand = hand.old; buffer = buffer.old; commit = commit.old }) result (record { hand = hand.new; buffer = buffer.new; commit = commit.new }) }
     ensures at { hand.new.pass.table ≡ hand.old.pass.table }
     ensures idle { hand.new.pass.card.hold ≡ Nothing }
     ensures block { hand.new.block_sectors ≡ hand.old.block_sectors }

@@ -6,7 +6,8 @@ ghost use Rattle.wb_tasks.specs.declared.step.Want.TheVariants.{Desk as AskDesk,
 ghost use Rattle.wb_devices.specs.Moving.{IsOutcome, OthersStay, device_in};
 ghost use Rattle.wb_devices.specs.Stepping.{CommitGoes, DidStep, BufferStays};
 ghost use Rattle.wb_stage.specs.Stages.{IsServed};
-ghost use Rattle.wb_target.specs.Works.{IsReadyToWork, MayWork, MayCommit, DidAskDesk, WorkLed};
+ghost use Rattle.wb_target.specs.Told.{WasGivenUp};
+ghost use Rattle.wb_target.specs.Works.{IsReadyToWork, MayWork, MayCommit, DidAskDesk, WasAsked, WorkLed};
 
 use crate::gate::{Gate, Point};
 use crate::target::Target;
@@ -33,6 +34,7 @@ impl<P: Policy> Target<P> {
         requires { IsServed (AskDesk step) }
         ensures kind { Fits (AskDesk step) result }
         ensures commit { DidAskDesk step result commit.old commit.new }
+        ensures asked { WasAsked P.with_entry P.without_entry held.now step result commit.old commit.new }
     {
         let got = asking::ask(
             self.alloc,
@@ -48,7 +50,9 @@ impl<P: Policy> Target<P> {
     }
 
     /// Gives up the order of a block, which is one of these.
-    pub(crate) fn release<R: Wait>(&self, rt: &R, held: &[Order], block: OBlock) {
+    pub(crate) fn release<R: Wait>(&self, rt: &R, held: &[Order], block: OBlock)
+        ensures { WasGivenUp P held.now block }
+    {
         asking::release(&mut self.office.lock(rt).desk, held, block);
     }
 }
@@ -90,6 +94,7 @@ impl<'a, R: Wait, D: Disk, P: Policy, G: Gate> WorkStage<'a, R, D, P, G> {
         ensures same_buffer { self.new.buffer.ghost_name ≡ self.old.buffer.ghost_name }
         ensures buffer { self.new.buffer.now ≡ self.old.buffer.now }
         ensures commit { DidAskDesk step result self.old.commit.now self.new.commit.now }
+        ensures asked { WasAsked P.with_entry P.without_entry self.old.held.now step result self.old.commit.now self.new.commit.now }
     {
         self.target.ask(self.rt, self.commit, self.held, step)
     }
@@ -98,7 +103,7 @@ impl<'a, R: Wait, D: Disk, P: Policy, G: Gate> WorkStage<'a, R, D, P, G> {
 impl<'a, R: Wait, D: Disk, P: Policy, G: Gate> Stage for WorkStage<'a, R, D, P, G> {
     ghost ready = { IsReadyToWork D.tells D.contents };
 
-    ghost led = { WorkLed D.tells D.size D.contents D.faults G.answers };
+    ghost led = { WorkLed D.tells D.size D.contents D.faults (WasAsked P.with_entry P.without_entry) G.answers };
 
     #[tactic(auto, using(wb_devices::proofs::Going::outcome_fits))]
     fn perform(&mut self, want: &Want) -> Got {

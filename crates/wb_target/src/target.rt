@@ -1,8 +1,11 @@
 //! A target: what its clients share.
 
-ghost use Rattle.std.specs.Prelude.{◌≡◌, ◌++◌, ◌⊎◌, [], OnOk, OnErr, IfOk, IfErr, string_bytes};
+ghost use Rattle.std.specs.Prelude.{◌≡◌, ◌+◌, ◌++◌, ◌⊎◌, [], OnOk, OnErr, IfOk, IfErr, string_bytes};
+ghost use Rattle.std.specs.Bool.{OnTrue};
 ghost use Rattle.wb_table.specs.Status.{status_line};
 ghost use Rattle.wb_table.specs.declared.status.Fields.{Fields as Told};
+ghost use Rattle.wb_desk.specs.Desks.{DeskState, mapped_now};
+ghost use Rattle.wb_target.specs.Told.{WereSettled, HadTick, WasNext, AreShown};
 
 use crate::client::Client;
 use crate::office::Office;
@@ -82,7 +85,9 @@ impl<P: Policy> Target<P> {
     }
 
     /// What the desk counts.
-    pub fn counts<R: Wait>(&self, rt: &R) -> Counts {
+    pub fn counts<R: Wait>(&self, rt: &R) -> Counts
+        ensures counted { (d : DeskState P) × (result.generation ≡ d.generation) × (result.used ≡ d.nodes + 2) × (result.mapped ≡ mapped_now d) × (result.promotions ≡ d.promotions) × (result.demotions ≡ d.demotions) × (result.threshold ≡ d.threshold) }
+    {
         self.office.lock(rt).desk.counts()
     }
 
@@ -95,7 +100,7 @@ impl<P: Policy> Target<P> {
     /// words count of requests, and how many mapped blocks are dirty, or `Fail` alone once the target has failed. A look at each
     /// cache block, under the lock. `Memory` where there is none, and then nothing is added.
     pub fn status<R: Wait>(&self, rt: &R, text: &mut String) -> Result<(), Refusal>
-        ensures line { OnOk result ((told : Told) × (string_bytes text.new ≡ string_bytes text.old ++ status_line told)) }
+        ensures line { OnOk result ((told : Told) × ((d : DeskState P) × AreShown d told × (string_bytes text.new ≡ string_bytes text.old ++ status_line told))) }
         ensures refused { IfErr result (λ refusal. refusal ≡ Refusal.Memory) }
         ensures unchanged { OnErr result (string_bytes text.new ≡ string_bytes text.old) }
     {
@@ -105,6 +110,7 @@ impl<P: Policy> Target<P> {
 
     /// The policy's tick; whoever waits for an order is woken. `Memory` where there is none, and then no order was given.
     pub(crate) fn tick<R: Wait>(&self, rt: &R) -> Result<(), Refusal>
+        ensures ticked { OnOk result (HadTick P.cleaned P.ticked) }
         ensures refused { IfErr result (λ refusal. refusal ≡ Refusal.Memory) }
     {
         self.office.lock(rt).tick(self.alloc)?;
@@ -113,13 +119,17 @@ impl<P: Policy> Target<P> {
     }
 
     /// Tells the policy of accesses, in order; whoever waits for an order is woken.
-    pub(crate) fn settle<R: Wait>(&self, rt: &R, accesses: &[OBlock]) {
+    pub(crate) fn settle<R: Wait>(&self, rt: &R, accesses: &[OBlock])
+        ensures { WereSettled P.ordered P.settled accesses.now }
+    {
         self.office.lock(rt).desk.settle(accesses);
         self.bell.notify_all();
     }
 
     /// Tells the policy of accesses, in order, if nobody else has the lock now: whether it did.
-    pub(crate) fn try_settle(&self, accesses: &[OBlock]) -> bool {
+    pub(crate) fn try_settle(&self, accesses: &[OBlock]) -> bool
+        ensures { OnTrue result (WereSettled P.ordered P.settled accesses.now) }
+    {
         let Some(mut office) = self.office.try_lock() else {
             return false;
         };
@@ -130,7 +140,9 @@ impl<P: Policy> Target<P> {
     }
 
     /// The order that waits longest, if any.
-    pub(crate) fn take_order<R: Wait>(&self, rt: &R) -> Option<Order> {
+    pub(crate) fn take_order<R: Wait>(&self, rt: &R) -> Option<Order>
+        ensures { WasNext P result }
+    {
         self.office.lock(rt).desk.next_order()
     }
 

@@ -1,17 +1,24 @@
 -- A read, write or migration takes no more steps than its sectors allow, however they are cut.
 use Rattle.std.proofs.Common.{◌≡◌, ◌+◌, ◌*◌, ◌≤◌, ℕ, List, [], ◌∷◌, length, max, arith}
+use Rattle.wb_types.specs.declared.mode.Mode.{Mode}
+use Rattle.wb_types.specs.declared.mode.Mode.TheVariants.{Writeback, Writethrough, Passthrough}
 use Rattle.wb_types.specs.declared.extent.Extent.{Extent}
 use Rattle.wb_types.specs.Extents.{IsCutInto}
 use Rattle.wb_types.proofs.Cutting.{cut_short}
 use Rattle.wb_tasks.specs.Tables.{BlockJob, Reading, Writing, Migrating, OnBlock, Flushing, Opening, range_of}
 use Rattle.wb_types.specs.declared.number.OBlock.{OBlock}
 use Rattle.wb_tasks.specs.Plan.{table, release_orders}
-use Rattle.wb_tasks.specs.Length.{longest}
+use Rattle.wb_tasks.specs.Length.{most_written, longest}
+
+at_most_twice : (mode : Mode) (n : ℕ) → most_written mode * n ≤ 2 * n
+at_most_twice Writeback n = omega arith
+at_most_twice Writethrough n = omega arith
+at_most_twice Passthrough n = omega arith
 
 -- by the number of extents
 pub longest_is : (job : BlockJob) → longest (table (OnBlock job)) ≤ 2 * length (range_of job).extents + 11
 longest_is (Reading part) = omega arith
-longest_is (Writing part) = omega arith
+longest_is (Writing part) = omega (arith, at_most_twice part.mode (length part.extents))
 longest_is (Migrating migration part) = omega arith
 
 -- and by that of sectors

@@ -1,5 +1,5 @@
 -- A task refuses for a cause alone.
-use Rattle.std.proofs.Common.{◌≡◌, ◌≢◌, ◌==◌, ◌+◌, ◌⊎◌, inl, inr, ℕ, zero, suc, Bool, true, false, List, [], ◌∷◌, ◌++◌, Option, Some, None, map, if◌then◌else◌, refl, sym, subst}
+use Rattle.std.proofs.Common.{◌≡◌, ◌≢◌, ◌==◌, ◌+◌, ◌⊎◌, inl, inr, ℕ, zero, suc, Bool, true, false, List, [], ◌∷◌, ◌++◌, Option, Some, None, if◌then◌else◌, refl, sym, subst}
 use Rattle.std.proofs.lemmas.Bool.{eq-eqb}
 use Rattle.wb_types.specs.declared.number.OBlock.{OBlock}
 use Rattle.wb_types.specs.declared.number.CBlock.{CBlock}
@@ -8,7 +8,9 @@ use Rattle.wb_types.specs.declared.refusal.Refusal.TheVariants.{Busy, Failed, Me
 use Rattle.wb_words.specs.declared.word.Word.TheVariants.{Cell as LockWord, Seal as SealWord, Number, Count as CountWord, Fail}
 use Rattle.wb_words.specs.SharedWords.{place_in, dirty_in}
 use Rattle.wb_types.specs.declared.extent.Extent.{Extent}
-use Rattle.wb_tasks.specs.Tables.{BlockRange, BlockJob, Reading, Writing, Migrating, TaskJob, OnBlock, Flushing, Opening, work, copies, ending, read_step, write_step}
+use Rattle.wb_words.specs.declared.word.Access.TheVariants.{Shared, Owned}
+use Rattle.wb_tasks.specs.Tables.{BlockJob, Reading, Writing, Migrating, TaskJob, OnBlock, Flushing, Opening, place_read, read_step, read_count, write_count, work}
+use Rattle.wb_tasks.proofs.Working.{Works, work_has}
 use Rattle.wb_tasks.specs.Plan.{Plan, after, table, first_step, refused, gives_back, gives_up, release_orders, node_writes, root_steps, commit_steps, lets_go, after_fault_of, exchange, work_of, may_take, is_worn, Fits}
 use Rattle.wb_tasks.specs.Run.{IsRunOf}
 use Rattle.wb_tasks.proofs.Driving.{no_result}
@@ -30,36 +32,28 @@ AreOwn [] = Unit {0}
 AreOwn (End answer ∷ ws) = ⊥
 AreOwn (w ∷ ws) = AreOwn ws
 
-own_reads : (part : BlockRange) (place : Option CBlock) (extents : List Extent) (rest : List Want) → AreOwn rest → AreOwn (map (read_step part place) extents ++ rest)
-own_reads part place [] rest h = h
-own_reads part None (e ∷ extents) rest h = own_reads part None extents rest h
-own_reads part (Some c) (e ∷ extents) rest h = own_reads part (Some c) extents rest h
-
-own_writes : (part : BlockRange) (place : Option CBlock) (extents : List Extent) (rest : List Want) → AreOwn rest → AreOwn (map (write_step part place) extents ++ rest)
-own_writes part place [] rest h = h
-own_writes part None (e ∷ extents) rest h = own_writes part None extents rest h
-own_writes part (Some c) (e ∷ extents) rest h = own_writes part (Some c) extents rest h
-
-own_copies : (part : BlockRange) (from to : Option CBlock) (extents : List Extent) (rest : List Want) → AreOwn rest → AreOwn (copies part from to extents ++ rest)
-own_copies part from to [] rest h = h
-own_copies part None None (e ∷ extents) rest h = own_copies part None None extents rest h
-own_copies part None (Some c) (e ∷ extents) rest h = own_copies part None (Some c) extents rest h
-own_copies part (Some c) None (e ∷ extents) rest h = own_copies part (Some c) None extents rest h
-own_copies part (Some c) (Some d) (e ∷ extents) rest h = own_copies part (Some c) (Some d) extents rest h
-
+-- those of a job's work
 own_work : (job : BlockJob) (place : Option CBlock) (dirty : Bool) → AreOwn (work job place dirty)
-own_work (Reading part) None dirty = own_reads part None part.extents _ tt
-own_work (Reading part) (Some c) dirty = own_reads part (Some c) part.extents _ tt
-own_work (Writing part) None dirty = own_writes part None part.extents _ tt
-own_work (Writing part) (Some c) true = own_writes part (Some c) part.extents _ tt
-own_work (Writing part) (Some c) false = own_writes part (Some c) part.extents _ tt
-own_work (Migrating (Promote c) part) place dirty = own_copies part None (Some c) part.extents (ending (Promote c) part.block place) tt
-own_work (Migrating Demote part) None dirty = tt
-own_work (Migrating Demote part) (Some c) true = own_copies part (Some c) None part.extents (ending Demote part.block (Some c)) tt
-own_work (Migrating Demote part) (Some c) false = tt
-own_work (Migrating Clean part) None dirty = tt
-own_work (Migrating Clean part) (Some c) true = own_copies part (Some c) None part.extents (ending Clean part.block (Some c)) tt
-own_work (Migrating Clean part) (Some c) false = tt
+own_work job = work_has (λ place dirty ws. AreOwn ws) job (by_job job)
+  where
+    by_job : (job : BlockJob) → Works (λ place dirty ws. AreOwn ws) job
+    by_job (Reading part) = record { each = λ place dirty e ws m r. from (place_read part.mode place) e ws r; last = λ place dirty. counted (place_read part.mode place) }
+      where
+        from : (place : Option CBlock) (e : Extent) (ws : List Want) → AreOwn ws → AreOwn (read_step part place e ∷ ws)
+        from None e ws r = r
+        from (Some c) e ws r = r
+
+        counted : (place : Option CBlock) → AreOwn (read_count place ∷ Cell (Release Shared part.block) ∷ [])
+        counted None = tt
+        counted (Some c) = tt
+    by_job (Writing part) = record { seal = λ c ws back r. r; home = λ dirty e ws m r. r; cached = λ c dirty e ws sealed m r. r; through = λ c dirty e ws other m r. r; last = λ place dirty. counted place }
+      where
+        counted : (place : Option CBlock) → AreOwn (Cell (Finish part.block) ∷ write_count place ∷ Cell (Release Owned part.block) ∷ [])
+        counted None = tt
+        counted (Some c) = tt
+    by_job (Migrating (Promote c) part) = record { each = λ place dirty e ws m r. r; last = λ place dirty. tt }
+    by_job (Migrating Demote part) = record { each = λ c e ws m r. r; last = λ place dirty. tt }
+    by_job (Migrating Clean part) = record { each = λ c e ws m r. r; last = λ place dirty. tt }
 
 own_works : (job : TaskJob) (seal : ℕ) → AreOwn (work_of job seal)
 own_works (OnBlock job) seal = own_work job (place_in seal) (dirty_in seal)

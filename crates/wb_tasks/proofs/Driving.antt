@@ -1,5 +1,7 @@
 -- A run of a task, step by step, and how long it can be.
 use Rattle.std.proofs.Common.{◌≡◌, ◌≢◌, ◌+◌, ◌*◌, ◌<◌, ◌≤◌, ℕ, zero, suc, Bool, true, false, List, [], ◌∷◌, ◌++◌, Option, Some, None, length, map, max, ◌==◌, if◌then◌else◌, refl, sym, subst, arith, append_assoc}
+use Rattle.wb_types.specs.declared.mode.Mode.{Mode}
+use Rattle.wb_types.specs.declared.mode.Mode.TheVariants.{Writeback, Writethrough, Passthrough}
 use Rattle.wb_types.specs.declared.number.CBlock.{CBlock}
 use Rattle.wb_words.specs.declared.word.Access.TheVariants.{Shared, Owned}
 use Rattle.wb_types.specs.declared.number.OBlock.{OBlock}
@@ -8,11 +10,11 @@ use Rattle.wb_words.specs.declared.word.Word.{Word as WordName}
 use Rattle.wb_words.specs.declared.word.Word.TheVariants.{Cell as LockWord, Seal as SealWord, Number, Count as CountWord, Fail}
 use Rattle.wb_words.specs.SharedWords.{place_in, dirty_in}
 use Rattle.wb_types.specs.declared.extent.Extent.{Extent}
-use Rattle.wb_tasks.specs.Tables.{BlockRange, BlockJob, TaskJob, OnBlock, Flushing, Opening, Reading, Writing, Migrating, work, copies, ending, read_step, write_step, read_count, write_count}
+use Rattle.wb_tasks.specs.Tables.{BlockRange, BlockJob, TaskJob, OnBlock, Flushing, Opening, Reading, Writing, Migrating, work, copies, ending, place_read, places_written, dirtying, writes, read_step, read_count, write_count}
 use Rattle.wb_tasks.specs.Plan.{Plan, want, after, after_look, gives_back, gives_up, release_orders, lets_go, after_fault_of, exchange, may_take, node_writes, root_steps, commit_steps, Fits, IsStep, first_step, is_worn}
 use Rattle.wb_tasks.specs.Ready.{AreFirst, left_by}
 use Rattle.wb_tasks.specs.Run.{IsRunOf, Leads}
-use Rattle.wb_tasks.specs.Length.{longest_work, longest_failing, longest_commit, longest_of, longest}
+use Rattle.wb_tasks.specs.Length.{most_written, longest_work, longest_failing, longest_commit, longest_of, longest}
 use Rattle.wb_words.specs.declared.step.CellStep.TheVariants.{Look, Take, Release, Seal, Finish, Count, SetFailed, SetSuspended}
 use Rattle.wb_tasks.specs.declared.step.DeviceStep.{DeviceStep}
 use Rattle.wb_tasks.specs.declared.step.DeviceStep.TheVariants.{Read, Write, Sync, ReadMetadata, WriteNode, WriteRoot}
@@ -77,12 +79,17 @@ longest_of-reads job part place [] ws h = omega arith
 longest_of-reads job part None (e ∷ extents) ws h = omega (arith, h, longest_of-reads job part None extents ws h)
 longest_of-reads job part (Some c) (e ∷ extents) ws h = omega (arith, h, longest_of-reads job part (Some c) extents ws h)
 
-longest_of-writes : (job : BlockJob) (part : BlockRange) (place : Option CBlock) (extents : List Extent) (ws : List Want) → longest_failing (OnBlock job) ≤ longest_of (OnBlock job) ws → longest_of (OnBlock job) (map (write_step part place) extents ++ ws) ≡ length extents + longest_of (OnBlock job) ws
+-- so where each is written to one place, and two where each is written to two
+longest_of-writes : (job : BlockJob) (part : BlockRange) (place : Option CBlock) (extents : List Extent) (ws : List Want) → longest_failing (OnBlock job) ≤ longest_of (OnBlock job) ws → longest_of (OnBlock job) (writes part (place ∷ []) extents ++ ws) ≡ length extents + longest_of (OnBlock job) ws
 longest_of-writes job part place [] ws h = omega arith
 longest_of-writes job part None (e ∷ extents) ws h = omega (arith, h, longest_of-writes job part None extents ws h)
 longest_of-writes job part (Some c) (e ∷ extents) ws h = omega (arith, h, longest_of-writes job part (Some c) extents ws h)
 
--- and two for each that is copied
+longest_of-writes_through : (job : BlockJob) (part : BlockRange) (c : CBlock) (extents : List Extent) (ws : List Want) → longest_failing (OnBlock job) ≤ longest_of (OnBlock job) ws → longest_of (OnBlock job) (writes part (None ∷ Some c ∷ []) extents ++ ws) ≡ 2 * length extents + longest_of (OnBlock job) ws
+longest_of-writes_through job part c [] ws h = omega arith
+longest_of-writes_through job part c (e ∷ extents) ws h = omega (arith, h, longest_of-writes_through job part c extents ws h)
+
+-- and where each is copied
 longest_of-copies : (job : BlockJob) (part : BlockRange) (from to : Option CBlock) (extents : List Extent) (ws : List Want) → longest_failing (OnBlock job) ≤ longest_of (OnBlock job) ws → longest_of (OnBlock job) (copies part from to extents ++ ws) ≡ 2 * length extents + longest_of (OnBlock job) ws
 longest_of-copies job part from to [] ws h = omega arith
 longest_of-copies job part None None (e ∷ extents) ws h = omega (arith, h, longest_of-copies job part None None extents ws h)
@@ -92,11 +99,24 @@ longest_of-copies job part (Some c) (Some d) (e ∷ extents) ws h = omega (arith
 
 -- what a job does takes no longer than it says, wherever its block stands
 longest_of-work : (job : BlockJob) (place : Option CBlock) (dirty : Bool) → longest_of (OnBlock job) (work job place dirty) ≤ longest_work job
-longest_of-work (Reading part) None dirty = omega (arith, longest_of-reads (Reading part) part None part.extents (read_count None ∷ Cell (Release Shared part.block) ∷ []) (omega arith))
-longest_of-work (Reading part) (Some c) dirty = omega (arith, longest_of-reads (Reading part) part (Some c) part.extents (read_count (Some c) ∷ Cell (Release Shared part.block) ∷ []) (omega arith))
-longest_of-work (Writing part) None dirty = omega (arith, longest_of-writes (Writing part) part None part.extents (Cell (Finish part.block) ∷ write_count None ∷ Cell (Release Owned part.block) ∷ []) (omega arith))
-longest_of-work (Writing part) (Some c) true = omega (arith, longest_of-writes (Writing part) part (Some c) part.extents (Cell (Finish part.block) ∷ write_count (Some c) ∷ Cell (Release Owned part.block) ∷ []) (omega arith))
-longest_of-work (Writing part) (Some c) false = omega (arith, longest_of-writes (Writing part) part (Some c) part.extents (Cell (Finish part.block) ∷ write_count (Some c) ∷ Cell (Release Owned part.block) ∷ []) (omega arith))
+longest_of-work (Reading part) place dirty = by_place (place_read part.mode place)
+  where
+    by_place : (from : Option CBlock) → longest_of (OnBlock (Reading part)) (map (read_step part from) part.extents ++ read_count from ∷ Cell (Release Shared part.block) ∷ []) ≤ longest_work (Reading part)
+    by_place None = omega (arith, longest_of-reads (Reading part) part None part.extents (read_count None ∷ Cell (Release Shared part.block) ∷ []) (omega arith))
+    by_place (Some c) = omega (arith, longest_of-reads (Reading part) part (Some c) part.extents (read_count (Some c) ∷ Cell (Release Shared part.block) ∷ []) (omega arith))
+longest_of-work (Writing part) place dirty = by_mode part.mode place dirty
+  where
+    ends : Option CBlock → List Want
+    ends place = Cell (Finish part.block) ∷ write_count place ∷ Cell (Release Owned part.block) ∷ []
+
+    by_mode : (mode : Mode) (place : Option CBlock) (dirty : Bool) → longest_of (OnBlock (Writing part)) (dirtying mode part.block place dirty ++ writes part (places_written mode place) part.extents ++ ends place) ≤ most_written mode * length part.extents + 5
+    by_mode Writeback None dirty = omega (arith, longest_of-writes (Writing part) part None part.extents (ends None) (omega arith))
+    by_mode Writeback (Some c) true = omega (arith, longest_of-writes (Writing part) part (Some c) part.extents (ends (Some c)) (omega arith))
+    by_mode Writeback (Some c) false = omega (arith, longest_of-writes (Writing part) part (Some c) part.extents (ends (Some c)) (omega arith))
+    by_mode Writethrough None dirty = omega (arith, longest_of-writes (Writing part) part None part.extents (ends None) (omega arith))
+    by_mode Writethrough (Some c) dirty = omega (arith, longest_of-writes_through (Writing part) part c part.extents (ends (Some c)) (omega arith))
+    by_mode Passthrough None dirty = omega (arith, longest_of-writes (Writing part) part None part.extents (ends None) (omega arith))
+    by_mode Passthrough (Some c) dirty = omega (arith, longest_of-writes (Writing part) part None part.extents (ends (Some c)) (omega arith))
 longest_of-work (Migrating (Promote c) part) place dirty = omega (arith, longest_of-copies (Migrating (Promote c) part) part None (Some c) part.extents (ending (Promote c) part.block place) (omega arith))
 longest_of-work (Migrating Demote part) None dirty = omega arith
 longest_of-work (Migrating Demote part) (Some c) true = omega (arith, longest_of-copies (Migrating Demote part) part (Some c) None part.extents (ending Demote part.block (Some c)) (omega arith))

@@ -19,7 +19,7 @@ use Rattle.wb_words.specs.Effects.{result_of, card_after}
 use Rattle.wb_tasks.specs.Tables.{BlockJob, Reading, Writing, Migrating, OnBlock, TaskJob, access_of, work}
 use Rattle.wb_tasks.specs.Plan.{Plan, table, want, after, after_fault_of, refused, got_of, exchange, gives_back, gives_up, may_take, is_worn, first_step, Fits}
 use Rattle.wb_tasks.specs.Run.{Leads}
-use Rattle.wb_tasks.specs.Ready.{AreFirst, Has, HasBlock, Suits, SuitsJob, IsOwnStep, IsJobs, IsAsked, MayMake, block_of, left_by}
+use Rattle.wb_tasks.specs.Ready.{AreFirst, Has, HasBlock, Suits, SuitsJob, IsOwnStep, IsAsked, MayMake, block_of, left_by}
 use Rattle.wb_tasks.specs.declared.step.DeviceStep.{DeviceStep}
 use Rattle.wb_tasks.specs.declared.step.DeviceStep.TheVariants.{Read, Write, Sync, ReadMetadata, WriteNode, WriteRoot}
 use Rattle.wb_tasks.specs.declared.step.DeskStep.TheVariants.{Map, Unmap, ReleaseOrder, BeginCommit, EndCommit}
@@ -29,7 +29,7 @@ use Rattle.wb_tasks.specs.declared.step.Want.TheVariants.{Cell, Device, Desk, En
 use Rattle.wb_tasks.specs.declared.step.Got.{Got}
 use Rattle.wb_tasks.specs.declared.step.Got.TheVariants.{Done, Fault, Refused}
 use Rattle.wb_tasks.proofs.Driving.{no_result}
-use Rattle.wb_tasks.proofs.Readiness.{begins_ready, keeps_ready, is_own_step, job_stays}
+use Rattle.wb_tasks.proofs.Readiness.{begins_ready, keeps_ready, reads_or_writes, is_own_step, job_stays}
 use Rattle.wb_tasks.proofs.Seals.{seal_tells}
 use Rattle.wb_tasks.proofs.Working.{OfSteps, Works, work_has}
 
@@ -79,18 +79,6 @@ not_seal hold word n = refl
 
 own_seal : (hold : Hold) (access : Access) (a b : OBlock) → hold ≡ Held access a → b ≡ a → is_own_seal hold (SealWord b) ≡ true
 own_seal hold access a b e f = ap (λ (h : Hold). is_own_seal h (SealWord b)) e ∙ (ap (λ (z : OBlock). z.0 == a.0) f ∙ eq-eqb a.0 a.0 refl)
-
-abbrev IsExtentStep : DeviceStep → Type 0
-IsExtentStep (Read device e) = Unit {0}
-IsExtentStep (Write device e) = Unit {0}
-IsExtentStep step = ⊥
-
-only_extents : (job : BlockJob) (step : DeviceStep) → IsJobs job step → IsExtentStep step
-only_extents job (Read device e) i = tt
-only_extents job (Write device e) i = tt
-only_extents (Reading part) step i = absurd i
-only_extents (Writing part) step i = absurd i
-only_extents (Migrating migration part) step i = absurd i
 
 -- no job on a block asks for a commit
 no_commit : (job : BlockJob) (clean : Bool) (most : ℕ) → IsAsked job (BeginCommit clean most) → ⊥
@@ -183,10 +171,10 @@ module _ (P : OfStep) (job : BlockJob) (works : Works (Followed P) job) where
   placed_on card card' answer (Device (Read device e) ∷ ws) Fault h o p f made = inl (lets_go_still job (Read device e))
   placed_on card card' answer (Device (Write device e) ∷ ws) Done h o p f made = passed card card' (Device (Write device e)) ws (λ n. absurd n) (λ place dirty w. w.1) made p
   placed_on card card' answer (Device (Write device e) ∷ ws) Fault h o p f made = inl (lets_go_still job (Write device e))
-  placed_on card card' answer (Device (Sync device) ∷ ws) got h o p f made = absurd (only_extents job (Sync device) o)
-  placed_on card card' answer (Device (ReadMetadata left) ∷ ws) got h o p f made = absurd (only_extents job (ReadMetadata left) o)
-  placed_on card card' answer (Device (WriteNode number) ∷ ws) got h o p f made = absurd (only_extents job (WriteNode number) o)
-  placed_on card card' answer (Device WriteRoot ∷ ws) got h o p f made = absurd (only_extents job WriteRoot o)
+  placed_on card card' answer (Device (Sync device) ∷ ws) got h o p f made = absurd (reads_or_writes job (Sync device) o)
+  placed_on card card' answer (Device (ReadMetadata left) ∷ ws) got h o p f made = absurd (reads_or_writes job (ReadMetadata left) o)
+  placed_on card card' answer (Device (WriteNode number) ∷ ws) got h o p f made = absurd (reads_or_writes job (WriteNode number) o)
+  placed_on card card' answer (Device WriteRoot ∷ ws) got h o p f made = absurd (reads_or_writes job WriteRoot o)
   placed_on card card' answer (Desk (Map b place) ∷ ws) Done h o p f made = passed card card' (Desk (Map b place)) ws (λ n. n) (λ place dirty w. w) made p
   placed_on card card' answer (Desk (Map b place) ∷ ws) (Refused refusal) h o p f made = inl (gives_up_still job)
   placed_on card card' answer (Desk (Unmap b) ∷ ws) Done h o p f made = passed card card' (Desk (Unmap b)) ws (λ n. n) (λ place dirty w. w) made p

@@ -19,7 +19,7 @@ use Rattle.wb_words.specs.SharedWords.{word_at, value_of, place_in, dirty_in}
 use Rattle.wb_words.specs.Cards.{losing, holding, failing_at, is_own_number}
 use Rattle.wb_words.specs.Ready.{HasNext}
 use Rattle.wb_types.specs.declared.extent.Extent.{Extent}
-use Rattle.wb_tasks.specs.Tables.{BlockJob, Reading, Writing, Migrating, TaskJob, OnBlock, Flushing, Opening, is_write, access_of, work, read_step, read_count, write_count}
+use Rattle.wb_tasks.specs.Tables.{BlockJob, Reading, Writing, Migrating, TaskJob, OnBlock, Flushing, Opening, is_write, access_of, work, place_read, read_step, read_count, write_count}
 use Rattle.wb_tasks.proofs.Driving.{no_result}
 use Rattle.wb_tasks.proofs.Working.{Works, work_has}
 use Rattle.wb_tasks.specs.Ready.{MayTake, MayMake, block_of, HasBlock, KnowsNext, IsJobs, IsAsked, IsOwnStep, AreOwnSteps, IsParting, IsRest, Has, SuitsJob, Suits}
@@ -42,14 +42,20 @@ rest_work job = work_has (λ place dirty ws. IsRest job true ws) job (by_job job
     by_job : (job : BlockJob) → Works (λ place dirty ws. IsRest job true ws) job
     by_job (Reading part) = record { each = each; last = last }
       where
-        each : (place : Option CBlock) (dirty : Bool) (e : Extent) (ws : List Want) → Contains part.extents e → IsRest (Reading part) true ws → IsRest (Reading part) true (read_step part place e ∷ ws)
-        each None dirty e ws m r = (tt, r)
-        each (Some c) dirty e ws m r = (tt, r)
+        from : (place : Option CBlock) (e : Extent) (ws : List Want) → IsRest (Reading part) true ws → IsRest (Reading part) true (read_step part place e ∷ ws)
+        from None e ws r = (tt, r)
+        from (Some c) e ws r = (tt, r)
 
-        last : (place : Option CBlock) (dirty : Bool) → IsRest (Reading part) true (read_count place ∷ Cell (Release Shared part.block) ∷ [])
-        last None dirty = (refl, refl, tt)
-        last (Some c) dirty = (refl, refl, tt)
-    by_job (Writing part) = record { seal = λ c ws r. (refl, refl, r); home = λ dirty e ws m r. (tt, r); cached = λ c e ws m r. (tt, r); last = last }
+        each : (place : Option CBlock) (dirty : Bool) (e : Extent) (ws : List Want) → Contains part.extents e → IsRest (Reading part) true ws → IsRest (Reading part) true (read_step part (place_read part.mode place) e ∷ ws)
+        each place dirty e ws m r = from (place_read part.mode place) e ws r
+
+        counted : (place : Option CBlock) → IsRest (Reading part) true (read_count place ∷ Cell (Release Shared part.block) ∷ [])
+        counted None = (refl, refl, tt)
+        counted (Some c) = (refl, refl, tt)
+
+        last : (place : Option CBlock) (dirty : Bool) → IsRest (Reading part) true (read_count (place_read part.mode place) ∷ Cell (Release Shared part.block) ∷ [])
+        last place dirty = counted (place_read part.mode place)
+    by_job (Writing part) = record { seal = λ c ws back r. (refl, refl, r); home = λ dirty e ws m r. (tt, r); cached = λ c dirty e ws sealed m r. (tt, r); through = λ c dirty e ws other m r. (tt, r); last = last }
       where
         last : (place : Option CBlock) (dirty : Bool) → IsRest (Writing part) true (Cell (Finish part.block) ∷ write_count place ∷ Cell (Release Owned part.block) ∷ [])
         last None dirty = (refl, refl, refl, (refl, refl, tt))
@@ -124,13 +130,13 @@ writes_owned (Writing part) device e i = refl
 writes_owned (Migrating migration part) device e i = refl
 writes_owned (Reading part) device e i = absurd i
 
-abbrev IsExtentStep : DeviceStep → Type 0
+abbrev pub IsExtentStep : DeviceStep → Type 0
 IsExtentStep (Read device e) = Unit {0}
 IsExtentStep (Write device e) = Unit {0}
 IsExtentStep step = ⊥
 
 -- on the devices a job on a block reads and writes extents
-reads_or_writes : (job : BlockJob) (step : DeviceStep) → IsJobs job step → IsExtentStep step
+pub reads_or_writes : (job : BlockJob) (step : DeviceStep) → IsJobs job step → IsExtentStep step
 reads_or_writes job (Read device e) i = tt
 reads_or_writes job (Write device e) i = tt
 reads_or_writes (Reading part) step i = absurd i

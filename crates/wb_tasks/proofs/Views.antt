@@ -1,24 +1,28 @@
 -- From the fields of a task to what its contract says.
-use Rattle.std.proofs.Common.{◌≡◌, ℕ, List, [], ◌∷◌, Option, Some, None, refl, sym, ap, subst, ◌∙◌}
+use Rattle.std.proofs.Common.{◌≡◌, ◌++◌, ℕ, Bool, if◌then◌else◌, List, [], ◌∷◌, Option, Some, None, map, refl, sym, ap, subst, ◌∙◌}
 use Rattle.wb_types.specs.declared.extent.Extent.{Extent}
+use Rattle.wb_types.specs.declared.mode.Mode.{Mode}
+use Rattle.wb_types.specs.declared.mode.Mode.TheVariants.{Writeback, Writethrough, Passthrough}
+use Rattle.wb_types.specs.declared.mode.Dev.{Dev}
+use Rattle.wb_types.specs.declared.mode.Dev.TheVariants.{Cache, Origin}
 use Rattle.wb_types.specs.declared.number.CBlock.{CBlock}
 use Rattle.wb_types.specs.declared.refusal.Refusal.{Refusal}
 use Rattle.wb_types.specs.declared.refusal.Refusal.TheVariants.{Io}
 use Rattle.wb_words.specs.declared.grip.GripStage.{GripStage}
 use Rattle.wb_words.specs.declared.grip.GripStage.TheVariants.{LookFail, LookLock, Exchange, LookSeal, LookNumber}
-use Rattle.wb_tasks.specs.Tables.{BlockRange, device_at}
-use Rattle.wb_tasks.specs.Plan.{Plan, want, after, Fits}
-use Rattle.wb_tasks.specs.Phases.{left_in, has_order}
+use Rattle.wb_tasks.specs.Tables.{BlockRange, OnBlock, device_at, cache_extent, places_written, read_step, write_step, writes}
+use Rattle.wb_tasks.specs.Plan.{Plan, want, after, first_step, later_steps, Fits}
+use Rattle.wb_tasks.specs.Phases.{job_of, write_end, steps_in, left_in, has_order}
 use Rattle.wb_tasks.specs.declared.block.Work.{Work}
 use Rattle.wb_tasks.specs.declared.block.Work.TheVariants.{Read as ToRead, Write as ToWrite, Migrate as ToMigrate}
 use Rattle.wb_tasks.specs.declared.block.Phase.{Phase}
-use Rattle.wb_tasks.specs.declared.block.Phase.TheVariants.{Acquires, Dirties, Reads, Writes, Counts, Copies, Puts, Seals, Releases, GivesUp, SetsFailed, Ended}
+use Rattle.wb_tasks.specs.declared.block.Phase.TheVariants.{Acquires, Dirties, Reads, Writes, Mirrors, Counts, Copies, Puts, Seals, Releases, GivesUp, SetsFailed, Ended}
 use Rattle.wb_tasks.specs.declared.step.Migration.TheVariants.{Promote, Demote, Clean}
 use Rattle.wb_tasks.specs.declared.step.DeskStep.TheVariants.{BeginCommit}
-use Rattle.wb_tasks.specs.declared.step.DeviceStep.TheVariants.{ReadMetadata}
+use Rattle.wb_tasks.specs.declared.step.DeviceStep.TheVariants.{Write, ReadMetadata}
 use Rattle.wb_tasks.specs.declared.step.Want.{Want}
 use Rattle.wb_tasks.specs.declared.step.Want.TheVariants.{Device, Desk}
-use Rattle.wb_tasks.specs.declared.step.Answer.TheVariants.{Refused as Refuses}
+use Rattle.wb_tasks.specs.declared.step.Answer.TheVariants.{Done as Finished, Refused as Refuses}
 use Rattle.wb_tasks.specs.declared.step.Got.{Got}
 use Rattle.wb_tasks.specs.declared.step.Got.TheVariants.{Word, Fault, Refused, Began, More}
 
@@ -26,47 +30,71 @@ use Rattle.wb_tasks.specs.declared.step.Got.TheVariants.{Word, Fault, Refused, B
 pub by_view : (v old new : Plan) (got : Got) → v ≡ old → Fits (want old) got → (Fits (want v) got → new ≡ after v got) → new ≡ after old got
 by_view v old new got e h f = f (subst (λ (s : Plan). Fits (want s) got) (sym e) h) ∙ ap (λ s. after s got) e
 
--- what failed was read there
-pub after_failed_read : (work : Work) (part : BlockRange) (place : Option CBlock) (extents : List Extent) → Fits (want (left_in work part (Reads place) extents)) Fault → left_in work part (Releases (has_order work) (Refuses (Io (device_at place)))) extents ≡ after (left_in work part (Reads place) extents) Fault
-after_failed_read work part None [] h = absurd h
-after_failed_read work part (Some c) [] h = absurd h
-after_failed_read ToRead part None (e ∷ extents) h = refl
-after_failed_read ToRead part (Some c) (e ∷ extents) h = refl
-after_failed_read ToWrite part None (e ∷ extents) h = refl
-after_failed_read ToWrite part (Some c) (e ∷ extents) h = refl
-after_failed_read (ToMigrate migration) part None (e ∷ extents) h = refl
-after_failed_read (ToMigrate migration) part (Some c) (e ∷ extents) h = refl
+-- where a write puts an extent of a block at this place first, and that it puts it at that place then
+abbrev pub IsWritten : BlockRange → Option CBlock → Option CBlock → Bool → Type 0
+IsWritten part place to again = places_written part.mode place ≡ to ∷ (if again then place ∷ [] else [])
 
-pub after_failed_copy : (work : Work) (part : BlockRange) (from to : Option CBlock) (extents : List Extent) → Fits (want (left_in work part (Copies from to) extents)) Fault → left_in work part (Releases (has_order work) (Refuses (Io (device_at from)))) extents ≡ after (left_in work part (Copies from to) extents) Fault
-after_failed_copy ToRead part from to [] h = absurd h
-after_failed_copy ToWrite part from to [] h = absurd h
-after_failed_copy (ToMigrate (Promote c)) part from to [] h = absurd h
-after_failed_copy (ToMigrate Demote) part from to [] h = absurd h
-after_failed_copy (ToMigrate Clean) part from to [] h = absurd h
-after_failed_copy ToRead part None to (e ∷ extents) h = refl
-after_failed_copy ToRead part (Some c) to (e ∷ extents) h = refl
-after_failed_copy ToWrite part None to (e ∷ extents) h = refl
-after_failed_copy ToWrite part (Some c) to (e ∷ extents) h = refl
-after_failed_copy (ToMigrate migration) part None to (e ∷ extents) h = refl
-after_failed_copy (ToMigrate migration) part (Some c) to (e ∷ extents) h = refl
+-- the steps of a write, with an extent before those that are left, where that is put at these places
+abbrev writes_at : Work → BlockRange → Option CBlock → Extent → List Extent → List (Option CBlock) → List Want
+writes_at work part place e extents places = (map (λ to. write_step part to e) places ++ writes part (places_written part.mode place) extents) ++ write_end work part place
 
--- what failed was written there
-pub after_failed_write : (work : Work) (part : BlockRange) (place : Option CBlock) (extents : List Extent) → Fits (want (left_in work part (Writes place) extents)) Fault → left_in work part (SetsFailed (device_at place)) extents ≡ after (left_in work part (Writes place) extents) Fault
-after_failed_write work part place [] h = absurd h
-after_failed_write ToRead part None (e ∷ extents) h = refl
-after_failed_write ToRead part (Some c) (e ∷ extents) h = refl
-after_failed_write ToWrite part None (e ∷ extents) h = refl
-after_failed_write ToWrite part (Some c) (e ∷ extents) h = refl
-after_failed_write (ToMigrate migration) part None (e ∷ extents) h = refl
-after_failed_write (ToMigrate migration) part (Some c) (e ∷ extents) h = refl
+-- What holds of every write of an extent holds of one at a place, and of the next step of a write that has an extent left.
+at_place : (part : BlockRange) (place : Option CBlock) (e : Extent) (Q : Want → Type 0) → ((device : Dev) (x : Extent) → Q (Device (Write device x))) → Q (write_step part place e)
+at_place part None e Q q = q Origin e
+at_place part (Some c) e Q q = q Cache (cache_extent part c e)
 
-pub after_failed_put : (work : Work) (part : BlockRange) (from to : Option CBlock) (e : Extent) (extents : List Extent) → Fits (want (left_in work part (Puts from to e) extents)) Fault → left_in work part (SetsFailed (device_at to)) extents ≡ after (left_in work part (Puts from to e) extents) Fault
-after_failed_put ToRead part from None e extents h = refl
-after_failed_put ToRead part from (Some c) e extents h = refl
-after_failed_put ToWrite part from None e extents h = refl
-after_failed_put ToWrite part from (Some c) e extents h = refl
-after_failed_put (ToMigrate migration) part from None e extents h = refl
-after_failed_put (ToMigrate migration) part from (Some c) e extents h = refl
+at_first : (part : BlockRange) (mode : Mode) (place : Option CBlock) (e : Extent) (us ws : List Want) (Q : Want → Type 0) → ((device : Dev) (x : Extent) → Q (Device (Write device x))) → Q (first_step ((map (λ to. write_step part to e) (places_written mode place) ++ us) ++ ws) Finished)
+at_first part Writeback place e us ws Q q = at_place part place e Q q
+at_first part Writethrough None e us ws Q q = q Origin e
+at_first part Writethrough (Some c) e us ws Q q = q Origin e
+at_first part Passthrough place e us ws Q q = q Origin e
+
+-- What a fault leaves of a job that reads at this place, and of one that writes there.
+after_failed_read : (work : Work) (part : BlockRange) (place : Option CBlock) (e : Extent) (ws : List Want) (extents : List Extent) →
+    left_in work part (Releases (has_order work) (Refuses (Io (device_at place)))) extents ≡ after (record { job = OnBlock (job_of work part); steps = read_step part place e ∷ ws; answer = Finished }) Fault
+after_failed_read ToRead part None e ws extents = refl
+after_failed_read ToRead part (Some c) e ws extents = refl
+after_failed_read ToWrite part None e ws extents = refl
+after_failed_read ToWrite part (Some c) e ws extents = refl
+after_failed_read (ToMigrate migration) part None e ws extents = refl
+after_failed_read (ToMigrate migration) part (Some c) e ws extents = refl
+
+after_failed_write : (work : Work) (part : BlockRange) (place : Option CBlock) (e : Extent) (ws : List Want) (extents : List Extent) →
+    left_in work part (SetsFailed (device_at place)) extents ≡ after (record { job = OnBlock (job_of work part); steps = write_step part place e ∷ ws; answer = Finished }) Fault
+after_failed_write work part None e ws extents = refl
+after_failed_write work part (Some c) e ws extents = refl
+
+-- the phase that a fault in a phase leaves, where that has a step on a device
+abbrev pub FailsTo : Work → BlockRange → Phase → Phase → Type 0
+FailsTo work part (Reads place) left = left ≡ Releases (has_order work) (Refuses (Io (device_at place)))
+FailsTo work part (Copies from to) left = left ≡ Releases (has_order work) (Refuses (Io (device_at from)))
+FailsTo work part (Writes place) left = (to : Option CBlock) × (again : Bool) × IsWritten part place to again × (left ≡ SetsFailed (device_at to))
+FailsTo work part (Mirrors place e) left = left ≡ SetsFailed (device_at place)
+FailsTo work part (Puts from to e) left = left ≡ SetsFailed (device_at to)
+FailsTo work part phase left = ⊥
+
+after_failed : (work : Work) (part : BlockRange) (phase left : Phase) (extents : List Extent) → FailsTo work part phase left → Fits (want (left_in work part phase extents)) Fault → left_in work part left extents ≡ after (left_in work part phase extents) Fault
+after_failed work part (Reads None) left [] f h = absurd h
+after_failed work part (Reads (Some c)) left [] f h = absurd h
+after_failed work part (Reads place) left (e ∷ extents) f h = rw f (after_failed_read work part place e (later_steps (steps_in work part (Reads place) (e ∷ extents))) (e ∷ extents))
+after_failed ToRead part (Copies from to) left [] f h = absurd h
+after_failed ToWrite part (Copies from to) left [] f h = absurd h
+after_failed (ToMigrate (Promote c)) part (Copies from to) left [] f h = absurd h
+after_failed (ToMigrate Demote) part (Copies from to) left [] f h = absurd h
+after_failed (ToMigrate Clean) part (Copies from to) left [] f h = absurd h
+after_failed work part (Copies from to) left (e ∷ extents) f h = rw f (after_failed_read work part from e (later_steps (steps_in work part (Copies from to) (e ∷ extents))) (e ∷ extents))
+after_failed work part (Writes place) left [] f h = absurd h
+after_failed work part (Writes place) left (e ∷ extents) f h =
+    rw f.3 (subst (λ (us : List Want). left_in work part (SetsFailed (device_at f.0)) (e ∷ extents) ≡ after (record { job = OnBlock (job_of work part); steps = us; answer = Finished }) Fault)
+    (ap (λ (places : List (Option CBlock)). writes_at work part place e extents places) (sym f.2))
+    (after_failed_write work part f.0 e (later_steps (writes_at work part place e extents (f.0 ∷ (if f.1 then place ∷ [] else [])))) (e ∷ extents)))
+after_failed work part (Mirrors place e) left extents f h = rw f (after_failed_write work part place e (later_steps (steps_in work part (Mirrors place e) extents)) extents)
+after_failed work part (Puts from to e) left extents f h = rw f (after_failed_write work part to e (later_steps (steps_in work part (Puts from to e) extents)) extents)
+after_failed work part phase left extents f h = absurd f
+
+-- so of a task in that phase
+pub left_by_fault : (work : Work) (part : BlockRange) (now phase left : Phase) (extents : List Extent) (old : Plan) → now ≡ phase → left_in work part now extents ≡ old → FailsTo work part phase left → Fits (want old) Fault → left_in work part left extents ≡ after old Fault
+left_by_fault work part now phase left extents old e is f h = by_view _ _ _ Fault (ap (λ p. left_in work part p extents) (sym e) ∙ is) h (after_failed work part phase left extents f)
 
 -- what the desk refused was an entry
 pub after_refused_entry : (work : Work) (part : BlockRange) (phase : Phase) (extents : List Extent) (refusal : Refusal) → Fits (want (left_in work part phase extents)) (Refused refusal) →
@@ -89,8 +117,9 @@ after_refused_entry work part (Reads (Some c)) [] refusal h = absurd h
 after_refused_entry work part (Reads None) (e ∷ extents) refusal h = absurd h
 after_refused_entry work part (Reads (Some c)) (e ∷ extents) refusal h = absurd h
 after_refused_entry work part (Writes place) [] refusal h = absurd h
-after_refused_entry work part (Writes None) (e ∷ extents) refusal h = absurd h
-after_refused_entry work part (Writes (Some c)) (e ∷ extents) refusal h = absurd h
+after_refused_entry work part (Writes place) (e ∷ extents) refusal h = absurd (at_first part part.mode place e _ (write_end work part place) (λ (w : Want). Fits w (Refused refusal) → ⊥) (λ device x k. k) h)
+after_refused_entry work part (Mirrors None e) extents refusal h = absurd h
+after_refused_entry work part (Mirrors (Some c) e) extents refusal h = absurd h
 after_refused_entry work part (Counts None) extents refusal h = absurd h
 after_refused_entry work part (Counts (Some c)) extents refusal h = absurd h
 after_refused_entry work part (Puts from None e) extents refusal h = absurd h
@@ -126,8 +155,9 @@ aside work part (Reads (Some c)) [] = tt
 aside work part (Reads None) (e ∷ extents) = tt
 aside work part (Reads (Some c)) (e ∷ extents) = tt
 aside work part (Writes place) [] = tt
-aside work part (Writes None) (e ∷ extents) = tt
-aside work part (Writes (Some c)) (e ∷ extents) = tt
+aside work part (Writes place) (e ∷ extents) = at_first part part.mode place e _ (write_end work part place) IsAside (λ device x. tt)
+aside work part (Mirrors None e) extents = tt
+aside work part (Mirrors (Some c) e) extents = tt
 aside work part (Counts None) extents = tt
 aside work part (Counts (Some c)) extents = tt
 aside work part (Puts from None e) extents = tt
@@ -169,8 +199,9 @@ looks_first work part (Reads (Some c)) [] word n h = h
 looks_first work part (Reads None) (e ∷ extents) word n h = h
 looks_first work part (Reads (Some c)) (e ∷ extents) word n h = h
 looks_first work part (Writes place) [] word n h = h
-looks_first work part (Writes None) (e ∷ extents) word n h = h
-looks_first work part (Writes (Some c)) (e ∷ extents) word n h = h
+looks_first work part (Writes place) (e ∷ extents) word n h = at_first part part.mode place e _ (write_end work part place) (λ (w : Want). Fits w (Word word) → ⊥) (λ device x k. k) h
+looks_first work part (Mirrors None e) extents word n h = h
+looks_first work part (Mirrors (Some c) e) extents word n h = h
 looks_first work part (Counts None) extents word n h = h
 looks_first work part (Counts (Some c)) extents word n h = h
 looks_first work part (Puts from None e) extents word n h = h

@@ -1,11 +1,13 @@
 -- What holds of all that a job does once it has seen its block's seal, shown of each of its steps once.
-use Rattle.std.proofs.Common.{◌++◌, Bool, true, false, List, [], ◌∷◌, map, Option, Some, None, Contains}
+use Rattle.std.proofs.Common.{◌≡◌, ◌≢◌, ◌∙◌, ◌++◌, Bool, true, false, List, [], ◌∷◌, map, Option, Some, None, Contains, refl, sym, ap, subst, append_assoc}
 use Rattle.wb_types.proofs.Lists.{Contains-first, Contains-behind}
 use Rattle.wb_types.specs.declared.extent.Extent.{Extent}
+use Rattle.wb_types.specs.declared.mode.Mode.{Mode}
+use Rattle.wb_types.specs.declared.mode.Mode.TheVariants.{Writeback, Writethrough, Passthrough}
 use Rattle.wb_types.specs.declared.number.CBlock.{CBlock}
 use Rattle.wb_words.specs.declared.word.Access.TheVariants.{Shared, Owned}
 use Rattle.wb_words.specs.declared.step.CellStep.TheVariants.{Release, Seal, Finish}
-use Rattle.wb_tasks.specs.Tables.{BlockRange, BlockJob, Reading, Writing, Migrating, read_step, write_step, read_count, write_count, copies, ending, work}
+use Rattle.wb_tasks.specs.Tables.{BlockRange, BlockJob, Reading, Writing, Migrating, place_read, places_written, dirtying, read_step, write_step, read_count, write_count, writes, copies, ending, work}
 use Rattle.wb_tasks.specs.declared.step.Migration.{Migration}
 use Rattle.wb_tasks.specs.declared.step.Migration.TheVariants.{Promote, Demote, Clean}
 use Rattle.wb_tasks.specs.declared.step.Want.{Want}
@@ -15,15 +17,18 @@ use Rattle.wb_tasks.specs.declared.step.Want.TheVariants.{Cell}
 abbrev pub OfSteps : Type 1
 OfSteps = Option CBlock → Bool → List Want → Type 0
 
--- It holds of what a read or write ends with, and with each extent before that; a clean copy is sealed dirty before the first.
+-- It holds of what a read or write ends with, and with each extent before that. In write-back a clean copy is sealed dirty before the
+-- first, and so a copy in the cache is written where it is dirty alone; in the other modes a mapped block is written on the origin too,
+-- or on it alone.
 pub record Reads (R : OfSteps) (part : BlockRange) : Type 0 where
-  pub each : (place : Option CBlock) (dirty : Bool) (e : Extent) (ws : List Want) → Contains part.extents e → R place dirty ws → R place dirty (read_step part place e ∷ ws)
-  pub last : (place : Option CBlock) (dirty : Bool) → R place dirty (read_count place ∷ Cell (Release Shared part.block) ∷ [])
+  pub each : (place : Option CBlock) (dirty : Bool) (e : Extent) (ws : List Want) → Contains part.extents e → R place dirty ws → R place dirty (read_step part (place_read part.mode place) e ∷ ws)
+  pub last : (place : Option CBlock) (dirty : Bool) → R place dirty (read_count (place_read part.mode place) ∷ Cell (Release Shared part.block) ∷ [])
 
 pub record Writes (R : OfSteps) (part : BlockRange) : Type 0 where
-  pub seal : (c : CBlock) (ws : List Want) → R (Some c) true ws → R (Some c) false (Cell (Seal part.block (Some c) true) ∷ ws)
+  pub seal : (c : CBlock) (ws : List Want) → part.mode ≡ Writeback → R (Some c) true ws → R (Some c) false (Cell (Seal part.block (Some c) true) ∷ ws)
   pub home : (dirty : Bool) (e : Extent) (ws : List Want) → Contains part.extents e → R None dirty ws → R None dirty (write_step part None e ∷ ws)
-  pub cached : (c : CBlock) (e : Extent) (ws : List Want) → Contains part.extents e → R (Some c) true ws → R (Some c) true (write_step part (Some c) e ∷ ws)
+  pub cached : (c : CBlock) (dirty : Bool) (e : Extent) (ws : List Want) → (part.mode ≡ Writeback → dirty ≡ true) → Contains part.extents e → R (Some c) dirty ws → R (Some c) dirty (write_step part (Some c) e ∷ ws)
+  pub through : (c : CBlock) (dirty : Bool) (e : Extent) (ws : List Want) → part.mode ≢ Writeback → Contains part.extents e → R (Some c) dirty ws → R (Some c) dirty (write_step part None e ∷ ws)
   pub last : (place : Option CBlock) (dirty : Bool) → R place dirty (Cell (Finish part.block) ∷ write_count place ∷ Cell (Release Owned part.block) ∷ [])
 
 -- and of what a migration ends with, and with the copy of each extent before that: into the cache, or from a dirty copy home
@@ -48,15 +53,36 @@ module _ (R : List Want → Type 0) (extents : List Extent) where
   mapped_on step [] ws among on r = r
   mapped_on step (e ∷ es) ws among on r = on e (map step es ++ ws) (among e (Contains-first e es)) (mapped_on step es ws (λ f m. among f (Contains-behind e es f m)) on r)
 
+  written_on : (part : BlockRange) (places : List (Option CBlock)) (es : List Extent) (ws : List Want) → ((e : Extent) → Contains es e → Contains extents e) → ((e : Extent) (us : List Want) → Contains extents e → R us → R (map (λ place. write_step part place e) places ++ us)) → R ws → R (writes part places es ++ ws)
+  written_on part places [] ws among on r = r
+  written_on part places (e ∷ es) ws among on r = subst R (sym (append_assoc (map (λ place. write_step part place e) places) (writes part places es) ws))
+      (on e (writes part places es ++ ws) (among e (Contains-first e es)) (written_on part places es ws (λ f m. among f (Contains-behind e es f m)) on r))
+
   copied_on : (part : BlockRange) (from to : Option CBlock) (es : List Extent) (ws : List Want) → ((e : Extent) → Contains es e → Contains extents e) → ((e : Extent) (us : List Want) → Contains extents e → R us → R (read_step part from e ∷ write_step part to e ∷ us)) → R ws → R (copies part from to es ++ ws)
   copied_on part from to [] ws among on r = r
   copied_on part from to (e ∷ es) ws among on r = on e (copies part from to es ++ ws) (among e (Contains-first e es)) (copied_on part from to es ws (λ f m. among f (Contains-behind e es f m)) on r)
 
 pub work_has : (R : OfSteps) (job : BlockJob) → Works R job → (place : Option CBlock) (dirty : Bool) → R place dirty (work job place dirty)
-work_has R (Reading part) w place dirty = mapped_on (R place dirty) part.extents (read_step part place) part.extents _ (λ e m. m) (w.each place dirty) (w.last place dirty)
-work_has R (Writing part) w None dirty = mapped_on (R None dirty) part.extents (write_step part None) part.extents _ (λ e m. m) (w.home dirty) (w.last None dirty)
-work_has R (Writing part) w (Some c) true = mapped_on (R (Some c) true) part.extents (write_step part (Some c)) part.extents _ (λ e m. m) (w.cached c) (w.last (Some c) true)
-work_has R (Writing part) w (Some c) false = w.seal c _ (mapped_on (R (Some c) true) part.extents (write_step part (Some c)) part.extents _ (λ e m. m) (w.cached c) (w.last (Some c) true))
+work_has R (Reading part) w place dirty = mapped_on (R place dirty) part.extents (read_step part (place_read part.mode place)) part.extents _ (λ e m. m) (w.each place dirty) (w.last place dirty)
+work_has R (Writing part) w place dirty = by_mode part.mode refl place dirty
+  where
+    other : (mode : Mode) → part.mode ≡ mode → mode ≢ Writeback → part.mode ≢ Writeback
+    other mode is n back = n (sym is ∙ back)
+
+    -- in write-back where the newest copy stands
+    back : part.mode ≡ Writeback → (c : CBlock) → R (Some c) true (writes part (Some c ∷ []) part.extents ++ Cell (Finish part.block) ∷ write_count (Some c) ∷ Cell (Release Owned part.block) ∷ [])
+    back is c = written_on (R (Some c) true) part.extents part (Some c ∷ []) part.extents _ (λ e m. m) (λ e us m r. w.cached c true e us (λ _. refl) m r) (w.last (Some c) true)
+
+    by_mode : (mode : Mode) → part.mode ≡ mode → (place : Option CBlock) (dirty : Bool) →
+        R place dirty (dirtying mode part.block place dirty ++ writes part (places_written mode place) part.extents ++ Cell (Finish part.block) ∷ write_count place ∷ Cell (Release Owned part.block) ∷ [])
+    by_mode Writeback is None dirty = written_on (R None dirty) part.extents part (None ∷ []) part.extents _ (λ e m. m) (w.home dirty) (w.last None dirty)
+    by_mode Writeback is (Some c) true = back is c
+    by_mode Writeback is (Some c) false = w.seal c _ is (back is c)
+    by_mode Writethrough is None dirty = written_on (R None dirty) part.extents part (None ∷ []) part.extents _ (λ e m. m) (w.home dirty) (w.last None dirty)
+    by_mode Writethrough is (Some c) dirty = written_on (R (Some c) dirty) part.extents part (None ∷ Some c ∷ []) part.extents _ (λ e m. m)
+        (λ e us m r. w.through c dirty e _ (other Writethrough is (λ q. cc)) m (w.cached c dirty e us (λ q. absurd (other Writethrough is (λ z. cc) q)) m r)) (w.last (Some c) dirty)
+    by_mode Passthrough is None dirty = written_on (R None dirty) part.extents part (None ∷ []) part.extents _ (λ e m. m) (w.home dirty) (w.last None dirty)
+    by_mode Passthrough is (Some c) dirty = written_on (R (Some c) dirty) part.extents part (None ∷ []) part.extents _ (λ e m. m) (λ e us m r. w.through c dirty e us (other Passthrough is (λ q. cc)) m r) (w.last (Some c) dirty)
 work_has R (Migrating (Promote c) part) w place dirty = copied_on (R place dirty) part.extents part None (Some c) part.extents _ (λ e m. m) (w.each place dirty) (w.last place dirty)
 work_has R (Migrating Demote part) w None dirty = w.last None dirty
 work_has R (Migrating Demote part) w (Some c) false = w.last (Some c) false
@@ -64,3 +90,17 @@ work_has R (Migrating Demote part) w (Some c) true = copied_on (R (Some c) true)
 work_has R (Migrating Clean part) w None dirty = w.last None dirty
 work_has R (Migrating Clean part) w (Some c) false = w.last (Some c) false
 work_has R (Migrating Clean part) w (Some c) true = copied_on (R (Some c) true) part.extents part (Some c) None part.extents _ (λ e m. m) (w.each c) (w.last (Some c) true)
+
+-- In write-back a read takes each extent from where its block stands, and a write puts each there.
+writes_back : (part : BlockRange) (place : Option CBlock) (es : List Extent) → writes part (place ∷ []) es ≡ map (write_step part place) es
+writes_back part place [] = refl
+writes_back part place (e ∷ es) = ap (λ (ws : List Want). write_step part place e ∷ ws) (writes_back part place es)
+
+pub read_work_back : (part : BlockRange) → part.mode ≡ Writeback → (place : Option CBlock) (dirty : Bool) → work (Reading part) place dirty ≡ map (read_step part place) part.extents ++ read_count place ∷ Cell (Release Shared part.block) ∷ []
+read_work_back part back place dirty = ap (λ (mode : Mode). map (read_step part (place_read mode place)) part.extents ++ read_count (place_read mode place) ∷ Cell (Release Shared part.block) ∷ []) back
+
+pub write_work_back : (part : BlockRange) → part.mode ≡ Writeback → (place : Option CBlock) (dirty : Bool) →
+    work (Writing part) place dirty ≡ dirtying Writeback part.block place dirty ++ map (write_step part place) part.extents ++ Cell (Finish part.block) ∷ write_count place ∷ Cell (Release Owned part.block) ∷ []
+write_work_back part back place dirty =
+    ap (λ (mode : Mode). dirtying mode part.block place dirty ++ writes part (places_written mode place) part.extents ++ Cell (Finish part.block) ∷ write_count place ∷ Cell (Release Owned part.block) ∷ []) back
+    ∙ ap (λ (ws : List Want). dirtying Writeback part.block place dirty ++ ws ++ Cell (Finish part.block) ∷ write_count place ∷ Cell (Release Owned part.block) ∷ []) (writes_back part place part.extents)

@@ -1,5 +1,7 @@
 -- How many steps a task has at most.
 use Rattle.std.specs.Prelude.{◌+◌, ◌*◌, ℕ, List, [], ◌∷◌, length, max}
+use Rattle.wb_types.specs.declared.mode.Mode.{Mode}
+use Rattle.wb_types.specs.declared.mode.Mode.TheVariants.{Writethrough}
 use Rattle.wb_words.specs.declared.word.Word.TheVariants.{Cell as LockWord, Seal as SealWord, Number}
 use Rattle.wb_tasks.specs.Tables.{BlockJob, Reading, Writing, Migrating, TaskJob, OnBlock, Flushing, Opening}
 use Rattle.wb_tasks.specs.Plan.{Plan, lets_go}
@@ -9,10 +11,15 @@ use Rattle.wb_tasks.specs.declared.step.DeskStep.TheVariants.{Map, BeginCommit}
 use Rattle.wb_tasks.specs.declared.step.Want.{Want}
 use Rattle.wb_tasks.specs.declared.step.Want.TheVariants.{Cell, Device, Desk}
 
+-- how often a write may write an extent
+abbrev pub most_written : Mode → ℕ
+most_written Writethrough = 2
+most_written mode = 1
+
 -- the most steps of a job that has its block, its answer counted
 abbrev pub longest_work : BlockJob → ℕ
 longest_work (Reading part) = length part.extents + 3
-longest_work (Writing part) = length part.extents + 5
+longest_work (Writing part) = most_written part.mode * length part.extents + 5
 longest_work (Migrating migration part) = 2 * length part.extents + 4
 
 abbrev pub longest_work_of : TaskJob → ℕ

@@ -4,7 +4,7 @@ use Rattle.wb_types.specs.declared.refusal.Refusal.TheVariants.{Worn, Io}
 use Rattle.wb_words.specs.declared.word.Word.TheVariants.{Cell as LockWord, Seal as SealWord, Number as NumberWord}
 use Rattle.wb_types.specs.declared.extent.Extent.{Extent}
 use Rattle.wb_types.specs.declared.number.CBlock.{CBlock}
-use Rattle.wb_tasks.specs.Tables.{BlockRange, BlockJob, Reading, Writing, Migrating, OnBlock, range_of, access_of, acquire, taking, work, copies, ending, read_step, write_step, read_count, write_count}
+use Rattle.wb_tasks.specs.Tables.{BlockRange, BlockJob, Reading, Writing, Migrating, OnBlock, range_of, access_of, acquire, taking, work, copies, ending, places_written, writes, read_step, write_step, read_count, write_count}
 use Rattle.wb_tasks.specs.Plan.{Plan, release}
 use Rattle.wb_words.specs.declared.grip.GripStage.{GripStage}
 use Rattle.wb_words.specs.declared.grip.GripStage.TheVariants.{LookFail, LookLock, Exchange, LookSeal, LookNumber}
@@ -14,7 +14,7 @@ use Rattle.wb_tasks.specs.declared.acquire.Seen.TheVariants.{Next, Holds, Refuse
 use Rattle.wb_tasks.specs.declared.block.Work.{Work}
 use Rattle.wb_tasks.specs.declared.block.Work.TheVariants.{Read as ToRead, Write as ToWrite, Migrate as ToMigrate}
 use Rattle.wb_tasks.specs.declared.block.Phase.{Phase}
-use Rattle.wb_tasks.specs.declared.block.Phase.TheVariants.{Acquires, Dirties, Reads, Writes, Counts, Copies, Puts, Seals, Releases, GivesUp, SetsFailed, Ended}
+use Rattle.wb_tasks.specs.declared.block.Phase.TheVariants.{Acquires, Dirties, Reads, Writes, Mirrors, Counts, Copies, Puts, Seals, Releases, GivesUp, SetsFailed, Ended}
 use Rattle.wb_words.specs.declared.step.CellStep.TheVariants.{Look, Seal as SealStep, Finish, SetFailed}
 use Rattle.wb_tasks.specs.declared.step.DeskStep.TheVariants.{ReleaseOrder}
 use Rattle.wb_tasks.specs.declared.step.Answer.{Answer}
@@ -61,12 +61,17 @@ abbrev pub ends : Work → BlockRange → Option CBlock → List Want
 ends (ToMigrate migration) part place = ending migration part.block place
 ends work part place = []
 
+-- what a write ends with, once its extents are written
+abbrev pub write_end : Work → BlockRange → Option CBlock → List Want
+write_end work part place = Cell (Finish part.block) ∷ write_count place ∷ release (job_of work part) ∷ []
+
 -- the steps to come in a phase, with these extents still to move
 abbrev pub steps_in : Work → BlockRange → Phase → List Extent → List Want
 steps_in work part (Acquires stage) extents = steps_from (job_of work part) stage
-steps_in work part (Dirties c) extents = Cell (SealStep part.block (Some c) true) ∷ (map (write_step part (Some c)) extents ++ Cell (Finish part.block) ∷ write_count (Some c) ∷ release (job_of work part) ∷ [])
+steps_in work part (Dirties c) extents = Cell (SealStep part.block (Some c) true) ∷ (writes part (places_written part.mode (Some c)) extents ++ write_end work part (Some c))
 steps_in work part (Reads place) extents = map (read_step part place) extents ++ read_count place ∷ release (job_of work part) ∷ []
-steps_in work part (Writes place) extents = map (write_step part place) extents ++ Cell (Finish part.block) ∷ write_count place ∷ release (job_of work part) ∷ []
+steps_in work part (Writes place) extents = writes part (places_written part.mode place) extents ++ write_end work part place
+steps_in work part (Mirrors place e) extents = write_step part place e ∷ (writes part (places_written part.mode place) extents ++ write_end work part place)
 steps_in work part (Counts place) extents = write_count place ∷ release (job_of work part) ∷ []
 steps_in work part (Copies from to) extents = copies part from to extents ++ ends work part from
 steps_in work part (Puts from to e) extents = write_step part to e ∷ (copies part from to extents ++ ends work part from)

@@ -1,6 +1,8 @@
 -- The step tables of the jobs on a block, and by which device each of its sectors goes.
 use Rattle.std.specs.Prelude.{◌+◌, ◌*◌, ◌%◌, ◌++◌, ℕ, Bool, true, false, List, [], ◌∷◌, Option, Some, None, map}
 use Rattle.wb_types.specs.declared.extent.Extent.{Extent}
+use Rattle.wb_types.specs.declared.mode.Mode.{Mode}
+use Rattle.wb_types.specs.declared.mode.Mode.TheVariants.{Writeback, Writethrough, Passthrough}
 use Rattle.wb_types.specs.declared.mode.Dev.{Dev}
 use Rattle.wb_types.specs.declared.mode.Dev.TheVariants.{Cache, Origin}
 use Rattle.wb_types.specs.declared.number.OBlock.{OBlock}
@@ -17,9 +19,10 @@ use Rattle.wb_tasks.specs.declared.step.Migration.TheVariants.{Promote, Demote, 
 use Rattle.wb_tasks.specs.declared.step.Want.{Want}
 use Rattle.wb_tasks.specs.declared.step.Want.TheVariants.{Cell, Device, Desk}
 
--- Sectors of one block of the origin, as extents of the origin's address range, in the order in which they are taken. One
--- step on a device moves one extent.
+-- Sectors of one block of the origin, as extents of the origin's address range, in the order in which they are taken, and
+-- the mode in which they are read and written. One step on a device moves one extent. Migrations do not look at the mode.
 pub record BlockRange : Type 0 where
+  pub mode : Mode
   pub block_sectors : ℕ
   pub block : OBlock
   pub extents : List Extent
@@ -57,8 +60,9 @@ abbrev pub is_write : BlockJob → Bool
 is_write (Writing part) = true
 is_write job = false
 
--- The route in write-back mode: an unmapped block is read and written on the origin, a mapped one on the cache.
+-- ---- the route
 
+-- a block that stands at this place is on this device: an unmapped one on the origin, a mapped one on the cache
 abbrev pub device_at : Option CBlock → Dev
 device_at None = Origin
 device_at (Some c) = Cache
@@ -75,16 +79,31 @@ abbrev pub write_step : BlockRange → Option CBlock → Extent → Want
 write_step part None e = Device (Write Origin e)
 write_step part (Some c) e = Device (Write Cache (cache_extent part c e))
 
--- a mapped block is sealed dirty before the first write to its clean copy
-abbrev pub dirtying : OBlock → Option CBlock → Bool → List Want
-dirtying block (Some c) false = Cell (Seal block (Some c) true) ∷ []
-dirtying block place dirty = []
+-- Where a read takes its extents from, the block standing at this place: in passthrough from the origin, else from there.
+abbrev pub place_read : Mode → Option CBlock → Option CBlock
+place_read Passthrough place = None
+place_read mode place = place
 
--- a part counts as a hit where its block is mapped
+-- Where a write puts each of its extents, one after the other: in write-back where the newest copy stands; in write-through of a
+-- mapped block on the origin, and then in the cache; else on the origin alone.
+abbrev pub places_written : Mode → Option CBlock → List (Option CBlock)
+places_written Writeback place = place ∷ []
+places_written Writethrough (Some c) = None ∷ Some c ∷ []
+places_written mode place = None ∷ []
+
+-- In write-back a mapped block is sealed dirty before the first write to its clean copy. Write-through keeps the dirty bit as it is.
+-- In passthrough a mapped block's entry is to be removed here, which no request may ask of a desk: by a job of its own kind, under
+-- the desk's lock, which unmaps the block and seals it to the origin before this write begins.
+abbrev pub dirtying : Mode → OBlock → Option CBlock → Bool → List Want
+dirtying Writeback block (Some c) false = Cell (Seal block (Some c) true) ∷ []
+dirtying mode block place dirty = []
+
+-- A read counts as a hit where it takes its extents from the cache: so none does in passthrough.
 abbrev pub read_count : Option CBlock → Want
 read_count None = Cell (Count ReadMiss)
 read_count (Some c) = Cell (Count ReadHit)
 
+-- a write counts as a hit where its block is mapped, in every mode
 abbrev pub write_count : Option CBlock → Want
 write_count None = Cell (Count WriteMiss)
 write_count (Some c) = Cell (Count WriteHit)
@@ -94,7 +113,12 @@ abbrev pub copies : BlockRange → Option CBlock → Option CBlock → List Exte
 copies part from to [] = []
 copies part from to (e ∷ extents) = read_step part from e ∷ write_step part to e ∷ copies part from to extents
 
--- The step tables, for any cut of the sectors into extents.
+-- Each of these extents is written to each of these places of its block, before the next one is.
+abbrev pub writes : BlockRange → List (Option CBlock) → List Extent → List Want
+writes part places [] = []
+writes part places (e ∷ extents) = map (λ place. write_step part place e) places ++ writes part places extents
+
+-- ---- the step tables, for any cut of the sectors into extents
 
 -- acquiring a block: the fail word, then the lock word; what comes after it is known once it was seen
 abbrev pub acquire : OBlock → List Want
@@ -119,6 +143,6 @@ copying migration part place dirty = []
 
 -- what a job does once it has its block, which stands at this place
 abbrev pub work : BlockJob → Option CBlock → Bool → List Want
-work (Reading part) place dirty = map (read_step part place) part.extents ++ read_count place ∷ Cell (Release Shared part.block) ∷ []
-work (Writing part) place dirty = dirtying part.block place dirty ++ map (write_step part place) part.extents ++ Cell (Finish part.block) ∷ write_count place ∷ Cell (Release Owned part.block) ∷ []
+work (Reading part) place dirty = map (read_step part (place_read part.mode place)) part.extents ++ read_count (place_read part.mode place) ∷ Cell (Release Shared part.block) ∷ []
+work (Writing part) place dirty = dirtying part.mode part.block place dirty ++ writes part (places_written part.mode place) part.extents ++ Cell (Finish part.block) ∷ write_count place ∷ Cell (Release Owned part.block) ∷ []
 work (Migrating migration part) place dirty = copying migration part place dirty ++ ending migration part.block place

@@ -2,9 +2,10 @@
 //!
 //! 1. acquire the block, a read to share it, all others to own it: fail word, lock word, exchange, seal, number;
 //! 2. where a write finds no number left, give the block back and answer `Worn`;
-//! 3. a write seals a clean copy in the cache dirty;
-//! 4. move each extent: a read or write on the device that the seal names; a migration reads it at one place of the block and writes
-//!    it at the other, a demotion or write-back where the cache's copy is dirty alone;
+//! 3. in write-back a write seals a clean copy in the cache dirty;
+//! 4. move each extent: a read or write on the device that the seal names, but in passthrough on the origin, and in write-through a
+//!    write of a mapped block on the origin and then in the cache; a migration reads it at one place of the block and writes it at the
+//!    other, a demotion or write-back where the cache's copy is dirty alone;
 //! 5. a write finishes: the block's number rises by one; a request counts a hit or a miss; a promotion enters the block into the
 //!    mapping, a demotion removes it, each of which ends its order;
 //! 6. a migration seals the place that the block has then, clean;
@@ -15,17 +16,18 @@
 
 ghost use Rattle.std.specs.Prelude.{◌≡◌, ◌+◌, ◌*◌, ◌<◌, ◌≤◌, ◌^◌, []};
 ghost use Rattle.wb_types.specs.Extents.{pieces};
+ghost use Rattle.wb_types.specs.declared.mode.Mode.TheVariants.{Writeback};
 ghost use Rattle.wb_tasks.specs.Tables.{BlockRange, OnBlock, Reading, Writing, Migrating, access_of, is_write, whole_block};
 ghost use Rattle.wb_tasks.specs.Plan.{Plan, want, after, refused, table, Fits};
-ghost use Rattle.wb_tasks.specs.Phases.{job_of, has_order};
+ghost use Rattle.wb_tasks.specs.Phases.{job_of, has_order, left_in, after_seeing};
 
 use crate::acquire::{self, Seen};
 use crate::cut::split;
-use crate::route::{device_at, route};
+use crate::route::{device_at, place_read, route, written};
 use crate::step::{Answer, DeskStep, DeviceStep, Got, Migration, Want};
 use crate::task::Task;
 use std::marker::Model;
-use wb_types::{CBlock, Dev, Extent, OBlock, Refusal};
+use wb_types::{CBlock, Dev, Extent, Mode, OBlock, Refusal};
 use wb_words::{Access, CellStep, GripStage, Kind};
 
 /// What a job does with its block.
@@ -42,10 +44,12 @@ enum Phase {
     Acquires(GripStage),
     /// The block stands in this cache block, whose copy is still sealed clean.
     Dirties(CBlock),
-    /// The block stands at this place. When its sectors are read, it is counted.
+    /// The next extent is read at this place. When its sectors are read, it is counted.
     Reads(Option<CBlock>),
     /// The block stands at this place. When its sectors are written, the write is finished.
     Writes(Option<CBlock>),
+    /// This extent was written on the origin, and is written at this place, where the block stands.
+    Mirrors(Option<CBlock>, Extent),
     Counts(Option<CBlock>),
     /// The next extent is read at the first of these places, to be written at the other. With none left, the migration ends.
     Copies(Option<CBlock>, Option<CBlock>),
@@ -66,6 +70,7 @@ enum Phase {
 pub struct BlockTask {
     work: Work,
     phase: Phase,
+    mode: Mode,
     block_sectors: u32,
     block: OBlock,
     sectors: Extent,
@@ -84,37 +89,51 @@ impl Model for BlockTask {
     ghost use Rattle.wb_types.specs.Extents.{pieces};
     ghost use Rattle.wb_tasks.specs.Phases.{left_in};
 
-    ghost view = { λ t. left_in t.work (record { block_sectors = t.block_sectors; block = t.block; extents = pieces t.longest t.sectors }) t.phase (pieces t.longest t.left) };
+    ghost view = { λ t. left_in t.work (record { mode = t.mode; block_sectors = t.block_sectors; block = t.block; extents = pieces t.longest t.sectors }) t.phase (pieces t.longest t.left) };
 
     ghost invariant = { λ t. (0 < t.block_sectors) × (1 ≤ t.longest) × (t.sectors.first + t.sectors.count < 2 ^ 64) × (t.left.first + t.left.count < 2 ^ 64) };
 }
 
 impl BlockTask {
     /// A read of sectors that lie in that block of the origin. It shares the block, reads where its seal says that the newest copy
-    /// stands, and counts as a hit where that is the cache. Each of its steps on a device takes at most `longest` sectors.
-    pub fn read(block_sectors: u32, block: OBlock, sectors: Extent, longest: u64) -> BlockTask
+    /// stands, in passthrough on the origin, and counts as a hit where that is the cache. Each of its steps on a device takes at most
+    /// `longest` sectors.
+    pub fn read(
+        mode: Mode,
+        block_sectors: u32,
+        block: OBlock,
+        sectors: Extent,
+        longest: u64,
+    ) -> BlockTask
         requires some { 0 < block_sectors }
         requires in_range { sectors.first + sectors.count < 2 ^ 64 }
         requires longest { 1 ≤ longest }
-        ensures { result ≡ table (OnBlock (Reading (record { block_sectors = block_sectors; block = block; extents = pieces longest sectors }))) }
+        ensures { result ≡ table (OnBlock (Reading (record { mode = mode; block_sectors = block_sectors; block = block; extents = pieces longest sectors }))) }
     {
-        begun(Work::Read, block_sectors, block, sectors, longest)
+        begun(Work::Read, mode, block_sectors, block, sectors, longest)
     }
 
-    /// A write of sectors that lie in that block of the origin, in write-back mode. It owns the block, seals a clean copy in the cache
-    /// dirty, writes where the newest copy stands, is finished, and counts as a hit where that is the cache. Each of its steps on a
-    /// device takes at most `longest` sectors.
-    pub fn write(block_sectors: u32, block: OBlock, sectors: Extent, longest: u64) -> BlockTask
+    /// A write of sectors that lie in that block of the origin. It owns the block, is finished, and counts as a hit where the block is
+    /// mapped. In write-back it seals a clean copy in the cache dirty, and writes where the newest copy stands; in write-through it
+    /// writes each extent on the origin, and then in the cache where the block is mapped; in passthrough on the origin alone. Each of
+    /// its steps on a device takes at most `longest` sectors.
+    pub fn write(
+        mode: Mode,
+        block_sectors: u32,
+        block: OBlock,
+        sectors: Extent,
+        longest: u64,
+    ) -> BlockTask
         requires some { 0 < block_sectors }
         requires in_range { sectors.first + sectors.count < 2 ^ 64 }
         requires longest { 1 ≤ longest }
-        ensures { result ≡ table (OnBlock (Writing (record { block_sectors = block_sectors; block = block; extents = pieces longest sectors }))) }
+        ensures { result ≡ table (OnBlock (Writing (record { mode = mode; block_sectors = block_sectors; block = block; extents = pieces longest sectors }))) }
     {
-        begun(Work::Write, block_sectors, block, sectors, longest)
+        begun(Work::Write, mode, block_sectors, block, sectors, longest)
     }
 
     /// A migration of a whole block, under an order for it: a promotion into the cache block that the order reserved, a demotion, or a
-    /// write-back. Each of its steps on a device takes at most `longest` sectors.
+    /// write-back. It does not look at the mode. Each of its steps on a device takes at most `longest` sectors.
     pub fn migrate(
         migration: Migration,
         block_sectors: u32,
@@ -123,11 +142,12 @@ impl BlockTask {
     ) -> BlockTask
         requires some { 0 < block_sectors }
         requires longest { 1 ≤ longest }
-        ensures { result ≡ table (OnBlock (Migrating migration (record { block_sectors = block_sectors; block = block; extents = pieces longest (whole_block block_sectors block) }))) }
+        ensures { result ≡ table (OnBlock (Migrating migration (record { mode = Writeback; block_sectors = block_sectors; block = block; extents = pieces longest (whole_block block_sectors block) }))) }
     {
         let sectors = whole_block(block_sectors, block);
         begun(
             Work::Migrate(migration),
+            Mode::Writeback,
             block_sectors,
             block,
             sectors,
@@ -151,7 +171,8 @@ impl BlockTask {
             Phase::Reads(Some(_)) => Want::Cell(CellStep::Count(Kind::ReadHit)),
             Phase::Writes(place) if self.left.count > 0 => {
                 let (first, _) = split(self.left, self.longest);
-                let (device, extent) = route(self.block_sectors, place, first);
+                let (to, _) = written(self.mode, place);
+                let (device, extent) = route(self.block_sectors, to, first);
                 Want::Device(DeviceStep::Write(device, extent))
             }
             Phase::Writes(_) => Want::Cell(CellStep::Finish(self.block)),
@@ -171,7 +192,7 @@ impl BlockTask {
                 // No request copies.
                 Work::Read | Work::Write => Want::End(Answer::Done),
             },
-            Phase::Puts(_, to, extent) => {
+            Phase::Puts(_, to, extent) | Phase::Mirrors(to, extent) => {
                 let (device, there) = route(self.block_sectors, to, extent);
                 Want::Device(DeviceStep::Write(device, there))
             }
@@ -196,9 +217,8 @@ impl BlockTask {
             match acquire::after_look(access, is_write(self.work), self.block, stage, word) {
                 Seen::Next(next) => self.phase = Phase::Acquires(next),
                 Seen::Holds(place, dirty) => match (self.work, place) {
-                    (Work::Read, _) => self.phase = Phase::Reads(place),
-                    (Work::Write, Some(c)) if !dirty => self.phase = Phase::Dirties(c),
-                    (Work::Write, _) => self.phase = Phase::Writes(place),
+                    (Work::Read, _) => self.phase = Phase::Reads(place_read(self.mode, place)),
+                    (Work::Write, _) => self.phase = writing(self.mode, place, dirty),
                     (Work::Migrate(Migration::Promote(c)), _) => {
                         self.phase = Phase::Copies(None, Some(c));
                     }
@@ -225,10 +245,19 @@ impl BlockTask {
             // Only the exchange can have been done.
             Phase::Acquires(_) => self.phase = Phase::Acquires(GripStage::LookSeal),
             Phase::Dirties(c) => self.phase = Phase::Writes(Some(c)),
-            Phase::Reads(_) | Phase::Writes(_) if self.left.count > 0 => {
+            Phase::Reads(_) if self.left.count > 0 => {
                 let (_, left) = split(self.left, self.longest);
                 self.left = left;
             }
+            Phase::Writes(place) if self.left.count > 0 => {
+                let (extent, left) = split(self.left, self.longest);
+                self.left = left;
+                let (_, again) = written(self.mode, place);
+                if again {
+                    self.phase = Phase::Mirrors(place, extent);
+                }
+            }
+            Phase::Mirrors(place, _) => self.phase = Phase::Writes(place),
             Phase::Reads(_) | Phase::Counts(_) | Phase::Seals(_) => {
                 self.phase = Phase::Releases(false, Answer::Done);
             }
@@ -267,7 +296,11 @@ impl BlockTask {
                 let answer = Answer::Refused(Refusal::Io(device_at(place)));
                 self.phase = Phase::Releases(has_order(self.work), answer);
             }
-            Phase::Writes(place) | Phase::Puts(_, place, _) => {
+            Phase::Writes(place) => {
+                let (to, _) = written(self.mode, place);
+                self.phase = Phase::SetsFailed(device_at(to));
+            }
+            Phase::Puts(_, place, _) | Phase::Mirrors(place, _) => {
                 self.phase = Phase::SetsFailed(device_at(place));
             }
             _ => {}
@@ -316,15 +349,23 @@ impl Task for BlockTask {
 }
 
 /// A task that has not begun.
-fn begun(work: Work, block_sectors: u32, block: OBlock, sectors: Extent, longest: u64) -> BlockTask
+fn begun(
+    work: Work,
+    mode: Mode,
+    block_sectors: u32,
+    block: OBlock,
+    sectors: Extent,
+    longest: u64,
+) -> BlockTask
     requires some { 0 < block_sectors }
     requires in_range { sectors.first + sectors.count < 2 ^ 64 }
     requires longest { 1 ≤ longest }
-    ensures { result ≡ table (OnBlock (job_of work (record { block_sectors = block_sectors; block = block; extents = pieces longest sectors }))) }
+    ensures { result ≡ table (OnBlock (job_of work (record { mode = mode; block_sectors = block_sectors; block = block; extents = pieces longest sectors }))) }
 {
     BlockTask {
         work,
         phase: Phase::Acquires(GripStage::LookFail),
+        mode,
         block_sectors,
         block,
         sectors,
@@ -348,6 +389,17 @@ fn is_write(work: Work) -> bool
     ensures { (part : BlockRange) → result ≡ is_write (job_of work part) }
 {
     matches!(work, Work::Write)
+}
+
+/// Where a write stands once it knows where its block stands, and whether that copy is dirty: in write-back alone a clean copy in the
+/// cache is sealed dirty first.
+fn writing(mode: Mode, place: Option<CBlock>, dirty: bool) -> Phase
+    ensures { (part : BlockRange) → part.mode ≡ mode → left_in Work.Write part result part.extents ≡ after_seeing (Writing part) (Seen.Holds place dirty) }
+{
+    match (mode, place) {
+        (Mode::Writeback, Some(c)) if !dirty => Phase::Dirties(c),
+        _ => Phase::Writes(place),
+    }
 }
 
 /// Whether it runs under an order.

@@ -1,11 +1,11 @@
-//! Where an extent of a block stands in write-back mode.
+//! Where an extent of a block stands, and where it is read and written in each mode.
 
-ghost use Rattle.std.specs.Prelude.{◌≡◌, ◌<◌};
-ghost use Rattle.wb_tasks.specs.Tables.{BlockRange, read_step, write_step, device_at};
+ghost use Rattle.std.specs.Prelude.{◌≡◌, ◌<◌, if◌then◌else◌, [], ◌∷◌};
+ghost use Rattle.wb_tasks.specs.Tables.{BlockRange, read_step, write_step, device_at, place_read, places_written};
 ghost use Rattle.wb_tasks.specs.declared.step.Want.TheVariants.{Device};
 ghost use Rattle.wb_tasks.specs.declared.step.DeviceStep.TheVariants.{Read, Write};
 
-use wb_types::{CBlock, Dev, Extent};
+use wb_types::{CBlock, Dev, Extent, Mode};
 
 /// The device that has the newest copy of a block at this place.
 pub fn device_at(place: Option<CBlock>) -> Dev
@@ -14,6 +14,27 @@ pub fn device_at(place: Option<CBlock>) -> Dev
     match place {
         None => Dev::Origin,
         Some(_) => Dev::Cache,
+    }
+}
+
+/// Where a read takes the extents of a block at this place from.
+pub fn place_read(mode: Mode, place: Option<CBlock>) -> Option<CBlock>
+    ensures { result ≡ place_read mode place }
+{
+    match mode {
+        Mode::Passthrough => None,
+        Mode::Writeback | Mode::Writethrough => place,
+    }
+}
+
+/// Where a write puts an extent of a block at this place first, and whether it puts it at that place then.
+pub fn written(mode: Mode, place: Option<CBlock>) -> (Option<CBlock>, bool)
+    ensures { places_written mode place ≡ result.0 ∷ (if result.1 then place ∷ [] else []) }
+{
+    match (mode, place) {
+        (Mode::Writeback, _) => (place, false),
+        (Mode::Writethrough, Some(_)) => (None, true),
+        (Mode::Writethrough, None) | (Mode::Passthrough, _) => (None, false),
     }
 }
 

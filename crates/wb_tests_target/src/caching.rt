@@ -1,9 +1,7 @@
 //! Blocks that are cached, written back and found again.
 
-use crate::fixture::{
-    Lent, Memory, begun_with, client_of, formatted, open, shows, worked, write_and_read,
-};
-use crate::questions::{Question, answered, answered_over};
+use crate::fixture::{Lent, Memory, begun_with, formatted, open, shows, worked, write_and_read};
+use crate::questions::{Question, answered, answered_over, done_by};
 use std::alloc::Global;
 use std::sync::Wait;
 use std::test::Fail;
@@ -28,7 +26,7 @@ fn a_block_is_cached_at_its_second_access(rt: HostRuntime) -> Result<(), Fail> {
 }
 
 /// Whether a block is cached, written there, and flushed.
-fn caches_and_flushes(rt: &impl Wait, client: &mut Lent<'_>) -> bool {
+pub fn caches_and_flushes(rt: &impl Wait, client: &mut Lent<'_>) -> bool {
     write_and_read(rt, client, 70, 0x11)
         && worked(rt, client).is_some()
         && client.write(rt, Sector(70), &[begun_with(0x22)]).is_ok()
@@ -38,17 +36,7 @@ fn caches_and_flushes(rt: &impl Wait, client: &mut Lent<'_>) -> bool {
 /// The devices of a target on which that was done, and whether it was.
 fn cached_and_flushed(rt: &impl Wait, alloc: Global) -> Result<(Memory, bool), Refusal> {
     let (devices, target) = open(alloc, formatted(alloc)?)?;
-    left_by(rt, &target, devices)
-}
-
-fn left_by(
-    rt: &impl Wait,
-    target: &Target<TinyLfu>,
-    devices: Memory,
-) -> Result<(Memory, bool), Refusal> {
-    let mut client = client_of(rt, target, devices)?;
-    let done = caches_and_flushes(rt, &mut client);
-    Ok((target.retire(rt, client), done))
+    done_by(rt, alloc, &target, devices, Question::CachesAndFlushes)
 }
 
 #[test]
@@ -66,36 +54,42 @@ fn fill_cache<D: Disk + Drop, P: Policy>(rt: &impl Wait, client: &mut Client<'_,
     })
 }
 
-/// Has the cache filled, and a block accessed three times, for which one is to leave.
+/// Accesses the sixth block three times, after which another is to leave for it.
+fn wants_another<D: Disk + Drop, P: Policy>(rt: &impl Wait, client: &mut Client<'_, D, P>) -> bool {
+    (0..3).all(|_| write_and_read(rt, client, 320, 0x55))
+}
+
+/// Has the cache filled, and a replacement ordered.
 pub fn order_replacement<D: Disk + Drop, P: Policy>(
     rt: &impl Wait,
     client: &mut Client<'_, D, P>,
 ) -> bool {
-    fill_cache(rt, client) && (0..3).all(|_| write_and_read(rt, client, 320, 0x55))
+    fill_cache(rt, client) && wants_another(rt, client)
+}
+
+/// Whether the sixth block, once it is accessed three times, replaces this one in its cache block, and is found there.
+fn replaces_block(
+    rt: &impl Wait,
+    target: &Target<TinyLfu>,
+    client: &mut Lent<'_>,
+    old: u32,
+) -> bool {
+    wants_another(rt, client)
+        && worked(rt, client) == Some(Order::Replace(OBlock(old), OBlock(5), CBlock(old)))
+        && target.counts(rt).demotions == 1
+        && shows(rt, client, 320, 0x55)
 }
 
 /// Whether a block that is accessed three times replaces the least recent one.
 pub fn replaces(rt: &impl Wait, target: &Target<TinyLfu>, client: &mut Lent<'_>) -> bool {
-    order_replacement(rt, client)
-        && worked(rt, client) == Some(Order::Replace(OBlock(0), OBlock(5), CBlock(0)))
-        && target.counts(rt).demotions == 1
-        && shows(rt, client, 320, 0x55)
-        && shows(rt, client, 0, 0x10)
+    fill_cache(rt, client) && replaces_block(rt, target, client, 0) && shows(rt, client, 0, 0x10)
 }
 
 /// Whether the block that leaves is the least recent one, and not the one that came first.
 pub fn replaces_another(rt: &impl Wait, target: &Target<TinyLfu>, client: &mut Lent<'_>) -> bool {
-    if !fill_cache(rt, client) || !shows(rt, client, 0, 0x10) {
-        return false;
-    }
-    for _ in 0..3 {
-        if !write_and_read(rt, client, 320, 0x55) {
-            return false;
-        }
-    }
-    worked(rt, client) == Some(Order::Replace(OBlock(1), OBlock(5), CBlock(1)))
-        && target.counts(rt).demotions == 1
-        && shows(rt, client, 320, 0x55)
+    fill_cache(rt, client)
+        && shows(rt, client, 0, 0x10)
+        && replaces_block(rt, target, client, 1)
         && shows(rt, client, 64, 0x10)
         && shows(rt, client, 0, 0x10)
 }

@@ -216,11 +216,7 @@ fn is_ordered_again(
     Some(again == Ok(Some(Order::Promote(OBlock(0), CBlock(0)))))
 }
 
-fn ordered_again_over(
-    rt: &impl Wait,
-    target: &Target<TinyLfu>,
-    devices: Failing,
-) -> Option<bool> {
+fn ordered_again_over(rt: &impl Wait, target: &Target<TinyLfu>, devices: Failing) -> Option<bool> {
     match target.client(rt, devices) {
         Ok(mut client) => is_ordered_again(rt, &mut client),
         Err(_) => None,

@@ -1,10 +1,11 @@
 //! What is asked of a target over formatted devices in memory, and of a client of it, which are then let go.
 
-use crate::caching::{caches, replaces, replaces_another};
+use crate::caching::{caches, caches_and_flushes, replaces, replaces_another};
 use crate::faults::{Rounds, shows_allowed};
-use crate::fixture::{Lent, Memory, client_of, formatted, open_with, shows};
+use crate::fixture::{Lent, Memory, client_of, formatted, open_with, shows, worked};
 use crate::opening::{caches_at_the_third, tells_status, was_opened};
 use crate::requests::{defers, refuses, settles_all, settles_alone};
+use crate::retiring::writes_twice;
 use crate::ticks::ticks;
 use crate::unclean::orders;
 use crate::workers::{carries_out_all, takes_no_more};
@@ -17,6 +18,7 @@ use wb_types::{Key, Refusal};
 #[derive(Clone, Copy)]
 pub enum Question {
     Caches,
+    CachesAndFlushes,
     CachesAtTheThird,
     Replaces,
     ReplacesAnother,
@@ -34,8 +36,12 @@ pub enum Question {
     ShowsAllowed(Rounds),
     /// Whether it was opened once.
     WasOpened,
+    /// Whether the first sector is written twice without a wait.
+    WritesTwice,
     /// Whether a block that is accessed four times gets this order.
     Orders(Order),
+    /// Whether this order waits.
+    Finds(Order),
     /// Whether so many blocks are dirty.
     CountsDirty(u32),
 }
@@ -67,7 +73,8 @@ pub fn answered_under(
     answered_of(rt, alloc, &target, devices, question)
 }
 
-fn answered_of(
+/// That of a client of this one.
+pub fn answered_of(
     rt: &impl Wait,
     alloc: Global,
     target: &Target<TinyLfu>,
@@ -76,6 +83,19 @@ fn answered_of(
 ) -> Result<bool, Refusal> {
     let mut client = client_of(rt, target, devices)?;
     Ok(answer(rt, alloc, target, &mut client, question))
+}
+
+/// The same, and the devices once the client has gone.
+pub fn done_by(
+    rt: &impl Wait,
+    alloc: Global,
+    target: &Target<TinyLfu>,
+    devices: Memory,
+    question: Question,
+) -> Result<(Memory, bool), Refusal> {
+    let mut client = client_of(rt, target, devices)?;
+    let done = answer(rt, alloc, target, &mut client, question);
+    Ok((target.retire(rt, client), done))
 }
 
 fn answer(
@@ -87,6 +107,7 @@ fn answer(
 ) -> bool {
     match question {
         Question::Caches => caches(rt, target, client),
+        Question::CachesAndFlushes => caches_and_flushes(rt, client),
         Question::CachesAtTheThird => caches_at_the_third(rt, client),
         Question::Replaces => replaces(rt, target, client),
         Question::ReplacesAnother => replaces_another(rt, target, client),
@@ -101,6 +122,8 @@ fn answer(
         Question::ShowsAllowed(rounds) => shows_allowed(rt, client, rounds),
         Question::TellsStatus => tells_status(rt, alloc, target),
         Question::WasOpened => was_opened(rt, target),
+        Question::WritesTwice => writes_twice(client),
+        Question::Finds(order) => worked(rt, client) == Some(order),
         Question::Orders(order) => orders(rt, client, order),
         Question::CountsDirty(blocks) => target.dirty(rt) == blocks,
     }

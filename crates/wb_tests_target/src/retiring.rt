@@ -1,6 +1,7 @@
 //! Clients that come and go.
 
-use crate::fixture::{Memory, begun_with, client_of, formatted, open, worked};
+use crate::fixture::{Lent, Memory, begun_with, client_of, formatted, open};
+use crate::questions::{Question, answered_of, done_by};
 use std::alloc::Global;
 use std::sync::Wait;
 use std::test::Fail;
@@ -8,32 +9,18 @@ use wb_policy::{Order, TinyLfu};
 use wb_target::{CLIENTS, Target};
 use wb_types::{CBlock, OBlock, Refusal, Sector};
 
-/// The devices of a client that wrote twice and went without settling that, and whether it wrote.
-fn wrote_and_went(
-    rt: &impl Wait,
-    target: &Target<TinyLfu>,
-    devices: Memory,
-) -> Result<(Memory, bool), Refusal> {
-    let mut client = client_of(rt, target, devices)?;
+/// Whether the first sector is written twice, none of which is settled.
+pub fn writes_twice(client: &mut Lent<'_>) -> bool {
     let sector = [begun_with(0x11)];
-    let written = (0..2).all(|_| client.port.try_write(Sector(0), &sector) == Ok(()));
-    Ok((target.retire(rt, client), written))
+    (0..2).all(|_| client.port.try_write(Sector(0), &sector) == Ok(()))
 }
 
-/// Whether the next client finds the order that its accesses gave.
-fn finds_its_order(
-    rt: &impl Wait,
-    target: &Target<TinyLfu>,
-    devices: Memory,
-) -> Result<bool, Refusal> {
-    let mut client = client_of(rt, target, devices)?;
-    Ok(worked(rt, &mut client) == Some(Order::Promote(OBlock(0), CBlock(0))))
-}
-
+/// Whether the next client finds the order that the accesses of one gave that has gone.
 fn retiring_settles(rt: &impl Wait, alloc: Global) -> Result<bool, Refusal> {
     let (devices, target) = open(alloc, formatted(alloc)?)?;
-    let (devices, written) = wrote_and_went(rt, &target, devices)?;
-    Ok(written && finds_its_order(rt, &target, devices)?)
+    let (devices, written) = done_by(rt, alloc, &target, devices, Question::WritesTwice)?;
+    let order = Order::Promote(OBlock(0), CBlock(0));
+    Ok(written && answered_of(rt, alloc, &target, devices, Question::Finds(order))?)
 }
 
 #[test]
@@ -42,23 +29,19 @@ fn what_a_client_has_accessed_is_settled_as_it_goes(rt: HostRuntime) -> Result<(
     Ok(())
 }
 
-/// The devices, once one client more than there may be at once has come and gone, one after the other.
-fn all_come_and_go(
-    rt: &impl Wait,
-    target: &Target<TinyLfu>,
-    devices: Memory,
-) -> Result<Memory, Refusal> {
+/// Whether one client more than there may be at once can come and go, one after the other.
+fn seats(rt: &impl Wait, target: &Target<TinyLfu>, devices: Memory) -> Result<bool, Refusal> {
     let mut devices = devices;
     for _ in 0..CLIENTS + 1 {
         let client = client_of(rt, target, devices)?;
         devices = target.retire(rt, client);
     }
-    Ok(devices)
+    Ok(true)
 }
 
 fn seats_come_back(rt: &impl Wait, alloc: Global) -> Result<bool, Refusal> {
     let (devices, target) = open(alloc, formatted(alloc)?)?;
-    Ok(all_come_and_go(rt, &target, devices).is_ok())
+    seats(rt, &target, devices)
 }
 
 #[test]

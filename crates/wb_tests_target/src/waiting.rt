@@ -1,7 +1,7 @@
 //! A flush beside a commit that runs: it waits for it, and is told where it fails.
 
 use crate::caching::order_replacement;
-use crate::files::{Names, client_over, images, target_over};
+use crate::files::{Images, Names, client_over, images, target_over};
 use crate::workers::{Signals, await_signal};
 use std::alloc::AllocError;
 use std::sync::Wait;
@@ -77,7 +77,11 @@ impl<'a, C: Clock> Errand for Beside<'a, C> {
                 thread::sleep(clock, Duration::from_millis(200));
                 let waits = answered.load(Ordering::SeqCst) == 0;
                 signals.goes.store(1, Ordering::SeqCst);
-                if stands && waits { Ok(()) } else { Err(Refusal::Busy) }
+                if stands && waits {
+                    Ok(())
+                } else {
+                    Err(Refusal::Busy)
+                }
             }
         }
     }
@@ -100,8 +104,8 @@ fn failing(rt: &HostRuntime, names: &Names, call: Option<u64>) -> Result<Devices
 }
 
 /// Has a replacement ordered by a client that then goes.
-fn order(rt: &HostRuntime, target: &Target<TinyLfu>, names: &Names) -> Result<bool, Fail> {
-    let mut client = client_over(rt, target, images(rt, names)?)?;
+fn order(rt: &impl Wait, target: &Target<TinyLfu>, images: Images) -> Result<bool, Refusal> {
+    let mut client = client_over(rt, target, images)?;
     let ordered = order_replacement(rt, &mut client);
     target.retire(rt, client);
     Ok(ordered)
@@ -136,52 +140,41 @@ fn end_so<R: Threads + Wait + Sync, C: Clock + Sync>(
     wanted: &[Result<(), Refusal>; 3],
 ) -> Result<bool, AllocError> {
     let returned = target.together(rt, errands)?;
-    Ok(returned.len() == 3
-        && wanted
-            .iter()
-            .zip(&returned)
-            .all(|pair| pair.1.told == Ok(*pair.0)))
+    Ok(
+        returned.len() == 3
+            && wanted
+                .iter()
+                .zip(&returned)
+                .all(|pair| pair.1.told == Ok(*pair.0)),
+    )
 }
 
-/// Whether a target of these files has a replacement, a flush and a watch beside one another end so.
-fn all_end_so(
-    rt: &HostRuntime,
-    names: &Names,
-    call: Option<u64>,
-    wanted: &[Result<(), Refusal>; 3],
-) -> Result<bool, Fail> {
-    let target = target_over(rt, names)?;
-    let signals = Signals::new();
-    let answered = AtomicU64::new(0);
-    let ordered = order(rt, &target, names);
-    let ended = end_so(
-        rt,
-        &target,
-        all_three(rt, names, call, &signals, &answered)?,
-        wanted,
-    );
-    drop(target);
-    Ok(ordered? && ended?)
-}
-
-const WAITED: Names = ["waited_m.img", "waited_c.img", "waited_o.img"];
+/// Files, the call of the worker's cache that fails, if any, and how the three end: a flush waits for the commit that runs, and is told where
+/// that fails.
+const ROWS: [(Names, Option<u64>, [Result<(), Refusal>; 3]); 2] = [
+    (
+        ["waited_m.img", "waited_c.img", "waited_o.img"],
+        None,
+        [Ok(()), Ok(()), Ok(())],
+    ),
+    (
+        ["broken_m.img", "broken_c.img", "broken_o.img"],
+        Some(0),
+        [Err(Refusal::Io(Dev::Cache)), Err(Refusal::Failed), Ok(())],
+    ),
+];
 
 #[test]
 fn a_flush_waits_for_the_commit_that_runs(rt: HostRuntime) -> Result<(), Fail> {
-    let wanted = [Ok(()), Ok(()), Ok(())];
-    assert!(rt; all_end_so(&rt, &WAITED, None, &wanted)?);
-    Ok(())
-}
-
-const BROKEN: Names = ["broken_m.img", "broken_c.img", "broken_o.img"];
-
-#[test]
-fn who_waits_for_a_commit_that_fails_is_told(rt: HostRuntime) -> Result<(), Fail> {
-    let wanted = [
-        Err(Refusal::Io(Dev::Cache)),
-        Err(Refusal::Failed),
-        Ok(()),
-    ];
-    assert!(rt; all_end_so(&rt, &BROKEN, Some(0), &wanted)?);
+    for (names, call, wanted) in &ROWS {
+        let target = target_over(&rt, names)?;
+        let signals = Signals::new();
+        let answered = AtomicU64::new(0);
+        let ordered = order(&rt, &target, images(&rt, names)?);
+        let errands = all_three(&rt, names, *call, &signals, &answered)?;
+        let ended = end_so(&rt, &target, errands, wanted);
+        drop(target);
+        assert!(rt; ordered? && ended?);
+    }
     Ok(())
 }

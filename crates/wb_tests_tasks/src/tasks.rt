@@ -7,7 +7,7 @@ mod row;
 
 use self::bench::{BLOCK, BLOCK_SECTORS, Bench};
 use self::migrations::{CACHED, COPIES, DISOWN, GIVE_UP, HOME, PROMOTIONS, REFUSED, RETURNS};
-use self::requests::{CACHED_SECTORS, IN_ONE_STEP, READS, SECTORS, WRITES};
+use self::requests::{CACHED_SECTORS, IN_ONE_STEP, IN_OTHER_MODES, READS, SECTORS, WRITES};
 use self::row::{Job, Row};
 use std::alloc::Global;
 use std::test::Fail;
@@ -20,11 +20,11 @@ fn play(bench: &mut Bench, row: &Row) -> Answer {
     let longest = row.longest.max(1);
     match row.job {
         Job::Read => {
-            let mut task = BlockTask::read(BLOCK_SECTORS, BLOCK, SECTORS, longest);
+            let mut task = BlockTask::read(row.mode, BLOCK_SECTORS, BLOCK, SECTORS, longest);
             drive(&mut task, bench)
         }
         Job::Write => {
-            let mut task = BlockTask::write(BLOCK_SECTORS, BLOCK, SECTORS, longest);
+            let mut task = BlockTask::write(row.mode, BLOCK_SECTORS, BLOCK, SECTORS, longest);
             drive(&mut task, bench)
         }
         Job::Migrate(migration) => {
@@ -129,6 +129,11 @@ fn writes_take_the_steps_of_their_table(rt: HostRuntime) -> Result<(), Fail> {
 #[test]
 fn requests_take_an_extent_in_one_step(rt: HostRuntime) -> Result<(), Fail> {
     compare(rt.alloc(), &IN_ONE_STEP)
+}
+
+#[test]
+fn requests_take_the_steps_of_their_mode(rt: HostRuntime) -> Result<(), Fail> {
+    compare(rt.alloc(), &IN_OTHER_MODES)
 }
 
 #[test]

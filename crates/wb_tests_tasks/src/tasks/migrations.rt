@@ -3,7 +3,7 @@
 use super::bench::BLOCK;
 use super::row::{Job, Row};
 use wb_tasks::*;
-use wb_types::{CBlock, Dev, Extent, Refusal};
+use wb_types::{CBlock, Dev, Extent, Mode, Refusal};
 use wb_words::{Access, Word};
 
 const TO: CBlock = CBlock(1);
@@ -11,6 +11,7 @@ const TO: CBlock = CBlock(1);
 const PROMOTE: Row = Row {
     name: "",
     job: Job::Migrate(Migration::Promote(TO)),
+    mode: Mode::Writeback,
     longest: 64,
     mapped: None,
     fails: None,
@@ -34,6 +35,7 @@ const PROMOTE: Row = Row {
 const DEMOTE: Row = Row {
     name: "",
     job: Job::Migrate(Migration::Demote),
+    mode: Mode::Writeback,
     longest: 64,
     mapped: Some(true),
     fails: None,
@@ -57,6 +59,7 @@ const DEMOTE: Row = Row {
 const CLEAN: Row = Row {
     name: "",
     job: Job::Migrate(Migration::Clean),
+    mode: Mode::Writeback,
     longest: 64,
     mapped: Some(true),
     fails: None,

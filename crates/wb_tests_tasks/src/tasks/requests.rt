@@ -3,7 +3,7 @@
 use super::bench::BLOCK;
 use super::row::{Job, Row};
 use wb_tasks::*;
-use wb_types::{CBlock, Dev, Extent, Refusal};
+use wb_types::{CBlock, Dev, Extent, Mode, Refusal};
 use wb_words::{Access, Kind, Word};
 
 /// Two sectors of the block, from its second on.
@@ -14,6 +14,7 @@ pub const CACHED_SECTORS: Extent = CACHED_BOTH;
 const FREE: Row = Row {
     name: "",
     job: Job::Read,
+    mode: Mode::Writeback,
     longest: 1,
     mapped: None,
     fails: None,
@@ -246,6 +247,121 @@ pub const IN_ONE_STEP: [Row; 3] = [
             Want::Cell(CellStep::SetFailed),
         ],
         words: &[(Word::Cell(BLOCK), 1), (Word::Fail, 1)],
+        ..FREE
+    },
+];
+
+pub const IN_OTHER_MODES: [Row; 7] = [
+    Row {
+        name: "write-through writes each extent on the origin, and then in the cache",
+        job: Job::Write,
+        mode: Mode::Writethrough,
+        mapped: Some(false),
+        wants: &[
+            Want::Device(DeviceStep::Write(Dev::Origin, SECOND)),
+            Want::Device(DeviceStep::Write(Dev::Cache, CACHED_SECOND)),
+            Want::Device(DeviceStep::Write(Dev::Origin, THIRD)),
+            Want::Device(DeviceStep::Write(Dev::Cache, CACHED_THIRD)),
+            FINISH,
+            Want::Cell(CellStep::Count(Kind::WriteHit)),
+            DISOWN,
+        ],
+        words: &[(Word::Seal(BLOCK), 4), (Word::Number(BLOCK), 1)],
+        holds: Some((3, 3)),
+        is_mapped: true,
+        ..FREE
+    },
+    Row {
+        name: "a dirty copy stays dirty in write-through",
+        job: Job::Write,
+        mode: Mode::Writethrough,
+        longest: 2,
+        mapped: Some(true),
+        wants: &[
+            Want::Device(DeviceStep::Write(Dev::Origin, BOTH)),
+            Want::Device(DeviceStep::Write(Dev::Cache, CACHED_BOTH)),
+            FINISH,
+            Want::Cell(CellStep::Count(Kind::WriteHit)),
+            DISOWN,
+        ],
+        words: &[(Word::Seal(BLOCK), 5)],
+        holds: Some((3, 3)),
+        is_mapped: true,
+        ..FREE
+    },
+    Row {
+        name: "write-through writes an unmapped block on the origin alone",
+        job: Job::Write,
+        mode: Mode::Writethrough,
+        longest: 2,
+        wants: &[
+            Want::Device(DeviceStep::Write(Dev::Origin, BOTH)),
+            FINISH,
+            Want::Cell(CellStep::Count(Kind::WriteMiss)),
+            DISOWN,
+        ],
+        holds: Some((3, 2)),
+        ..FREE
+    },
+    Row {
+        name: "a fault on the second write of an extent keeps the block",
+        job: Job::Write,
+        mode: Mode::Writethrough,
+        longest: 2,
+        mapped: Some(false),
+        fails: Some(1),
+        answer: Answer::Refused(Refusal::Io(Dev::Cache)),
+        wants: &[
+            Want::Device(DeviceStep::Write(Dev::Origin, BOTH)),
+            Want::Device(DeviceStep::Write(Dev::Cache, CACHED_BOTH)),
+            Want::Cell(CellStep::SetFailed),
+        ],
+        words: &[(Word::Cell(BLOCK), 1), (Word::Fail, 1)],
+        holds: Some((3, 2)),
+        is_mapped: true,
+        ..FREE
+    },
+    Row {
+        name: "a mapped block is read from the cache in write-through",
+        mode: Mode::Writethrough,
+        longest: 2,
+        mapped: Some(false),
+        wants: &[
+            Want::Device(DeviceStep::Read(Dev::Cache, CACHED_BOTH)),
+            Want::Cell(CellStep::Count(Kind::ReadHit)),
+            LEAVE,
+        ],
+        is_mapped: true,
+        ..FREE
+    },
+    Row {
+        name: "a mapped block is read from the origin in passthrough, a miss",
+        mode: Mode::Passthrough,
+        longest: 2,
+        mapped: Some(false),
+        wants: &[
+            Want::Device(DeviceStep::Read(Dev::Origin, BOTH)),
+            Want::Cell(CellStep::Count(Kind::ReadMiss)),
+            LEAVE,
+        ],
+        is_mapped: true,
+        ..FREE
+    },
+    Row {
+        name: "a mapped block is written on the origin alone in passthrough, a hit",
+        job: Job::Write,
+        mode: Mode::Passthrough,
+        longest: 2,
+        mapped: Some(false),
+        wants: &[
+            Want::Device(DeviceStep::Write(Dev::Origin, BOTH)),
+            FINISH,
+            Want::Cell(CellStep::Count(Kind::WriteHit)),
+            DISOWN,
+        ],
+        words: &[(Word::Seal(BLOCK), 4)],
+        holds: Some((3, 2)),
+        is_mapped: true,
         ..FREE
     },
 ];

@@ -1,6 +1,7 @@
 //! A task, what it meets, and what it wants then.
 
 use wb_tasks::*;
+use wb_types::Mode;
 use wb_words::Word;
 
 /// What is done with the block.
@@ -17,6 +18,8 @@ pub enum Job {
 pub struct Row {
     pub name: &'static str,
     pub job: Job,
+    /// The mode of a read or write.
+    pub mode: Mode,
     /// How many sectors a step takes at most.
     pub longest: u64,
     /// Whether the block is mapped, to cache block 1, and dirty there.

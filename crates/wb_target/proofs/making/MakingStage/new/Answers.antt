@@ -1,4 +1,8 @@
 use Rattle.wb_target.proofs.making.MakingStage.new.Goals as goal
 
 pub returns : goal.returns
-returns g c = c.new-stage.ensures.goes_on (g.D.Disk.size c.new-stage.result.devices.metadata)
+returns g c = record {
+  goes_on = c.new-stage.ensures.goes_on (g.D.Disk.size c.new-stage.result.devices.metadata);
+  devices = c.new-stage.ensures.devices;
+  begins = c.new-stage.ensures.begins;
+}

@@ -1,27 +1,36 @@
-use Rattle.std.proofs.Common.{◌∙◌, inl, inr, sym, ap}
+use Rattle.std.proofs.Common.{inl, inr, ap}
 use Rattle.wb_types.specs.Extents.{pieces}
+use Rattle.wb_types.specs.declared.mode.Dev.{Dev}
+use Rattle.wb_types.specs.declared.refusal.Refusal.TheVariants.{Io}
 use Rattle.wb_tasks.specs.Tables.{BlockRange}
-use Rattle.wb_tasks.specs.Phases.{left_in}
-use Rattle.wb_tasks.specs.declared.step.Got.TheVariants.{Fault}
-use Rattle.wb_tasks.proofs.Views.{by_view, after_failed_read, after_failed_copy, after_failed_write, after_failed_put}
+use Rattle.wb_tasks.specs.declared.block.Phase.TheVariants.{Reads, Writes, Mirrors, Copies, Puts, Releases, SetsFailed}
+use Rattle.wb_tasks.specs.declared.step.Answer.TheVariants.{Refused as Refuses}
+use Rattle.wb_tasks.proofs.Views.{left_by_fault, FailsTo}
 use Rattle.wb_tasks.proofs.block.BlockTask.after_fault.Goals as goal
 
 pub returns-in-Writes : goal.returns-in-Writes
 returns-in-Writes c =
     let t = c.self.inside in
-    let part : BlockRange = record { block_sectors = t.block_sectors; block = t.block; extents = pieces t.longest t.sectors } in
-    let extents = pieces t.longest t.left in
-    elim c.in-Writes.is [
-      | inl e ↦ by_view _ _ _ Fault (ap (λ p. left_in t.work part p extents) (sym e) ∙ c.self.view_is) c.requires (rw c.device_at.ensures (after_failed_write t.work part c.in-Writes.place extents))
-      | inr w ↦ by_view _ _ _ Fault (ap (λ p. left_in t.work part p extents) (sym w.2) ∙ c.self.view_is) c.requires (rw c.device_at.ensures (after_failed_put t.work part w.0 c.in-Writes.place w.1 extents))
+    let part : BlockRange = record { mode = t.mode; block_sectors = t.block_sectors; block = t.block; extents = pieces t.longest t.sectors } in
+    let fails : FailsTo t.work part (Writes c.in-Writes.place) _ = (c.written-to.result.0, c.written-to.result.1, c.written-to.ensures, ap (λ (device : Dev). SetsFailed device) c.device_at.ensures) in
+    left_by_fault t.work part t.phase (Writes c.in-Writes.place) _ (pieces t.longest t.left) _ c.in-Writes.is c.self.view_is fails c.requires
+
+pub returns-in-Puts : goal.returns-in-Puts
+returns-in-Puts c =
+    let t = c.self.inside in
+    let part : BlockRange = record { mode = t.mode; block_sectors = t.block_sectors; block = t.block; extents = pieces t.longest t.sectors } in
+    let fails = ap (λ (device : Dev). SetsFailed device) c.device_at-in-Puts.ensures in
+    elim c.in-Puts.is [
+      | inl w ↦ left_by_fault t.work part t.phase (Puts w.0 c.in-Puts.place w.1) _ (pieces t.longest t.left) _ w.2 c.self.view_is fails c.requires
+      | inr w ↦ left_by_fault t.work part t.phase (Mirrors c.in-Puts.place w.0) _ (pieces t.longest t.left) _ w.1 c.self.view_is fails c.requires
     ]
 
 pub returns-in-Reads : goal.returns-in-Reads
 returns-in-Reads c =
     let t = c.self.inside in
-    let part : BlockRange = record { block_sectors = t.block_sectors; block = t.block; extents = pieces t.longest t.sectors } in
-    let extents = pieces t.longest t.left in
+    let part : BlockRange = record { mode = t.mode; block_sectors = t.block_sectors; block = t.block; extents = pieces t.longest t.sectors } in
+    let fails : FailsTo t.work part (Reads c.in-Reads.place) _ = λ i. Releases (c.has_order.ensures i) (Refuses (Io (c.device_at-in-Reads.ensures i))) in
     elim c.in-Reads.is [
-      | inl e ↦ by_view _ _ _ Fault (ap (λ p. left_in t.work part p extents) (sym e) ∙ c.self.view_is) c.requires (rw (c.device_at-in-Reads.ensures, c.has_order.ensures) (after_failed_read t.work part c.in-Reads.place extents))
-      | inr w ↦ by_view _ _ _ Fault (ap (λ p. left_in t.work part p extents) (sym w.1) ∙ c.self.view_is) c.requires (rw (c.device_at-in-Reads.ensures, c.has_order.ensures) (after_failed_copy t.work part c.in-Reads.place w.0 extents))
+      | inl e ↦ left_by_fault t.work part t.phase _ _ (pieces t.longest t.left) _ e c.self.view_is fails c.requires
+      | inr w ↦ left_by_fault t.work part t.phase (Copies c.in-Reads.place w.0) _ (pieces t.longest t.left) _ w.1 c.self.view_is fails c.requires
     ]

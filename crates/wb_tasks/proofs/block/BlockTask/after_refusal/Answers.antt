@@ -7,5 +7,5 @@ use Rattle.wb_tasks.proofs.block.BlockTask.after_refusal.Goals as goal
 pub returns : goal.returns
 returns c =
     let t = c.self.inside in
-    let part : BlockRange = record { block_sectors = t.block_sectors; block = t.block; extents = pieces t.longest t.sectors } in
+    let part : BlockRange = record { mode = t.mode; block_sectors = t.block_sectors; block = t.block; extents = pieces t.longest t.sectors } in
     by_view _ _ _ (Refused c.args.refusal) c.self.view_is c.requires (rw c.has_order.ensures (after_refused_entry t.work part t.phase (pieces t.longest t.left) c.args.refusal))

@@ -1,0 +1,232 @@
+-- Where a run is in which the first actor alone is at work over a small shape, how its stretches are put together, and that an opening leads there.
+use Rattle.std.proofs.Common.{Global, IsPermutation, ◌≡◌, ◌∙◌, ◌≤◌, ◌*◌, ◌+◌, ℕ, zero, suc, List, [], ◌∷◌, Option, Some, None, refl, sym, ap, subst, arith, length, replicate, is_some}
+use Rattle.std.specs.List.{count_by}
+use Rattle.std.proofs.lemmas.List.{append-nil, length-map, length-replicate}
+use Rattle.std.proofs.lemmas.List.Elements.{All-cons, All-nil}
+use Rattle.std.proofs.lemmas.List.Sorted.{IsPermutation-refl}
+use Rattle.wb_types.specs.Limits.{IsWithinLimits}
+use Rattle.wb_types.specs.declared.entry.Entry.{Entry}
+use Rattle.wb_types.specs.declared.extent.Extent.{Extent}
+use Rattle.wb_types.specs.declared.geometry.Geometry.{Geometry}
+use Rattle.wb_types.specs.Extents.{IsCutInto, sectors_in}
+use Rattle.wb_types.specs.declared.mode.Dev.TheVariants.{Origin}
+use Rattle.wb_types.specs.declared.mode.Mode.TheVariants.{Writeback}
+use Rattle.wb_disk.specs.Device.{Content as Bytes, History, only, newest}
+use Rattle.wb_disk.specs.Memory.{blank}
+use Rattle.wb_disk.specs.Crash.{Choice}
+use Rattle.wb_disk.specs.Failing.{MayFail}
+use Rattle.wb_disk.specs.declared.crash_choice.Base.TheVariants.{Durable}
+use Rattle.wb_words.specs.SharedWords.{Words, fresh_words}
+use Rattle.wb_words.specs.Cards.{blank_card}
+use Rattle.wb_words.specs.declared.card.Card.{Card}
+use Rattle.wb_tree.specs.Mapping.{empty_mapping}
+use Rattle.wb_meta.specs.Formats.{IsFormatted}
+use Rattle.wb_policy.specs.declared.order.Order.{Order}
+use Rattle.wb_desk.specs.Desks.{DeskState}
+use Rattle.wb_desk.specs.Opening.{opened as opened_desk}
+use Rattle.wb_tasks.specs.Plan.{Plan}
+use Rattle.wb_tasks.specs.Tables.{TaskJob}
+use Rattle.wb_tasks.specs.declared.step.Answer.TheVariants.{Done as Finished}
+use Rattle.wb_devices.specs.declared.devices.Devices.{Devices}
+use Rattle.wb_promise.specs.declared.job.Job.{Job}
+use Rattle.wb_promise.specs.States.{Shape, State, Actor, Stands, resting, start}
+use Rattle.wb_promise.specs.Happenings.{Happening}
+use Rattle.wb_promise.specs.Effects.{all_resting}
+use Rattle.wb_promise.specs.Clerk.{Notes, formatted}
+use Rattle.wb_promise.specs.Headline.{noted}
+use Rattle.wb_examples.specs.Possible.{PassesThrough, CanPass, IsSmall}
+use Rattle.wb_runs.proofs.MetadataRuns.{IsKnown, known_always}
+use Rattle.wb_examples.proofs.Playing.{Move, played, ends, MayGo, goes_on}
+use Rattle.wb_examples.proofs.Opening.{Down, down, opening, opening_may, opened, opened_is, none_then, rooted_size, known as opened_known}
+use Rattle.wb_examples.proofs.Desks.{Sizes, geometry_of, shape_of, Setting, shape, desk}
+use Rattle.wb_examples.proofs.Runs.{along, can_pass, first_down}
+
+-- ---- what is cut, and what fails
+
+pub uncut : (e : Extent) → 1 ≤ e.count → IsCutInto e (e ∷ [])
+uncut e some = record { each_once = subst (λ (xs : List ℕ). IsPermutation (sectors_in e) xs) (sym (append-nil (sectors_in e))) (IsPermutation-refl (sectors_in e)); none_empty = All-cons (λ (x : Extent). 1 ≤ x.count) e [] some (All-nil (λ (x : Extent). 1 ≤ x.count)) }
+
+-- a choice by which nothing lands of a step that fails, and a crash keeps what is durable
+abbrev pub nothing_lands : Choice
+nothing_lands = record { base = Durable; named = [] }
+
+pub may_fail : (sectors : ℕ) → MayFail Origin nothing_lands sectors
+may_fail sectors = record { here = All-nil _; inside = All-nil _; two = All-nil _ }
+
+abbrev pub whole : Extent
+whole = record { first = 0; count = 64 }
+
+abbrev pub next_whole : Extent
+next_whole = record { first = 64; count = 64 }
+
+-- ---- where a run is
+
+-- A target stands, the first actor is at this, and nobody else at anything.
+pub record Scene (P : Type 0) : Type 0 where
+  pub devices : Devices (List History)
+  pub words : Words
+  pub desk : DeskState P
+  pub task : Option (Job × Plan)
+  pub orders : List Order
+  pub awaiting : List Order
+  pub buffer : List Bytes
+
+-- nothing is left of a job but to answer it done
+abbrev pub over : Job → TaskJob → Option (Job × Plan)
+over job task = Some (job, record { job = task; steps = []; answer = Finished })
+
+abbrev card_in : List Actor → Card
+card_in [] = blank_card
+card_in (x ∷ xs) = x.card
+
+module _ (P A : Type 0) (more : ℕ) (s : Setting P more) where
+  open s use {global, rest}
+
+  abbrev pub at : Scene P → Card → State P A
+  at scene card = record {
+    devices = scene.devices;
+    commit = None;
+    phase = Stands (record { words = scene.words; desk = scene.desk });
+    actors = record { task = scene.task; card = card; orders = scene.orders; awaiting = scene.awaiting; buffer = scene.buffer } ∷ rest;
+  }
+
+  -- it leads there, but for what its actor knows then
+  pub record Leads (w : State P A) (moves : List (Move P A)) (to : Scene P) : Type 0 where
+    pub may : MayGo global (shape P more s) w moves
+    pub card : Card
+    pub is : ends global (shape P more s) w moves ≡ at to card
+
+  pub goes_to : (w : State P A) (moves : List (Move P A)) (to : Scene P) → MayGo global (shape P more s) w moves → ends global (shape P more s) w moves ≡ at to (card_in (ends global (shape P more s) w moves).actors) → Leads w moves to
+  goes_to w moves to may is = record { may = may; card = card_in (ends global (shape P more s) w moves).actors; is = is }
+
+  -- the first of these conditions, and the others
+  abbrev pub First : List (State P A → Notes → Type 0) → State P A → Notes → Type 0
+  First [] w n = Unit {0}
+  First (Is ∷ conditions) w n = Is w n
+
+  abbrev pub Later : List (State P A → Notes → Type 0) → List (State P A → Notes → Type 0)
+  Later [] = []
+  Later (Is ∷ conditions) = conditions
+
+  -- what a run may pass through from there on, where this is noted, or whatever is
+  abbrev pub FromNoted : Scene P → Notes → List (State P A → Notes → Type 0) → Type 0
+  FromNoted scene n conditions = (card : Card) → IsKnown P A (shape P more s) (at scene card) → PassesThrough (shape P more s) (at scene card) n conditions
+
+  abbrev pub From : Scene P → List (State P A → Notes → Type 0) → Type 0
+  From scene conditions = (card : Card) → IsKnown P A (shape P more s) (at scene card) → (n : Notes) → PassesThrough (shape P more s) (at scene card) n conditions
+
+  pub done : (scene : Scene P) → From scene []
+  done scene card known n = tt
+
+  known_then : (scene to : Scene P) (moves : List (Move P A)) (card : Card) (r : Leads (at scene card) moves to) → IsKnown P A (shape P more s) (at scene card) → IsKnown P A (shape P more s) (at to r.card)
+  known_then scene to moves card r known =
+      subst (λ (w : State P A). IsKnown P A (shape P more s) w) r.is (known_always P A (shape P more s) (at scene card) (played global (shape P more s) (at scene card) moves) known (goes_on global (shape P more s) (at scene card) moves r.may))
+
+  -- a stretch, after which this is noted, and those behind it
+  pub noted_stretch : (scene to : Scene P) (moves : List (Move P A)) (n m : Notes) (conditions : List (State P A → Notes → Type 0)) (card : Card) → IsKnown P A (shape P more s) (at scene card) → Leads (at scene card) moves to →
+      noted (shape P more s) (at scene card) n (played global (shape P more s) (at scene card) moves) ≡ m → ((card : Card) → First conditions (at to card) m) → FromNoted to m (Later conditions) → PassesThrough (shape P more s) (at scene card) n conditions
+  noted_stretch scene to moves n m [] card known r e is behind = tt
+  noted_stretch scene to moves n m (Is ∷ conditions) card known r e is behind =
+      let Holds : State P A → Notes → Type 0 = λ w k. Is w k × PassesThrough (shape P more s) w k conditions in
+      let hs = played global (shape P more s) (at scene card) moves in
+      let p = subst (λ (w : State P A). Holds w (noted (shape P more s) (at scene card) n hs)) (sym r.is) (subst (λ (k : Notes). Holds (at to r.card) k) (sym e) (is r.card, behind r.card (known_then scene to moves card r known))) in
+      (hs, goes_on global (shape P more s) (at scene card) moves r.may, p.0, p.1)
+
+  pub stretch : (scene to : Scene P) (moves : List (Move P A)) (conditions : List (State P A → Notes → Type 0)) → ((card : Card) → IsKnown P A (shape P more s) (at scene card) → Leads (at scene card) moves to) → ((card : Card) (n : Notes) → First conditions (at to card) n) → From to (Later conditions) →
+      From scene conditions
+  stretch scene to moves conditions leads is behind card known n =
+      noted_stretch scene to moves n _ conditions card known (leads card known) refl (λ c. is c _) (λ c now. behind c now _)
+
+  -- or one that the next condition takes in
+  pub on : (scene to : Scene P) (moves : List (Move P A)) (conditions : List (State P A → Notes → Type 0)) → ((card : Card) → Leads (at scene card) moves to) → From to conditions → From scene conditions
+  on scene to moves conditions leads behind card known n =
+      let r = leads card in
+      along (shape P more s) (at scene card) (at to r.card) n (played global (shape P more s) (at scene card) moves) conditions r.is (goes_on global (shape P more s) (at scene card) moves r.may) (behind r.card (known_then scene to moves card r known) _)
+
+  abbrev pub opened_scene : Devices (List History) → Scene P
+  opened_scene devices = record { devices = devices; words = fresh_words (suc more); desk = desk P more s; task = None; orders = []; awaiting = []; buffer = [] }
+
+-- ---- what an opening leads to
+
+-- formatted metadata for such a shape, and what an opening over them wants
+pub record Formatted (P A : Type 0) (more : ℕ) : Type 0 where
+  pub policy : P
+  pub alloc : A
+  pub global : Global
+  pub sizes : Sizes more
+  pub metadata : List History
+  pub is_formatted : IsFormatted (geometry_of more sizes) metadata
+  pub size : length metadata ≡ sizes.meta_sectors
+
+module _ (P A : Type 0) (more : ℕ) (f : Formatted P A more) where
+  open f use {global, sizes.{k, others}}
+
+  abbrev pub down_at : Down P A
+  down_at = first_down P A f.policy f.alloc global (geometry_of more f.sizes) f.sizes.threshold others f.metadata f.is_formatted f.size
+
+  abbrev pub setting : Setting P more
+  setting = record {
+    global = global;
+    sizes = f.sizes;
+    policy = f.policy;
+    generation = (none_then P A down_at).root.generation + 1;
+    later = omega (arith, f.is_formatted.first.generation);
+    rest = all_resting (replicate others resting);
+  }
+
+  abbrev pub shape_at : Shape
+  shape_at = shape_of more f.sizes
+
+  abbrev pub devices : Devices (List History)
+  devices = (opened P A down_at).devices
+
+  pub devices_size : length devices.metadata ≡ f.sizes.meta_sectors
+  devices_size = rooted_size P A down_at
+
+  pub cache_size : 64 ≤ length devices.cache
+  cache_size = omega (arith, length-map down_at.cache (λ (h : History). only (newest h)), length-replicate (64 * suc k) blank)
+
+  pub origin_size : length devices.origin ≡ 64 * suc more
+  origin_size = length-map down_at.origin (λ (h : History). only (newest h)) ∙ length-replicate (64 * suc more) blank
+
+  abbrev pub opened_at : State P A
+  opened_at = at P A more setting (opened_scene P A more setting devices) blank_card
+
+  opened_there : opened P A down_at ≡ opened_at
+  opened_there = ap (λ (g : Geometry). record opened_at {
+    phase = Stands (record { words = fresh_words (suc more); desk = opened_desk (geometry_of more f.sizes) setting.generation (empty_mapping g.cache_blocks) [] Writeback f.policy f.sizes.threshold (count_by is_some (replicate {A = Option Entry} g.cache_blocks None)) });
+  }) (none_then P A down_at).geometry_is
+
+  pub known_at : IsKnown P A shape_at opened_at
+  known_at = subst (λ (w : State P A). IsKnown P A shape_at w) opened_there (opened_known P A down_at)
+
+  abbrev pub opening_run : List (Happening P A)
+  opening_run = played global shape_at (down P A down_at) (opening P A down_at)
+
+  abbrev pub Whole : List (State P A → Notes → Type 0) → Type 0
+  Whole conditions = PassesThrough shape_at (start shape_at f.metadata) (formatted shape_at) conditions
+
+  -- what goes on from there is a run from formatted metadata on
+  pub from_opened : (conditions : List (State P A → Notes → Type 0)) → ((n : Notes) → n ≡ noted shape_at (down P A down_at) (formatted shape_at) opening_run → PassesThrough shape_at opened_at n conditions) → Whole conditions
+  from_opened conditions passes = along shape_at (down P A down_at) opened_at (formatted shape_at) opening_run conditions (opened_is P A down_at ∙ opened_there) (goes_on global shape_at (down P A down_at) (opening P A down_at) (opening_may P A down_at)) (passes _ refl)
+
+-- what is claimed of these sizes
+abbrev Claim : (P A : Type 0) → (Shape → List (State P A → Notes → Type 0)) → (b c o m : ℕ) → IsWithinLimits b c o m → (threshold others : ℕ) → List History → Type 0
+Claim P A conditions b c o m w threshold others metadata = let geometry : Geometry = record { block = b; cache_blocks = c; origin_blocks = o; meta_sectors = m; within = w } in
+    let shape : Shape = record { geometry = geometry; threshold = threshold; actors = suc others } in
+    IsFormatted geometry metadata → length metadata ≡ m → PassesThrough shape (start shape metadata) (formatted shape) (conditions shape)
+
+-- a small shape is one of such sizes
+pub small_can : (P A : Type 0) (more asked : ℕ) (conditions : Shape → List (State P A → Notes → Type 0)) → ((f : Formatted P A more) → asked ≤ f.sizes.threshold → Whole P A more f (conditions (shape_of more f.sizes))) → CanPass P A (IsSmall (suc more) asked) conditions
+small_can P A more asked conditions passes = can_pass P A (IsSmall (suc more) asked) conditions (λ shape suits. suits.actors) (λ policy alloc global g threshold others metadata suits is_formatted size.
+    by_sizes policy alloc global g.block g.cache_blocks g.origin_blocks g.meta_sectors g.within threshold others metadata suits.block suits.origin suits.room is_formatted size)
+  where
+    by_cache : (policy : P) (alloc : A) (global : Global) (c m : ℕ) (w : IsWithinLimits 64 c (suc more) m) (threshold others : ℕ) (metadata : List History) → asked ≤ threshold → Claim P A conditions 64 c (suc more) m w threshold others metadata
+    by_cache policy alloc global zero m w threshold others metadata room is_formatted size = absurd (omega (arith, w.cache_from))
+    by_cache policy alloc global (suc k) m w threshold others metadata room is_formatted size =
+        passes (record { policy = policy; alloc = alloc; global = global; sizes = record { k = k; meta_sectors = m; within = w; threshold = threshold; others = others }; metadata = metadata; is_formatted = is_formatted; size = size }) room
+
+    by_sizes : (policy : P) (alloc : A) (global : Global) (b c o m : ℕ) (w : IsWithinLimits b c o m) (threshold others : ℕ) (metadata : List History) → b ≡ 64 → o ≡ suc more → asked ≤ threshold → Claim P A conditions b c o m w threshold others metadata
+    by_sizes policy alloc global b c o m w threshold others metadata e f room =
+        subst (λ (b : ℕ). (w : IsWithinLimits b c o m) → Claim P A conditions b c o m w threshold others metadata) (sym e)
+        (subst (λ (o : ℕ). (w : IsWithinLimits 64 c o m) → Claim P A conditions 64 c o m w threshold others metadata) (sym f) (λ w. by_cache policy alloc global c m w threshold others metadata room)) w

@@ -1,0 +1,33 @@
+use Rattle.std.proofs.Common.{◌≡◌, ◌-◌, subst, inr}
+use Rattle.std.proofs.lemmas.Result.{on_ok_weaker}
+use Rattle.wb_tasks.specs.Plan.{Plan}
+use Rattle.wb_tasks.specs.Run.{IsRunOf}
+use Rattle.wb_tasks.specs.declared.step.Answer.{Answer}
+use Rattle.wb_tasks.specs.declared.step.Answer.TheVariants.{Done}
+use Rattle.wb_target.specs.Making.{WasRun}
+use Rattle.wb_target.proofs.Leading.{err_anyway}
+use Rattle.wb_target.proofs.target.Target.open.Given.{Over}
+use Rattle.wb_target.proofs.target.Target.open.Goals as goal
+
+module _ (g : Over) (c : goal.After-finish g) where
+  abbrev Tried : Answer → Type 0
+  Tried answer = WasRun g.row.P.Denot g.D.Disk.tells g.D.Disk.size g.D.Disk.contents g.D.Disk.faults c.args.devices answer c.finish.result.0
+
+  tried : Tried c.run-answer.result
+  tried = let run = c.run-answer.ensures.run in record {
+    left = c.in-Ok.geometry.meta_sectors - 1;
+    first = c.new-stage.result;
+    last = c.run-answer.new.self;
+    over = c.new-stage.ensures.devices;
+    not_begun = c.new-stage.ensures.begins;
+    steps = run.0;
+    run = subst (λ (s : Plan). IsRunOf s run.0 c.run-answer.result) c.new-task.ensures run.1;
+    leads = run.2;
+    back_is = c.finish.ensures.devices;
+  }
+
+pub returns-clause-opened : goal.returns-clause-opened
+returns-clause-opened g c = on_ok_weaker c.finish.result.1 (λ (done : c.run-answer.result ≡ Done). subst (λ (answer : Answer). Tried g c answer) done (tried g c)) c.finish.ensures.done
+
+pub returns-clause-refused : goal.returns-clause-refused
+returns-clause-refused g c = err_anyway c.finish.result.1 _ (λ refusal. inr (c.run-answer.result, tried g c))
