@@ -1,25 +1,57 @@
 -- What a call on a target was that was answered done, and what a client of the target has done by it.
-use Rattle.std.specs.Prelude.{ℕ, List, [], None}
+use Rattle.std.specs.Prelude.{◌≡◌, ◌<◌, ◌++◌, ℕ, List, [], ◌∷◌, Option, Some, None, length}
+use Rattle.wb_types.specs.declared.geometry.Geometry.{Geometry}
+use Rattle.wb_types.specs.declared.extent.Extent.{Extent}
+use Rattle.wb_types.specs.declared.number.OBlock.{OBlock}
 use Rattle.wb_disk.specs.Device.{History, Content as Bytes}
 use Rattle.wb_policy.specs.declared.order.Order.{Order}
 use Rattle.wb_target.specs.declared.client.Client.{Client}
-use Rattle.wb_target.specs.Works.{DeskTold}
+use Rattle.wb_target.specs.Works.{DeskTold, WorkState}
 use Rattle.wb_target.specs.Blocking.{ReadCame, WriteCame, InParts}
-use Rattle.wb_target.specs.Carried.{state_of, Runs, WasDone, flush_of, AreSynced}
+use Rattle.wb_tasks.specs.Tables.{TaskJob}
+use Rattle.wb_tasks.specs.declared.step.Answer.{Answer}
+use Rattle.wb_port.specs.Requests.{WasRead, WasWritten}
+use Rattle.wb_port.specs.Ports.{block_at}
+use Rattle.wb_target.specs.Carried.{state_of, looked_at_fail, HasBegun, Runs, WasDone, WereDone, flush_of, jobs_of, AreSynced}
 
--- sectors from a place on were read or written, or all that was finished before was made durable
+-- Sectors from a place on were read or written, as a whole or of one block without waiting; accesses were settled; all that was finished before was
+-- made durable, alone or after a tick of the policy; the order that waits longest was carried out, or none waits.
 pub data Deed : Type 0 where
   Read : (at : ℕ) → (content : List Bytes) → Deed
   Wrote : (at : ℕ) → (content : List Bytes) → Deed
+  TriedRead : (at : ℕ) → (content : List Bytes) → Deed
+  TriedWrite : (at : ℕ) → (content : List Bytes) → Deed
+  Settled : Deed
   Flushed : Deed
+  Ticked : Deed
+  Worked : (order : Option Order) → Deed
 
--- A client has read so in parts, one a block, each by a run of its table; or has written so; or has done a flush, which leaves its three
--- devices their last contents alone, where they tell what they hold.
-abbrev pub ClientDid : {D P : Type 0} → Type 0 → (D → ℕ) → (D → List History) → (D → ℕ) → (List Order → DeskTold) → Client D P → Deed → Client D P → Type 0
-ClientDid tells size contents faults asked old (Read at content) new =
+-- what a client has done that answers this order, or that none waits
+abbrev pub DidWork : {D : Type 0} → (List Order → TaskJob → WorkState D → Answer → WorkState D → Type 0) → Geometry → WorkState D → Option Order → WorkState D → Type 0
+DidWork runs geometry old None new = HasBegun old new
+DidWork {D} runs geometry old (Some order) new = (begun : WorkState D) × HasBegun old begun × WereDone (runs (order ∷ [])) (jobs_of geometry order) begun new
+
+-- A client has read so in parts, one a block, each by a run of its table; or has written so; or by one such run, whose access is to be settled then. It has
+-- had its policy told of all that was to be settled. It has done a flush, which leaves its three devices their last contents alone, where they tell what
+-- they hold; or first had its policy's tick. It has carried out the order that waited longest, or none did.
+abbrev pub ClientDid : {D P : Type 0} → Type 0 → (D → ℕ) → (D → List History) → (D → ℕ) → (List Order → DeskTold) → (List OBlock → Type 0) → Type 0 → (Option Order → Type 0) → Client D P → Deed → Client D P → Type 0
+ClientDid tells size contents faults asked settled ticked next old (Read at content) new =
     (parts : ℕ) × (before : List Bytes) × InParts (ReadCame tells size contents faults old.port.geometry) old.port.geometry.block None parts at old.port.hand before new.port.hand content
-ClientDid tells size contents faults asked old (Wrote at content) new =
+ClientDid tells size contents faults asked settled ticked next old (Wrote at content) new =
     (parts : ℕ) × InParts (WriteCame tells size contents faults old.port.geometry) old.port.geometry.block None parts at old.port.hand content new.port.hand content
-ClientDid tells size contents faults asked old Flushed new =
+ClientDid tells size contents faults asked settled ticked next old Flushed new =
     WasDone (Runs tells size contents faults asked old.port.geometry.origin_blocks []) (flush_of old.port.geometry None) (state_of old.port) (state_of new.port)
     × (tells → AreSynced contents new.port.hand.devices)
+ClientDid tells size contents faults asked settled ticked next old (TriedRead at content) new =
+    WasRead tells size contents faults old.port.geometry.block (block_at old.port.geometry at) (record { first = at; count = length content }) content old.port.hand new.port.hand
+    × (new.port.accesses.items ≡ old.port.accesses.items ++ block_at old.port.geometry at ∷ [])
+ClientDid tells size contents faults asked settled ticked next old (TriedWrite at content) new =
+    WasWritten tells size contents faults old.port.geometry.block (block_at old.port.geometry at) (record { first = at; count = length content }) content old.port.hand new.port.hand
+    × (new.port.accesses.items ≡ old.port.accesses.items ++ block_at old.port.geometry at ∷ [])
+ClientDid tells size contents faults asked settled ticked next old Settled new =
+    (0 < length old.port.accesses.items → settled old.port.accesses.items) × (new.port.accesses.items ≡ []) × (new.port.hand ≡ old.port.hand)
+ClientDid tells size contents faults asked settled ticked next old Ticked new =
+    ticked × WasDone (Runs tells size contents faults asked old.port.geometry.origin_blocks []) (flush_of old.port.geometry None) (looked_at_fail 0 (state_of old.port)) (state_of new.port)
+    × (tells → AreSynced contents new.port.hand.devices)
+ClientDid tells size contents faults asked settled ticked next old (Worked order) new =
+    next order × DidWork (Runs tells size contents faults asked old.port.geometry.origin_blocks) old.port.geometry (state_of old.port) order (state_of new.port)

@@ -3,6 +3,7 @@
 ghost use Rattle.std.specs.Prelude.{◌≡◌, ◌*◌, IfErr, length};
 ghost use Rattle.wb_opened.specs.Deeds.{ClientDid};
 ghost use Rattle.wb_target.specs.Works.{WasAsked};
+ghost use Rattle.wb_target.specs.Told.{WereSettled, HadTick, WasNext};
 ghost use Rattle.wb_opened.specs.Inside.{IsInside};
 
 use crate::served::Served;
@@ -15,7 +16,7 @@ use wb_types::{Content, Geometry, Refusal, Sector};
 impl<'t, D: Disk + Drop, P: Policy> Served for Client<'t, D, P> {
     ghost sizes = { λ client. client.port.geometry };
 
-    ghost did = { ClientDid D.tells D.size D.contents D.faults (WasAsked P.with_entry P.without_entry) };
+    ghost did = { ClientDid D.tells D.size D.contents D.faults (WasAsked P.with_entry P.without_entry) (WereSettled P.ordered P.settled) (HadTick P.cleaned P.ticked) (WasNext P) };
 
     fn geometry(&self) -> Geometry {
         self.port.geometry

@@ -1,8 +1,11 @@
 //! What a target is to who stands above it: what its clients can be asked, and what is done by one of them.
 
-ghost use Rattle.std.specs.Prelude.{◌≡◌, ◌*◌, OnOk, IfErr, length};
+ghost use Rattle.std.specs.Prelude.{◌≡◌, ◌*◌, ◌++◌, OnOk, OnErr, IfOk, IfErr, length, string_bytes};
+ghost use Rattle.std.specs.Bool.{OnTrue};
 ghost use Rattle.wb_types.specs.declared.geometry.Geometry.{Geometry as Sizes};
-ghost use Rattle.wb_opened.specs.Deeds.{Deed, Read, Wrote, Flushed};
+ghost use Rattle.wb_opened.specs.Deeds.{Deed, Read, Wrote, TriedRead, TriedWrite, Settled, Flushed, Ticked, Worked};
+ghost use Rattle.wb_table.specs.Status.{status_line};
+ghost use Rattle.wb_table.specs.declared.status.Fields.{Fields};
 ghost use Rattle.wb_opened.specs.Inside.{IsInside};
 
 use std::sync::Wait;
@@ -41,17 +44,21 @@ pub trait Served {
     /// Reads sectors of one block without waiting: `Range`, `Crosses`, `Defer` where 32 accesses are unsettled, `Busy`, `Failed`
     /// and `Io`.
     fn try_read(&mut self, at: Sector, out: &mut [Content]) -> Result<(), Refusal>
+        ensures done { OnOk result (did self.old (TriedRead at.0 out.new) self.new) }
         ensures range { IfErr result (λ refusal. refusal ≡ Refusal.Range → ¬ IsInside at.0 (length out.old) ((sizes self.old).block * (sizes self.old).origin_blocks)) };
 
     /// Writes sectors of one block without waiting, refused as `try_read`, and `Worn`.
     fn try_write(&mut self, at: Sector, from: &[Content]) -> Result<(), Refusal>
+        ensures done { OnOk result (did self.old (TriedWrite at.0 from.now) self.new) }
         ensures range { IfErr result (λ refusal. refusal ≡ Refusal.Range → ¬ IsInside at.0 (length from.now) ((sizes self.old).block * (sizes self.old).origin_blocks)) };
 
     /// Tells the policy of each access so far, in order.
-    fn settle<R: Wait>(&mut self, rt: &R);
+    fn settle<R: Wait>(&mut self, rt: &R)
+        ensures { did self.old Settled self.new };
 
     /// The same if nobody else is at the desk now, and waits for nobody: whether none is unsettled.
-    fn try_settle(&mut self) -> bool;
+    fn try_settle(&mut self) -> bool
+        ensures { OnTrue result (did self.old Settled self.new) };
 
     /// Makes durable all that was finished before it: `Failed`, `Io`, `Memory`, and `GenerationEnd`.
     fn flush<R: Wait>(&mut self, rt: &R) -> Result<(), Refusal>
@@ -59,16 +66,21 @@ pub trait Served {
         ensures sizes { sizes self.new ≡ sizes self.old };
 
     /// The policy's tick, and then a flush, refused as that.
-    fn tick<R: Wait>(&mut self, rt: &R) -> Result<(), Refusal>;
+    fn tick<R: Wait>(&mut self, rt: &R) -> Result<(), Refusal>
+        ensures { OnOk result (did self.old Ticked self.new) };
 
     /// Carries out the order that waits longest, if any, and says which: `Failed`, `Io`, `Memory`, and `GenerationEnd`.
-    fn work_one<R: Wait>(&mut self, rt: &R) -> Result<Option<Order>, Refusal>;
+    fn work_one<R: Wait>(&mut self, rt: &R) -> Result<Option<Order>, Refusal>
+        ensures { IfOk result (λ order. did self.old (Worked order) self.new) };
 
     /// Carries out orders until the gate ends it: `Failed` and `Io`.
     fn worker<R: Wait, G: Gate>(&mut self, rt: &R, gate: &G) -> Result<(), Refusal>;
 
     /// Adds the status line, with no end of line: `Memory`.
-    fn status<R: Wait>(&self, rt: &R, text: &mut String) -> Result<(), Refusal>;
+    fn status<R: Wait>(&self, rt: &R, text: &mut String) -> Result<(), Refusal>
+        ensures line { OnOk result ((told : Fields) × (string_bytes text.new ≡ string_bytes text.old ++ status_line told)) }
+        ensures refused { IfErr result (λ refusal. refusal ≡ Refusal.Memory) }
+        ensures unchanged { OnErr result (string_bytes text.new ≡ string_bytes text.old) };
 
     /// How many cache blocks are mapped.
     fn mapped<R: Wait>(&self, rt: &R) -> u32;
