@@ -2,7 +2,7 @@
 
 use crate::caching::order_replacement;
 use crate::files::{Images, Names, client_over, images, target_over};
-use crate::workers::{Signals, await_signal};
+use crate::workers::{Holding, Signals, await_signal};
 use std::alloc::AllocError;
 use std::sync::Wait;
 use std::sync::atomic::{AtomicU64, Ordering};
@@ -14,30 +14,8 @@ use wb_devices::Devices;
 use wb_disk::{Disk, FileDisk};
 use wb_faults::FaultDisk;
 use wb_policy::{Policy, TinyLfu};
-use wb_target::{Client, Errand, Gate, Point, Sent, Target};
+use wb_target::{Client, Errand, Sent, Target};
 use wb_types::{Dev, Refusal};
-
-/// Holds a worker before its first step on a device until it is told that it may go on, and ends it behind its order.
-#[derive(Drop)]
-struct Holding<'a, C> {
-    clock: &'a C,
-    signals: &'a Signals,
-}
-
-impl<'a, C: Clock> Gate for Holding<'a, C> {
-    ghost answers = { λ gate at go. Unit {0} };
-
-    fn go_on(&self, at: Point) -> bool {
-        match at {
-            Point::Order => true,
-            Point::Device => {
-                self.signals.stands.store(1, Ordering::SeqCst);
-                await_signal(self.clock, &self.signals.goes)
-            }
-            Point::Idle => false,
-        }
-    }
-}
 
 /// What is done beside one another, with how far it has come: whether the flush is answered is told by the last.
 #[derive(Drop)]

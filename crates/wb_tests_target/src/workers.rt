@@ -127,9 +127,9 @@ pub fn await_signal(rt: &impl Clock, signal: &AtomicU64) -> bool {
 
 /// Holds a worker before its steps on devices until it is told that it may go on, and ends it where no order waits.
 #[derive(Drop)]
-struct Holding<'a, C> {
-    clock: &'a C,
-    signals: &'a Signals,
+pub struct Holding<'a, C> {
+    pub clock: &'a C,
+    pub signals: &'a Signals,
 }
 
 impl<'a, C: Clock> Gate for Holding<'a, C> {
