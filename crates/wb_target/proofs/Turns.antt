@@ -1,5 +1,5 @@
 -- What becomes of an order that is given up, and of a worker's turns.
-use Rattle.std.proofs.Common.{◌≡◌, ◌≢◌, ◌∙◌, ◌<◌, ◌⊎◌, inl, inr, ℕ, Bool, true, List, [], ◌∷◌, Some, None, Result, length, sym, ap, subst}
+use Rattle.std.proofs.Common.{◌≡◌, ◌≢◌, ◌∙◌, ◌<◌, ◌⊎◌, inl, inr, ℕ, Bool, true, List, [], ◌∷◌, Option, Some, None, Result, length, sym, ap, subst}
 use Rattle.std.proofs.lemmas.Result.{IfErr-weaker}
 use Rattle.std.specs.Prelude.{IfErr, OnOk}
 use Rattle.wb_types.specs.declared.geometry.Geometry.{Geometry}
@@ -103,24 +103,24 @@ module _ {D : Type 0} (tells : Type 0) (size : D → ℕ) (contents : D → List
   pub flush_refused_in : (refusal : Refusal) (old old' new : WorkState D) → old ≡ old' → FlushRefused (runs_at here) here refusal old new → FlushRefused (runs_at first) first refusal old' new
   flush_refused_in refusal old old' new e h = subst (λ (g : Geometry). FlushRefused (runs_at g) g refusal old' new) same (subst (λ (s : WorkState D). FlushRefused (runs_at here) here refusal s new) e h)
 
-  pub stopped_at : (order : Order) (cause : Refusal) (old begun mid new : WorkState D) (word : ℕ) → HasBuffer old begun → GaveUpAmong (runs_at here (order ∷ [])) (jobs_of here order) cause begun mid → 0 < word → new ≡ looked_at_fail word mid → StoppedAt (runs_at first) first old new
-  stopped_at order cause old begun mid new word buffer h set is =
-      record { order = order; cause = cause; begun = begun; mid = mid; word = word; buffer = buffer; gave_up = gave_up_in order cause begun mid h; set = set; new_is = is }
+  pub stopped_at : (next : Option Order → Type 0) (order : Order) → next (Some order) → (cause : Refusal) (old begun mid new : WorkState D) (word : ℕ) → HasBuffer old begun → GaveUpAmong (runs_at here (order ∷ [])) (jobs_of here order) cause begun mid → 0 < word → new ≡ looked_at_fail word mid → StoppedAt (runs_at first) next first old new
+  stopped_at next order was cause old begun mid new word buffer h set is =
+      record { order = order; was_next = was; cause = cause; begun = begun; mid = mid; word = word; buffer = buffer; gave_up = gave_up_in order cause begun mid h; set = set; new_is = is }
 
-module _ {D G : Type 0} (tells : Type 0) (size : D → ℕ) (contents : D → List History) (faults : D → ℕ) (asked : List Order → DeskTold) (answers : G → Point → Bool → Type 0) (gate : G) (first here : Geometry) (same : here ≡ first) where
+module _ {D G : Type 0} (tells : Type 0) (size : D → ℕ) (contents : D → List History) (faults : D → ℕ) (asked : List Order → DeskTold) (next : Option Order → Type 0) (answers : G → Point → Bool → Type 0) (gate : G) (first here : Geometry) (same : here ≡ first) where
   abbrev runs_by : Geometry → List Order → TaskJob → WorkState D → Answer → WorkState D → Type 0
   runs_by geometry = Runs tells size contents faults asked geometry.origin_blocks
 
   abbrev pub OneTurn : WorkState D → WorkState D → Type 0
-  OneTurn = Turn (runs_by first) first answers gate
+  OneTurn = Turn (runs_by first) next first answers gate
 
-  pub works : (old seen new : WorkState D) → seen ≡ looked_at_fail 0 old → answers gate BeforeOrder true → Took (runs_by here) here seen new → OneTurn old new
+  pub works : (old seen new : WorkState D) → seen ≡ looked_at_fail 0 old → answers gate BeforeOrder true → Took (runs_by here) next here seen new → OneTurn old new
   works old seen new is allowed took =
-      Works allowed (subst (λ (s : WorkState D). Took (runs_by first) first s new) is (subst (λ (g : Geometry). Took (runs_by g) g seen new) same took))
+      Works allowed (subst (λ (s : WorkState D). Took (runs_by first) next first s new) is (subst (λ (g : Geometry). Took (runs_by g) next g seen new) same took))
 
-  pub idles : (old seen new : WorkState D) → seen ≡ looked_at_fail 0 old → answers gate BeforeOrder true → answers gate Idle true → new ≡ seen → OneTurn old new
-  idles old seen new is allowed further nothing = Idles allowed further (nothing ∙ is)
+  pub idles : (old seen new : WorkState D) → seen ≡ looked_at_fail 0 old → answers gate BeforeOrder true → next None → answers gate Idle true → new ≡ seen → OneTurn old new
+  idles old seen new is allowed none further nothing = Idles allowed none further (nothing ∙ is)
 
-  pub stopped : (old seen new : WorkState D) → seen ≡ looked_at_fail 0 old → StoppedAt (runs_by here) here seen new → StoppedAt (runs_by first) first (looked_at_fail 0 old) new
+  pub stopped : (old seen new : WorkState D) → seen ≡ looked_at_fail 0 old → StoppedAt (runs_by here) next here seen new → StoppedAt (runs_by first) next first (looked_at_fail 0 old) new
   stopped old seen new is at =
-      subst (λ (s : WorkState D). StoppedAt (runs_by first) first s new) is (subst (λ (g : Geometry). StoppedAt (runs_by g) g seen new) same at)
+      subst (λ (s : WorkState D). StoppedAt (runs_by first) next first s new) is (subst (λ (g : Geometry). StoppedAt (runs_by g) next g seen new) same at)

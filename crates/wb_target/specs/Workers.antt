@@ -1,5 +1,5 @@
 -- What a worker does, and how it ends.
-use Rattle.std.specs.Prelude.{◌≡◌, ◌≢◌, ◌<◌, ◌⊎◌, ℕ, None, List, [], ◌∷◌, Bool, true, false, length}
+use Rattle.std.specs.Prelude.{◌≡◌, ◌≢◌, ◌<◌, ◌⊎◌, ℕ, Option, Some, None, List, [], ◌∷◌, Bool, true, false, length}
 use Rattle.wb_types.specs.declared.geometry.Geometry.{Geometry}
 use Rattle.wb_types.specs.declared.mode.Dev.{Dev}
 use Rattle.wb_types.specs.declared.refusal.Refusal.{Refusal}
@@ -48,30 +48,31 @@ pub record HasBuffer {D : Type 0} (old new : WorkState D) : Type 0 where
   pub commit : new.commit ≡ old.commit
   pub kept : 0 < length old.buffer → new.buffer ≡ old.buffer
 
--- An order was taken, and each job of it was done; or one was given up, and the fail word was looked at then, and clear; or it was given back
+-- The order that waited longest was taken, and each job of it was done; or one was given up, and the fail word was looked at then, and clear; or it was given back
 -- as it was, since there was no buffer, or since its blocks are not there.
-pub data Took {D : Type 0} (runs : List CacheOrder → TaskJob → WorkState D → Answer → WorkState D → Type 0) (geometry : Geometry) (old new : WorkState D) : Type 0 where
-  Carried : (order : CacheOrder) → (begun : WorkState D) → HasBuffer old begun → WereDone (runs (order ∷ [])) (jobs_of geometry order) begun new → Took runs geometry old new
-  GaveUp : (order : CacheOrder) → (refusal : Refusal) → (begun mid : WorkState D) → HasBuffer old begun → GaveUpAmong (runs (order ∷ [])) (jobs_of geometry order) refusal begun mid → new ≡ looked_at_fail 0 mid → Took runs geometry old new
-  GaveBack : (order : CacheOrder) → HasBuffer old new → (length old.buffer ≡ 0) ⊎ ¬ IsThere geometry order → Took runs geometry old new
+pub data Took {D : Type 0} (runs : List CacheOrder → TaskJob → WorkState D → Answer → WorkState D → Type 0) (next : Option CacheOrder → Type 0) (geometry : Geometry) (old new : WorkState D) : Type 0 where
+  Carried : (order : CacheOrder) → next (Some order) → (begun : WorkState D) → HasBuffer old begun → WereDone (runs (order ∷ [])) (jobs_of geometry order) begun new → Took runs next geometry old new
+  GaveUp : (order : CacheOrder) → next (Some order) → (refusal : Refusal) → (begun mid : WorkState D) → HasBuffer old begun → GaveUpAmong (runs (order ∷ [])) (jobs_of geometry order) refusal begun mid → new ≡ looked_at_fail 0 mid → Took runs next geometry old new
+  GaveBack : (order : CacheOrder) → next (Some order) → HasBuffer old new → (length old.buffer ≡ 0) ⊎ ¬ IsThere geometry order → Took runs next geometry old new
 
 -- A turn begins with a look at the fail word, which is clear, and a yes of the gate before an order. Then one was taken; or none waited, and
 -- the gate said yes again.
-pub data Turn {D G : Type 0} (runs : List CacheOrder → TaskJob → WorkState D → Answer → WorkState D → Type 0) (geometry : Geometry) (answers : G → Point → Bool → Type 0) (gate : G) (old new : WorkState D) : Type 0 where
-  Works : answers gate Order true → Took runs geometry (looked_at_fail 0 old) new → Turn runs geometry answers gate old new
-  Idles : answers gate Order true → answers gate Idle true → new ≡ looked_at_fail 0 old → Turn runs geometry answers gate old new
+pub data Turn {D G : Type 0} (runs : List CacheOrder → TaskJob → WorkState D → Answer → WorkState D → Type 0) (next : Option CacheOrder → Type 0) (geometry : Geometry) (answers : G → Point → Bool → Type 0) (gate : G) (old new : WorkState D) : Type 0 where
+  Works : answers gate Order true → Took runs next geometry (looked_at_fail 0 old) new → Turn runs next geometry answers gate old new
+  Idles : answers gate Order true → next None → answers gate Idle true → new ≡ looked_at_fail 0 old → Turn runs next geometry answers gate old new
 
 -- After turns, if any, the fail word was clear, and the gate said no.
-pub record EndedBy {D G : Type 0} (runs : List CacheOrder → TaskJob → WorkState D → Answer → WorkState D → Type 0) (geometry : Geometry) (answers : G → Point → Bool → Type 0) (gate : G) (old new : WorkState D) : Type 0 where
+pub record EndedBy {D G : Type 0} (runs : List CacheOrder → TaskJob → WorkState D → Answer → WorkState D → Type 0) (next : Option CacheOrder → Type 0) (geometry : Geometry) (answers : G → Point → Bool → Type 0) (gate : G) (old new : WorkState D) : Type 0 where
   pub turns : List (WorkState D)
   pub last : WorkState D
-  pub took : Tried (Turn runs geometry answers gate) old turns last
+  pub took : Tried (Turn runs next geometry answers gate) old turns last
   pub new_is : new ≡ looked_at_fail 0 last
   pub no : IsEndedBy answers gate
 
 -- An order was taken, and given up at a job of it; then the fail word was looked at, and set.
-pub record StoppedAt {D : Type 0} (runs : List CacheOrder → TaskJob → WorkState D → Answer → WorkState D → Type 0) (geometry : Geometry) (old new : WorkState D) : Type 0 where
+pub record StoppedAt {D : Type 0} (runs : List CacheOrder → TaskJob → WorkState D → Answer → WorkState D → Type 0) (next : Option CacheOrder → Type 0) (geometry : Geometry) (old new : WorkState D) : Type 0 where
   pub order : CacheOrder
+  pub was_next : next (Some order)
   pub cause : Refusal
   pub begun : WorkState D
   pub mid : WorkState D
@@ -82,17 +83,17 @@ pub record StoppedAt {D : Type 0} (runs : List CacheOrder → TaskJob → WorkSt
   pub new_is : new ≡ looked_at_fail word mid
 
 -- The fail word was set when a turn was to begin; or it was clear then, and set behind an order that was taken.
-abbrev pub SawFailure : {D G : Type 0} → (List CacheOrder → TaskJob → WorkState D → Answer → WorkState D → Type 0) → Geometry → (G → Point → Bool → Type 0) → G → Refusal → WorkState D → WorkState D → Type 0
-SawFailure runs geometry answers gate refusal old new =
+abbrev pub SawFailure : {D G : Type 0} → (List CacheOrder → TaskJob → WorkState D → Answer → WorkState D → Type 0) → (Option CacheOrder → Type 0) → Geometry → (G → Point → Bool → Type 0) → G → Refusal → WorkState D → WorkState D → Type 0
+SawFailure runs next geometry answers gate refusal old new =
     ((refusal ≡ Failed) × ((word : ℕ) × (0 < word) × (new ≡ looked_at_fail word old)))
-    ⊎ (answers gate Order true × StoppedAt runs geometry (looked_at_fail 0 old) new)
+    ⊎ (answers gate Order true × StoppedAt runs next geometry (looked_at_fail 0 old) new)
 
 -- After turns, if any, it was so.
-pub record FailedAfter {D G : Type 0} (runs : List CacheOrder → TaskJob → WorkState D → Answer → WorkState D → Type 0) (geometry : Geometry) (answers : G → Point → Bool → Type 0) (gate : G) (refusal : Refusal) (old new : WorkState D) : Type 0 where
+pub record FailedAfter {D G : Type 0} (runs : List CacheOrder → TaskJob → WorkState D → Answer → WorkState D → Type 0) (next : Option CacheOrder → Type 0) (geometry : Geometry) (answers : G → Point → Bool → Type 0) (gate : G) (refusal : Refusal) (old new : WorkState D) : Type 0 where
   pub turns : List (WorkState D)
   pub last : WorkState D
-  pub took : Tried (Turn runs geometry answers gate) old turns last
-  pub saw : SawFailure runs geometry answers gate refusal last new
+  pub took : Tried (Turn runs next geometry answers gate) old turns last
+  pub saw : SawFailure runs next geometry answers gate refusal last new
 
 -- ---- why a client's own calls are refused
 
@@ -108,11 +109,11 @@ FlushRefused runs geometry refusal old new = WasRefused (runs []) (flush_of geom
 abbrev pub TickRefused : {D : Type 0} → (List CacheOrder → TaskJob → WorkState D → Answer → WorkState D → Type 0) → Geometry → Refusal → WorkState D → WorkState D → Type 0
 TickRefused runs geometry refusal old new = FoundFailed refusal old new ⊎ ((refusal ≡ Memory) × (new ≡ looked_at_fail 0 old)) ⊎ FlushRefused runs geometry refusal (looked_at_fail 0 old) new
 
--- An order: the target had failed; or there was no buffer, and no memory for one; or one was taken whose blocks are not there, or of which a job
+-- An order: the target had failed; or there was no buffer, and no memory for one; or the one that waited longest was taken whose blocks are not there, or of which a job
 -- was given up.
-abbrev pub OrderRefused : {D : Type 0} → (List CacheOrder → TaskJob → WorkState D → Answer → WorkState D → Type 0) → Geometry → Refusal → WorkState D → WorkState D → Type 0
-OrderRefused {D} runs geometry refusal old new =
+abbrev pub OrderRefused : {D : Type 0} → (List CacheOrder → TaskJob → WorkState D → Answer → WorkState D → Type 0) → (Option CacheOrder → Type 0) → Geometry → Refusal → WorkState D → WorkState D → Type 0
+OrderRefused {D} runs next geometry refusal old new =
     FoundFailed refusal old new
     ⊎ ((refusal ≡ Memory) × (length old.buffer ≡ 0) × HasBegun old new)
-    ⊎ ((order : CacheOrder) × (refusal ≡ Range) × (¬ IsThere geometry order) × HasBegun old new)
-    ⊎ ((order : CacheOrder) × (begun : WorkState D) × HasBegun old begun × GaveUpAmong (runs (order ∷ [])) (jobs_of geometry order) refusal begun new)
+    ⊎ ((order : CacheOrder) × next (Some order) × (refusal ≡ Range) × (¬ IsThere geometry order) × HasBegun old new)
+    ⊎ ((order : CacheOrder) × next (Some order) × ((begun : WorkState D) × HasBegun old begun × GaveUpAmong (runs (order ∷ [])) (jobs_of geometry order) refusal begun new))

@@ -230,7 +230,7 @@ impl<'t, D: Disk + Drop, P: Policy> Client<'t, D, P> {
         ensures carried { IfOk result (λ told. IfSome told (λ order. (begun : _) × HasBegun (state_of self.old.port) begun × WereDone (Runs D.tells D.size D.contents D.faults (WasAsked P.with_entry P.without_entry) self.old.port.geometry.origin_blocks (order ∷ [])) (jobs_of self.old.port.geometry order) begun (state_of self.new.port))) }
         ensures next { IfOk result (WasNext P) }
         ensures idle { IfOk result (λ told. IfNone told (HasBegun (state_of self.old.port) (state_of self.new.port))) }
-        ensures refused { IfErr result (λ refusal. OrderRefused (Runs D.tells D.size D.contents D.faults (WasAsked P.with_entry P.without_entry) self.old.port.geometry.origin_blocks) self.old.port.geometry refusal (state_of self.old.port) (state_of self.new.port)) }
+        ensures refused { IfErr result (λ refusal. OrderRefused (Runs D.tells D.size D.contents D.faults (WasAsked P.with_entry P.without_entry) self.old.port.geometry.origin_blocks) (WasNext P) self.old.port.geometry refusal (state_of self.old.port) (state_of self.new.port)) }
         ensures target { self.new.target ≡ self.old.target }
         ensures geometry { self.new.port.geometry ≡ self.old.port.geometry }
     {

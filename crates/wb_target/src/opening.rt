@@ -28,7 +28,8 @@ use wb_types::{CBlock, Entry, Geometry, Key, Mode, Refusal};
 impl<P: Policy> Target<P> {
     /// Opens a cache over three devices, which are handed back: all three are synced, the newest root and its tree are read, the
     /// policy is made and told its keys, and a root of the next generation without the clean flag is durable before the target is
-    /// there. Without the clean flag each mapped block counts as dirty (the kernel's device-mapper/cache.rst).
+    /// there. Without the clean flag each mapped block counts as dirty (the kernel's device-mapper/cache.rst). Write-back is the one mode
+    /// that is served, so that no other can be asked for.
     ///
     /// `Geometry` for sizes outside the limits; `NotFormatted`, `Mismatch`, `Damaged`, `GenerationEnd` and `Memory` as the
     /// metadata are read; then `Memory` where there is none for the target, and `BadMessage` for a key's value that is out of its
@@ -40,6 +41,7 @@ impl<P: Policy> Target<P> {
         mode: Mode,
         keys: &[(Key, u64)],
     ) -> (Devices<D>, Result<Target<P>, Refusal>)
+        requires served { mode ≡ Mode.Writeback }
         ensures opened { OnOk result.1 (WasRun P D.tells D.size D.contents D.faults devices Answer.Done result.0) }
         ensures refused { IfErr result.1 (λ refusal. ((refusal ≡ Refusal.Geometry) × (result.0 ≡ devices)) ⊎ ((answer : AnswerTerm) × WasRun P D.tells D.size D.contents D.faults devices answer result.0)) }
     {

@@ -5,6 +5,7 @@ use Rattle.wb_target.specs.Workers.{Turn}
 use Rattle.wb_target.proofs.Tries.{again}
 use Rattle.wb_target.proofs.Turns.{looked, works, idles, stopped}
 use Rattle.wb_target.specs.Works.{WasAsked}
+use Rattle.wb_target.specs.Told.{WasNext}
 use Rattle.wb_target.proofs.worker.work_off.Goals as goal
 
 pub returns-then-has_failed-clause-failed : goal.returns-then-has_failed-clause-failed
@@ -35,7 +36,7 @@ returns-in_err-take_turn-clause-failed g c =
       took = c.loop.invariant.turned.1;
       saw = inr (
         c.if-not-go_on.ensures,
-        stopped g.D.Disk.tells g.D.Disk.size g.D.Disk.contents g.D.Disk.faults (WasAsked g.P.Policy.with_entry g.P.Policy.without_entry) g.G.Gate.answers c.args.gate.now first seen.geometry (c.has_failed.ensures.geometry ∙ c.loop.invariant.geometry) (state_of c.loop.port) (state_of seen) (state_of c.take_turn.new.port)
+        stopped g.D.Disk.tells g.D.Disk.size g.D.Disk.contents g.D.Disk.faults (WasAsked g.P.Policy.with_entry g.P.Policy.without_entry) (WasNext g.row.P.Denot) g.G.Gate.answers c.args.gate.now first seen.geometry (c.has_failed.ensures.geometry ∙ c.loop.invariant.geometry) (state_of c.loop.port) (state_of seen) (state_of c.take_turn.new.port)
             (looked 0 c.loop.port seen c.if-has_failed.ensures.clear c.has_failed.ensures.buffer c.has_failed.ensures.commit) c.in_err-take_turn.ensures.stopped,
       );
     })
@@ -55,9 +56,9 @@ loop-preserved g c =
     let seen = c.has_failed.new.self in
     let same = c.has_failed.ensures.geometry ∙ c.loop.invariant.geometry in record {
       geometry = c.take_turn.ensures.geometry ∙ same;
-      turned = again (Turn (Runs g.D.Disk.tells g.D.Disk.size g.D.Disk.contents g.D.Disk.faults (WasAsked g.P.Policy.with_entry g.P.Policy.without_entry) first.origin_blocks) first g.G.Gate.answers c.args.gate.now) (state_of c.args.port.now) (state_of c.loop.port) (state_of c.take_turn.new.port) c.loop.invariant.turned
-          (idles g.D.Disk.tells g.D.Disk.size g.D.Disk.contents g.D.Disk.faults (WasAsked g.P.Policy.with_entry g.P.Policy.without_entry) g.G.Gate.answers c.args.gate.now first seen.geometry same (state_of c.loop.port) (state_of seen) (state_of c.take_turn.new.port)
-          (looked 0 c.loop.port seen c.if-has_failed.ensures.clear c.has_failed.ensures.buffer c.has_failed.ensures.commit) c.if-not-go_on.ensures c.if-not-go_on-2.ensures (c.in_ok-take_turn.ensures.none_waits c.if-branch.false));
+      turned = again (Turn (Runs g.D.Disk.tells g.D.Disk.size g.D.Disk.contents g.D.Disk.faults (WasAsked g.P.Policy.with_entry g.P.Policy.without_entry) first.origin_blocks) (WasNext g.row.P.Denot) first g.G.Gate.answers c.args.gate.now) (state_of c.args.port.now) (state_of c.loop.port) (state_of c.take_turn.new.port) c.loop.invariant.turned
+          (idles g.D.Disk.tells g.D.Disk.size g.D.Disk.contents g.D.Disk.faults (WasAsked g.P.Policy.with_entry g.P.Policy.without_entry) (WasNext g.row.P.Denot) g.G.Gate.answers c.args.gate.now first seen.geometry same (state_of c.loop.port) (state_of seen) (state_of c.take_turn.new.port)
+          (looked 0 c.loop.port seen c.if-has_failed.ensures.clear c.has_failed.ensures.buffer c.has_failed.ensures.commit) c.if-not-go_on.ensures (c.in_ok-take_turn.ensures.none_next c.if-branch.false) c.if-not-go_on-2.ensures (c.in_ok-take_turn.ensures.none_waits c.if-branch.false));
     }
 
 pub loop-preserved-then-branch : goal.loop-preserved-then-branch
@@ -66,7 +67,7 @@ loop-preserved-then-branch g c =
     let seen = c.has_failed.new.self in
     let same = c.has_failed.ensures.geometry ∙ c.loop.invariant.geometry in record {
       geometry = c.take_turn.ensures.geometry ∙ same;
-      turned = again (Turn (Runs g.D.Disk.tells g.D.Disk.size g.D.Disk.contents g.D.Disk.faults (WasAsked g.P.Policy.with_entry g.P.Policy.without_entry) first.origin_blocks) first g.G.Gate.answers c.args.gate.now) (state_of c.args.port.now) (state_of c.loop.port) (state_of c.take_turn.new.port) c.loop.invariant.turned
-          (works g.D.Disk.tells g.D.Disk.size g.D.Disk.contents g.D.Disk.faults (WasAsked g.P.Policy.with_entry g.P.Policy.without_entry) g.G.Gate.answers c.args.gate.now first seen.geometry same (state_of c.loop.port) (state_of seen) (state_of c.take_turn.new.port)
+      turned = again (Turn (Runs g.D.Disk.tells g.D.Disk.size g.D.Disk.contents g.D.Disk.faults (WasAsked g.P.Policy.with_entry g.P.Policy.without_entry) first.origin_blocks) (WasNext g.row.P.Denot) first g.G.Gate.answers c.args.gate.now) (state_of c.args.port.now) (state_of c.loop.port) (state_of c.take_turn.new.port) c.loop.invariant.turned
+          (works g.D.Disk.tells g.D.Disk.size g.D.Disk.contents g.D.Disk.faults (WasAsked g.P.Policy.with_entry g.P.Policy.without_entry) (WasNext g.row.P.Denot) g.G.Gate.answers c.args.gate.now first seen.geometry same (state_of c.loop.port) (state_of seen) (state_of c.take_turn.new.port)
           (looked 0 c.loop.port seen c.if-has_failed.ensures.clear c.has_failed.ensures.buffer c.has_failed.ensures.commit) c.if-not-go_on.ensures (c.in_ok-take_turn.ensures.took c.if-branch.true));
     }

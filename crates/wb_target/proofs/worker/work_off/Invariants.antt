@@ -3,10 +3,11 @@ use Rattle.wb_target.specs.Carried.{state_of, Runs}
 use Rattle.wb_target.specs.Workers.{Turn}
 use Rattle.wb_target.proofs.Tries.{SoFar}
 use Rattle.wb_target.specs.Works.{WasAsked}
+use Rattle.wb_target.specs.Told.{WasNext}
 use Rattle.wb_target.proofs.worker.work_off.Given as goal
 
 abbrev pub invariant-loop : goal.invariant-loop
 invariant-loop g l = record {
   geometry : l.port.geometry ≡ l.fn.port.geometry;
-  turned : SoFar (Turn (Runs g.D.Disk.tells g.D.Disk.size g.D.Disk.contents g.D.Disk.faults (WasAsked g.P.Policy.with_entry g.P.Policy.without_entry) l.fn.port.geometry.origin_blocks) l.fn.port.geometry g.G.Gate.answers l.fn.gate) (state_of l.fn.port) (state_of l.port);
+  turned : SoFar (Turn (Runs g.D.Disk.tells g.D.Disk.size g.D.Disk.contents g.D.Disk.faults (WasAsked g.P.Policy.with_entry g.P.Policy.without_entry) l.fn.port.geometry.origin_blocks) (WasNext g.row.P.Denot) l.fn.port.geometry g.G.Gate.answers l.fn.gate) (state_of l.fn.port) (state_of l.port);
 }

@@ -1,4 +1,6 @@
-use Rattle.std.proofs.Common.{◌∙◌, inr}
+use Rattle.std.proofs.Common.{◌∙◌, inr, Option, subst}
+use Rattle.wb_policy.specs.declared.order.Order.{Order}
+use Rattle.wb_target.specs.Told.{WasNext}
 use Rattle.wb_meta.proofs.Loaded.{IfErr-handed}
 use Rattle.wb_target.specs.Carried.{state_of}
 use Rattle.wb_target.proofs.Carried.{jobs_in}
@@ -24,7 +26,10 @@ returns-in_err-carry_out-clause-refused g c =
     let cause = c.in_err-carry_out.field-0.0 in
     IfErr-handed c.from_residual-in_err-carry_out.result cause _ c.from_residual-in_err-carry_out.ensures.1 (inr (inr (inr (
       c.in-Some.order,
-      state_of begun,
-      begun_by c.args.self.now.port c.has_failed.new.self begun c.if-has_failed.ensures.clear looked.buffer looked.commit taken.hand taken.commit taken.kept,
-      gave_up_in g.D.Disk.tells g.D.Disk.size g.D.Disk.contents g.D.Disk.faults (WasAsked g.P.Policy.with_entry g.P.Policy.without_entry) c.args.self.now.port.geometry begun.geometry (taken.geometry ∙ looked.geometry) c.in-Some.order cause _ _ c.in_err-carry_out.ensures.given_up,
+      subst (λ (o : Option Order). WasNext g.row.P.Denot o) c.in-Some.is c.take_order.ensures,
+      (
+        state_of begun,
+        begun_by c.args.self.now.port c.has_failed.new.self begun c.if-has_failed.ensures.clear looked.buffer looked.commit taken.hand taken.commit taken.kept,
+        gave_up_in g.D.Disk.tells g.D.Disk.size g.D.Disk.contents g.D.Disk.faults (WasAsked g.P.Policy.with_entry g.P.Policy.without_entry) c.args.self.now.port.geometry begun.geometry (taken.geometry ∙ looked.geometry) c.in-Some.order cause _ _ c.in_err-carry_out.ensures.given_up,
+      ),
     ))))
