@@ -1,5 +1,8 @@
 -- A step of an opening that makes its target is one of the opening.
-use Rattle.std.proofs.Common.{◌≡◌, ◌⊎◌, ℕ, List, inl}
+use Rattle.std.proofs.Common.{◌≡◌, ◌⊎◌, ◌∙◌, ℕ, Bool, true, false, List, inl, sym}
+use Rattle.std.specs.Bool.{OnTrue}
+use Rattle.std.specs.Result.{is_ok}
+use Rattle.std.proofs.lemmas.Bool.{OnTrue_from}
 use Rattle.wb_disk.specs.Device.{History}
 use Rattle.wb_tasks.specs.declared.step.Want.{Want}
 use Rattle.wb_tasks.specs.declared.step.Want.TheVariants.{Cell, Device, Desk, End}
@@ -8,21 +11,26 @@ use Rattle.wb_tasks.specs.declared.step.Got.TheVariants.{Fault}
 use Rattle.wb_devices.specs.OpeningLed.{LedOpening}
 use Rattle.wb_devices.specs.Openings.{MayGoOn}
 use Rattle.wb_devices.specs.declared.opening_stage.OpeningStage.{OpeningStage}
-use Rattle.std.specs.Prelude.{Result, Ok, Err, IfErr}
+use Rattle.std.specs.Prelude.{Result, Ok, Err, IfErr, OnOk}
 
-pub led_on : {D : Type 0} (tells : Type 0) (size : D → ℕ) (contents : D → List History) (faults : D → ℕ) (old before new : OpeningStage D) (want : Want) (got : Got)
+pub led_on : {D : Type 0} (Made : Type 0) (tells : Type 0) (size : D → ℕ) (contents : D → List History) (faults : D → ℕ) (old before new : OpeningStage D) (want : Want) (got : Got)
     → before.devices ≡ old.devices → before.opening.commit ≡ old.opening.commit → before.opening.geometry ≡ old.opening.geometry
-    → LedOpening tells size contents faults before want got new
+    → LedOpening tells size contents faults before want got new → Made
     → MayGoOn (size new.devices.metadata) new.opening
     × (((mid : OpeningStage D) × (mid.devices ≡ old.devices) × (mid.opening.commit ≡ old.opening.commit)
-    × (mid.opening.geometry ≡ old.opening.geometry) × LedOpening tells size contents faults mid want got new)
+    × (mid.opening.geometry ≡ old.opening.geometry) × LedOpening tells size contents faults mid want got new × Made)
     ⊎ ((got ≡ Fault) × (new.devices ≡ old.devices)))
-led_on tells size contents faults old before new (Device step) got d c g led = (led.3, inl (before, d, c, g, led))
-led_on tells size contents faults old before new (Cell step) got d c g led = absurd led
-led_on tells size contents faults old before new (Desk step) got d c g led = absurd led
-led_on tells size contents faults old before new (End answer) got d c g led = absurd led
+led_on Made tells size contents faults old before new (Device step) got d c g led made = (led.3, inl (before, d, c, g, led, made))
+led_on Made tells size contents faults old before new (Cell step) got d c g led made = absurd led
+led_on Made tells size contents faults old before new (Desk step) got d c g led made = absurd led
+led_on Made tells size contents faults old before new (End answer) got d c g led made = absurd led
 
 -- what holds of every refusal holds of the one that there is
 pub err_anyway : {T E : Type 0} (r : Result T E) (Q : E → Type 0) → ((e : E) → Q e) → IfErr r Q
 err_anyway (Ok x) Q f = tt
 err_anyway (Err e) Q f = f e
+
+-- where a call answered, what it promises then
+pub answered_if : {T E : Type 0} (r : Result T E) (b : Bool) (P Q : Type 0) → b ≡ is_ok r → (P → Q) → OnOk r P → OnTrue b Q
+answered_if (Ok x) b P Q is f p = OnTrue_from b Q (λ yes. f p)
+answered_if (Err e) b P Q is f p = OnTrue_from b Q (λ yes. absurd (let no : false ≡ true = sym is ∙ yes in cc))

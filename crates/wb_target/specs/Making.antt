@@ -1,5 +1,19 @@
 -- What an opening of a target keeps from step to step.
-use Rattle.std.specs.Prelude.{◌≡◌, ◌⊎◌, ℕ, List}
+use Rattle.std.specs.Prelude.{◌≡◌, ◌⊎◌, ℕ, Bool, true, false, List, Option, Some}
+use Rattle.std.specs.declared.alloc.Global.{Global}
+use Rattle.wb_types.specs.declared.geometry.Geometry.{Geometry}
+use Rattle.wb_types.specs.declared.number.Place.{Place}
+use Rattle.wb_types.specs.declared.message.Key.{Key}
+use Rattle.wb_types.specs.declared.message.Key.TheVariants.{MigrationThreshold, PromoteMin}
+use Rattle.wb_types.specs.declared.mode.Mode.{Mode}
+use Rattle.wb_tree.specs.Mapping.{Mapping}
+use Rattle.wb_meta.specs.declared.read_steps.State.{State}
+use Rattle.wb_meta.specs.declared.read_steps.ReadSteps.TheVariants.{Done as AllRead}
+use Rattle.wb_desk.specs.Desks.{DeskState, mapped_now}
+use Rattle.wb_desk.specs.Opening.{opened, last_value, threshold_of, IsSet}
+use Rattle.wb_tasks.specs.declared.step.DeviceStep.TheVariants.{WriteRoot}
+use Rattle.wb_tasks.specs.declared.step.Want.TheVariants.{Device}
+use Rattle.wb_devices.specs.declared.running.RunningCommit.{RunningCommit}
 use Rattle.wb_disk.specs.Device.{History}
 use Rattle.wb_tasks.specs.declared.step.Got.TheVariants.{Fault}
 use Rattle.wb_devices.specs.OpeningLed.{LedOpening}
@@ -19,17 +33,40 @@ use Rattle.wb_target.specs.declared.making.MakingStage.{MakingStage}
 abbrev pub IsReadyToMake : {D P : Type 0} → (D → ℕ) → MakingStage D P → Want → Type 0
 IsReadyToMake size making want = IsOpenings want × MayGoOn (size making.stage.devices.metadata) making.stage.opening
 
--- A step is one of the opening, over what was read or, where that was taken for the target, without it; or it failed, and no
--- device was asked. What was read so far, where it is still there, is of the metadata device.
-abbrev pub GoesOn : {D P : Type 0} → Type 0 → (D → ℕ) → (D → List History) → (D → ℕ) → MakingStage D P → Want → Got → MakingStage D P → Type 0
-GoesOn {D} tells size contents faults old want got new =
+-- A desk was made of this tree, whose places are these, by a root of this generation, in this mode, with the last value of each key.
+pub record IsMade {P : Type 0} (with_setting : P → Key → ℕ → Option P) (geometry : Geometry) (generation : ℕ) (tree : Mapping) (used : List Place) (mode : Mode) (keys : List (Key × ℕ)) : Type 0 where
+  pub desk : DeskState P
+  pub first : P
+  pub desk_is : desk ≡ opened geometry generation tree used mode desk.policy (threshold_of (last_value MigrationThreshold keys)) (mapped_now desk)
+  pub policy : IsSet with_setting first (last_value PromoteMin keys) desk.policy
+
+-- it was made of what was read, by the root that comes next
+pub record IsMadeOfRead {D P : Type 0} (with_setting : P → Key → ℕ → Option P) (making : MakingStage D P) : Type 0 where
+  pub state : State Global
+  pub next : RunningCommit
+  pub reading_is : making.stage.opening.reading ≡ Some (AllRead state)
+  pub commit_is : making.stage.opening.commit ≡ Some next
+  pub made : IsMade with_setting state.root.geometry next.image.root.generation state.tree state.used.items making.mode making.keys.now
+
+abbrev pub writes_root : Want → Bool
+writes_root (Device WriteRoot) = true
+writes_root want = false
+
+-- before the root is written
+abbrev pub MadeFirst : {D P : Type 0} → (P → Key → ℕ → Option P) → MakingStage D P → Want → Type 0
+MadeFirst with_setting making want = writes_root want ≡ true → IsMadeOfRead with_setting making
+
+-- A step is one of the opening, over what was read or, where that was taken for the target, without it, and that was made before the root is
+-- written; or it failed, and no device was asked. What was read so far, where it is still there, is of the metadata device.
+abbrev pub GoesOn : {D P : Type 0} → Type 0 → (D → ℕ) → (D → List History) → (D → ℕ) → (P → Key → ℕ → Option P) → MakingStage D P → Want → Got → MakingStage D P → Type 0
+GoesOn {D} tells size contents faults with_setting old want got new =
     MayGoOn (size new.stage.devices.metadata) new.stage.opening
     × (((before : OpeningStage D) × (before.devices ≡ old.stage.devices) × (before.opening.commit ≡ old.stage.opening.commit)
-    × (before.opening.geometry ≡ old.stage.opening.geometry) × LedOpening tells size contents faults before want got new.stage)
+    × (before.opening.geometry ≡ old.stage.opening.geometry) × LedOpening tells size contents faults before want got new.stage × MadeFirst with_setting old want)
     ⊎ ((got ≡ Fault) × (new.stage.devices ≡ old.stage.devices)))
 
 -- An opening that had not begun was run over these devices, by its table up to this answer, and what its devices are then is handed back.
-pub record WasRun {D : Type 0} (P : Type 0) (tells : Type 0) (size : D → ℕ) (contents : D → List History) (faults : D → ℕ) (devices : Devices D) (answer : Answer) (back : Devices D) : Type 0 where
+pub record WasRun {D P : Type 0} (tells : Type 0) (size : D → ℕ) (contents : D → List History) (faults : D → ℕ) (with_setting : P → Key → ℕ → Option P) (devices : Devices D) (answer : Answer) (back : Devices D) : Type 0 where
   pub left : ℕ
   pub first : MakingStage D P
   pub last : MakingStage D P
@@ -37,5 +74,5 @@ pub record WasRun {D : Type 0} (P : Type 0) (tells : Type 0) (size : D → ℕ) 
   pub not_begun : HasNotBegun first.stage.opening
   pub steps : List (Want × Got)
   pub run : IsRunOf (table (OpeningJob left)) steps answer
-  pub leads : Leads (GoesOn tells size contents faults) first steps last
+  pub leads : Leads (GoesOn tells size contents faults with_setting) first steps last
   pub back_is : back ≡ last.stage.devices

@@ -7,7 +7,8 @@ ghost use Rattle.wb_tasks.specs.Run.{IsRunOf, Leads};
 ghost use Rattle.wb_tasks.specs.declared.step.Want.{Want as WantTerm};
 ghost use Rattle.wb_tasks.specs.declared.step.Got.{Got as GotTerm};
 ghost use Rattle.wb_devices.specs.Openings.{MayGoOn, HasNotBegun};
-ghost use Rattle.wb_target.specs.Making.{IsReadyToMake, GoesOn};
+ghost use Rattle.wb_target.specs.Making.{IsReadyToMake, IsMadeOfRead, GoesOn, writes_root};
+ghost use Rattle.std.specs.Bool.{OnTrue};
 
 use crate::opening::over;
 use crate::target::Target;
@@ -59,7 +60,7 @@ impl<'k, D: Disk + Drop, P: Policy> MakingStage<'k, D, P> {
     pub(crate) fn run<T: Task>(&mut self, task: &mut T) -> Answer
         requires begun { (left : ℕ) × (T.plan task.old ≡ table (OpeningJob left)) }
         requires goes_on { MayGoOn (D.size self.old.stage.devices.metadata) self.old.stage.opening }
-        ensures run { (steps : List (WantTerm × GotTerm)) × IsRunOf (T.plan task.old) steps result × Leads (GoesOn D.tells D.size D.contents D.faults) self.old steps self.new }
+        ensures run { (steps : List (WantTerm × GotTerm)) × IsRunOf (T.plan task.old) steps result × Leads (GoesOn D.tells D.size D.contents D.faults P.with_setting) self.old steps self.new }
     {
         drive(task, self)
     }
@@ -92,6 +93,7 @@ impl<'k, D: Disk + Drop, P: Policy> MakingStage<'k, D, P> {
         ensures commit { self.new.stage.opening.commit ≡ self.old.stage.opening.commit }
         ensures geometry { self.new.stage.opening.geometry ≡ self.old.stage.opening.geometry }
         ensures goes_on { MayGoOn (D.size self.new.stage.devices.metadata) self.new.stage.opening }
+        ensures made { OnTrue result (IsMadeOfRead P.with_setting self.old) }
     {
         let Some(commit) = &self.stage.opening.commit else {
             return false;
@@ -120,14 +122,21 @@ impl<'k, D: Disk + Drop, P: Policy> MakingStage<'k, D, P> {
 impl<'k, D: Disk + Drop, P: Policy> Stage for MakingStage<'k, D, P> {
     ghost ready = { IsReadyToMake D.size };
 
-    ghost led = { GoesOn D.tells D.size D.contents D.faults };
+    ghost led = { GoesOn D.tells D.size D.contents D.faults P.with_setting };
 
     fn perform(&mut self, want: &Want) -> Got {
-        if let Want::Device(DeviceStep::WriteRoot) = want {
+        if writes_root(want) {
             if !self.make() {
                 return Got::Fault;
             }
         }
         self.stage.perform(want)
     }
+}
+
+/// Whether a step writes the root.
+fn writes_root(want: &Want) -> bool
+    ensures { result ≡ writes_root want.now }
+{
+    matches!(want, Want::Device(DeviceStep::WriteRoot))
 }

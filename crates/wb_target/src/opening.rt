@@ -2,7 +2,7 @@
 
 ghost use Rattle.std.specs.Prelude.{◌≡◌, ◌≤◌, ◌<◌, ◌⊎◌, IfOk, IfErr, OnOk, length};
 ghost use Rattle.wb_tasks.specs.declared.step.Answer.{Answer as AnswerTerm};
-ghost use Rattle.wb_target.specs.Making.{WasRun};
+ghost use Rattle.wb_target.specs.Making.{IsMade, WasRun};
 ghost use Rattle.wb_words.specs.declared.card.Hold.TheVariants.{Nothing};
 ghost use Rattle.wb_tree.specs.Mapping.{IsMapping};
 ghost use Rattle.wb_meta.specs.Reads.{FitsDevice};
@@ -42,8 +42,8 @@ impl<P: Policy> Target<P> {
         keys: &[(Key, u64)],
     ) -> (Devices<D>, Result<Target<P>, Refusal>)
         requires served { mode ≡ Mode.Writeback }
-        ensures opened { OnOk result.1 (WasRun P D.tells D.size D.contents D.faults devices Answer.Done result.0) }
-        ensures refused { IfErr result.1 (λ refusal. ((refusal ≡ Refusal.Geometry) × (result.0 ≡ devices)) ⊎ ((answer : AnswerTerm) × WasRun P D.tells D.size D.contents D.faults devices answer result.0)) }
+        ensures opened { OnOk result.1 (WasRun D.tells D.size D.contents D.faults P.with_setting devices Answer.Done result.0) }
+        ensures refused { IfErr result.1 (λ refusal. ((refusal ≡ Refusal.Geometry) × (result.0 ≡ devices)) ⊎ ((answer : AnswerTerm) × WasRun D.tells D.size D.contents D.faults P.with_setting devices answer result.0)) }
     {
         let geometry = match measure(&devices, block) {
             Ok(geometry) => geometry,
@@ -81,6 +81,7 @@ pub(crate) fn over<P: Policy>(
     keys: &[(Key, u64)],
 ) -> Result<Target<P>, Refusal>
     requires { FitsDevice state.root.geometry.meta_sectors state.root state.tree state.used.items }
+    ensures made { OnOk result (IsMade P.with_setting state.root.geometry state.root.generation state.tree state.used.items mode keys.now) }
 {
     let geometry = state.root.geometry;
     let entries = opened_entries(alloc, &state.tree, &geometry, clean)?;

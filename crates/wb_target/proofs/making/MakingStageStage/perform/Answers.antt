@@ -1,14 +1,16 @@
-use Rattle.std.proofs.Common.{◌∙◌, ap}
+use Rattle.std.proofs.Common.{◌≡◌, ◌∙◌, true, false, ap, sym}
+use Rattle.std.proofs.lemmas.Bool.{OnTrue_at}
+use Rattle.wb_target.specs.Making.{MadeFirst}
 use Rattle.wb_target.proofs.Leading.{led_on}
-use Rattle.wb_target.proofs.making.MakingStageStage.perform.Goals.{in-Device-WriteRoot+else-not-make, in-Device+in-Read-1, in-Cell-1}
+use Rattle.wb_target.proofs.making.MakingStageStage.perform.Goals.{then-writes_root+else-not-make, else-writes_root}
 use Rattle.wb_target.proofs.making.MakingStageStage.perform.Goals as goal
 
 pub returns-clause-led : goal.returns-clause-led
-returns-clause-led g c = elim c.match-want.branch [
-  | in-Device-WriteRoot+else-not-make w ↦ led_on g.D.Disk.tells g.D.Disk.size g.D.Disk.contents g.D.Disk.faults c.args.self.now.stage c.match-want.self.stage c.perform.new.self c.args.want.now c.perform.result
+returns-clause-led g c = elim c.if-writes_root.branch [
+  | then-writes_root+else-not-make w ↦ led_on (MadeFirst g.P.Policy.with_setting c.args.self.now c.args.want.now) g.D.Disk.tells g.D.Disk.size g.D.Disk.contents g.D.Disk.faults c.args.self.now.stage c.if-writes_root.self.stage c.perform.new.self c.args.want.now c.perform.result
       (ap (λ m. m.stage.devices) w.self-is ∙ w.make.ensures.devices) (ap (λ m. m.stage.opening.commit) w.self-is ∙ w.make.ensures.commit) (ap (λ m. m.stage.opening.geometry) w.self-is ∙ w.make.ensures.geometry) c.perform.ensures.led
-  | in-Device+in-Read-1 w ↦ led_on g.D.Disk.tells g.D.Disk.size g.D.Disk.contents g.D.Disk.faults c.args.self.now.stage c.match-want.self.stage c.perform.new.self c.args.want.now c.perform.result
+      (λ yes. OnTrue_at w.if-not-make.false w.make.ensures.made)
+  | else-writes_root w ↦ led_on (MadeFirst g.P.Policy.with_setting c.args.self.now c.args.want.now) g.D.Disk.tells g.D.Disk.size g.D.Disk.contents g.D.Disk.faults c.args.self.now.stage c.if-writes_root.self.stage c.perform.new.self c.args.want.now c.perform.result
       (ap (λ m. m.stage.devices) w.self-is) (ap (λ m. m.stage.opening.commit) w.self-is) (ap (λ m. m.stage.opening.geometry) w.self-is) c.perform.ensures.led
-  | in-Cell-1 w ↦ led_on g.D.Disk.tells g.D.Disk.size g.D.Disk.contents g.D.Disk.faults c.args.self.now.stage c.match-want.self.stage c.perform.new.self c.args.want.now c.perform.result
-      (ap (λ m. m.stage.devices) w.self-is) (ap (λ m. m.stage.opening.commit) w.self-is) (ap (λ m. m.stage.opening.geometry) w.self-is) c.perform.ensures.led
+      (λ yes. absurd (let no : false ≡ true = sym w.if-writes_root.false ∙ (c.writes_root.ensures ∙ yes) in cc))
 ]

@@ -11,7 +11,7 @@ use Rattle.wb_target.proofs.target.Target.open.Goals as goal
 
 module _ (g : Over) (c : goal.After-finish g) where
   abbrev Tried : Answer → Type 0
-  Tried answer = WasRun g.row.P.Denot g.D.Disk.tells g.D.Disk.size g.D.Disk.contents g.D.Disk.faults c.args.devices answer c.finish.result.0
+  Tried answer = WasRun g.D.Disk.tells g.D.Disk.size g.D.Disk.contents g.D.Disk.faults g.P.Policy.with_setting c.args.devices answer c.finish.result.0
 
   tried : Tried c.run-answer.result
   tried = let run = c.run-answer.ensures.run in record {
