@@ -8,7 +8,6 @@ use Rattle.wb_types.specs.declared.number.Place.{Place}
 use Rattle.wb_types.proofs.Truth.{yes}
 use Rattle.wb_disk.specs.Device.{History}
 use Rattle.wb_format.specs.declared.root.Root.{Root}
-use Rattle.wb_format.specs.declared.version.Version.TheVariants.{One}
 use Rattle.wb_format.specs.Sizes.{IsTop}
 use Rattle.wb_meta.specs.Placing.{HavePlaces}
 use Rattle.wb_tree.specs.declared.image.Image.{Image}
@@ -55,7 +54,7 @@ pub no_node : (sectors : ℕ) → 2 ≤ sectors → HavePlaces [] sectors
 no_node sectors some = record { slots = some; from = λ i node e. absurd (cc); to = λ i node e. absurd (cc); apart = λ i j node other e f h. absurd (cc) }
 
 abbrev pub bare_root : (g : Geometry) (generation : ℕ) → Root
-bare_root g generation = record { generation = generation; version = One; clean = false; geometry = g; top = None; top_inside = no_top g.meta_sectors }
+bare_root g generation = record { generation = generation; version = g.version; clean = false; geometry = g; top = None; same_version = refl; top_inside = no_top g.meta_sectors }
 
 module _ (heap : Global) where
   -- an image of one root, which writes nothing else
@@ -86,7 +85,6 @@ module _ (heap : Global) where
     comes = λ place at. inl at;
     used_more = omega arith;
     root_generation = refl;
-    root_version = refl;
     root_clean = sym unclean;
     root_geometry = sym same;
     root_top = by_top (place_of m (levels_of plan) 0) refl;

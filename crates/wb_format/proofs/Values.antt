@@ -9,11 +9,12 @@ use Rattle.wb_types.specs.declared.number.Place.{Place}
 use Rattle.wb_format.specs.Bytes.{HasWords}
 use Rattle.wb_format.specs.Sizes.{IsTop, SpellsGeometry, top_number}
 use Rattle.wb_format.specs.NodeWords.{IsWord}
-use Rattle.wb_format.specs.Layout.{version_number, SpellsRoot, SpellsNode}
+use Rattle.wb_types.specs.Versions.{version_number}
+use Rattle.wb_format.specs.Layout.{SpellsRoot, SpellsNode}
 use Rattle.wb_format.specs.declared.root.Root.{Root}
 use Rattle.wb_format.specs.declared.node.Node.{Node}
-use Rattle.wb_format.specs.declared.version.Version.{Version}
-use Rattle.wb_format.specs.declared.version.Version.TheVariants.{One}
+use Rattle.wb_types.specs.declared.version.Version.{Version}
+use Rattle.wb_types.specs.declared.version.Version.TheVariants.{One}
 
 -- two values of a type with a fact that has one proof
 same_made : {A B : Type 0} (P : A → Type 0) (make : (x : A) → P x → B) → ((x : A) → IsProp (P x)) → (x y : A) → x ≡ y → (h : P x) (k : P y) → make x h ≡ make y k
@@ -22,11 +23,15 @@ same_made {A} {B} P make one x y e h =
 
 -- ---- geometries
 
+one_version : (a b : Version) → version_number a ≡ version_number b → a ≡ b
+one_version One One e = refl
+
 record Sizes : Type 0 where
   block : ℕ
   cache_blocks : ℕ
   origin_blocks : ℕ
   meta_sectors : ℕ
+  version : Version
 
 abbrev Fitting : Sizes → Type 0
 Fitting d = IsWithinLimits d.block d.cache_blocks d.origin_blocks d.meta_sectors
@@ -35,10 +40,10 @@ fitting_prop : (d : Sizes) → IsProp (Fitting d)
 fitting_prop d = hlevel (le_prop, ℕ_set)
 
 abbrev geometry_of : (d : Sizes) → Fitting d → Geometry
-geometry_of d h = record { block = d.block; cache_blocks = d.cache_blocks; origin_blocks = d.origin_blocks; meta_sectors = d.meta_sectors; within = h }
+geometry_of d h = record { block = d.block; cache_blocks = d.cache_blocks; origin_blocks = d.origin_blocks; meta_sectors = d.meta_sectors; version = d.version; within = h }
 
 abbrev sizes_of : Geometry → Sizes
-sizes_of g = record { block = g.block; cache_blocks = g.cache_blocks; origin_blocks = g.origin_blocks; meta_sectors = g.meta_sectors }
+sizes_of g = record { block = g.block; cache_blocks = g.cache_blocks; origin_blocks = g.origin_blocks; meta_sectors = g.meta_sectors; version = g.version }
 
 same_geometry : (a b : Geometry) → sizes_of a ≡ sizes_of b → a ≡ b
 same_geometry a b e = same_made Fitting geometry_of fitting_prop (sizes_of a) (sizes_of b) e a.within b.within
@@ -49,13 +54,11 @@ one_geometry s a b p q =
     let e2 : a.cache_blocks ≡ b.cache_blocks = sym p.cache_blocks ∙ q.cache_blocks in
     let e3 : a.origin_blocks ≡ b.origin_blocks = sym p.origin_blocks ∙ q.origin_blocks in
     let e4 : a.meta_sectors ≡ b.meta_sectors = sym p.meta_sectors ∙ q.meta_sectors in
+    let e5 : a.version ≡ b.version = one_version a.version b.version (sym p.version ∙ q.version) in
     let same : sizes_of a ≡ sizes_of b = cc in
     same_geometry a b same
 
 -- ---- roots
-
-pub one_version : (a b : Version) → version_number a ≡ version_number b → a ≡ b
-one_version One One e = refl
 
 pub one_flag : (a b : Bool) → ◌≡◌ {A = ℕ} (cond a 1 0) (cond b 1 0) → a ≡ b
 one_flag true true e = refl
@@ -83,14 +86,15 @@ record RootFields : Type 0 where
   geometry : Geometry
   top : Option Place
 
-abbrev TopInside : RootFields → Type 0
-TopInside d = IsTop d.geometry.meta_sectors d.top
+record FitsGeometry (d : RootFields) : Type 0 where
+  version : version_number d.version ≡ version_number d.geometry.version
+  top : IsTop d.geometry.meta_sectors d.top
 
-top_inside_prop : (d : RootFields) → IsProp (TopInside d)
-top_inside_prop d = hlevel (le_prop, ℕ_set)
+fits_prop : (d : RootFields) → IsProp (FitsGeometry d)
+fits_prop d = hlevel (le_prop, ℕ_set)
 
-abbrev root_of : (d : RootFields) → TopInside d → Root
-root_of d h = record { generation = d.generation; version = d.version; clean = d.clean; geometry = d.geometry; top = d.top; top_inside = h }
+abbrev root_of : (d : RootFields) → FitsGeometry d → Root
+root_of d h = record { generation = d.generation; version = d.version; clean = d.clean; geometry = d.geometry; top = d.top; same_version = h.version; top_inside = h.top }
 
 abbrev fields_of_root : Root → RootFields
 fields_of_root r = record { generation = r.generation; version = r.version; clean = r.clean; geometry = r.geometry; top = r.top }
@@ -104,7 +108,7 @@ one_root s a b p q =
     let moved : IsTop b.geometry.meta_sectors a.top = subst (λ (g : Geometry). IsTop g.meta_sectors a.top) e4 a.top_inside in
     let e5 : a.top ≡ b.top = one_top b.geometry.meta_sectors a.top b.top moved b.top_inside (sym p.top ∙ q.top) in
     let same : fields_of_root a ≡ fields_of_root b = cc in
-    same_made TopInside root_of top_inside_prop (fields_of_root a) (fields_of_root b) same a.top_inside b.top_inside
+    same_made FitsGeometry root_of fits_prop (fields_of_root a) (fields_of_root b) same (record { version = a.same_version; top = a.top_inside }) (record { version = b.same_version; top = b.top_inside })
 
 -- ---- nodes
 

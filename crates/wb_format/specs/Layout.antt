@@ -1,9 +1,8 @@
 -- What the bytes of a metadata sector mean: two relations between 512 bytes and a value, field by field.
 use Rattle.std.specs.Prelude.{◌≡◌, ◌%◌, ℕ, cond, List, codes}
+use Rattle.wb_types.specs.Versions.{version_number}
 use Rattle.byteorder.specs.Endian.{little_number}
 use Rattle.wb_format.specs.declared.root.Root.{Root}
-use Rattle.wb_format.specs.declared.version.Version.{Version}
-use Rattle.wb_format.specs.declared.version.Version.TheVariants.{One}
 use Rattle.wb_format.specs.declared.node.Node.{Node}
 use Rattle.wb_format.specs.Sizes.{SpellsGeometry, top_number}
 use Rattle.wb_format.specs.Bytes.{IsSector, number_at, IsZero, HasWords}
@@ -14,9 +13,6 @@ root_magic = little_number 8 (codes "WBCROOT1")
 
 abbrev pub node_magic : ℕ
 node_magic = little_number 8 (codes "WBCNODE1")
-
-abbrev pub version_number : Version → ℕ
-version_number One = 1
 
 -- the bytes of a root
 pub record SpellsRoot (sector : List ℕ) (root : Root) : Type 0 where

@@ -1,6 +1,7 @@
--- The sizes and the top node in a root.
+-- The sizes, the version and the top node in a root.
 use Rattle.std.specs.Prelude.{◌≡◌, ◌≤◌, ◌<◌, ℕ, List, Option, Some, None}
 use Rattle.wb_types.specs.declared.geometry.Geometry.{Geometry}
+use Rattle.wb_types.specs.Versions.{version_number}
 use Rattle.wb_types.specs.declared.number.Place.{Place}
 use Rattle.wb_format.specs.Bytes.{number_at}
 
@@ -13,9 +14,10 @@ abbrev pub top_number : Option Place → ℕ
 top_number None = 0
 top_number (Some place) = place.0
 
--- the sizes in a root
+-- the sizes in a root, and the version
 pub record SpellsGeometry (sector : List ℕ) (geometry : Geometry) : Type 0 where
   pub block : number_at sector 24 4 ≡ geometry.block
   pub cache_blocks : number_at sector 28 4 ≡ geometry.cache_blocks
   pub origin_blocks : number_at sector 32 4 ≡ geometry.origin_blocks
   pub meta_sectors : number_at sector 36 4 ≡ geometry.meta_sectors
+  pub version : number_at sector 16 4 ≡ version_number geometry.version

@@ -8,11 +8,9 @@ mod bytes;
 mod law;
 mod node;
 mod root;
-mod version;
 mod word;
 
 pub use law::{node_law, root_law, word_law};
 pub use node::Node;
 pub use root::Root;
-pub use version::Version;
 pub use word::{entry_of, word_of};

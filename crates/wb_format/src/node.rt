@@ -6,7 +6,7 @@ ghost use Rattle.wb_format.specs.NodeWords.{IsWord};
 
 use crate::bytes::{is_zero, put_u32, put_u64, u32_at, u64_at};
 use crate::word::entry_of;
-use wb_types::{Content, SECTOR_BYTES};
+use wb_types::{Content, SECTOR_BYTES, Version};
 
 /// The letters `WBCNODE1`.
 const MAGIC: [u8; 8] = *b"WBCNODE1";
@@ -31,8 +31,8 @@ impl Node {
     ghost use Rattle.wb_format.specs.declared.node.Node.{Node as NodeValue};
     ghost use Rattle.wb_format.specs.Layout.{SpellsNode};
 
-    /// The node that a sector spells, where it spells one.
-    pub fn read(content: &Content) -> Option<Node>
+    /// The node that a sector of metadata of a version spells, where it spells one.
+    pub fn read(content: &Content, version: Version) -> Option<Node>
         ensures found { IfSome result (SpellsNode content.now) }
         ensures only { (node : NodeValue) → SpellsNode content.now node → result ≡ Some node }
     {
@@ -44,7 +44,7 @@ impl Node {
         {
             return None;
         }
-        let words = words_at(content, level)?;
+        let words = words_at(content, level, version)?;
         Some(Node {
             generation: u64_at(content, 8),
             level,
@@ -67,18 +67,18 @@ impl Node {
 }
 
 /// Whether a node of a level may have a word.
-fn is_word(level: u32, word: u64) -> bool
+fn is_word(level: u32, word: u64, version: Version) -> bool
     ensures { IsTrue result ↔ IsWord level word }
 {
     if level == 1 {
-        entry_of(word).is_some()
+        entry_of(word, version).is_some()
     } else {
         word != 1 && word <= 4_294_967_295
     }
 }
 
 /// The words of a node in a sector, where a node of its level may have each of them.
-fn words_at(content: &Content, level: u32) -> Option<[u64; 32]>
+fn words_at(content: &Content, level: u32, version: Version) -> Option<[u64; 32]>
     ensures found { IfSome result (HasWords content.now) }
     ensures spelled { IfSome result (λ words. (j : ℕ) → IsWord level (slice_index words j)) }
     ensures none { IfNone result ((words : List ℕ) → HasWords content.now words
@@ -87,7 +87,7 @@ fn words_at(content: &Content, level: u32) -> Option<[u64; 32]>
     let mut words = [0; 32];
     for j in 0..32 {
         let word = u64_at(content, 32 + 8 * j);
-        if !is_word(level, word) {
+        if !is_word(level, word, version) {
             return None;
         }
         words[j] = word;

@@ -3,11 +3,11 @@
 ghost use Rattle.std.specs.Prelude.{◌≡◌, ◌%◌, IfSome, Bool, Option, cond};
 ghost use Rattle.wb_types.specs.declared.geometry.Geometry.{Geometry as GeometryValue};
 ghost use Rattle.wb_types.specs.declared.number.Place.{Place as PlaceValue};
+ghost use Rattle.wb_types.specs.Versions.{version_number};
 ghost use Rattle.wb_format.specs.Sizes.{IsTop, SpellsGeometry, top_number};
 
-use crate::Version;
 use crate::bytes::{is_zero, put_u32, put_u64, u32_at, u64_at};
-use wb_types::{Content, Geometry, Place, SECTOR_BYTES};
+use wb_types::{Content, Geometry, Place, SECTOR_BYTES, Version};
 
 /// The letters `WBCROOT1`.
 const MAGIC: [u8; 8] = *b"WBCROOT1";
@@ -17,12 +17,14 @@ const MAGIC: [u8; 8] = *b"WBCROOT1";
 pub struct Root {
     /// The number of this root: 0 from formatting, and one more with each root that follows.
     pub generation: u64,
+    /// Its geometry's.
     pub version: Version,
     /// Whether the dirty bits and hints of the mapping are right.
     pub clean: bool,
     pub geometry: Geometry,
     /// Where the top node of the mapping tree stands, from 2 to the last sector; none for an empty mapping.
     pub top: Option<Place>,
+    pub ghost same_version: { version_number version ≡ version_number geometry.version },
     pub ghost top_inside: { IsTop geometry.meta_sectors top },
 }
 
@@ -38,13 +40,12 @@ impl Root {
         if u64_at(content, 0) != u64::from_le_bytes(MAGIC) || !is_zero(content, 44, SECTOR_BYTES) {
             return None;
         }
-        let version = Version::of(u32_at(content, 16))?;
         let clean = flag_of(u32_at(content, 20))?;
         let geometry = geometry_at(content)?;
         let top = top_of(u32_at(content, 40), geometry.meta_sectors)?;
         Some(Root {
             generation: u64_at(content, 8),
-            version,
+            version: geometry.version,
             clean,
             geometry,
             top,
@@ -87,11 +88,12 @@ fn flag_of(flags: u32) -> Option<bool>
     }
 }
 
-/// The sizes in a root, where they are within the limits.
+/// The version and the sizes in a root, where there is such a version and the sizes are within the limits.
 fn geometry_at(content: &Content) -> Option<Geometry>
     ensures found { IfSome result (SpellsGeometry content.now) }
     ensures only { (geometry : GeometryValue) → SpellsGeometry content.now geometry → result ≡ Some geometry }
 {
+    let Version::One = Version::of(u32_at(content, 16))?;
     let block = u64::from(u32_at(content, 24));
     let cache_blocks = u64::from(u32_at(content, 28));
     let origin_blocks = u64::from(u32_at(content, 32));

@@ -4,14 +4,14 @@ ghost use Rattle.std.specs.Prelude.{◌≡◌, ◌↔◌, Option, IfSome, IsSome
 ghost use Rattle.wb_types.specs.declared.entry.Entry.{Entry as EntryValue};
 ghost use Rattle.wb_format.specs.NodeWords.{IsEntry, SpellsEntry, IsLeafWord};
 
-use wb_types::{Entry, OBlock};
+use wb_types::{Entry, OBlock, Version};
 
-/// What the word of a leaf says of a cache block: an entry, or that there is none; nothing where it is no such
+/// What the word of a leaf of a version says of a cache block: an entry, or that there is none; nothing where it is no such
 /// word.
 ///
 /// The word 0 has no entry. In any other bit 0 is set, bit 1 is the dirty bit, bits 4 to 8 are the hint, 0 to
 /// 16, bits 16 to 35 the origin block, and all others are 0.
-pub fn entry_of(word: u64) -> Option<Option<Entry>>
+pub fn entry_of(word: u64, version: Version) -> Option<Option<Entry>>
     ensures found { IfSome result (SpellsEntry word) }
     ensures only { (entry : Option EntryValue) → SpellsEntry word entry → result ≡ Some entry }
     ensures readable { IsSome result ↔ IsLeafWord word }
@@ -29,16 +29,16 @@ pub fn entry_of(word: u64) -> Option<Option<Entry>>
         dirty: word / 2 % 2 == 1,
         hint: hint as u8,
     });
-    if word_of(entry) == word {
+    if word_of(entry, version) == word {
         Some(entry)
     } else {
         None
     }
 }
 
-/// The word of a leaf for what the mapping has, the inverse of `entry_of`. The origin block is below 2^20, and
+/// The word of a leaf of a version for what the mapping has, the inverse of `entry_of`. The origin block is below 2^20, and
 /// the hint at most 16.
-pub fn word_of(entry: Option<Entry>) -> u64
+pub fn word_of(entry: Option<Entry>, version: Version) -> u64
     requires { IfSome entry IsEntry }
     ensures spelled { SpellsEntry result entry }
     ensures readable { IsLeafWord result }
@@ -47,7 +47,10 @@ pub fn word_of(entry: Option<Entry>) -> u64
         None => 0,
         Some(entry) => {
             let OBlock(origin) = entry.origin;
-            1 + 2 * u64::from(entry.dirty) + 16 * u64::from(entry.hint) + 65_536 * u64::from(origin)
+            let dirty = match version {
+                Version::One => u64::from(entry.dirty),
+            };
+            1 + 2 * dirty + 16 * u64::from(entry.hint) + 65_536 * u64::from(origin)
         }
     }
 }

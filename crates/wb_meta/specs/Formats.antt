@@ -3,7 +3,6 @@ use Rattle.std.specs.Prelude.{◌≡◌, ◌≤◌, true, None, List}
 use Rattle.wb_types.specs.declared.geometry.Geometry.{Geometry}
 use Rattle.wb_disk.specs.Device.{History, Gives}
 use Rattle.wb_format.specs.declared.root.Root.{Root}
-use Rattle.wb_format.specs.declared.version.Version.TheVariants.{One}
 use Rattle.wb_tree.specs.Reading.{nothing_found}
 use Rattle.wb_disk.specs.Crashes.{AfterEveryCrash}
 use Rattle.wb_meta.specs.Commits.{Newest}
@@ -12,7 +11,6 @@ use Rattle.wb_meta.specs.Representing.{Represents}
 -- the root of the empty mapping, clean, in generation 0
 pub record IsFirstRoot (geometry : Geometry) (root : Root) : Type 0 where
   pub generation : root.generation ≡ 0
-  pub version : root.version ≡ One
   pub clean : root.clean ≡ true
   pub geometry_is : root.geometry ≡ geometry
   pub top : root.top ≡ None

@@ -8,7 +8,7 @@ ghost use Rattle.wb_meta.specs.Formats.{IsFormatted, SlotsAlone};
 
 use crate::sector::{put_root, put_zeros, sync};
 use wb_disk::Disk;
-use wb_format::{Root, Version};
+use wb_format::Root;
 use wb_types::{Geometry, Refusal};
 
 /// Makes a metadata device represent the empty mapping, clean. It writes the two slots and no other sector.
@@ -35,7 +35,7 @@ pub fn format<D: Disk>(disk: &mut D, geometry: &Geometry) -> Result<(), Refusal>
     sync(disk)?;
     let root = Root {
         generation: 0,
-        version: Version::One,
+        version: geometry.version,
         clean: true,
         geometry: *geometry,
         top: None,

@@ -141,7 +141,7 @@ impl<A: Allocator + Clone> ReadSteps<A> {
                 loader,
             } => match loader.wanted() {
                 Some(Place(place)) => {
-                    let node = get_node(disk, u64::from(place))?;
+                    let node = get_node(disk, u64::from(place), root.version)?;
                     go_on(global, root, loader.tell(node)?)
                 }
                 None => go_on(global, root, loader),

@@ -12,7 +12,7 @@ ghost use Rattle.wb_meta.specs.Steps.{Puts, PutSo, zero_sector};
 
 use wb_disk::Disk;
 use wb_format::{Node, Root};
-use wb_types::{Dev, Refusal, SECTOR_BYTES};
+use wb_types::{Dev, Refusal, SECTOR_BYTES, Version};
 
 /// Writes a node. `Io` where the device fails; it may then have the node or not.
 pub(crate) fn put_node<D: Disk>(disk: &mut D, at: u64, node: &Node) -> Result<(), Refusal>
@@ -80,8 +80,12 @@ pub(crate) fn sync<D: Disk>(disk: &mut D) -> Result<(), Refusal>
     disk.sync().map_err(|_| Refusal::Io(Dev::Metadata))
 }
 
-/// The node that a sector spells, where it spells one. `Io` where the device fails.
-pub(crate) fn get_node<D: Disk>(disk: &mut D, at: u64) -> Result<Option<Node>, Refusal>
+/// The node that a sector of a version spells, where it spells one. `Io` where the device fails.
+pub(crate) fn get_node<D: Disk>(
+    disk: &mut D,
+    at: u64,
+    version: Version,
+) -> Result<Option<Node>, Refusal>
     requires { at < D.size disk.old }
     ensures size { D.size disk.new ≡ D.size disk.old }
     ensures same { D.tells → D.contents disk.new ≡ D.contents disk.old }
@@ -96,5 +100,5 @@ pub(crate) fn get_node<D: Disk>(disk: &mut D, at: u64) -> Result<Option<Node>, R
     if disk.read(at, &mut content).is_err() {
         return Err(Refusal::Io(Dev::Metadata));
     }
-    Ok(Node::read(&content))
+    Ok(Node::read(&content, version))
 }

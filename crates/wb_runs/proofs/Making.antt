@@ -13,7 +13,6 @@ use Rattle.wb_types.specs.declared.geometry.Geometry.{Geometry}
 use Rattle.wb_types.specs.declared.number.Place.{Place}
 use Rattle.wb_disk.specs.Device.{History}
 use Rattle.wb_format.specs.declared.node.Node.{Node}
-use Rattle.wb_format.specs.declared.version.Version.TheVariants.{One}
 use Rattle.wb_format.specs.NodeWords.{IsEntry, IsLeafWord, IsWord, entry_word}
 use Rattle.wb_format.proofs.WordLemmas.{IsWord-everywhere}
 use Rattle.wb_tree.specs.declared.image.Image.{Image}
@@ -219,14 +218,14 @@ module _ (heap : Global) (m : Mapping) (geometry : Geometry) (free : List Place)
 
   abbrev image : Image
   image = record {
-    root = record { generation = generation; version = One; clean = false; geometry = geometry; top = place_of n (depth_of geometry.cache_blocks) 0; top_inside = λ place top. inside place (record { level = depth_of geometry.cache_blocks; index = 0; known = top }) };
+    root = record { generation = generation; version = geometry.version; clean = false; geometry = geometry; top = place_of n (depth_of geometry.cache_blocks) 0; same_version = refl; top_inside = λ place top. inside place (record { level = depth_of geometry.cache_blocks; index = 0; known = top }) };
     nodes = record { ptr = null_ptr; len = length made.nodes; cap = length made.nodes; alloc = heap; items = made.nodes; ok = (refl, omega arith); small = omega (arith, many, geometry.within.meta_from, geometry.within.meta_to) };
   }
 
   image_is : IsImage m n (record { geometry = geometry; generation = generation; clean = false; free = free }) image
   image_is = let complete = planned-complete m geometry free can in
       image-is m n geometry generation false free image (written_is m geometry generation free made.nodes can made.named made.written) complete.all
-      (used-places n geometry.cache_blocks (planned-sound m geometry free can) complete.once complete.few) (planned-comes m free made.nodes made.named made.written.places) (planned-more m generation free made.nodes made.named made.written) refl refl refl refl refl
+      (used-places n geometry.cache_blocks (planned-sound m geometry free can) complete.once complete.few) (planned-comes m free made.nodes made.named made.written.places) (planned-more m generation free made.nodes made.named made.written) refl refl refl refl
 
 -- ---- a commit begins
 

@@ -10,10 +10,11 @@ use Rattle.wb_types.specs.declared.geometry.Geometry.{Geometry}
 use Rattle.wb_types.specs.declared.number.Place.{Place}
 use Rattle.wb_format.specs.Bytes.{IsSector, number_at}
 use Rattle.wb_format.specs.Sizes.{IsTop, top_number}
-use Rattle.wb_format.specs.Layout.{SpellsRoot, root_magic, version_number}
+use Rattle.wb_types.specs.Versions.{version_number}
+use Rattle.wb_format.specs.Layout.{SpellsRoot, root_magic}
 use Rattle.wb_format.specs.declared.root.Root.{Root}
-use Rattle.wb_format.specs.declared.version.Version.{Version}
-use Rattle.wb_format.specs.declared.version.Version.TheVariants.{One}
+use Rattle.wb_types.specs.declared.version.Version.{Version}
+use Rattle.wb_types.specs.declared.version.Version.TheVariants.{One}
 use Rattle.wb_format.proofs.Numbers.{number_at-written, zero-from_bytes, zeros_all, little_bytes-below}
 
 -- ---- a root is spelled
@@ -77,13 +78,14 @@ spelled_root r fits = record {
   };
   magic = number_at-written [] (from_generation r) 0 8 root_magic refl (omega arith);
   generation = number_at-written (eight root_magic) (from_version r) 8 8 r.generation refl (omega (arith, fits));
-  version = number_at-written f16 (from_flags r) 16 4 (version_number r.version) refl (small_version r.version);
+  version = version;
   flags = number_at-written (f16 ++ four (version_number r.version)) (from_block r) 20 4 (cond r.clean 1 0) refl (small_flag r.clean);
   geometry = record {
     block = number_at-written f24 (from_cache r) 24 4 g.block refl (omega (arith, g.within.block_to));
     cache_blocks = number_at-written (f24 ++ four g.block) (from_origin r) 28 4 g.cache_blocks refl (omega (arith, g.within.cache_to));
     origin_blocks = number_at-written (f24 ++ (four g.block ++ four g.cache_blocks)) (from_meta r) 32 4 g.origin_blocks refl (omega (arith, g.within.origin_to));
     meta_sectors = number_at-written (f24 ++ (four g.block ++ (four g.cache_blocks ++ four g.origin_blocks))) (from_top r) 36 4 g.meta_sectors refl (omega (arith, g.within.meta_to));
+    version = version ∙ r.same_version;
   };
   top = number_at-written (f24 ++ (four g.block ++ (four g.cache_blocks ++ (four g.origin_blocks ++ four g.meta_sectors)))) (zeros) 40 4 (top_number r.top) refl (small_top g.meta_sectors r.top r.top_inside g.within.meta_to);
   rest = zero-from_bytes (spelling r) 44 512 (λ k from to. get_or-append_right f44 zeros 44 k 0 refl from ∙ zeros_all 468 (k - 44));
@@ -100,6 +102,9 @@ spelled_root r fits = record {
 
     f44 : List ℕ
     f44 = f24 ++ (four g.block ++ (four g.cache_blocks ++ (four g.origin_blocks ++ (four g.meta_sectors ++ four (top_number r.top)))))
+
+    version : number_at (spelling r) 16 4 ≡ version_number r.version
+    version = number_at-written f16 (from_flags r) 16 4 (version_number r.version) refl (small_version r.version)
 
     small_version : (v : Version) → version_number v < 256 ^ 4
     small_version One = omega arith
@@ -192,8 +197,8 @@ pub root_or_none : (s : List ℕ) → ((r : Root) × SpellsRoot s r) ⊎ ((r : R
 root_or_none s = elim (two_of (two_of (is_sector s) (two_of (cases_eq (number_at s 0 8) root_magic) (cases_eq (number_at s 16 4) 1))) (two_of (all_zero (slice_range s 44 512)) (two_of (flag_in (number_at s 20 4))
     (two_of (within_limits (number_at s 24 4) (number_at s 28 4) (number_at s 32 4) (number_at s 36 4)) (top_in (number_at s 36 4) (number_at s 40 4)))))) [
       | inl d ↦ inl (
-        record { generation = number_at s 8 8; version = One; clean = d.1.1.0.0; geometry = record { block = number_at s 24 4; cache_blocks = number_at s 28 4; origin_blocks = number_at s 32 4; meta_sectors = number_at s 36 4; within = d.1.1.1.0 }; top = d.1.1.1.1.0; top_inside = d.1.1.1.1.1 },
-        record { bytes = d.0.0; magic = d.0.1.0; generation = refl; version = d.0.1.1; flags = d.1.1.0.1; geometry = record { block = refl; cache_blocks = refl; origin_blocks = refl; meta_sectors = refl }; top = d.1.1.1.1.2; rest = d.1.0 },
+        record { generation = number_at s 8 8; version = One; clean = d.1.1.0.0; geometry = record { block = number_at s 24 4; cache_blocks = number_at s 28 4; origin_blocks = number_at s 32 4; meta_sectors = number_at s 36 4; version = One; within = d.1.1.1.0 }; top = d.1.1.1.1.0; same_version = refl; top_inside = d.1.1.1.1.1 },
+        record { bytes = d.0.0; magic = d.0.1.0; generation = refl; version = d.0.1.1; flags = d.1.1.0.1; geometry = record { block = refl; cache_blocks = refl; origin_blocks = refl; meta_sectors = refl; version = d.0.1.1 }; top = d.1.1.1.1.2; rest = d.1.0 },
       )
       | inr none ↦ inr (λ r p. none ((p.bytes, (p.magic, p.version ∙ one_version r.version)), (p.rest, ((r.clean, p.flags), (fits r p, (r.top, top_fits r p, p.top))))))
     ]

@@ -13,7 +13,7 @@ mod ticks;
 
 use std::alloc::Global;
 use wb_desk::Desk;
-use wb_format::{Root, Version};
+use wb_format::Root;
 use wb_meta::State;
 use wb_policy::{Order, Policy, Quiet};
 use wb_space::Holding;
@@ -58,7 +58,7 @@ fn root(geometry: Geometry, generation: u64) -> Root
 {
     Root {
         generation,
-        version: Version::One,
+        version: geometry.version,
         clean: false,
         geometry,
         top: None,

@@ -12,9 +12,9 @@ mod rounds;
 use std::alloc::Global;
 use std::test::Fail;
 use wb_disk::{Disk, MemDisk};
-use wb_format::{Node, Root, Version};
+use wb_format::{Node, Root};
 use wb_meta::*;
-use wb_types::{Content, Dev, Geometry, Place, Refusal};
+use wb_types::{Content, Dev, Geometry, Place, Refusal, Version};
 
 /// The root of a formatted device of 4 sectors: blocks of 64 sectors, 4 on the cache and 10 on the origin.
 const FORMATTED: [u8; 44] = [
@@ -82,7 +82,7 @@ fn first_image(alloc: Global) -> Result<Image, Refusal> {
         geometry: Geometry::new(64, 4, 10, 4)?,
         top: Some(Place(2)),
     };
-    let Some(leaf) = Node::read(&sector_of(&LEAF)) else {
+    let Some(leaf) = Node::read(&sector_of(&LEAF), Version::One) else {
         return Err(Refusal::Damaged(Place(2)));
     };
     let mut nodes = Vec::with_capacity(alloc, 1)?;

@@ -6,9 +6,9 @@ use std::alloc::Global;
 use std::sync::Wait;
 use std::test::Fail;
 use wb_disk::{Disk, MemDisk};
-use wb_format::{Root, Version};
+use wb_format::Root;
 use wb_policy::Order;
-use wb_types::{CBlock, Content, Dev, Geometry, OBlock, Place, Refusal, SECTOR_BYTES};
+use wb_types::{CBlock, Content, Dev, Geometry, OBlock, Place, Refusal, SECTOR_BYTES, Version};
 
 /// Devices whose newest root, with or without the clean flag, names that leaf.
 fn stored(alloc: Global, clean: bool) -> Result<Memory, Refusal> {

@@ -4,7 +4,6 @@ use Rattle.wb_types.specs.declared.number.Place.{Place}
 use Rattle.wb_types.specs.declared.geometry.Geometry.{Geometry}
 use Rattle.wb_types.specs.Limits.{depth_of, node_count}
 use Rattle.wb_format.specs.declared.node.Node.{Node}
-use Rattle.wb_format.specs.declared.version.Version.TheVariants.{One}
 use Rattle.wb_format.specs.Layout.{SpellsNode}
 use Rattle.wb_format.specs.NodeWords.{entry_word}
 use Rattle.wb_tree.specs.declared.image.Image.{Image}
@@ -75,7 +74,6 @@ pub record IsImage (m n : Mapping) (plan : ImagePlan) (image : Image) : Type 0 w
   pub comes : (place : Place) → IsPlaceOf n place → IsPlaceOf m place ⊎ Contains (map (λ node. node.0) image.nodes.items) place
   pub used_more : length (used_places n) ≡ length (used_places m) + length image.nodes.items
   pub root_generation : image.root.generation ≡ plan.generation
-  pub root_version : image.root.version ≡ One
   pub root_clean : image.root.clean ≡ plan.clean
   pub root_geometry : image.root.geometry ≡ plan.geometry
   pub root_top : image.root.top ≡ place_of n (levels_of plan) 0

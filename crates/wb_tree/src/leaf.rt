@@ -9,7 +9,7 @@ ghost use Rattle.wb_tree.specs.Loading.{leaf_read};
 
 use crate::PlacedNode;
 use wb_format::{Root, entry_of};
-use wb_types::{Entry, OBlock, Refusal};
+use wb_types::{Entry, OBlock, Refusal, Version};
 
 /// Reads the words of a leaf, in rising order, into the entries and the marks of mapped origin blocks. `Damaged`
 /// with the place of the leaf where a word has an entry that may not be there; what was read before it stays.
@@ -32,7 +32,7 @@ pub(crate) fn read_entries(
         ≡ Err leaf.place) }
 {
     for j in 0..32 {
-        if let Some(entry) = entry_in_word(words[j]) {
+        if let Some(entry) = entry_in_word(words[j], root.version) {
             let block = 32 * u64::from(leaf.index) + j as u64;
             if !may_map(root, mapped, block, entry) {
                 return Err(Refusal::Damaged(leaf.place));
@@ -46,11 +46,11 @@ pub(crate) fn read_entries(
 }
 
 /// The entry in a word that a leaf may have.
-fn entry_in_word(word: u64) -> Option<Entry>
+fn entry_in_word(word: u64, version: Version) -> Option<Entry>
     requires { IsLeafWord word }
     ensures { result ≡ entry_in word }
 {
-    match entry_of(word) {
+    match entry_of(word, version) {
         Some(entry) => entry,
         None => None,
     }

@@ -11,13 +11,14 @@ ghost use Rattle.wb_tree.specs.Planning.{names, planned, levels, changed_below, 
 use crate::Tree;
 use std::alloc::Allocator;
 use wb_format::{Node, word_of};
-use wb_types::{CBlock, Entry, Place, Refusal};
+use wb_types::{CBlock, Entry, Place, Refusal, Version};
 
 /// What the nodes of an image are made of.
 #[derive(Drop)]
 pub(crate) struct Planning<'a, A: Allocator> {
     pub(crate) tree: &'a Tree<A>,
     pub(crate) generation: u64,
+    pub(crate) version: Version,
     /// Where the nodes go, one after the other.
     pub(crate) free: &'a [Place],
 }
@@ -97,7 +98,7 @@ fn plan_words<A: Allocator + Clone>(
     ensures refused { IfErr result (λ refusal. refusal ≡ OutOfMemory) }
 {
     if level == 1 {
-        return Ok(leaf_words(plan.tree, index));
+        return Ok(leaf_words(plan.tree, index, plan.version));
     }
     let mut words = [0; 32];
     for j in 0..32 {
@@ -108,7 +109,7 @@ fn plan_words<A: Allocator + Clone>(
 }
 
 /// The words of a leaf.
-fn leaf_words<A: Allocator + Clone>(tree: &Tree<A>, index: u32) -> [u64; 32]
+fn leaf_words<A: Allocator + Clone>(tree: &Tree<A>, index: u32, version: Version) -> [u64; 32]
     requires index { index < 2 ^ 20 }
     requires entries { (block : ℕ) (entry : EntryValue) → entry_of tree.now block ≡ Some entry → IsEntry entry }
     ensures words { (j : ℕ) → j < 32 → slice_index result j ≡ entry_word (entry_of tree.now (32 * index + j)) }
@@ -116,7 +117,7 @@ fn leaf_words<A: Allocator + Clone>(tree: &Tree<A>, index: u32) -> [u64; 32]
 {
     let mut words = [0; 32];
     for j in 0..32 {
-        words[j as usize] = word_of(entry_at(tree, 32 * index + j));
+        words[j as usize] = word_of(entry_at(tree, 32 * index + j), version);
     }
     words
 }

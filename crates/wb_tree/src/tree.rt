@@ -21,7 +21,7 @@ use crate::{Image, PlacedNode};
 use node::{Node, boxed, filled, settle_all, span_of};
 use std::alloc::{Allocator, Global};
 use std::marker::Model;
-use wb_format::{Root, Version};
+use wb_format::Root;
 use wb_types::{CBlock, Entry, Geometry, Place, Refusal};
 
 /// The entries of a cache's blocks, and which nodes are known to stand where.
@@ -246,6 +246,7 @@ impl<A: Allocator + Clone> Tree<A> {
         let plan = Planning {
             tree: &*self,
             generation,
+            version: geometry.version,
             free,
         };
         let mut nodes = Vec::new(global);
@@ -254,7 +255,7 @@ impl<A: Allocator + Clone> Tree<A> {
         self.settle(&settled);
         let root = Root {
             generation,
-            version: Version::One,
+            version: geometry.version,
             clean,
             geometry: *geometry,
             top,

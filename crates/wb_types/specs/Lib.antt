@@ -1,3 +1,4 @@
 pub mod Extents
 pub mod Limits
 pub mod Refusals
+pub mod Versions

@@ -1,11 +1,12 @@
 //! The sizes of a cache.
 
 ghost use Rattle.std.specs.Prelude.{◌≡◌, ◌≤◌, ◌+◌, ◌*◌, ◌^◌, ℕ, IfOk, IfErr};
+ghost use Rattle.wb_types.specs.declared.version.Version.TheVariants.{One};
 ghost use Rattle.wb_types.specs.Limits.{IsWithinLimits, IsDepth, depth_of, node_count, nodes_up_to};
 
-use crate::Refusal;
+use crate::{Refusal, Version};
 
-/// The sizes of a cache and its devices, always within the limits.
+/// The sizes of a cache and its devices, always within the limits, and the version of its metadata.
 #[derive(Clone, Copy, Debug, PartialEq, Eq)]
 pub struct Geometry {
     /// Sectors of a block: 64 to 2,097,152, a multiple of 64.
@@ -16,12 +17,14 @@ pub struct Geometry {
     pub origin_blocks: u32,
     /// Sectors of the metadata device: two root slots, and twice the nodes of a full mapping, or more.
     pub meta_sectors: u32,
+    /// The layout in which the metadata device is written. Sizes alone are compared with those of devices.
+    pub version: Version,
     pub ghost within: { IsWithinLimits block cache_blocks origin_blocks meta_sectors },
 }
 
 impl Geometry {
-    /// The geometry of these sizes, the block and the metadata device in sectors, the others in blocks;
-    /// `Geometry` exactly where they lie outside the limits.
+    /// The geometry of these sizes, the block and the metadata device in sectors, the others in blocks, with metadata of
+    /// the first version; `Geometry` exactly where they lie outside the limits.
     pub fn new(
         block: u64,
         cache_blocks: u64,
@@ -32,6 +35,7 @@ impl Geometry {
         ensures cache_blocks { IfOk result (λ g. g.cache_blocks ≡ cache_blocks) }
         ensures origin_blocks { IfOk result (λ g. g.origin_blocks ≡ origin_blocks) }
         ensures meta_sectors { IfOk result (λ g. g.meta_sectors ≡ meta_sectors) }
+        ensures version { IfOk result (λ g. g.version ≡ One) }
         ensures refused { IfErr result (λ r. r ≡ Refusal.Geometry) }
         ensures outside { IfErr result (λ _. ¬ IsWithinLimits block cache_blocks origin_blocks meta_sectors) }
     {
@@ -52,6 +56,7 @@ impl Geometry {
             cache_blocks: cache_blocks as u32,
             origin_blocks: origin_blocks as u32,
             meta_sectors: meta_sectors as u32,
+            version: Version::One,
         })
     }
 

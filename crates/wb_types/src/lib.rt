@@ -11,6 +11,7 @@ mod message;
 mod mode;
 mod number;
 mod refusal;
+mod version;
 
 pub use entry::Entry;
 pub use extent::Extent;
@@ -20,6 +21,7 @@ pub use message::{CBlockRange, CBlockRanges, Key, Message};
 pub use mode::{Dev, Mode};
 pub use number::{CBlock, OBlock, Place, Sector};
 pub use refusal::Refusal;
+pub use version::Version;
 
 /// How many bytes a sector has.
 pub const SECTOR_BYTES: usize = 512;

@@ -6,7 +6,6 @@ use Rattle.wb_types.specs.Limits.{depth_of, node_count}
 use Rattle.wb_types.specs.declared.geometry.Geometry.{Geometry}
 use Rattle.wb_types.specs.declared.number.Place.{Place}
 use Rattle.wb_format.specs.declared.node.Node.{Node}
-use Rattle.wb_format.specs.declared.version.Version.TheVariants.{One}
 use Rattle.wb_tree.specs.declared.image.Image.{Image}
 use Rattle.wb_tree.specs.declared.placed.PlacedNode.{PlacedNode}
 use Rattle.wb_tree.specs.Mapping.{Mapping, IsSound, IsPlaceOf, place_of, used_places, changed}
@@ -35,10 +34,10 @@ used-places m cache_blocks sound once few = record {
 -- what was made is the image
 pub image-is : (m n : Mapping) (geometry : Geometry) (generation : ℕ) (clean : Bool) (free : List Place) (image : Image)
     → WritesChanged m n geometry generation free image.nodes.items → changed n (depth_of geometry.cache_blocks) ≡ [] → AreUsed geometry.cache_blocks n
-    → ((place : Place) → IsPlaceOf n place → IsPlaceOf m place ⊎ Contains (map (λ node. node.0) image.nodes.items) place) → length (used_places n) ≡ length (used_places m) + length image.nodes.items → image.root.generation ≡ generation → image.root.version ≡ One
+    → ((place : Place) → IsPlaceOf n place → IsPlaceOf m place ⊎ Contains (map (λ node. node.0) image.nodes.items) place) → length (used_places n) ≡ length (used_places m) + length image.nodes.items → image.root.generation ≡ generation
     → image.root.clean ≡ clean → image.root.geometry ≡ geometry → image.root.top ≡ place_of n (depth_of geometry.cache_blocks) 0
     → IsImage m n (record { geometry = geometry; generation = generation; clean = clean; free = free }) image
-image-is m n geometry generation clean free image written none used comes more g v c s t = record {
+image-is m n geometry generation clean free image written none used comes more g c s t = record {
   same_entries = written.same_entries;
   stays = written.stays;
   none_changed = none;
@@ -51,7 +50,6 @@ image-is m n geometry generation clean free image written none used comes more g
   comes = comes;
   used_more = more;
   root_generation = g;
-  root_version = v;
   root_clean = c;
   root_geometry = s;
   root_top = t;

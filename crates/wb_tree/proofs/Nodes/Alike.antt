@@ -64,7 +64,6 @@ image-alike m n k plan image alike used long is = record {
   comes = λ place h. is.comes place (there-alike n k alike place h);
   used_more = long ∙ is.used_more;
   root_generation = is.root_generation;
-  root_version = is.root_version;
   root_clean = is.root_clean;
   root_geometry = is.root_geometry;
   root_top = is.root_top ∙ sym (alike.places (levels_of plan) 0);

@@ -9,4 +9,5 @@ returns-in-Ok-clause-only c geometry spelled =
       cache_blocks = sym (c.in-Ok.ensures.cache_blocks ∙ c.from-cache_blocks.ensures ∙ c.u32_at-2.ensures);
       origin_blocks = sym (c.in-Ok.ensures.origin_blocks ∙ c.from-origin_blocks.ensures ∙ c.u32_at-3.ensures);
       meta_sectors = sym (c.in-Ok.ensures.meta_sectors ∙ c.from-meta_sectors.ensures ∙ c.u32_at-4.ensures);
+      version = c.VERSION;
     }) spelled)

@@ -13,7 +13,7 @@ returns-clause-found c = record {
   bytes = record { size = c.told-content; bytes = c.fits-content };
   magic = sym c.u64_at.ensures ∙ (c.if-u64_at-from_le_bytes.false ∙ c.from_le_bytes.ensures);
   generation = sym c.u64_at-2.ensures;
-  version = sym c.u32_at.ensures ∙ c.in_ok-version.ensures.found;
+  version = c.in_ok-geometry.ensures.found.version;
   flags = sym c.u32_at-2.ensures ∙ c.in_ok-clean.ensures.found;
   geometry = c.in_ok-geometry.ensures.found;
   top = sym c.u32_at-3.ensures ∙ c.in_ok-top.ensures.found;

@@ -1,6 +1,7 @@
 use Rattle.std.proofs.Common.{◌≡◌, ◌∙◌, ℕ, Bool, true, false, cond, refl, List, replicate, arith}
 use mir.Val.{bool_byte}
-use Rattle.wb_format.specs.Bytes.{SameBytes}
+use Rattle.wb_types.specs.Versions.{version_number}
+use Rattle.wb_format.specs.Bytes.{SameBytes, number_at}
 use Rattle.wb_format.proofs.Numbers.{same-before, same-after, number_at-kept, zero-kept, zeros_all}
 use Rattle.wb_format.proofs.root.Root.write.Goals as goal
 
@@ -37,17 +38,19 @@ returns c =
     let r2 : SameBytes s9 s2 44 512 = same-after s9 s3 s2 44 20 r3 c.put_u32.ensures.after (omega arith) in
     let r1 : SameBytes s9 s1 44 512 = same-after s9 s2 s1 44 16 r2 c.put_u64-2.ensures.after (omega arith) in
     let r0 : SameBytes s9 s0 44 512 = same-after s9 s1 s0 44 8 r1 c.put_u64.ensures.after (omega arith) in
+    let version : number_at s9 16 4 ≡ version_number c.args.self.now.version = number_at-kept s9 s3 0 20 16 4 _ k3 (omega arith) (omega arith) (c.put_u32.ensures.number ∙ c.number.ensures) in
     record {
       bytes = c.put_u32-7.ensures.bytes;
       magic = number_at-kept s9 s1 0 8 0 8 _ k1 (omega arith) (omega arith) (c.put_u64.ensures.number ∙ c.from_le_bytes.ensures);
       generation = number_at-kept s9 s2 0 16 8 8 _ k2 (omega arith) (omega arith) c.put_u64-2.ensures.number;
-      version = number_at-kept s9 s3 0 20 16 4 _ k3 (omega arith) (omega arith) (c.put_u32.ensures.number ∙ c.number.ensures);
+      version = version;
       flags = number_at-kept s9 s4 0 24 20 4 _ k4 (omega arith) (omega arith) (c.put_u32-2.ensures.number ∙ c.from.ensures ∙ flag c.args.self.now.clean);
       geometry = record {
         block = number_at-kept s9 s5 0 28 24 4 _ k5 (omega arith) (omega arith) c.put_u32-3.ensures.number;
         cache_blocks = number_at-kept s9 s6 0 32 28 4 _ k6 (omega arith) (omega arith) c.put_u32-4.ensures.number;
         origin_blocks = number_at-kept s9 s7 0 36 32 4 _ k7 (omega arith) (omega arith) c.put_u32-5.ensures.number;
         meta_sectors = number_at-kept s9 s8 0 40 36 4 _ k8 (omega arith) (omega arith) c.put_u32-6.ensures.number;
+        version = version ∙ c.args.self.now.same_version;
       };
       top = c.put_u32-7.ensures.number ∙ c.number_of_top.ensures;
       rest = zero-kept s9 s0 44 512 r0 (zeros_all 512);

@@ -83,7 +83,7 @@ invariant_of-root g c =
       inside = c.requires.inside;
       are = c.requires.free;
     } in
-    record { top_inside = λ place top. planned-inside m geometry free can place (record { level = b.depth; index = 0; known = sym c.in_ok-top.ensures.place ∙ top }) }
+    record { same_version = refl; top_inside = λ place top. planned-inside m geometry free can place (record { level = b.depth; index = 0; known = sym c.in_ok-top.ensures.place ∙ top }) }
 
 pub returns-clause-image : goal.returns-clause-image
 returns-clause-image g c =
@@ -115,7 +115,7 @@ returns-clause-image g c =
     let written = written_is m geometry c.args.generation free nodes can ns c.in_ok-top.ensures.planned in
     image-alike m (planned m free) new _ _ alike used more
     (image-is m (planned m free) geometry c.args.generation c.args.clean free _ written complete.all (used-places (planned m free) geometry.cache_blocks (planned-sound m geometry free can) complete.once complete.few)
-    (planned-comes m free nodes ns c.in_ok-top.ensures.planned.places) (planned-more m c.args.generation free nodes ns c.in_ok-top.ensures.planned) refl refl refl refl top)
+    (planned-comes m free nodes ns c.in_ok-top.ensures.planned.places) (planned-more m c.args.generation free nodes ns c.in_ok-top.ensures.planned) refl refl refl top)
 
 pub returns-clause-inside : goal.returns-clause-inside
 returns-clause-inside g c =

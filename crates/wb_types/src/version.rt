@@ -10,10 +10,10 @@ pub enum Version {
 }
 
 impl Version {
-    ghost use Rattle.wb_format.specs.Layout.{version_number};
+    ghost use Rattle.wb_types.specs.Versions.{version_number};
 
     /// Its number in a root.
-    pub(crate) fn number(&self) -> u32
+    pub fn number(&self) -> u32
         ensures { result ≡ version_number self.now }
     {
         match self {
@@ -22,7 +22,7 @@ impl Version {
     }
 
     /// The version of a number, where there is one.
-    pub(crate) fn of(number: u32) -> Option<Version>
+    pub fn of(number: u32) -> Option<Version>
         ensures found { IfSome result (λ version. number ≡ version_number version) }
         ensures only { (version : Version) → number ≡ version_number version → result ≡ Some version }
     {

@@ -1,0 +1,7 @@
+-- The numbers by which roots name the versions of the metadata.
+use Rattle.std.specs.Prelude.{ℕ}
+use Rattle.wb_types.specs.declared.version.Version.{Version}
+use Rattle.wb_types.specs.declared.version.Version.TheVariants.{One}
+
+abbrev pub version_number : Version → ℕ
+version_number One = 1
