@@ -20,7 +20,7 @@ use Rattle.wb_devices.specs.declared.devices.Devices.{Devices}
 use Rattle.wb_promise.specs.States.{Shape, sector_count, cache_sector_count, block_size}
 use Rattle.wb_promise.specs.Headline.{place_of, content_of, shown_by}
 use Rattle.wb_link.specs.World.{Free as FreeThere, Mapped as MappedThere}
-use Rattle.wb_link.specs.Openings.{Site, Phase as PhaseThere, Stands as StandsThere, Opens as OpensThere, Learnt, Answering, Shown, Advances, Event, MayHappen, after_event, advance, opened_on, emptied}
+use Rattle.wb_link.specs.Openings.{Site, AbstractPhase as PhaseThere, Stands as StandsThere, Opens as OpensThere, Learnt, Answering, Shown, Advances, Event, MayHappen, after_event, advance, opened_on, emptied}
 use Rattle.wb_simulation.specs.Opened.{located}
 use Rattle.wb_simulation.specs.Worlds.{zeros}
 use Rattle.wb_simulation.proofs.Opened.{found_at}

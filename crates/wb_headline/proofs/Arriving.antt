@@ -3,9 +3,9 @@ use Rattle.std.proofs.Common.{◌≡◌, ◌≢◌, ◌∙◌, ℕ, Option, Some
 use Rattle.std.proofs.lemmas.List.{length-replicate, length-map}
 use Rattle.wb_types.specs.declared.mode.Mode.{Mode}
 use Rattle.wb_link.specs.Tables.{Script}
-use Rattle.wb_link.specs.World.{World, Shared, Actor as AbstractActor, resting as resting_there}
-use Rattle.wb_link.specs.Clerk.{Notes as AbstractNotes}
-use Rattle.wb_link.specs.Openings.{Site, Stage, Answering, Outcome, Shown, Event, On, Stopped, Begins, Advances, after_event, note_event, MayHappen, Yields, advance, advanced, next_phase, emptied, Phase as PhaseThere, Stands as StandsThere, Gone as GoneThere}
+use Rattle.wb_link.specs.World.{World, Shared, AbstractActor, abstract_resting as resting_there}
+use Rattle.wb_link.specs.Clerk.{AbstractNotes}
+use Rattle.wb_link.specs.Openings.{Site, Stage, Answering, Outcome, Shown, Event, On, Stopped, Begins, Advances, after_event, note_event, MayHappen, Yields, advance, advanced, next_phase, emptied, AbstractPhase as PhaseThere, Stands as StandsThere, Gone as GoneThere}
 use Rattle.wb_contents.proofs.Lists.{replicated}
 use Rattle.wb_promise.specs.Clerk.{Notes, Doing, nobody}
 use Rattle.wb_simulation.specs.Noting.{NotesAgree, IsNotedSo}

@@ -14,8 +14,8 @@ use Rattle.wb_runs.proofs.Using.{used_start}
 use Rattle.wb_runs.proofs.LinkedRuns.{links_start}
 use Rattle.wb_runs.proofs.InsideRuns.{PlanInside}
 use Rattle.wb_link.specs.Tables.{Script}
-use Rattle.wb_link.specs.World.{Actor as AbstractActor, resting as idle}
-use Rattle.wb_link.specs.Clerk.{opened}
+use Rattle.wb_link.specs.World.{AbstractActor, abstract_resting as idle}
+use Rattle.wb_link.specs.Clerk.{abstract_opened}
 use Rattle.wb_link.specs.Openings.{Site, Stopping, Stopped, site, after_event}
 use Rattle.wb_simulation.specs.Noting.{counts_by_block, IsNotedSo}
 use Rattle.wb_simulation.specs.Worlds.{zeros}
@@ -67,8 +67,8 @@ module _ (P A : Type 0) (shape : Shape) (metadata : List History) (f : IsFormatt
       known = none_readable shape.geometry metadata (formatted_none shape.geometry metadata f) sized;
       followed = record {
         site = begun;
-        notes = opened (λ b o. zeros);
-        reached = event_reaches (size P A shape) (many P A shape) first (opened (λ b o. zeros)) (Stopped crash) (start_reached (size P A shape) (many P A shape))
+        notes = abstract_opened (λ b o. zeros);
+        reached = event_reaches (size P A shape) (many P A shape) first (abstract_opened (λ b o. zeros)) (Stopped crash) (start_reached (size P A shape) (many P A shape))
             (record { root = λ e. absurd (cc); origin = λ b o. Contains-first zeros []; cache = λ k o. Contains-first zeros [] }) tt;
         as_many = length-replicate (length first.world.actors) idle ∙ length-replicate (many P A shape) idle;
         notes_agree = record {
@@ -77,7 +77,7 @@ module _ (P A : Type 0) (shape : Shape) (metadata : List History) (f : IsFormatt
           floors = λ i b o. nothing_counted (size P A shape) (sector_count shape) b o i;
           as_many = length-replicate (sector_count shape) 0 ∙ sym (length-replicate (sector_count shape) (only zeros));
           floors_as_many = length-replicate (sector_count shape) 0 ∙ sym (length-replicate (sector_count shape) (only zeros));
-          each = λ a y less e. subst (λ (t : Option Script). IsNotedSo (size P A shape) (length (formatted shape).histories) t (slice_get (formatted shape).doings a) a (opened (λ b o. zeros))) (sym (idle_there a y e)) tt;
+          each = λ a y less e. subst (λ (t : Option Script). IsNotedSo (size P A shape) (length (formatted shape).histories) t (slice_get (formatted shape).doings a) a (abstract_opened (λ b o. zeros))) (sym (idle_there a y e)) tt;
         };
         sized = record { actors_many = length-replicate shape.actors resting; doings_many = length-replicate shape.actors None; sectors = length-replicate (sector_count shape) (only zeros) };
         phase = record {

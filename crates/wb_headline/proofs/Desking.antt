@@ -20,7 +20,7 @@ use Rattle.wb_desk.specs.Commits.{commit_begun, commit_ended}
 use Rattle.wb_desk.specs.Entries.{entry_of, keeps, mapped, unmapped}
 use Rattle.wb_promise.specs.Headline.{cached_from, place_of}
 use Rattle.wb_runs.proofs.Located.{StandsAlone, alone_later, none_from}
-use Rattle.wb_link.specs.World.{Shared, Block as AbstractBlock, Mapped as MappedThere, Reserved as ReservedThere, begun, ended, given_back, removed}
+use Rattle.wb_link.specs.World.{Shared, Block as AbstractBlock, Mapped as MappedThere, Reserved as ReservedThere, block_begun as begun, block_ended as ended, block_given_back, removed}
 use Rattle.wb_simulation.specs.Opened.{located}
 use Rattle.wb_headline.specs.Desks.{block_there, DeskAgrees}
 
@@ -42,7 +42,7 @@ ended_there (Quarantined true false) = refl
 ended_there (Quarantined false true) = refl
 ended_there (Quarantined false false) = refl
 
-released_there : (b : Block) → block_there (block_released b) ≡ given_back (block_there b)
+released_there : (b : Block) → block_there (block_released b) ≡ block_given_back (block_there b)
 released_there Free = refl
 released_there Mapped = refl
 released_there Reserved = refl
@@ -198,12 +198,12 @@ module _ (P : Type 0) (desk : DeskState P) (s t : Shared) (g : DeskAgrees desk s
       }
 
   -- or it is given up
-  pub desk_releases : (c : CBlock) → c.0 < length desk.space.blocks → t.mapping ≡ s.mapping → t.blocks ≡ changed s.blocks c.0 (given_back (s.blocks c.0)) → DeskAgrees (released desk c) t
+  pub desk_releases : (c : CBlock) → c.0 < length desk.space.blocks → t.mapping ≡ s.mapping → t.blocks ≡ changed s.blocks c.0 (block_given_back (s.blocks c.0)) → DeskAgrees (released desk c) t
   desk_releases c l m k =
       let now = block_released (state desk.space.blocks c.0) in
       record {
         mapping = m ∙ g.mapping;
-        blocks = λ i. ap (λ (f : ℕ → AbstractBlock). f i) k ∙ one_turned desk.space.blocks (slice_set desk.space.blocks c.0 now) s.blocks c.0 (given_back (s.blocks c.0))
-            (ap given_back (g.blocks c.0) ∙ sym (released_there (state desk.space.blocks c.0)) ∙ sym (ap (λ (v : Block). block_there v) (get_or-set_same desk.space.blocks c.0 now Free l)))
+        blocks = λ i. ap (λ (f : ℕ → AbstractBlock). f i) k ∙ one_turned desk.space.blocks (slice_set desk.space.blocks c.0 now) s.blocks c.0 (block_given_back (s.blocks c.0))
+            (ap block_given_back (g.blocks c.0) ∙ sym (released_there (state desk.space.blocks c.0)) ∙ sym (ap (λ (v : Block). block_there v) (get_or-set_same desk.space.blocks c.0 now Free l)))
             (other_block desk.space.blocks c.0 now) g.blocks i;
       }

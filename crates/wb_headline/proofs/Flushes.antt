@@ -62,7 +62,7 @@ use Rattle.wb_runs.proofs.Images.{Images, later_of, one_image}
 use Rattle.wb_runs.proofs.Underway.{Underway, Readable, images_of, is_written, led_on, sync_does, sync_fails as commit_sync_fails, put_fails, IsPut}
 use Rattle.wb_runs.proofs.Metadata.{MetadataKept, AtDesk, Leading, Quiet, begins_over, ends_over, kept_readable}
 use Rattle.wb_link.specs.Tables.{Flushing as FlushingFor}
-use Rattle.wb_link.specs.World.{World, Shared, after_all}
+use Rattle.wb_link.specs.World.{World, Shared, abstract_after_all}
 use Rattle.wb_refines.specs.Flushes.{IsNoBegin, IsWrittenAfter}
 use Rattle.wb_simulation.specs.Actors.{IsFlushAt}
 use Rattle.wb_simulation.proofs.Followed.{doing_of}
@@ -170,7 +170,7 @@ module _ (P A : Type 0) (shape : Shape) (images : Images) (t : Target P) (commit
   noted_less = noted_within P A shape images t commit devices actors n known f a x ex
 
   quiet_notes : {turn : Turn} {words' : Words} {committing' : Bool} {orders' : List (Option Order)} {devices' : Devices (List History)} {y : Actor} (g : WorldFollowsBy turn Quietly a f.site.world (record (situation shape t devices' actors) { words = words'; committing = committing'; orders = orders' }) y) →
-      NotesAgree (size P A shape) n (after_all f.site.world g.records) (told f.notes g.records)
+      NotesAgree (size P A shape) n (abstract_after_all f.site.world g.records) (told f.notes g.records)
   quiet_notes {turn} {words'} {committing'} {orders'} {devices'} {y} g =
       let b = beside P A shape images t commit devices actors n known f a x ex in
       notes_followed.quiet turn a f.site.world _ _ g b.0 n f.notes b.1 noted_less f.notes_agree
@@ -179,11 +179,11 @@ module _ (P A : Type 0) (shape : Shape) (images : Images) (t : Target P) (commit
 
   module _ (turn : Turn) (step : DeviceStep) (got : Got) (contents : List Bytes) (t' : Target P) (commit' : Option RunningCommit) (devices' : Devices (List History)) (images' : Images) (plain : Rattle.wb_promise.specs.Effects.buffer_then devices x.buffer (Device step) got Flush ≡ x.buffer)
       (g : WorldFollowsBy turn Quietly a f.site.world (situation shape t' devices' actors) (after_step Flush plan got x)) where
-    device_notes : NotesAgree (size P A shape) (device_n step got) (after_all f.site.world g.records) (told f.notes g.records)
-    device_notes = let e = failing_same doing step got in notes_followed.redone (size P A shape) n (after_all f.site.world g.records) (told f.notes g.records) a doing (failing doing step got) (quiet_notes g) noted e.0 e.1
+    device_notes : NotesAgree (size P A shape) (device_n step got) (abstract_after_all f.site.world g.records) (told f.notes g.records)
+    device_notes = let e = failing_same doing step got in notes_followed.redone (size P A shape) n (abstract_after_all f.site.world g.records) (told f.notes g.records) a doing (failing doing step got) (quiet_notes g) noted e.0 e.1
 
-    on_device : AtDesk shape.geometry images' t'.desk commit' devices'.metadata → DeskAgrees t'.desk (after_all f.site.world g.records).shared → ImagesAgree shape.geometry images'.committed (later_of images') devices'.metadata (after_all f.site.world g.records).shared →
-        ((state : Stored) → images'.running ≡ Some state → (after_all f.site.world g.records).shared.running ≡ locations state) → Goes P A shape (then_is t' commit' devices' (Device step) got) (noted_step shape [] n a (Some (Some doing)) (Device step) got contents)
+    on_device : AtDesk shape.geometry images' t'.desk commit' devices'.metadata → DeskAgrees t'.desk (abstract_after_all f.site.world g.records).shared → ImagesAgree shape.geometry images'.committed (later_of images') devices'.metadata (abstract_after_all f.site.world g.records).shared →
+        ((state : Stored) → images'.running ≡ Some state → (abstract_after_all f.site.world g.records).shared.running ≡ locations state) → Goes P A shape (then_is t' commit' devices' (Device step) got) (noted_step shape [] n a (Some (Some doing)) (Device step) got contents)
     on_device known' desk images_agree running =
         subst (λ (q : Job). Goes P A shape (then_is t' commit' devices' (Device step) got) (device_note shape (device_n step got) a (failing doing step got) q step got contents)) (sym job_is)
         (subst (λ (y : Actor). Goes P A shape (record { devices = devices'; commit = commit'; phase = Stands t'; actors = slice_set actors a y }) (device_n step got)) (sym (actor_is P A shape (Stands t) devices x Flush plan (Device step) got xt ∙ (λ i. record (after_step Flush plan got x) { buffer = plain i })))
@@ -195,7 +195,7 @@ module _ (P A : Type 0) (shape : Shape) (images : Images) (t : Target P) (commit
         Goes P A shape (then_is t commit (with_device device devices list) (Device (Sync device)) got) (noted_step shape [] n a (Some (Some doing)) (Device (Sync device)) got contents)
     synced_so got list g =
         let known' = subst (λ (m : List History). AtDesk shape.geometry images t.desk commit m) (sym (data_device device holds devices list)) known in
-        let s' = (after_all f.site.world g.records).shared in
+        let s' = (abstract_after_all f.site.world g.records).shared in
         let readable = kept_readable shape.geometry images (with_device device devices list).metadata P A (Stands t) commit known' in
         on_device Stays (Sync device) got contents t commit (with_device device devices list) images refl g known' (desk_stays P t.desk s s' f.phase.desk t.desk refl refl g.desk.0 g.desk.1)
         (images_followed.stay shape.geometry images.committed (later_of images) devices.metadata (with_device device devices list).metadata s s' f.phase.images_agree g.turned readable.read) (λ state e. g.turned.1 ∙ f.phase.running state e)
@@ -239,7 +239,7 @@ module _ (P A : Type 0) (shape : Shape) (images : Images) (t : Target P) (commit
     put_done : Rattle.wb_promise.specs.Effects.buffer_then devices x.buffer (Device step) Done Flush ≡ x.buffer → DoesStep c.image c.steps devices.metadata new → Goes P A shape (then_is t (led commit Done) devices' (Device step) Done) (noted_step shape [] n a (Some (Some doing)) (Device step) Done contents)
     put_done plain does =
         let g = flush_steps_followed.on_metadata now step new a x plan f.site.world of_metadata (wants next) in
-        let s' = (after_all f.site.world g.records).shared in
+        let s' = (abstract_after_all f.site.world g.records).shared in
         let so = parts step coming s' g.desk g.turned in
         let u = led_on shape.geometry images c l.of devices.metadata new l.under does in
         let same : u.now.committed ≡ images.committed = ap (λ (i : Images). i.committed) u.kept.are ∙ committed_now in
@@ -261,7 +261,7 @@ module _ (P A : Type 0) (shape : Shape) (images : Images) (t : Target P) (commit
         let written = fails.0 in
         let g = fails.2 in
         let images' = images_of l.of (failed_written c.steps) in
-        let s' = (after_all f.site.world g.records).shared in
+        let s' = (abstract_after_all f.site.world g.records).shared in
         let readable = failed_read shape.geometry images c l.of devices.metadata new l.under bad in
         let there : s'.running ≡ locations l.of.new = g.turned.1 ∙ f.phase.running l.of.new running_now in
         subst (λ (m : Option RunningCommit). Goes P A shape (then_is t m devices' (Device step) Fault) (noted_step shape [] n a (Some (Some doing)) (Device step) Fault contents)) (sym (ap (λ (m : Option RunningCommit). led m Fault) runs))
@@ -293,7 +293,7 @@ module _ (P A : Type 0) (shape : Shape) (images : Images) (t : Target P) (commit
       quiet q k =
           let b = begins_over P shape.geometry images t.desk devices.metadata c tree k.is q steps begun in
           let g = flush_steps_followed.begins now nodes allowed clean a x plan f.site.world (wants next) idle in
-          let s' = (after_all f.site.world g.records).shared in
+          let s' = (abstract_after_all f.site.world g.records).shared in
           let t' : Target P = record { words = t.words; desk = commit_begun t.desk tree } in
           let y = after_step Flush plan (Began nodes) x in
           let l = b.kept.0.stands in
@@ -325,7 +325,7 @@ module _ (P A : Type 0) (shape : Shape) (images : Images) (t : Target P) (commit
       let k = subst (λ (m : Option RunningCommit). AtDesk shape.geometry images t.desk m devices.metadata) runs known in
       let e = ends_over P shape.geometry images t.desk devices.metadata c k done in
       let g = flush_steps_followed.ends now a x plan f.site.world (wants next) in
-      let s' = (after_all f.site.world g.records).shared in
+      let s' = (abstract_after_all f.site.world g.records).shared in
       let y = after_step Flush plan Done x in
       let after = commit_ended t.desk in
       let is : ended t.desk ≡ after = ap (λ (v : Bool). if v then after else t.desk) k.stands.busy in
@@ -369,7 +369,7 @@ module _ (P A : Type 0) (shape : Shape) (images : Images) (t : Target P) (commit
 
       finish : (v : Answer) (y : Actor) → record { task = None; card = x.card; orders = orders_then x.orders x.awaiting Flush (End v) Done; awaiting = awaiting_then x.orders x.awaiting Flush (End v) Done; buffer = x.buffer } ≡ y →
           (n' : Notes) (g : WorldFollows (Answers (FlushingFor None) v) a f.site.world now y) →
-          NotesAgree (size P A shape) n' (after_all f.site.world g.records) (told f.notes g.records) → length n'.doings ≡ length n.doings → length n'.histories ≡ length n.histories → Goes P A shape (then_is t commit devices (End v) Done) n'
+          NotesAgree (size P A shape) n' (abstract_after_all f.site.world g.records) (told f.notes g.records) → length n'.doings ≡ length n.doings → length n'.histories ≡ length n.histories → Goes P A shape (then_is t commit devices (End v) Done) n'
       finish v y same n' g notes d h =
           subst (λ (y : Actor). Goes P A shape (record { devices = devices; commit = commit; phase = Stands t; actors = slice_set actors a y }) n') (sym (actor_is P A shape (Stands t) devices x Flush plan (End v) Done xt ∙ same))
           (stays_on P A shape images t commit devices actors n known f a x ex (Answers (FlushingFor None) v) t.words devices y n' g tt notes d h refl)
@@ -418,7 +418,7 @@ module _ (P A : Type 0) (shape : Shape) (images : Images) (t : Target P) (commit
           let b = beside P A shape images t commit devices actors n known f a x ex in
           let g = flush_steps_followed.gives_up now block a x plan l.cache.0 order (dropped block x.awaiting) f.site.world (wants next) here
           (λ c z ez h. owned.one c a z x order ez ex h had) in
-          let s' = (after_all f.site.world g.records).shared in
+          let s' = (abstract_after_all f.site.world g.records).shared in
           let readable = kept_readable shape.geometry images devices.metadata P A (Stands t) commit known in
           subst To (sym is) (leads_on P A shape images t commit devices actors n known f a x ex (GivesUp l.cache.0) Releases (record { words = t.words; desk = released t.desk l.cache }) commit devices y n images (slice_set (live_orders t.desk) l.cache.0 None) g tt
           (notes_followed.released (GivesUp l.cache.0) a f.site.world _ _ g b.0 n f.notes b.1 noted_less f.notes_agree)

@@ -22,9 +22,9 @@ use Rattle.wb_promise.specs.States.{Shape, State, Actor, Target, Phase, Stands, 
 use Rattle.wb_promise.specs.Clerk.{Notes}
 use Rattle.wb_runs.proofs.Images.{Images, later_of, IsFitToo}
 use Rattle.wb_runs.proofs.Metadata.{MetadataKept}
-use Rattle.wb_link.specs.World.{Actor as AbstractActor}
-use Rattle.wb_link.specs.Clerk.{Notes as AbstractNotes}
-use Rattle.wb_link.specs.Openings.{Site, Phase as PhaseThere, Stands as StandsThere, Gone as GoneThere, Opens as OpensThere, Learnt, Stage, Settling, Caching, Basing, Looking, Rooting, Renewing, Answering}
+use Rattle.wb_link.specs.World.{AbstractActor}
+use Rattle.wb_link.specs.Clerk.{AbstractNotes}
+use Rattle.wb_link.specs.Openings.{Site, AbstractPhase as PhaseThere, Stands as StandsThere, Gone as GoneThere, Opens as OpensThere, Learnt, Stage, Settling, Caching, Basing, Looking, Rooting, Renewing, Answering}
 use Rattle.wb_simulation.specs.Opened.{located}
 use Rattle.wb_simulation.specs.Noting.{NotesAgree}
 use Rattle.wb_simulation.specs.Sites.{ImagesAgree, DevicesAgree, locations}

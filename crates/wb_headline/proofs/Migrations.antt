@@ -35,7 +35,7 @@ use Rattle.wb_runs.specs.Holding.{cards_of, TaskSuits}
 use Rattle.wb_promise.specs.Clerk.{Notes, Doing, noted_step, device_note, finished_note, failing, put}
 use Rattle.wb_runs.proofs.Images.{Images, later_of}
 use Rattle.wb_runs.proofs.Metadata.{MetadataKept, AtDesk, unknowing, kept_readable}
-use Rattle.wb_link.specs.World.{after_all, Shared, removed}
+use Rattle.wb_link.specs.World.{abstract_after_all, Shared, removed}
 use Rattle.wb_simulation.specs.Noting.{NotesAgree}
 use Rattle.wb_simulation.specs.Noted.{told}
 use Rattle.wb_simulation.specs.Telling.{Carries, Rests}
@@ -107,7 +107,7 @@ module _ (P A : Type 0) (shape : Shape) (images : Images) (t : Target P) (commit
 
   -- a migration's steps are not noted
   pub carried_notes : {turn : Turn} {words' : Words} {committing' : Bool} {orders' : List (Option Order)} {devices' : Devices (List History)} {y : Actor} (g : WorldFollowsBy turn Carries a f.site.world (record (situation shape t devices' actors) { words = words'; committing = committing'; orders = orders' }) y) →
-      NotesAgree (size P A shape) n (after_all f.site.world g.records) (told f.notes g.records)
+      NotesAgree (size P A shape) n (abstract_after_all f.site.world g.records) (told f.notes g.records)
   carried_notes {turn} {words'} {committing'} {orders'} {devices'} {y} g =
       let b = beside P A shape images t commit devices actors n known f a x ex in
       notes_followed.carries turn a f.site.world _ _ g b.0 n f.notes b.1 noted_less f.notes_agree
@@ -137,7 +137,7 @@ module _ (P A : Type 0) (shape : Shape) (images : Images) (t : Target P) (commit
       on_device same =
           let mid = failing doing step got in
           let e = failing_same doing step got in
-          let notes = notes_followed.redone (size P A shape) n (after_all f.site.world g.records) (told f.notes g.records) a doing mid (carried_notes g) noted e.0 e.1 in
+          let notes = notes_followed.redone (size P A shape) n (abstract_after_all f.site.world g.records) (told f.notes g.records) a doing mid (carried_notes g) noted e.0 e.1 in
           subst (λ (q : Job). Goes P A shape (record { devices = devices'; commit = commit; phase = Stands t; actors = slice_set actors a (actor_then {P = P} {A = A} shape (Stands t) devices x (Device step) got) }) (device_note shape (put n a (Some mid)) a mid q step got contents)) (sym job_is)
           (subst (λ (v : Actor). Goes P A shape (record { devices = devices'; commit = commit; phase = Stands t; actors = slice_set actors a v }) (put n a (Some mid))) (sym is)
           (stays_on P A shape images t commit devices actors n known f a x ex Carries t.words devices' y (put n a (Some mid)) g tt notes (length-set n.doings a (Some mid)) refl same))
@@ -262,11 +262,11 @@ module _ (P A : Type 0) (shape : Shape) (t : Target P) (commit : Option RunningC
 
   -- the desk and its orders turn, and whatever is read of the metadata stays
   goes_to : (turn : Turn) (desk' : DeskState P) (y : Actor) (next : Want) (orders' : List (Option Order)) → actor_then {P = P} {A = A} shape (Stands t) devices x next Done ≡ y →
-      (g : WorldFollowsBy turn Carries a f.site.world (record now_at_desk { committing = desk'.space.committing; orders = orders' }) y) → (TurnedTo turn s (after_all f.site.world g.records).shared → TurnedTo Stays s (after_all f.site.world g.records).shared) →
-      AtDesk shape.geometry b.goes.images desk' commit devices.metadata → orders' ≡ live_orders desk' → DeskAgrees desk' (after_all f.site.world g.records).shared →
+      (g : WorldFollowsBy turn Carries a f.site.world (record now_at_desk { committing = desk'.space.committing; orders = orders' }) y) → (TurnedTo turn s (abstract_after_all f.site.world g.records).shared → TurnedTo Stays s (abstract_after_all f.site.world g.records).shared) →
+      AtDesk shape.geometry b.goes.images desk' commit devices.metadata → orders' ≡ live_orders desk' → DeskAgrees desk' (abstract_after_all f.site.world g.records).shared →
       Goes P A shape (record { devices = devices; commit = commit; phase = Stands (record { words = t.words; desk = desk' }); actors = slice_set actors a (actor_then {P = P} {A = A} shape (Stands t) devices x next Done) }) n
   goes_to turn desk' y next orders' is g stays known' same desk =
-      let s' = (after_all f.site.world g.records).shared in
+      let s' = (abstract_after_all f.site.world g.records).shared in
       let turned = stays g.turned in
       let readable = kept_readable shape.geometry b.goes.images devices.metadata P A (Stands t) commit b.goes.known in
       subst (λ (v : Actor). Goes P A shape (record { devices = devices; commit = commit; phase = Stands (record { words = t.words; desk = desk' }); actors = slice_set actors a v }) n) (sym is)
@@ -287,7 +287,7 @@ module _ (P A : Type 0) (shape : Shape) (t : Target P) (commit : Option RunningC
       let room = slice_get_within t.desk.space.blocks c.0 Reserved may.reserved in
       goes_to (Maps bl.0 c.0) desk' (then_actor bl x.awaiting) (Desk (Map bl c)) (slice_set slots c.0 None) (actor_is P A shape (Stands t) devices x job plan (Desk (Map bl c)) Done xt) g (λ d. d)
       (mapped_stands P shape.geometry b.goes.images t.desk commit devices.metadata bl c tree policy b.goes.known may changed) (sym (orders_set t.desk.orders.slots c.0 None))
-      (desk_maps P t.desk s (after_all f.site.world g.records).shared f.phase.desk bl c tree policy room (let l = en.inside in let m = kept.mapping.size in omega (arith, l, m)) (unmapped_there P t.desk kept bl.0 en.unmapped) en.none changed g.desk.0 g.desk.1)
+      (desk_maps P t.desk s (abstract_after_all f.site.world g.records).shared f.phase.desk bl c tree policy room (let l = en.inside in let m = kept.mapping.size in omega (arith, l, m)) (unmapped_there P t.desk kept bl.0 en.unmapped) en.none changed g.desk.0 g.desk.1)
 
   -- one that was demoted leaves, or one that another is to follow
   module _ (bl : OBlock) (read : List Bytes) (new : DeskState P) (did : DidUnmap (λ policy o. new.policy) bl t.desk new) (same : bl ≡ block) where
@@ -308,7 +308,7 @@ module _ (P A : Type 0) (shape : Shape) (t : Target P) (commit : Option RunningC
           (goes_to (Unmaps bl.0 c after_it) desk' away (Desk (Unmap bl)) orders' (actor_is P A shape (Stands t) devices x job plan (Desk (Unmap bl)) Done xt) g (λ d. d)
           (subst (λ (k : DeskState P). AtDesk shape.geometry b.goes.images k commit devices.metadata) gone.1 (unmapped_stands P shape.geometry b.goes.images t.desk commit devices.metadata bl new b.goes.known did))
           (orders_are ∙ ap (λ (os : Orders). orders_of os.slots) (sym (past P t.desk kept actors are owned a x ex parted bl c o live mine removes at of v r)))
-          (desk_unmaps P t.desk s (after_all f.site.world g.records).shared f.phase.desk bl.0 (record { 0 = c }) alone.0 new.tree new.policy after_it
+          (desk_unmaps P t.desk s (abstract_after_all f.site.world g.records).shared f.phase.desk bl.0 (record { 0 = c }) alone.0 new.tree new.policy after_it
           (ap (λ (k : Bool). block_there (Quarantined k false)) (keeps_so P t.desk kept actors are owned a x ex parted bl c o live mine removes at of v r) ∙ there) room alone.1 gone.0 g.desk.0 g.desk.1))
 
   unmaps_on : (bl : OBlock) (read : List Bytes) (new : DeskState P) → Desk (Unmap bl) ≡ want plan → DidUnmap (λ policy o. new.policy) bl t.desk new → To (Desk (Unmap bl)) Done read (Asks new)
@@ -350,7 +350,7 @@ module _ (P A : Type 0) (shape : Shape) (t : Target P) (commit : Option RunningC
           subst (λ (k : DeskState P). To (Desk (ReleaseOrder bl)) Done read (Asks k)) (sym is)
           (goes_to (GivesUp c) (released t.desk (record { 0 = c })) (then_actor bl x.awaiting) (Desk (ReleaseOrder bl)) (slice_set slots c None) (actor_is P A shape (Stands t) devices x job plan (Desk (ReleaseOrder bl)) Done xt) g (λ v. v)
           (subst (λ (k : DeskState P). AtDesk shape.geometry b.goes.images k commit devices.metadata) is (released_for P shape.geometry b.goes.images t.desk commit devices.metadata new (order_found bl x.orders) b.goes.known d))
-          (sym (orders_set t.desk.orders.slots c None)) (desk_releases P t.desk s (after_all f.site.world g.records).shared f.phase.desk (record { 0 = c }) (omega (arith, inside, at, many_slots, many_blocks)) g.desk.0 g.desk.1))
+          (sym (orders_set t.desk.orders.slots c None)) (desk_releases P t.desk s (abstract_after_all f.site.world g.records).shared f.phase.desk (record { 0 = c }) (omega (arith, inside, at, many_slots, many_blocks)) g.desk.0 g.desk.1))
 
   -- any step that is done or refused
   pub any_step : (next : Want) (got : Got) (read : List Bytes) (chosen : Chosen P A) → next ≡ want plan → Gives shape w x job next got read chosen → To next got read chosen

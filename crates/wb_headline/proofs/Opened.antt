@@ -37,8 +37,8 @@ use Rattle.wb_promise.specs.Headline.{place_of, shown_by, ShowsAllowed, shown, s
 use Rattle.wb_runs.proofs.Images.{Images, later_of}
 use Rattle.wb_runs.proofs.Metadata.{MetadataKept, AtDesk, AtOpening, Quiet, Rooting as RootingKept, kept_readable, target_stands}
 use Rattle.wb_runs.proofs.Linking.{IsTask, AtPhase}
-use Rattle.wb_link.specs.World.{World, Shared, Actor as AbstractActor, resting as idle}
-use Rattle.wb_link.specs.Clerk.{opened as opened_notes}
+use Rattle.wb_link.specs.World.{World, Shared, AbstractActor, abstract_resting as idle}
+use Rattle.wb_link.specs.Clerk.{abstract_opened as opened_notes}
 use Rattle.wb_link.specs.Openings.{Site, Gone as GoneThere, Opens as OpensThere, Learnt, Answering, opened_on, Stage, Settling, Caching, Basing, Looking, Rooting, Renewing}
 use Rattle.wb_simulation.specs.Opened.{located}
 use Rattle.wb_simulation.specs.Sites.{DevicesAgree, IsRunning}

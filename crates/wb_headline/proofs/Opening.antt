@@ -39,7 +39,7 @@ use Rattle.wb_runs.proofs.Underway.{Readable, Found, partly_readable}
 use Rattle.wb_runs.proofs.Metadata.{MetadataKept, HasReached, AtOpening, Rooting as RootingKept, kept_readable, root_begins}
 use Rattle.wb_runs.proofs.Linking.{IsTask, AtPhase}
 use Rattle.wb_link.specs.World.{Shared}
-use Rattle.wb_link.specs.Openings.{Phase as PhaseThere, Stands as StandsThere, Gone as GoneThere, Opens as OpensThere, Learnt, Stage, Settling, Caching, Basing, Looking, Rooting, Renewing, Answering, Learns, Advances, advance}
+use Rattle.wb_link.specs.Openings.{AbstractPhase as PhaseThere, Stands as StandsThere, Gone as GoneThere, Opens as OpensThere, Learnt, Stage, Settling, Caching, Basing, Looking, Rooting, Renewing, Answering, Learns, Advances, advance}
 use Rattle.wb_simulation.specs.Opened.{located}
 use Rattle.wb_simulation.specs.Sites.{ImagesAgree, DevicesAgree, LeadsTo, locations}
 use Rattle.wb_simulation.proofs.Opening.{openings_followed}

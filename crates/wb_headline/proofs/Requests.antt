@@ -39,7 +39,7 @@ use Rattle.wb_runs.proofs.Images.{Images}
 use Rattle.wb_runs.proofs.Metadata.{MetadataKept}
 use Rattle.wb_runs.proofs.Extents.{may_start, some_sectors}
 use Rattle.wb_runs.proofs.Claims.{JobClaim}
-use Rattle.wb_link.specs.World.{after_all}
+use Rattle.wb_link.specs.World.{abstract_after_all}
 use Rattle.wb_refines.specs.Translation.{job_for}
 use Rattle.wb_simulation.specs.Noting.{NotesAgree}
 use Rattle.wb_simulation.specs.Noted.{told, AreNewest}
@@ -121,7 +121,7 @@ module _ (P A : Type 0) (shape : Shape) (images : Images) (t : Target P) (commit
         let g = read_follows contents many gives in
         let b = beside P A shape images t commit devices actors n known f a x ex in
         let doing2 : Doing = record doing { readings = doing.readings ++ readings_from n.histories (sector_for shape extent e) contents } in
-        let s' = after_all f.site.world g.records in
+        let s' = abstract_after_all f.site.world g.records in
         let m' = told f.notes g.records in
         let once = notes_followed.read part.block.0 (e.first % size P A shape) contents Stays a f.site.world _ _ g b.0 n f.notes b.1 (noted_within P A shape images t commit devices actors n known f a x ex) f.notes_agree in
         let first = notes_followed.redone (size P A shape) n s' m' a doing doing once noted refl refl in
@@ -139,7 +139,7 @@ module _ (P A : Type 0) (shape : Shape) (images : Images) (t : Target P) (commit
         let g = extent_steps_followed.read_fails (situation shape t devices actors) shape.geometry.origin_blocks a x extent part plan device e f.site.world (record { here = ex; task = xt; asks = sym next; agrees = f.phase.agrees }) claim.is_job suits holds in
         let b = beside P A shape images t commit devices actors n known f a x ex in
         let mid = failing doing (ReadExtent device e) Fault in
-        let s' = after_all f.site.world g.records in
+        let s' = abstract_after_all f.site.world g.records in
         let m' = told f.notes g.records in
         let once = notes_followed.quiet Stays a f.site.world _ _ g b.0 n f.notes b.1 (noted_within P A shape images t commit devices actors n known f a x ex) f.notes_agree in
         let first = notes_followed.redone (size P A shape) n s' m' a doing mid once noted refl refl in
@@ -229,7 +229,7 @@ module _ (P A : Type 0) (shape : Shape) (images : Images) (t : Target P) (commit
     Answered n' = Goes P A shape (record { devices = devices; commit = commit; phase = Stands (record { words = t.words; desk = t.desk }); actors = slice_set actors a (actor_then {P = P} {A = A} shape (Stands t) devices x (End answer) Done) }) n'
 
     answered_with : (there : Answer) (of : Rattle.wb_link.specs.Tables.Job) (n' : Notes) → length n'.doings ≡ length n.doings → length n'.histories ≡ length n.histories → (g : WorldFollows (Answers of there) a f.site.world (situation shape t devices actors) (record x { task = None })) →
-        NotesAgree (size P A shape) n' (after_all f.site.world g.records) (told f.notes g.records) → Answered n'
+        NotesAgree (size P A shape) n' (abstract_after_all f.site.world g.records) (told f.notes g.records) → Answered n'
     answered_with there of n' d h g notes =
         subst (λ (y : Actor). Goes P A shape (record { devices = devices; commit = commit; phase = Stands (record { words = t.words; desk = t.desk }); actors = slice_set actors a y }) n') (sym (actor_is P A shape (Stands t) devices x job plan (End answer) Done xt ∙ (λ i. record { task = None; card = x.card; orders = orders_still x.orders x.awaiting job answer request i; awaiting = awaiting_still x.orders x.awaiting job answer request i; buffer = x.buffer })))
         (stays_on P A shape images t commit devices actors n known f a x ex (Answers of there) t.words devices (record x { task = None }) n' g tt notes d h refl)

@@ -18,7 +18,7 @@ use Rattle.wb_devices.specs.declared.devices.Devices.{Devices}
 use Rattle.wb_promise.specs.States.{Shape, sector_count, cache_sector_count, block_size, State}
 use Rattle.wb_promise.specs.Clerk.{Notes}
 use Rattle.wb_promise.specs.Headline.{place_of, content_of, shown_by, IsAllowed, IsAllowedAt, ShowsAllowed, ShowsOpened, CrashConsistent}
-use Rattle.wb_link.specs.Clerk.{Notes as AbstractNotes}
+use Rattle.wb_link.specs.Clerk.{AbstractNotes}
 use Rattle.wb_simulation.specs.Noting.{counts_by_block}
 use Rattle.wb_simulation.specs.Worlds.{zeros}
 use Rattle.wb_simulation.proofs.Opened.{found_at}

@@ -26,7 +26,7 @@ use Rattle.wb_runs.proofs.Metadata.{MetadataKept, kept_readable, unknowing}
 use Rattle.wb_runs.proofs.Extents.{AllWithin, MayStart, may_start, some_sectors, cut_within, cut_of_block}
 use Rattle.wb_runs.proofs.Lists.{rests}
 use Rattle.wb_link.specs.Tables.{Job as AbstractJob, Flushing as FlushingFor}
-use Rattle.wb_link.specs.World.{World, after_all, job_alone, Shared, Mapped as MappedThere, Names as NamesThere}
+use Rattle.wb_link.specs.World.{World, abstract_after_all, job_alone, Shared, Mapped as MappedThere, NamesBlock as NamesThere}
 use Rattle.wb_link.specs.Openings.{Opens as OpensThere, Settling, MayOpen}
 use Rattle.wb_refines.specs.Translation.{job_for}
 use Rattle.wb_simulation.specs.Actors.{IsBusyAt}
@@ -283,7 +283,7 @@ module _ (P A : Type 0) (shape : Shape) (t : Target P) (commit : Option RunningC
 
     -- it is noted to be at its job, while nobody is told of it there
     notes_then : (turn : Turn) (orders' : List (Option Order)) (y : Actor) (h : WorldFollowsBy turn Resumes a g.site.world (record (situation shape t devices actors) { orders = orders' }) y) → y.task ≡ Some (begun_job, begun_plan) →
-        NotesAgree (size P A shape) n' (after_all g.site.world h.records) (told g.notes h.records)
+        NotesAgree (size P A shape) n' (abstract_after_all g.site.world h.records) (told g.notes h.records)
     notes_then turn orders' y h task =
         let at_it = beside P A shape b.goes.images t commit devices actors n b.goes.known g a x ex in
         let was = there n.doings a (noted_within P A shape b.goes.images t commit devices actors n b.goes.known g a x ex) in
@@ -300,7 +300,7 @@ module _ (P A : Type 0) (shape : Shape) (t : Target P) (commit : Option RunningC
         let less = slice_get_within t.desk.orders.slots c.0 None may.give.vacant in
         let h = migrations_followed.starts (situation shape t devices actors) a x migration block c next o cut g.site.world ex xt holds some (small c.0 less) cuts
         (vacant_there t.desk.orders.slots c.0 may.give.vacant) of there (ungiven o block c next may named_by) waits given_there g.phase.agrees in
-        let s' = (after_all g.site.world h.records).shared in
+        let s' = (abstract_after_all g.site.world h.records).shared in
         let turned = images_stay migration c.0 s s' h.turned in
         let readable = kept_readable shape.geometry b.goes.images devices.metadata P A (Stands t) commit b.goes.known in
         leads_on P A shape b.goes.images t commit devices actors n b.goes.known g a x ex (given_by migration c.0) Resumes (record { words = t.words; desk = desk' }) commit devices y n' b.goes.images (slice_set slots_now c.0 (Some o)) h tt

@@ -19,8 +19,8 @@ use Rattle.wb_promise.specs.Effects.{actor_then, task_then, card_then, orders_th
 use Rattle.wb_promise.specs.Clerk.{Notes, Doing, failing}
 use Rattle.wb_runs.proofs.Images.{Images, later_of}
 use Rattle.wb_runs.proofs.Metadata.{MetadataKept, AtDesk, kept_readable}
-use Rattle.wb_link.specs.Tables.{Flag, table, Script, Order as AbstractOrder, Job as AbstractJob, Promoting, Returning, want}
-use Rattle.wb_link.specs.World.{World, Record, Start, Again, Step, Release, release_order, Actor as AbstractActor, after_all, after_record, start_actor, again_actor, step_actor, step_task, actor_after, given, job_alone}
+use Rattle.wb_link.specs.Tables.{Flag, abstract_table, Script, Order as AbstractOrder, Job as AbstractJob, Promoting, Returning, abstract_want}
+use Rattle.wb_link.specs.World.{World, Record, Start, Again, Step, Release, release_order, AbstractActor, abstract_after_all, after_record, start_actor, again_actor, step_actor, step_task, actor_after, abstract_given, job_alone}
 use Rattle.wb_simulation.specs.Noting.{NotesAgree}
 use Rattle.wb_simulation.specs.Noted.{told}
 use Rattle.wb_simulation.specs.Sites.{ImagesAgree, locations}
@@ -52,7 +52,7 @@ migrating_plain job m = absurd m
 resumed_plain : (a : ℕ) (task : Option Script) (rs : List Record) → IsResumed a task rs → ArePlainRecords rs
 resumed_plain a task rs (Given job i e) = subst ArePlainRecords (sym e) (migrating_plain job i, tt)
 resumed_plain a task rs (Kept job i e) = subst ArePlainRecords (sym e) (migrating_plain job i, tt)
-resumed_plain a task rs (Failing job i none e) = subst ArePlainRecords (sym e) (migrating_plain job i, steps_plain a (Some (table job)) (Flag true ∷ Rattle.wb_link.specs.Tables.Done ∷ []))
+resumed_plain a task rs (Failing job i none e) = subst ArePlainRecords (sym e) (migrating_plain job i, steps_plain a (Some (abstract_table job)) (Flag true ∷ Rattle.wb_link.specs.Tables.Done ∷ []))
 resumed_plain a task rs (Nowhere none e) = subst ArePlainRecords (sym e) tt
 
 told_plain : (telling : Telling) (a : ℕ) (task : Option Script) (rs : List Record) → IsPlainTelling telling → IsTold telling a task rs → ArePlainRecords rs
@@ -99,17 +99,17 @@ many_stay s (Start a job) = by (slice_get s.actors a)
   where
     by : (o : Option AbstractActor) → length (start_actor s a o job).actors ≡ length s.actors
     by None = refl
-    by (Some y) = length-set s.actors a (given y job)
+    by (Some y) = length-set s.actors a (abstract_given y job)
 many_stay s (Again a job) = by (slice_get s.actors a)
   where
     by : (o : Option AbstractActor) → length (again_actor s a o job).actors ≡ length s.actors
     by None = refl
-    by (Some y) = length-set s.actors a (given y job)
+    by (Some y) = length-set s.actors a (abstract_given y job)
 many_stay s (Step a next got) = by (slice_get s.actors a)
   where
     by_task : (y : AbstractActor) (task : Option Script) → length (step_task s a y task got).actors ≡ length s.actors
     by_task y None = refl
-    by_task y (Some script) = length-set s.actors a (actor_after y script (want script) got)
+    by_task y (Some script) = length-set s.actors a (actor_after y script (abstract_want script) got)
 
     by : (o : Option AbstractActor) → length (step_actor s a o got).actors ≡ length s.actors
     by None = refl
@@ -120,7 +120,7 @@ many_stay s (Release k) = by (s.waiting k)
     by None = refl
     by (Some p) = refl
 
-all_stay : (s : World) (rs : List Record) → length (after_all s rs).actors ≡ length s.actors
+all_stay : (s : World) (rs : List Record) → length (abstract_after_all s rs).actors ≡ length s.actors
 all_stay s [] = refl
 all_stay s (r ∷ rs) = all_stay (after_record s r) rs ∙ many_stay s r
 
@@ -145,10 +145,10 @@ module _ (P A : Type 0) (shape : Shape) (images : Images) (t : Target P) (commit
 
     -- the state that it leads to
     pub leads_on : (turn : Turn) (telling : Telling) (t' : Target P) (commit' : Option RunningCommit) (devices' : Devices (List History)) (y : Actor) (n' : Notes) (images' : Images) (orders' : List (Option Order))
-        (g : WorldFollowsBy turn telling a f.site.world (record (situation shape t' devices' actors) { orders = orders' }) y) → IsPlainTelling telling → NotesAgree (size P A shape) n' (after_all f.site.world g.records) (told f.notes g.records) → length n'.doings ≡ length n.doings → length n'.histories ≡ length n.histories →
+        (g : WorldFollowsBy turn telling a f.site.world (record (situation shape t' devices' actors) { orders = orders' }) y) → IsPlainTelling telling → NotesAgree (size P A shape) n' (abstract_after_all f.site.world g.records) (told f.notes g.records) → length n'.doings ≡ length n.doings → length n'.histories ≡ length n.histories →
         AtDesk shape.geometry images' t'.desk commit' devices'.metadata → orders' ≡ live_orders t'.desk →
-        DeskAgrees t'.desk (after_all f.site.world g.records).shared → ImagesAgree shape.geometry images'.committed (later_of images') devices'.metadata (after_all f.site.world g.records).shared →
-        ((state : Stored) → images'.running ≡ Some state → (after_all f.site.world g.records).shared.running ≡ locations state) → Goes P A shape (record { devices = devices'; commit = commit'; phase = Stands t'; actors = slice_set actors a y }) n'
+        DeskAgrees t'.desk (abstract_after_all f.site.world g.records).shared → ImagesAgree shape.geometry images'.committed (later_of images') devices'.metadata (abstract_after_all f.site.world g.records).shared →
+        ((state : Stored) → images'.running ≡ Some state → (abstract_after_all f.site.world g.records).shared.running ≡ locations state) → Goes P A shape (record { devices = devices'; commit = commit'; phase = Stands t'; actors = slice_set actors a y }) n'
     leads_on turn telling t' commit' devices' y n' images' orders' g plain notes d h known' same desk images_agree running = record {
       images = images';
       known = known';
@@ -161,7 +161,7 @@ module _ (P A : Type 0) (shape : Shape) (images : Images) (t : Target P) (commit
         sized = record { actors_many = length-set actors a y ∙ f.sized.actors_many; doings_many = d ∙ f.sized.doings_many; sectors = h ∙ f.sized.sectors };
         phase = record {
           phase_is = f.phase.phase_is;
-          agrees = subst (λ (os : List (Option Order)). Agrees (record (situation shape t' devices' (slice_set actors a y)) { orders = os }) (after_all f.site.world g.records)) same g.agrees;
+          agrees = subst (λ (os : List (Option Order)). Agrees (record (situation shape t' devices' (slice_set actors a y)) { orders = os }) (abstract_after_all f.site.world g.records)) same g.agrees;
           desk = desk;
           images_agree = images_agree;
           running = running;
@@ -172,11 +172,11 @@ module _ (P A : Type 0) (shape : Shape) (images : Images) (t : Target P) (commit
     -- where nothing comes of the desk, the images and the metadata
     pub stays_on : (telling : Telling) (words' : Words) (devices' : Devices (List History)) (y : Actor) (n' : Notes)
         (g : WorldFollows telling a f.site.world (record (situation shape t devices' actors) { words = words' }) y) → IsPlainTelling telling →
-        NotesAgree (size P A shape) n' (after_all f.site.world g.records) (told f.notes g.records) → length n'.doings ≡ length n.doings → length n'.histories ≡ length n.histories → devices'.metadata ≡ devices.metadata →
+        NotesAgree (size P A shape) n' (abstract_after_all f.site.world g.records) (told f.notes g.records) → length n'.doings ≡ length n.doings → length n'.histories ≡ length n.histories → devices'.metadata ≡ devices.metadata →
         Goes P A shape (record { devices = devices'; commit = commit; phase = Stands (record { words = words'; desk = t.desk }); actors = slice_set actors a y }) n'
     stays_on telling words' devices' y n' g plain notes d h same =
         let s = f.site.world.shared in
-        let s' = (after_all f.site.world g.records).shared in
+        let s' = (abstract_after_all f.site.world g.records).shared in
         let known' = subst (λ (m : List History). AtDesk shape.geometry images t.desk commit m) (sym same) known in
         let readable = kept_readable shape.geometry images devices'.metadata P A (Stands t) commit known' in
         leads_on Stays telling (record { words = words'; desk = t.desk }) commit devices' y n' images (live_orders t.desk) g plain notes d h known' refl

@@ -5,30 +5,30 @@ use Rattle.wb_disk.specs.Device.{Content}
 use Rattle.wb_contents.specs.Volume.{Volume, changed}
 use Rattle.wb_contents.specs.Conditions.{IsUnnamed}
 use Rattle.wb_contents.proofs.Positions.{changed_same, changed_other}
-use Rattle.wb_link.specs.Tables.{Order, Job, Suspending, Answer, Finished, Want, Share, Own, Leave, Disown, Read_all, Write_all, Begin, Begin_clean, Sync_cache_device, Sync_origin_device, End_running, Map_to, Unmap_from, Unmap_plain, Give_up, End, Got, Done, Flag, Fault, Script, after, after_fault, after_flag, want}
-use Rattle.wb_link.specs.World.{Block, Mapped, Reserved, Retained, removed, following, Names, Apart, Shared, Held, Nothing, Shares, Owns, Actor, effect, held_after, order_after, leads_after, task_after, actor_after, is_alone, job_alone, drops, job_drops, Gives}
+use Rattle.wb_link.specs.Tables.{Order, Job, Suspending, Answer, Finished, Want, Share, Own, Leave, Disown, Read_all, Write_all, Begin, Begin_clean, Sync_cache_device, Sync_origin_device, End_running, Map_to, Unmap_from, Unmap_plain, Give_up, End, Got, Done, Flag, Fault, Script, abstract_after, abstract_after_fault, after_flag, abstract_want}
+use Rattle.wb_link.specs.World.{Block, Mapped, Reserved, Retained, removed, following, NamesBlock, ShareNoBlock, Shared, Held, Nothing, Shares, Owns, AbstractActor, effect, held_after, order_after, leads_after, task_after, actor_after, is_alone, job_alone, drops, job_drops, AbstractGives}
 use Rattle.wb_link.proofs.Views.{Holds}
 use Rattle.wb_link.proofs.Acts.{Keeps}
 use Rattle.wb_link.proofs.Link.{IsKept, Ordered, Turns, Good, Placing, Sound, MayEnd, Ready, Owes, Others, Disjoint, RestsAt, Next, Safe}
 use Rattle.wb_link.proofs.Effects.{KeepsShared, SameDesk, write_desk, sync_cached_desk, sync_based_desk, begun_turns, ended_turns}
 
 -- what the lock words say of one other actor
-abbrev pub WinsOver : Actor → Want → Got → Type 0
+abbrev pub WinsOver : AbstractActor → Want → Got → Type 0
 WinsOver y (Share b) Done = y.held ≢ Owns b
 WinsOver y (Own b) Done = (y.held ≢ Owns b) × (y.held ≢ Shares b)
 WinsOver y w got = Unit {0}
 
-abbrev pub HoldsNot : Actor → ℕ → Type 0
+abbrev pub HoldsNot : AbstractActor → ℕ → Type 0
 HoldsNot y b = (y.held ≢ Owns b) × (y.held ≢ Shares b)
 
-held_left : (x y : Actor) (s : Shared) (w : Want) (got : Got) → WinsOver y w got → ((b : ℕ) → x.held ≡ Owns b → HoldsNot y b) → (b : ℕ) → held_after x.held w got ≡ Owns b → HoldsNot y b
+held_left : (x y : AbstractActor) (s : Shared) (w : Want) (got : Got) → WinsOver y w got → ((b : ℕ) → x.held ≡ Owns b → HoldsNot y b) → (b : ℕ) → held_after x.held w got ≡ Owns b → HoldsNot y b
 held_left x y s (Share c) Done wins i b e = absurd (cc)
 held_left x y s (Own c) Done wins i b e = let is : c ≡ b = cc in subst (λ (v : ℕ). HoldsNot y v) is wins
 held_left x y s (Leave c) got wins i b e = absurd (cc)
 held_left x y s (Disown c) got wins i b e = absurd (cc)
 held_left x y s w got wins i b e = i b e
 
-held_right : (x y : Actor) (s : Shared) (w : Want) (got : Got) → WinsOver y w got → ((b : ℕ) → y.held ≡ Owns b → HoldsNot x b) → (b : ℕ) → y.held ≡ Owns b → (held_after x.held w got ≢ Owns b) × (held_after x.held w got ≢ Shares b)
+held_right : (x y : AbstractActor) (s : Shared) (w : Want) (got : Got) → WinsOver y w got → ((b : ℕ) → y.held ≡ Owns b → HoldsNot x b) → (b : ℕ) → y.held ≡ Owns b → (held_after x.held w got ≢ Owns b) × (held_after x.held w got ≢ Shares b)
 held_right x y s (Share c) Done wins i b e = (λ f. absurd (cc), λ f. let is : c ≡ b = cc in wins (e ∙ ap (λ v. Owns v) (sym is)))
 held_right x y s (Own c) Done wins i b e = (λ f. let is : c ≡ b = cc in wins.0 (e ∙ ap (λ v. Owns v) (sym is)), λ f. absurd (cc))
 held_right x y s (Leave c) got wins i b e = (λ f. absurd (cc), λ f. absurd (cc))
@@ -48,36 +48,36 @@ order_was order w p st e = e
 
 -- what is left of an order names no more than it did
 abbrev pub Sub : Order → Order → Type 0
-Sub p o = (p.cache ≡ o.cache) × ((b : ℕ) → Names p b → Names o b)
+Sub p o = (p.cache ≡ o.cache) × ((b : ℕ) → NamesBlock p b → NamesBlock o b)
 
 pub follower_is : (cache : ℕ) (next : Option ℕ) (p : Order) → following cache next ≡ Some p → (p.cache ≡ cache) × (next ≡ Some p.block) × (p.next ≡ None)
 follower_is cache None p e = absurd (cc)
 follower_is cache (Some b) p e = let same : record { block = b; cache = cache; next = None } ≡ p = cc in (ap (λ (v : Order). v.cache) (sym same), ap (λ (v : Order). Some v.block) same, ap (λ (v : Order). v.next) (sym same))
 
-follower_names : (o p : Order) → (o.next ≡ Some p.block) → (p.next ≡ None) → (b : ℕ) → Names p b → Names o b
+follower_names : (o p : Order) → (o.next ≡ Some p.block) → (p.next ≡ None) → (b : ℕ) → NamesBlock p b → NamesBlock o b
 follower_names o p e n b (inl m) = inr (e ∙ ap (λ v. Some v) m)
 follower_names o p e n b (inr m) = let bad : None ≡ Some b = sym n ∙ m in absurd (cc)
 
-pub order_from : (x : Actor) (s : Shared) (w : Want) (p : Order) → Ready w x s → order_after x.order w ≡ Some p → (o : Order) × (x.order ≡ Some o) × Sub p o
+pub order_from : (x : AbstractActor) (s : Shared) (w : Want) (p : Order) → Ready w x s → order_after x.order w ≡ Some p → (o : Order) × (x.order ≡ Some o) × Sub p o
 order_from x s (Map_to o) p r e = absurd (cc)
 order_from x s (Unmap_from o) p r e = let is = follower_is o.cache o.next p e in (o, r.0, (is.0, follower_names o p is.1 is.2))
 order_from x s (Give_up o) p r e = absurd (cc)
 order_from x s w p r e = (p, e, (refl, λ b n. n))
 
-pub apart_left : (p o q : Order) → Sub p o → Apart o q → Apart p q
+pub apart_left : (p o q : Order) → Sub p o → ShareNoBlock o q → ShareNoBlock p q
 apart_left p o q s a = (λ b m n. a.0 b (s.1 b m) n, λ e. a.1 (sym s.0 ∙ e))
 
-apart_right : (p o q : Order) → Sub q o → Apart p o → Apart p q
+apart_right : (p o q : Order) → Sub q o → ShareNoBlock p o → ShareNoBlock p q
 apart_right p o q s a = (λ b m n. a.0 b m (s.1 b n), λ e. a.1 (e ∙ s.0))
 
-leads_was : (s : Shared) (leads : Bool) (w : Want) (got : Got) → Gives s w got → leads_after leads w got ≡ true → (leads ≡ true) ⊎ (s.committing ≡ false)
+leads_was : (s : Shared) (leads : Bool) (w : Want) (got : Got) → AbstractGives s w got → leads_after leads w got ≡ true → (leads ≡ true) ⊎ (s.committing ≡ false)
 leads_was s leads (Begin ticket) Done g e = inr g.0
 leads_was s leads Begin_clean Done g e = inr g
 leads_was s leads End_running got g e = absurd (cc)
 leads_was s leads w got g e = inl e
 
 -- a task goes on with its job
-fault_on : (script : Script) (w : Want) → (after_fault script w).job ≡ script.job
+fault_on : (script : Script) (w : Want) → (abstract_after_fault script w).job ≡ script.job
 fault_on script (Read_all location b os) = refl
 fault_on script w = refl
 
@@ -85,10 +85,10 @@ flag_on : (script : Script) (f : Bool) → (after_flag script f).job ≡ script.
 flag_on script true = refl
 flag_on script false = refl
 
-pub job_on : (script : Script) (got : Got) → (after script got).job ≡ script.job
+pub job_on : (script : Script) (got : Got) → (abstract_after script got).job ≡ script.job
 job_on script Done = refl
 job_on script (Flag f) = flag_on script f
-job_on script (Fault lands) = fault_on script (want script)
+job_on script (Fault lands) = fault_on script (abstract_want script)
 job_on script got = refl
 
 -- a task that is alone was so
@@ -117,10 +117,10 @@ pub task_was : (script : Script) (w : Want) (got : Got) → task_after script w 
 task_was script (End answer) got e = (answer, refl)
 task_was script w got e = absurd (cc)
 
-pub no_task : (y : Actor) (script : Script) → y.task ≡ Some script → y.task ≡ None → ⊥
+pub no_task : (y : AbstractActor) (script : Script) → y.task ≡ Some script → y.task ≡ None → ⊥
 no_task y script e f = let bad : Some script ≡ None = sym e ∙ f in absurd (cc)
 
-pub disjoint_left : (x y : Actor) (script : Script) (s : Shared) (w : Want) (got : Got) → Ready w x s → Gives s w got → x.task ≡ Some script → WinsOver y w got → (y.leads ≡ true → s.committing ≡ true) → Disjoint x y → Disjoint (actor_after x script w got) y
+pub disjoint_left : (x y : AbstractActor) (script : Script) (s : Shared) (w : Want) (got : Got) → Ready w x s → AbstractGives s w got → x.task ≡ Some script → WinsOver y w got → (y.leads ≡ true → s.committing ≡ true) → Disjoint x y → Disjoint (actor_after x script w got) y
 disjoint_left x y script s w got ready g task wins l i = record {
   alone = λ e. i.alone (ap (λ (o : Option Script). is_alone o) task ∙ alone_was script w got e);
   held = held_left x y s w got wins i.held;
@@ -128,7 +128,7 @@ disjoint_left x y script s w got ready g task wins l i = record {
   leads = λ e f. elim (leads_was s x.leads w got g e) [ inl m ↦ i.leads m f | inr m ↦ let busy = l f in absurd (cc) ];
 }
 
-pub disjoint_right : (x y : Actor) (script : Script) (s : Shared) (w : Want) (got : Got) → Ready w x s → Gives s w got → x.task ≡ Some script → WinsOver y w got → (y.leads ≡ true → s.committing ≡ true) → Disjoint y x → Disjoint y (actor_after x script w got)
+pub disjoint_right : (x y : AbstractActor) (script : Script) (s : Shared) (w : Want) (got : Got) → Ready w x s → AbstractGives s w got → x.task ≡ Some script → WinsOver y w got → (y.leads ≡ true → s.committing ≡ true) → Disjoint y x → Disjoint y (actor_after x script w got)
 disjoint_right x y script s w got ready g task wins l i = record {
   alone = λ e. absurd (no_task x script task (i.alone e));
   held = held_right x y s w got wins i.held;
@@ -141,7 +141,7 @@ disjoint_right x y script s w got ready g task wins l i = record {
 busy_desk : (s t : Shared) → SameDesk s t → s.committing ≡ true → t.committing ≡ true
 busy_desk s t i e = i.committing ∙ e
 
-pub other_busy : (x : Actor) (s : Shared) (job : Job) (buffer : ℕ → Content) (w : Want) (got : Got) → (x.leads ≡ true → ⊥) → Ready w x s → s.committing ≡ true → (effect s job buffer w got).committing ≡ true
+pub other_busy : (x : AbstractActor) (s : Shared) (job : Job) (buffer : ℕ → Content) (w : Want) (got : Got) → (x.leads ≡ true → ⊥) → Ready w x s → s.committing ≡ true → (effect s job buffer w got).committing ≡ true
 other_busy x s job buffer (Write_all location b os) got n r e = busy_desk s _ (write_desk s job buffer location b os got) e
 other_busy x s job buffer (Begin ticket) Done n r e = refl
 other_busy x s job buffer Begin_clean Done n r e = refl
@@ -150,7 +150,7 @@ other_busy x s job buffer Sync_origin_device got n r e = busy_desk s _ (sync_bas
 other_busy x s job buffer End_running got n r e = absurd (n r)
 other_busy x s job buffer w got n r e = e
 
-pub leader_busy : (x : Actor) (s : Shared) (job : Job) (buffer : ℕ → Content) (w : Want) (got : Got) → (x.leads ≡ true → s.committing ≡ true) → leads_after x.leads w got ≡ true → (effect s job buffer w got).committing ≡ true
+pub leader_busy : (x : AbstractActor) (s : Shared) (job : Job) (buffer : ℕ → Content) (w : Want) (got : Got) → (x.leads ≡ true → s.committing ≡ true) → leads_after x.leads w got ≡ true → (effect s job buffer w got).committing ≡ true
 leader_busy x s job buffer (Write_all location b os) got l e = busy_desk s _ (write_desk s job buffer location b os got) (l e)
 leader_busy x s job buffer (Begin ticket) Done l e = refl
 leader_busy x s job buffer Begin_clean Done l e = refl
@@ -163,7 +163,7 @@ leader_busy x s job buffer w got l e = l e
 own_desk : (s t : Shared) (k : ℕ) → SameDesk s t → Turns (s.blocks k) (t.blocks k)
 own_desk s t k i = inl (ap (λ f. f k) i.blocks)
 
-pub own_state : (x : Actor) (s : Shared) (job : Job) (buffer : ℕ → Content) (w : Want) (got : Got) (p : Order) → Stays w → Ready w x s → (x.order ≡ Some p → drops x.task ≡ false) → order_after x.order w ≡ Some p → Ordered (s.blocks p.cache) → Turns (s.blocks p.cache) ((effect s job buffer w got).blocks p.cache)
+pub own_state : (x : AbstractActor) (s : Shared) (job : Job) (buffer : ℕ → Content) (w : Want) (got : Got) (p : Order) → Stays w → Ready w x s → (x.order ≡ Some p → drops x.task ≡ false) → order_after x.order w ≡ Some p → Ordered (s.blocks p.cache) → Turns (s.blocks p.cache) ((effect s job buffer w got).blocks p.cache)
 own_state x s job buffer (Write_all location b os) got p st r f e i = own_desk s _ p.cache (write_desk s job buffer location b os got)
 own_state x s job buffer (Begin ticket) Done p st r f e i = begun_turns (s.blocks p.cache) i
 own_state x s job buffer Begin_clean Done p st r f e i = begun_turns (s.blocks p.cache) i
@@ -191,7 +191,7 @@ suspend_map : (s : Shared) (job : Job) (buffer : ℕ → Content) (got : Got) �
 suspend_map s job buffer Done = refl
 suspend_map s job buffer got = refl
 
-pub own_mapping : (x : Actor) (s : Shared) (job : Job) (buffer : ℕ → Content) (w : Want) (got : Got) (p : Order) → Stays w → Ready w x s → (x.order ≡ Some p → drops x.task ≡ false) → order_after x.order w ≡ Some p → (effect s job buffer w got).mapping ≡ s.mapping
+pub own_mapping : (x : AbstractActor) (s : Shared) (job : Job) (buffer : ℕ → Content) (w : Want) (got : Got) (p : Order) → Stays w → Ready w x s → (x.order ≡ Some p → drops x.task ≡ false) → order_after x.order w ≡ Some p → (effect s job buffer w got).mapping ≡ s.mapping
 own_mapping x s job buffer (Write_all location b os) got p st r f e = map_desk s _ (write_desk s job buffer location b os got)
 own_mapping x s job buffer (Begin ticket) got p st r f e = begin_map s job buffer ticket got
 own_mapping x s job buffer Begin_clean got p st r f e = suspend_map s job buffer got
@@ -238,11 +238,11 @@ placing_on s t p b m x i = (
 removed_as : (next : Option ℕ) (b : ℕ) → next ≡ Some b → removed next ≡ Retained false
 removed_as next b e = ap removed e
 
-pub own_ordered : (x : Actor) (s : Shared) (job : Job) (buffer : ℕ → Content) (w : Want) (got : Got) (q : Order) → Ready w x s → ((p : Order) → x.order ≡ Some p → drops x.task ≡ false) → ((p : Order) → x.order ≡ Some p → Ordered (s.blocks p.cache)) → order_after x.order w ≡ Some q → Ordered ((effect s job buffer w got).blocks q.cache)
+pub own_ordered : (x : AbstractActor) (s : Shared) (job : Job) (buffer : ℕ → Content) (w : Want) (got : Got) (q : Order) → Ready w x s → ((p : Order) → x.order ≡ Some p → drops x.task ≡ false) → ((p : Order) → x.order ≡ Some p → Ordered (s.blocks p.cache)) → order_after x.order w ≡ Some q → Ordered ((effect s job buffer w got).blocks q.cache)
 own_ordered x s job buffer (Unmap_from o) got q r d was f = let is = follower_is o.cache o.next q f in inr (false, ap (changed s.blocks o.cache (removed o.next)) is.0 ∙ changed_same s.blocks o.cache (removed o.next) ∙ removed_as o.next q.block is.1)
 own_ordered x s job buffer w got q r d was f = let had = order_was x.order w q tt f in turned (s.blocks q.cache) _ (was q had) (own_state x s job buffer w got q tt r (d q) f (was q had))
 
-pub own_placing : (x : Actor) (s : Shared) (job : Job) (buffer : ℕ → Content) (w : Want) (got : Got) (q : Order) → Ready w x s → ((p : Order) → x.order ≡ Some p → drops x.task ≡ false) → ((p : Order) → x.order ≡ Some p → Ordered (s.blocks p.cache)) → ((p : Order) → x.order ≡ Some p → Placing s p) → order_after x.order w ≡ Some q → Placing (effect s job buffer w got) q
+pub own_placing : (x : AbstractActor) (s : Shared) (job : Job) (buffer : ℕ → Content) (w : Want) (got : Got) (q : Order) → Ready w x s → ((p : Order) → x.order ≡ Some p → drops x.task ≡ false) → ((p : Order) → x.order ≡ Some p → Ordered (s.blocks p.cache)) → ((p : Order) → x.order ≡ Some p → Placing s p) → order_after x.order w ≡ Some q → Placing (effect s job buffer w got) q
 own_placing x s job buffer (Unmap_from o) got q r d was at f =
     let is = follower_is o.cache o.next q f in
     let now : changed s.blocks o.cache (removed o.next) q.cache ≡ Retained false = ap (changed s.blocks o.cache (removed o.next)) is.0 ∙ changed_same s.blocks o.cache (removed o.next) ∙ removed_as o.next q.block is.1 in (
@@ -258,7 +258,7 @@ own_placing x s job buffer w got q r d was at f =
 
 -- What another relies on.
 
-not_owned : (x y : Actor) (b : ℕ) → Disjoint x y → Holds y.held b → x.held ≢ Owns b
+not_owned : (x y : AbstractActor) (b : ℕ) → Disjoint x y → Holds y.held b → x.held ≢ Owns b
 not_owned x y b i h e = go y.held refl h where
   go : (held : Held) → y.held ≡ held → Holds held b → ⊥
   go Nothing f h = absurd h
@@ -268,7 +268,7 @@ not_owned x y b i h e = go y.held refl h where
 sound_reserved : (b : Block) (m c r : ℕ → Option ℕ) (k : ℕ) → b ≡ Reserved → Sound b m c r k → IsUnnamed m k
 sound_reserved b m c r k e i = let j = subst (λ (v : Block). Sound v m c r k) e i in j.0
 
-pub others_of : (size a b : ℕ) (x y : Actor) (s t : Shared) (d e : Volume) → b ≢ a → Good size s d → Disjoint x y → (is_alone x.task ≡ false) → (is_alone y.task ≡ false) → (s.fail ≡ true → t.fail ≡ true) → ((p : Order) → y.order ≡ Some p → drops x.task ≡ false) → (y.leads ≡ true → s.committing ≡ true) → ((p : Order) → y.order ≡ Some p → Ordered (s.blocks p.cache)) →
+pub others_of : (size a b : ℕ) (x y : AbstractActor) (s t : Shared) (d e : Volume) → b ≢ a → Good size s d → Disjoint x y → (is_alone x.task ≡ false) → (is_alone y.task ≡ false) → (s.fail ≡ true → t.fail ≡ true) → ((p : Order) → y.order ≡ Some p → drops x.task ≡ false) → (y.leads ≡ true → s.committing ≡ true) → ((p : Order) → y.order ≡ Some p → Ordered (s.blocks p.cache)) →
     KeepsShared x s t → Keeps a x s.committing d e → Others b y s d t e
 others_of size a b x y s t d e n g i xn yn fails dr l stands ks kd = record {
   fail = fails;
@@ -288,10 +288,10 @@ others_of size a b x y s t d e n g i xn yn fails dr l stands ks kd = record {
 
 -- What others do is stable, and so is all that is left.
 
-pub others_same : (a : ℕ) (x : Actor) (s : Shared) (d : Volume) → Others a x s d s d
+pub others_same : (a : ℕ) (x : AbstractActor) (s : Shared) (d : Volume) → Others a x s d s d
 others_same a x s d = record { seal = λ b h. refl; block = λ b h. refl; location = λ p e. refl; state = λ p e r. refl; cached = λ p e r o. refl; commit = λ l. refl; ticket = refl; began = omega arith; ended = omega arith; fail = λ e. e; live = refl; mode = refl; alone = λ m. (refl, refl) }
 
-pub others_then : (a : ℕ) (x : Actor) (s t u : Shared) (d e f : Volume) → Others a x s d t e → Others a x t e u f → Others a x s d u f
+pub others_then : (a : ℕ) (x : AbstractActor) (s t u : Shared) (d e f : Volume) → Others a x s d t e → Others a x t e u f → Others a x s d u f
 others_then a x s t u d e f i j = record {
   seal = λ b h. j.seal b h ∙ i.seal b h;
   block = λ b h. j.block b h ∙ i.block b h;
@@ -308,11 +308,11 @@ others_then a x s t u d e f i j = record {
   alone = λ m. let p = i.alone m in let q = j.alone m in (q.0 ∙ p.0, q.1 ∙ p.1);
 }
 
-next_on : (size a : ℕ) (rest : Actor → Shared → Volume → Type 0) (x : Actor) (task : Option Script) (s t : Shared) (d e : Volume) → Others a x s d t e → Next size a rest x task s d → Next size a rest x task t e
+next_on : (size a : ℕ) (rest : AbstractActor → Shared → Volume → Type 0) (x : AbstractActor) (task : Option Script) (s t : Shared) (d e : Volume) → Others a x s d t e → Next size a rest x task s d → Next size a rest x task t e
 next_on size a rest x None s t d e o i = tt
 next_on size a rest x (Some script) s t d e o i = λ u f got p g v r. i u f got (others_then a x s t u d e f o p) g v r
 
-pub safe_on : (n size a : ℕ) (x : Actor) (s t : Shared) (d e : Volume) → Others a x s d t e → Safe n size a x s d → Safe n size a x t e
+pub safe_on : (n size a : ℕ) (x : AbstractActor) (s t : Shared) (d e : Volume) → Others a x s d t e → Safe n size a x s d → Safe n size a x t e
 safe_on zero size a x s t d e o i = tt
 safe_on (suc n) size a x s t d e o i = next_on size a (λ y u f. Safe n size a y u f) x x.task s t d e o i
 
@@ -324,7 +324,7 @@ owns_or (Shares c) b = inr (λ e. absurd (cc))
 owns_or (Owns c) b = elim (cases_eq c b) [ inl e ↦ inl (ap (λ v. Owns v) e) | inr n ↦ inr (λ e. n (cc)) ]
 
 -- who gives a block back has said that it rests
-pub disowned : (x : Actor) (s t : Shared) (e : Volume) (job : Job) (w : Want) (got : Got) (b : ℕ) → Ready w x s → x.held ≡ Owns b → held_after x.held w got ≢ Owns b → Owes job w t e → RestsAt t e b
+pub disowned : (x : AbstractActor) (s t : Shared) (e : Volume) (job : Job) (w : Want) (got : Got) (b : ℕ) → Ready w x s → x.held ≡ Owns b → held_after x.held w got ≢ Owns b → Owes job w t e → RestsAt t e b
 disowned x s t e job (Share c) got b r h n o = absurd (cc)
 disowned x s t e job (Own c) got b r h n o = absurd (cc)
 disowned x s t e job (Leave c) got b r h n o = absurd (cc)
@@ -332,10 +332,10 @@ disowned x s t e job (Disown c) got b r h n o = let f : Owns c ≡ Owns b = sym 
 disowned x s t e job w got b r h n o = absurd (n h)
 
 -- nothing is left of no task
-next_idle : (size a : ℕ) (rest : Actor → Shared → Volume → Type 0) (x : Actor) (task : Option Script) (s : Shared) (d : Volume) → task ≡ None → Next size a rest x task s d
+next_idle : (size a : ℕ) (rest : AbstractActor → Shared → Volume → Type 0) (x : AbstractActor) (task : Option Script) (s : Shared) (d : Volume) → task ≡ None → Next size a rest x task s d
 next_idle size a rest x None s d e = tt
 next_idle size a rest x (Some script) s d e = absurd (cc)
 
-pub idle_safe : (n size a : ℕ) (x : Actor) (s : Shared) (d : Volume) → x.task ≡ None → Safe n size a x s d
+pub idle_safe : (n size a : ℕ) (x : AbstractActor) (s : Shared) (d : Volume) → x.task ≡ None → Safe n size a x s d
 idle_safe zero size a x s d e = tt
 idle_safe (suc n) size a x s d e = next_idle size a (λ y u f. Safe n size a y u f) x x.task s d e

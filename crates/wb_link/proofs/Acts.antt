@@ -12,18 +12,18 @@ use Rattle.wb_contents.proofs.Images.{rose}
 use Rattle.wb_contents.proofs.Sectors.{here_is, by_sector, elsewhere_is, place_is, shorter_newest, away}
 use Rattle.wb_contents.proofs.Run.{KeepsAll, ground}
 use Rattle.wb_link.specs.Tables.{Order}
-use Rattle.wb_link.specs.World.{Owns, Actor, is_alone, drops}
+use Rattle.wb_link.specs.World.{Owns, AbstractActor, is_alone, drops}
 use Rattle.wb_link.proofs.Views.{block_view, same_view, commit_view}
 
 -- not in this actor's order
-abbrev pub NotBlock : Actor → ℕ → Type 0
+abbrev pub NotBlock : AbstractActor → ℕ → Type 0
 NotBlock x b = (p : Order) → x.order ≡ Some p → p.block ≢ b
 
-abbrev pub NotCache : Actor → ℕ → Type 0
+abbrev pub NotCache : AbstractActor → ℕ → Type 0
 NotCache x k = (p : Order) → x.order ≡ Some p → p.cache ≢ k
 
 -- The act is this actor's to do, on a sector of a block that has so many.
-abbrev pub Mine : ℕ → ℕ → Actor → Bool → Act → Type 0
+abbrev pub Mine : ℕ → ℕ → AbstractActor → Bool → Act → Type 0
 Mine size a x busy (Write b o c) = (x.held ≡ Owns b) × (o < size)
 Mine size a x busy (Write_origin b o c) = (x.held ≡ Owns b) × (o < size)
 Mine size a x busy (Write_cache b o) = (x.held ≡ Owns b) × (o < size)
@@ -66,7 +66,7 @@ grows_book d e b o c f g h = record {
 }
 
 -- What an actor's acts leave to the others.
-pub record Keeps (a : ℕ) (x : Actor) (busy : Bool) (d e : Volume) : Type 0 where
+pub record Keeps (a : ℕ) (x : AbstractActor) (busy : Bool) (d e : Volume) : Type 0 where
   pub block : (b : ℕ) → x.held ≢ Owns b → block_view e b ≡ block_view d b
   pub location : drops x.task ≡ false → (b : ℕ) → NotBlock x b → e.mapping b ≡ d.mapping b
   pub cached : (k : ℕ) → NotCache x k → IsUnnamed d.mapping k → (o : ℕ) → newest (e.cache k o) ≡ newest (d.cache k o)
@@ -80,7 +80,7 @@ pub record Keeps (a : ℕ) (x : Actor) (busy : Bool) (d e : Volume) : Type 0 whe
   pub live : is_alone x.task ≡ false → e.live ≡ d.live
   pub mode : e.mode ≡ d.mode
 
-pub keeps_same : (a : ℕ) (x : Actor) (busy : Bool) (d : Volume) → Keeps a x busy d d
+pub keeps_same : (a : ℕ) (x : AbstractActor) (busy : Bool) (d : Volume) → Keeps a x busy d d
 keeps_same a x busy d = record {
   block = λ b n. refl;
   location = λ h b n. refl;
@@ -96,7 +96,7 @@ keeps_same a x busy d = record {
   mode = refl;
 }
 
-pub keeps_then : (a : ℕ) (x : Actor) (busy : Bool) (d e f : Volume) → Keeps a x busy d e → Keeps a x busy e f → Keeps a x busy d f
+pub keeps_then : (a : ℕ) (x : AbstractActor) (busy : Bool) (d e f : Volume) → Keeps a x busy d e → Keeps a x busy e f → Keeps a x busy d f
 keeps_then a x busy d e f i j = record {
   block = λ b n. j.block b n ∙ i.block b n;
   location = λ h b n. j.location h b n ∙ i.location h b n;
@@ -113,7 +113,7 @@ keeps_then a x busy d e f i j = record {
 }
 
 -- an act that is not on the block of the view
-another : (x : Actor) (b c : ℕ) → x.held ≡ Owns b → x.held ≢ Owns c → c ≢ b
+another : (x : AbstractActor) (b c : ℕ) → x.held ≡ Owns b → x.held ≢ Owns c → c ≢ b
 another x b c e n s = n (e ∙ ap (λ v. Owns v) (sym s))
 
 -- A write on the origin or the cache, by its owner: of the other blocks nothing changes.
@@ -121,7 +121,7 @@ sector_elsewhere : {X : Type 0} (f : ℕ → ℕ → X) (b o : ℕ) (v : X) (c :
 sector_elsewhere f b o v c n = changed_other f b c (changed (f b) o v) n
 
 -- by the owner of a block, on that block alone, which stays where it is
-owner_keeps : (a : ℕ) (x : Actor) (busy : Bool) (d e : Volume) (b : ℕ) → x.held ≡ Owns b → ((c : ℕ) → c ≢ b → block_view e c ≡ block_view d c) → e.mapping ≡ d.mapping →
+owner_keeps : (a : ℕ) (x : AbstractActor) (busy : Bool) (d e : Volume) (b : ℕ) → x.held ≡ Owns b → ((c : ℕ) → c ≢ b → block_view e c ≡ block_view d c) → e.mapping ≡ d.mapping →
     ((k : ℕ) → IsUnnamed d.mapping k → (o : ℕ) → newest (e.cache k o) ≡ newest (d.cache k o)) → commit_view e ≡ commit_view d → e.ticket ≡ d.ticket → e.live ≡ d.live → e.mode ≡ d.mode → Grows d e → e.then_finished ≡ d.then_finished → Keeps a x busy d e
 owner_keeps a x busy d e b own view m cached q t lv md gr nt = record {
   grows = gr;
@@ -158,7 +158,7 @@ cache_view d b o k h histories standing i m g s c n =
 cached_elsewhere : (d : Volume) (b k o : ℕ) (h : History) → d.mapping b ≡ Some k → (j : ℕ) → IsUnnamed d.mapping j → (q : ℕ) → newest (changed_at d.cache k o h j q) ≡ newest (d.cache j q)
 cached_elsewhere d b k o h m j u q = ap (λ f. newest (f q)) (sector_elsewhere d.cache k o h j (λ e. u b (m ∙ ap (λ v. Some v) (sym e))))
 
-written_keeps : (a : ℕ) (x : Actor) (busy : Bool) (d : Volume) (b o : ℕ) (c : Content) → x.held ≡ Owns b → KeepsAll d → (p : Option ℕ) → d.mapping b ≡ p → Keeps a x busy d (sector_written d p b o c)
+written_keeps : (a : ℕ) (x : AbstractActor) (busy : Bool) (d : Volume) (b o : ℕ) (c : Content) → x.held ≡ Owns b → KeepsAll d → (p : Option ℕ) → d.mapping b ≡ p → Keeps a x busy d (sector_written d p b o c)
 written_keeps a x busy d b o c own i None m = owner_keeps a x busy d (sector_written d None b o c) b own
     (origin_view d b o (added (d.origin b o) c) (changed_at d.histories b o (added (d.histories b o) c)) (changed_at d.standing b o Whole) (λ j n. sector_elsewhere d.histories b o (added (d.histories b o) c) j n) (λ j n. sector_elsewhere d.standing b o Whole j n))
     refl (λ k u q. refl) refl refl refl refl (grows_book d (sector_written d None b o c) b o c refl refl refl) refl
@@ -166,14 +166,14 @@ written_keeps a x busy d b o c own i (Some k) m = owner_keeps a x busy d (sector
     (cache_view d b o k (added (d.cache k o) c) (changed_at d.histories b o (added (d.histories b o) c)) (changed_at d.standing b o Whole) i m (λ j n. sector_elsewhere d.histories b o (added (d.histories b o) c) j n) (λ j n. sector_elsewhere d.standing b o Whole j n))
     refl (λ j u q. cached_elsewhere d b k o (added (d.cache k o) c) m j u q) refl refl refl refl (grows_book d (sector_written d (Some k) b o c) b o c refl refl refl) refl
 
-through_keeps : (a : ℕ) (x : Actor) (busy : Bool) (d : Volume) (b o : ℕ) → x.held ≡ Owns b → KeepsAll d → (p : Option ℕ) → d.mapping b ≡ p → Keeps a x busy d (written_through d p b o)
+through_keeps : (a : ℕ) (x : AbstractActor) (busy : Bool) (d : Volume) (b o : ℕ) → x.held ≡ Owns b → KeepsAll d → (p : Option ℕ) → d.mapping b ≡ p → Keeps a x busy d (written_through d p b o)
 through_keeps a x busy d b o own i None m = keeps_same a x busy d
 through_keeps a x busy d b o own i (Some k) m = owner_keeps a x busy d (written_through d (Some k) b o) b own
     (cache_view d b o k (added (d.cache k o) (newest (d.histories b o))) d.histories (changed_at d.standing b o Whole) i m (λ j n. refl) (λ j n. sector_elsewhere d.standing b o Whole j n))
     refl (λ j u q. cached_elsewhere d b k o (added (d.cache k o) (newest (d.histories b o))) m j u q) refl refl refl refl (grows_same d (written_through d (Some k) b o) refl refl refl) refl
 
 -- A sector of an unused cache block is in no view but that of its order.
-fill_keeps : (a : ℕ) (x : Actor) (busy : Bool) (d : Volume) (k o : ℕ) (c : Content) (p : Order) → x.order ≡ Some p → p.cache ≡ k → IsUnnamed d.mapping k → Keeps a x busy d (after_act d (Fill_cache k o c))
+fill_keeps : (a : ℕ) (x : AbstractActor) (busy : Bool) (d : Volume) (k o : ℕ) (c : Content) (p : Order) → x.order ≡ Some p → p.cache ≡ k → IsUnnamed d.mapping k → Keeps a x busy d (after_act d (Fill_cache k o c))
 fill_keeps a x busy d k o c p e f free = record {
   block = λ b n. same_view d (after_act d (Fill_cache k o c)) b refl refl
       (λ q. place_is d.origin d.cache d.origin (changed_at d.cache k o (added (d.cache k o) c)) (d.mapping b) b q refl
@@ -193,7 +193,7 @@ fill_keeps a x busy d k o c p e f free = record {
 }
 
 -- A block moves, by its owner: under its order, or unmapped without one.
-moved_keeps : (a : ℕ) (x : Actor) (busy : Bool) (d : Volume) (b : ℕ) (to : Option ℕ) (dirty : ℕ → Bool) → x.held ≡ Owns b → (drops x.task ≡ false → NotBlock x b → ⊥) → ((k : ℕ) → to ≡ Some k → NotCache x k → ⊥) → ((c : ℕ) → c ≢ b → dirty c ≡ d.dirty c) →
+moved_keeps : (a : ℕ) (x : AbstractActor) (busy : Bool) (d : Volume) (b : ℕ) (to : Option ℕ) (dirty : ℕ → Bool) → x.held ≡ Owns b → (drops x.task ≡ false → NotBlock x b → ⊥) → ((k : ℕ) → to ≡ Some k → NotCache x k → ⊥) → ((c : ℕ) → c ≢ b → dirty c ≡ d.dirty c) →
     Keeps a x busy d (record d { mapping = changed d.mapping b to; dirty = dirty })
 moved_keeps a x busy d b to dirty own away onto f' = record {
   block = λ c n. let m : c ≢ b = another x b c own n in let y = changed_other d.mapping b c to m in
@@ -215,13 +215,13 @@ moved_keeps a x busy d b to dirty own away onto f' = record {
 }
 
 -- A block becomes dirty or clean.
-dirty_keeps : (a : ℕ) (x : Actor) (busy : Bool) (d : Volume) (b : ℕ) (t : Bool) → x.held ≡ Owns b → Keeps a x busy d (record d { dirty = changed d.dirty b t })
+dirty_keeps : (a : ℕ) (x : AbstractActor) (busy : Bool) (d : Volume) (b : ℕ) (t : Bool) → x.held ≡ Owns b → Keeps a x busy d (record d { dirty = changed d.dirty b t })
 dirty_keeps a x busy d b t own = owner_keeps a x busy d (record d { dirty = changed d.dirty b t }) b own
     (λ c n. same_view d (record d { dirty = changed d.dirty b t }) c refl (changed_other d.dirty b c t n) (λ q. refl) (λ q. refl) refl refl refl)
     refl (λ k u q. refl) refl refl refl refl (grows_same d (record d { dirty = changed d.dirty b t }) refl refl refl) refl
 
 -- Shorter lists have the same last contents.
-commit_keeps : (a : ℕ) (x : Actor) (busy : Bool) (d e : Volume) → ((b : ℕ) → block_view e b ≡ block_view d b) → e.mapping ≡ d.mapping → ((k o : ℕ) → newest (e.cache k o) ≡ newest (d.cache k o)) → (busy ≡ true → x.leads ≡ false → ⊥) → e.ticket ≡ d.ticket →
+commit_keeps : (a : ℕ) (x : AbstractActor) (busy : Bool) (d e : Volume) → ((b : ℕ) → block_view e b ≡ block_view d b) → e.mapping ≡ d.mapping → ((k o : ℕ) → newest (e.cache k o) ≡ newest (d.cache k o)) → (busy ≡ true → x.leads ≡ false → ⊥) → e.ticket ≡ d.ticket →
     d.began ≤ e.began → d.ended ≤ e.ended → (is_alone x.task ≡ false → e.live ≡ d.live) → e.mode ≡ d.mode → Grows d e → e.then_finished ≡ d.then_finished → Keeps a x busy d e
 commit_keeps a x busy d e view m cached leads t began ended lv md gr nt = record {
   grows = gr;
@@ -241,10 +241,10 @@ commit_keeps a x busy d e view m cached leads t began ended lv md gr nt = record
 shorter_view : (d : Volume) (origin cache : ℕ → ℕ → History) → ((b o : ℕ) → newest (origin b o) ≡ newest (d.origin b o)) → ((k o : ℕ) → newest (cache k o) ≡ newest (d.cache k o)) → (b : ℕ) → block_view (record d { origin = origin; cache = cache }) b ≡ block_view d b
 shorter_view d origin cache so sc b = same_view d (record d { origin = origin; cache = cache }) b refl refl (λ q. place_is d.origin d.cache origin cache (d.mapping b) b q (so b q) (λ k e. sc k q)) (so b) refl refl refl
 
-no_leader : (x : Actor) (busy : Bool) → x.leads ≡ true → busy ≡ true → x.leads ≡ false → ⊥
+no_leader : (x : AbstractActor) (busy : Bool) → x.leads ≡ true → busy ≡ true → x.leads ≡ false → ⊥
 no_leader x busy l b n = absurd (cc)
 
-pub act_keeps : (size a : ℕ) (x : Actor) (busy : Bool) (d : Volume) (y : Act) → KeepsAll d → (ended : d.ended ≤ d.began) → MayAct d y → Mine size a x busy y → Keeps a x busy d (after_act d y)
+pub act_keeps : (size a : ℕ) (x : AbstractActor) (busy : Bool) (d : Volume) (y : Act) → KeepsAll d → (ended : d.ended ≤ d.began) → MayAct d y → Mine size a x busy y → Keeps a x busy d (after_act d y)
 act_keeps size a x busy d (Write b o c) i z m k = written_keeps a x busy d b o c k.0 i (d.mapping b) refl
 act_keeps size a x busy d (Write_origin b o c) i z m k = owner_keeps a x busy d (after_act d (Write_origin b o c)) b k.0
     (origin_view d b o (added (d.origin b o) c) (changed_at d.histories b o (added (d.histories b o) c)) (changed_at d.standing b o Half) (λ j n. sector_elsewhere d.histories b o (added (d.histories b o) c) j n) (λ j n. sector_elsewhere d.standing b o Half j n))

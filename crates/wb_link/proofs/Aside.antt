@@ -4,8 +4,8 @@ use Rattle.std.proofs.lemmas.Bool.{cases_eq}
 use Rattle.wb_contents.specs.Volume.{Volume, changed}
 use Rattle.wb_contents.proofs.Positions.{changed_same, changed_other}
 use Rattle.wb_disk.specs.Device.{Content}
-use Rattle.wb_link.specs.Tables.{Order, Job, Suspending, Failed, Finished, Look_fail, End, Done, Flag, acquire}
-use Rattle.wb_link.specs.World.{Shared, Held, Actor, World, Apart, aside, taken, actor_after, Release, release_order, after_record, given_back}
+use Rattle.wb_link.specs.Tables.{Order, Job, Suspending, Failed, Finished, Look_fail, End, Done, Flag, abstract_acquire}
+use Rattle.wb_link.specs.World.{Shared, Held, AbstractActor, World, ShareNoBlock, aside, abstract_taken, actor_after, Release, release_order, after_record, block_given_back}
 use Rattle.wb_link.proofs.Link.{NobodyAlone, Owes, Right, Safe, SetAside, Linked, acts_of}
 use Rattle.wb_link.proofs.Calm.{calmly}
 use Rattle.wb_link.proofs.Givings.{at_work, script_of, Comes, resting_safe, gives_flag, gives_done}
@@ -16,7 +16,7 @@ use Rattle.wb_link.proofs.Agreeing.{blocks_agrees}
 use Rattle.wb_link.proofs.Effects.{sound_put, sound_given}
 
 -- being apart goes both ways
-pub apart_back : (p q : Order) → Apart p q → Apart q p
+pub apart_back : (p q : Order) → ShareNoBlock p q → ShareNoBlock q p
 apart_back p q a = (λ b m n. a.0 b n m, λ e. a.1 (sym e))
 
 -- what is aside once this order was put there: it, or what was there
@@ -28,20 +28,20 @@ aside_cases waiting (Some p) k q e = elim (cases_eq k p.cache) [
 ]
 
 -- what is aside once this order was taken up was there before
-taken_was : (waiting : ℕ → Option Order) (p : Order) (k : ℕ) (q : Order) → taken waiting (Some p) k ≡ Some q → (k ≢ p.cache) × (waiting k ≡ Some q)
+taken_was : (waiting : ℕ → Option Order) (p : Order) (k : ℕ) (q : Order) → abstract_taken waiting (Some p) k ≡ Some q → (k ≢ p.cache) × (waiting k ≡ Some q)
 taken_was waiting p k q e = elim (cases_eq k p.cache) [
   | inl s ↦ let bad : None ≡ Some q = sym (changed_same waiting p.cache None) ∙ ap (changed waiting p.cache None) (sym s) ∙ e in absurd (cc)
   | inr n ↦ (n, sym (changed_other waiting p.cache k None n) ∙ e)
 ]
 
 -- An actor's order is put aside, and it has another one, apart from all that are there then.
-pub put_aside : (size : ℕ) (w : World) (d : Volume) (a : ℕ) (x y : Actor) → Linked size w d → slice_get w.actors a ≡ Some x →
-    ((k : ℕ) (p q : Order) → aside w.waiting x.order k ≡ Some p → y.order ≡ Some q → Apart q p) → SetAside w.shared (slice_set w.actors a y) (aside w.waiting x.order) d.mode
+pub put_aside : (size : ℕ) (w : World) (d : Volume) (a : ℕ) (x y : AbstractActor) → Linked size w d → slice_get w.actors a ≡ Some x →
+    ((k : ℕ) (p q : Order) → aside w.waiting x.order k ≡ Some p → y.order ≡ Some q → ShareNoBlock q p) → SetAside w.shared (slice_set w.actors a y) (aside w.waiting x.order) d.mode
 put_aside size w d a x y i here new = record {
   at = λ k p e. elim (aside_cases w.waiting x.order k p e) [ inl o ↦ o.1 | inr o ↦ i.aside.at k p o.0 ];
   stands = λ k p e. elim (aside_cases w.waiting x.order k p e) [ inl o ↦ i.stands a x p here o.0 | inr o ↦ i.aside.stands k p o.0 ];
   placed = λ k p e. elim (aside_cases w.waiting x.order k p e) [ inl o ↦ i.placed a x p here o.0 | inr o ↦ i.aside.placed k p o.0 ];
-  apart = λ k p b z q e g. in_set w.actors a x y here (λ j v. (q : Order) → v.order ≡ Some q → Apart q p)
+  apart = λ k p b z q e g. in_set w.actors a x y here (λ j v. (q : Order) → v.order ≡ Some q → ShareNoBlock q p)
       (λ q f. new k p q e f)
       (λ j v n h q f. elim (aside_cases w.waiting x.order k p e) [ inl o ↦ (i.disjoint j a v x h here n).order q p f o.0 | inr o ↦ i.aside.apart k p j v q o.0 h f ])
       b z g q;
@@ -59,21 +59,21 @@ put_aside size w d a x y i here new = record {
 }
 
 -- and without another one
-pub without_order : (size : ℕ) (w : World) (d : Volume) (a : ℕ) (x : Actor) → Linked size w d → slice_get w.actors a ≡ Some x → SetAside w.shared (slice_set w.actors a (record x { order = None })) (aside w.waiting x.order) d.mode
+pub without_order : (size : ℕ) (w : World) (d : Volume) (a : ℕ) (x : AbstractActor) → Linked size w d → slice_get w.actors a ≡ Some x → SetAside w.shared (slice_set w.actors a (record x { order = None })) (aside w.waiting x.order) d.mode
 without_order size w d a x i here = put_aside size w d a x (record x { order = None }) i here (λ k p q e f. absurd (cc))
 
-pub beside_set : (actors : List Actor) (a j : ℕ) (y v : Actor) → j ≢ a → slice_get actors j ≡ Some v → slice_get (slice_set actors a y) j ≡ Some v
+pub beside_set : (actors : List AbstractActor) (a j : ℕ) (y v : AbstractActor) → j ≢ a → slice_get actors j ≡ Some v → slice_get (slice_set actors a y) j ≡ Some v
 beside_set actors a j y v n h = set_other actors a j y n ∙ h
 
 -- And one of those is taken up.
-pub take_up : (size : ℕ) (w : World) (d : Volume) (a : ℕ) (x y : Actor) (p : Order) → Linked size w d → slice_get w.actors a ≡ Some x → y.order ≡ Some p → aside w.waiting x.order p.cache ≡ Some p →
-    SetAside w.shared (slice_set w.actors a y) (taken (aside w.waiting x.order) (Some p)) d.mode
+pub take_up : (size : ℕ) (w : World) (d : Volume) (a : ℕ) (x y : AbstractActor) (p : Order) → Linked size w d → slice_get w.actors a ≡ Some x → y.order ≡ Some p → aside w.waiting x.order p.cache ≡ Some p →
+    SetAside w.shared (slice_set w.actors a y) (abstract_taken (aside w.waiting x.order) (Some p)) d.mode
 take_up size w d a x y p i here own there = let all = without_order size w d a x i here in record {
   at = λ k q e. all.at k q (taken_was (aside w.waiting x.order) p k q e).1;
   stands = λ k q e. all.stands k q (taken_was (aside w.waiting x.order) p k q e).1;
   placed = λ k q e. all.placed k q (taken_was (aside w.waiting x.order) p k q e).1;
-  apart = λ k q b z r e g. in_set w.actors a x y here (λ j v. (r : Order) → v.order ≡ Some r → Apart r q)
-      (λ r f. let was = taken_was (aside w.waiting x.order) p k q e in let one : Some p ≡ Some r = sym own ∙ f in let same : p ≡ r = cc in subst (λ (v : Order). Apart v q) same (all.each p.cache k p q there was.1 (λ s. was.0 (sym s))))
+  apart = λ k q b z r e g. in_set w.actors a x y here (λ j v. (r : Order) → v.order ≡ Some r → ShareNoBlock r q)
+      (λ r f. let was = taken_was (aside w.waiting x.order) p k q e in let one : Some p ≡ Some r = sym own ∙ f in let same : p ≡ r = cc in subst (λ (v : Order). ShareNoBlock v q) same (all.each p.cache k p q there was.1 (λ s. was.0 (sym s))))
       (λ j v n h r f. all.apart k q j v r (taken_was (aside w.waiting x.order) p k q e).1 (beside_set w.actors a j (record x { order = None }) v n h) f)
       b z g r;
   each = λ j k q r e f n. all.each j k q r (taken_was (aside w.waiting x.order) p j q e).1 (taken_was (aside w.waiting x.order) p k r f).1 n;
@@ -84,7 +84,7 @@ take_up size w d a x y p i here own there = let all = without_order size w d a x
 
 -- its cache block is given back
 abbrev pub released : World → ℕ → World
-released w k = record { shared = record w.shared { blocks = changed w.shared.blocks k (given_back (w.shared.blocks k)) }; actors = w.actors; waiting = changed w.waiting k None }
+released w k = record { shared = record w.shared { blocks = changed w.shared.blocks k (block_given_back (w.shared.blocks k)) }; actors = w.actors; waiting = changed w.waiting k None }
 
 pub release_is : (w : World) (k : ℕ) (p : Order) → w.waiting k ≡ Some p → after_record w (Release k) ≡ released w k
 release_is w k p e = ap (λ (o : Option Order). release_order w k o) e
@@ -96,7 +96,7 @@ release_linked size w d k p i e nobody = record {
     kept = i.good.kept;
     agrees = blocks_agrees w.shared d _ i.good.agrees;
     bounded = i.good.bounded;
-    sound = sound_put w.shared k (given_back (w.shared.blocks k)) w.shared.mapping (sound_given (w.shared.blocks k) w.shared.mapping w.shared.committed w.shared.running k (i.good.sound k)) (λ j n u. u) i.good.sound;
+    sound = sound_put w.shared k (block_given_back (w.shared.blocks k)) w.shared.mapping (sound_given (w.shared.blocks k) w.shared.mapping w.shared.committed w.shared.running k (i.good.sound k)) (λ j n u. u) i.good.sound;
     idle = i.good.idle;
   };
   rests = i.rests;
@@ -139,10 +139,10 @@ release_linked size w d k p i e nobody = record {
   ]
 
   -- the cache block of any other order stays as it is
-  kept : (j : ℕ) (q : Order) → changed w.waiting k None j ≡ Some q → changed w.shared.blocks k (given_back (w.shared.blocks k)) q.cache ≡ w.shared.blocks q.cache
+  kept : (j : ℕ) (q : Order) → changed w.waiting k None j ≡ Some q → changed w.shared.blocks k (block_given_back (w.shared.blocks k)) q.cache ≡ w.shared.blocks q.cache
   kept j q f = changed_other w.shared.blocks k q.cache _ (λ s. (was j q f).0 (sym (i.aside.at j q (was j q f).1) ∙ s))
 
-  held : (a : ℕ) (x : Actor) (q : Order) → slice_get w.actors a ≡ Some x → x.order ≡ Some q → changed w.shared.blocks k (given_back (w.shared.blocks k)) q.cache ≡ w.shared.blocks q.cache
+  held : (a : ℕ) (x : AbstractActor) (q : Order) → slice_get w.actors a ≡ Some x → x.order ≡ Some q → changed w.shared.blocks k (block_given_back (w.shared.blocks k)) q.cache ≡ w.shared.blocks q.cache
   held a x q g f = changed_other w.shared.blocks k q.cache _ (λ s. (i.aside.apart k p a x q e g f).1 (s ∙ sym (i.aside.at k p e)))
 
 -- ---- who has kept something at a failure begins nothing: it finds that the target has failed
@@ -162,9 +162,9 @@ kept_ends job (suc n) size a held order leads c s d f = λ t e got o g v r. let 
     (calmly size a (λ y u h. Safe n size a y u h) _ _ (End Failed) Done t t e _ no.0 g.agrees (inr (o.fail f)) no.1 no.2 (resting_safe n size a held order leads c t e)) got v
 
 -- so, whatever it is given, it only answers
-pub kept_safe : (job : Job) (n size a : ℕ) (held : Held) (order : Option Order) (leads : Bool) (c : ℕ → Content) (s : Shared) (d : Volume) → s.fail ≡ true → Safe n size a (at_work job (Look_fail ∷ acquire job) Finished held order leads c) s d
+pub kept_safe : (job : Job) (n size a : ℕ) (held : Held) (order : Option Order) (leads : Bool) (c : ℕ → Content) (s : Shared) (d : Volume) → s.fail ≡ true → Safe n size a (at_work job (Look_fail ∷ abstract_acquire job) Finished held order leads c) s d
 kept_safe job zero size a held order leads c s d f = tt
-kept_safe job (suc n) size a held order leads c s d f = λ t e got o g v r. let steps = Look_fail ∷ acquire job in
+kept_safe job (suc n) size a held order leads c s d f = λ t e got o g v r. let steps = Look_fail ∷ abstract_acquire job in
     gives_flag t (λ k. Comes n size a job steps Finished held order leads c t e k) (λ flag is. let no = look a job c flag t e in
     calmly size a (λ y u h. Safe n size a y u h) _ _ Look_fail (Flag flag) t t e _ no.0 g.agrees tt tt no.1
     (subst (λ (w : Bool). Safe n size a (actor_after (at_work job steps Finished held order leads c) (script_of job steps Finished) Look_fail (Flag w)) t e) (sym (is ∙ o.fail f)) (kept_ends job n size a held order leads c t e (o.fail f)))) got v

@@ -3,8 +3,8 @@ use Rattle.std.proofs.Common.{◌≡◌, inl, inr, ℕ, zero, suc, Bool, true, f
 use Rattle.wb_disk.specs.Device.{Content}
 use Rattle.wb_contents.specs.Volume.{Volume, Locations, changed}
 use Rattle.wb_contents.specs.Acts.{Act, after_all as after_acts}
-use Rattle.wb_link.specs.Tables.{Order, Job, Reading, Writing, Writing_through, Flushing, Suspending, Promoting, Returning, Invalidating, Seal, Answer, Finished, Busy, Failed, Io, Want, Look_fail, Share, Own, Look_seal, Set_seal, Leave, Disown, Set_failed, Read_all, Write_all, Map_to, Unmap_from, Unmap_plain, Give_up, End, Got, Done, Lost, Flag, Seen, Script, work, breaking}
-use Rattle.wb_link.specs.World.{given_back, Shared, Held, Nothing, Owns, Actor, actor_after, job_alone}
+use Rattle.wb_link.specs.Tables.{Order, Job, Reading, Writing, Writing_through, Flushing, Suspending, Promoting, Returning, Invalidating, Seal, Answer, Finished, Busy, Failed, Io, Want, Look_fail, Share, Own, Look_seal, Set_seal, Leave, Disown, Set_failed, Read_all, Write_all, Map_to, Unmap_from, Unmap_plain, Give_up, End, Got, Done, Lost, Flag, Seen, Script, abstract_work, breaking}
+use Rattle.wb_link.specs.World.{block_given_back, Shared, Held, Nothing, Owns, AbstractActor, actor_after, job_alone}
 use Rattle.wb_link.proofs.Views.{BlockView, block_view, Holds}
 use Rattle.wb_link.proofs.Link.{Agrees, Good, Rests, RestsAt, MayEnd, Ready, Receives, Owes, Others, Right, Goes, Safe, acts_of}
 use Rattle.wb_link.proofs.Agreeing.{failed_agrees, blocks_agrees}
@@ -64,16 +64,16 @@ end_owes Suspending plain answer t e = absurd plain
 end_owes job plain answer t e = tt
 
 -- a step whose acts are none, said of the job that is not known
-pub calmly : (size a : ℕ) (rest : Actor → Shared → Volume → Type 0) (x : Actor) (script : Script) (w : Want) (got : Got) (t u : Shared) (e : Volume) (acts : List Act) → acts ≡ [] → Agrees u e → Ready w x t → Owes script.job w u e → Right a script.job w got e e →
+pub calmly : (size a : ℕ) (rest : AbstractActor → Shared → Volume → Type 0) (x : AbstractActor) (script : Script) (w : Want) (got : Got) (t u : Shared) (e : Volume) (acts : List Act) → acts ≡ [] → Agrees u e → Ready w x t → Owes script.job w u e → Right a script.job w got e e →
     rest (actor_after x script w got) u e → Goes size a rest x script w got t u e (after_acts e acts) acts
 calmly size a rest x script w got t u e acts none agrees ready owes right left =
     subst (λ (ys : List Act). Goes size a rest x script w got t u e (after_acts e ys) ys) (sym none) (record { run = tt; mine = tt; agrees = agrees; ready = ready; owes = owes; right = right; left = left })
 
 -- others leave a block that is held, and its seal
-pub held_on : (P : Seal → BlockView → Type 0) (a b : ℕ) (x : Actor) (s t : Shared) (d e : Volume) → Others a x s d t e → Holds x.held b → P (s.seals b) (block_view d b) → P (t.seals b) (block_view e b)
+pub held_on : (P : Seal → BlockView → Type 0) (a b : ℕ) (x : AbstractActor) (s t : Shared) (d e : Volume) → Others a x s d t e → Holds x.held b → P (s.seals b) (block_view d b) → P (t.seals b) (block_view e b)
 held_on P a b x s t d e o h k = subst (λ (w : BlockView). P (t.seals b) w) (sym (o.block b h)) (subst (λ (w : Seal). P w (block_view d b)) (sym (o.seal b h)) k)
 
-pub rests_on : (a b : ℕ) (x : Actor) (s t : Shared) (d e : Volume) → Others a x s d t e → Holds x.held b → RestsAt s d b → RestsAt t e b
+pub rests_on : (a b : ℕ) (x : AbstractActor) (s t : Shared) (d e : Volume) → Others a x s d t e → Holds x.held b → RestsAt s d b → RestsAt t e b
 rests_on a b x s t d e o h k = held_on (λ w v. Rests w v) a b x s t d e o h k
 
 pub ending : (n size a : ℕ) (job : Job) → IsPlain job → (answer : Answer) (held : Held) (order : Option Order) (c : ℕ → Content) (s : Shared) (d : Volume) → MayEnd answer held s → Safe n size a (at_work job [] answer held order false c) s d
@@ -108,7 +108,7 @@ disowned (suc n) size a job plain b answer order c s d k = disowning n size a jo
 
 giving : (n size a : ℕ) (job : Job) → IsPlain job → (p : Order) (answer : Answer) (c : ℕ → Content) (s : Shared) (d : Volume) → Safe n size a (at_work job (Give_up p ∷ []) answer Nothing (Some p) false c) s d
 giving zero size a job plain p answer c s d = tt
-giving (suc n) size a job plain p answer c s d = λ t e got o g v r. let after : Shared = record t { blocks = changed t.blocks p.cache (given_back (t.blocks p.cache)) } in
+giving (suc n) size a job plain p answer c s d = λ t e got o g v r. let after : Shared = record t { blocks = changed t.blocks p.cache (block_given_back (t.blocks p.cache)) } in
     gives_done (λ k. Comes n size a job (Give_up p ∷ []) answer Nothing (Some p) false c t e k)
     (calmly size a (λ y u f. Safe n size a y u f) _ _ (Give_up p) Done t after e _ (calm_acts job plain (Give_up p) tt t.mapping a c Done) (blocks_agrees t e _ g.agrees) refl tt (still_right a job plain (Give_up p) tt Done e e refl)
     (ending n size a job plain answer Nothing None c after e (holds_nothing answer after))) got v
@@ -120,8 +120,8 @@ returning (suc n) size a job plain p answer c s d k = disowning n size a job pla
 
 -- Its beginning: it looks at the failed bit, owns its block and sees the seal; what it knew before, others leave so.
 module _ (size a : ℕ) (job : Job) (plain : IsPlain job) (b : ℕ) (order : Option Order) (c : ℕ → Content) (Knows : Shared → Volume → Type 0)
-    (on : (x : Actor) (s t : Shared) (d e : Volume) → x.order ≡ order → Others a x s d t e → Knows s d → Knows t e)
-    (next : (n : ℕ) (seal : Seal) (t : Shared) (e : Volume) → Good size t e → Knows t e → e.live ≡ true → RestsAt t e b → seal ≡ t.seals b → Safe n size a (at_work job (work job seal) Finished (Owns b) order false c) t e) where
+    (on : (x : AbstractActor) (s t : Shared) (d e : Volume) → x.order ≡ order → Others a x s d t e → Knows s d → Knows t e)
+    (next : (n : ℕ) (seal : Seal) (t : Shared) (e : Volume) → Good size t e → Knows t e → e.live ≡ true → RestsAt t e b → seal ≡ t.seals b → Safe n size a (at_work job (abstract_work job seal) Finished (Owns b) order false c) t e) where
   sealed : (n : ℕ) (s : Shared) (d : Volume) → Knows s d → d.live ≡ true → RestsAt s d b → Safe n size a (at_work job (Look_seal b ∷ []) Finished (Owns b) order false c) s d
   sealed zero s d h l k = tt
   sealed (suc n) s d h l k = λ t e got o g v r. gives_seal t b (λ w. Comes n size a job (Look_seal b ∷ []) Finished (Owns b) order false c t e w)

@@ -4,7 +4,7 @@ use Rattle.wb_disk.specs.Device.{Content}
 use Rattle.wb_contents.specs.Volume.{Volume, Locations}
 use Rattle.wb_contents.specs.Acts.{Act, after as after_act, End_flush, Sync_cache, Sync_origin, Fail_cache_sync, Fail_origin_sync, Write_root, End_commit, after_all as after_acts}
 use Rattle.wb_link.specs.Tables.{Order, Job, Flushing, Suspending, Answer, Finished, Io, Want, Set_failed, Break_commits, Sync_cache_device, Sync_origin_device, Put_root, Sync_metadata, End_running, End, Got, Done, Fault, breaking}
-use Rattle.wb_link.specs.World.{Shared, Nothing, Actor, actor_after}
+use Rattle.wb_link.specs.World.{Shared, Nothing, AbstractActor, actor_after}
 use Rattle.wb_link.proofs.Views.{CommitView, commit_view}
 use Rattle.wb_contents.specs.Conditions.{IsRun as IsActs}
 use Rattle.wb_link.proofs.Link.{Agrees, Ready, Owes, Others, Right, AllMine, Goes, Safe, acts_of, flush_acts}
@@ -82,7 +82,7 @@ pub record Led (a : ℕ) (cached based root_written : Bool) (d : Volume) : Type 
   pub is_based : based ≡ true → d.origin_synced ≡ true
   pub is_rooted : root_written ≡ true → d.root_written ≡ true
 
-led_on : (a : ℕ) (x : Actor) (cached based root_written : Bool) (s t : Shared) (d e : Volume) → x.leads ≡ true → Others a x s d t e → Led a cached based root_written d → Led a cached based root_written e
+led_on : (a : ℕ) (x : AbstractActor) (cached based root_written : Bool) (s t : Shared) (d e : Volume) → x.leads ≡ true → Others a x s d t e → Led a cached based root_written d → Led a cached based root_written e
 led_on a x cached based root_written s t d e l o k =
     let same : commit_view e ≡ commit_view d = o.commit l in
     let number : e.began ≡ d.began = ap (λ (v : CommitView). v.began) same in record {
@@ -95,7 +95,7 @@ led_on a x cached based root_written s t d e l o k =
 module _ (size a : ℕ) (job : Job) (commits : Commits job) (order : Option Order) (c : ℕ → Content) (rest : List Want)
     (broken : (n : ℕ) (s : Shared) (d : Volume) → s.fail ≡ true → Safe n size a (at_work job [] Io Nothing order true c) s d)
     (ended : (n : ℕ) (s : Shared) (d : Volume) → d.ticket a ≤ d.ended → Safe n size a (at_work job rest Finished Nothing order false c) s d) where
-  abbrev at : List Want → Answer → Actor
+  abbrev at : List Want → Answer → AbstractActor
   at steps answer = at_work job steps answer Nothing order true c
 
   -- A step of its leader: its acts are a flush's, and it adds nothing to a history.

@@ -7,15 +7,15 @@ use Rattle.wb_contents.specs.Conditions.{IsUnnamed}
 use Rattle.wb_contents.proofs.Positions.{changed_same, changed_other}
 use Rattle.wb_contents.proofs.Floors.{HasHomes}
 use Rattle.wb_link.specs.Tables.{Order, Job, Want, Set_seal, Set_failed, Set_suspended, Break_commits, Write_all, Begin, Begin_clean, Sync_cache_device, Sync_origin_device, Put_root, End_running, Map_to, Unmap_from, Unmap_plain, Give_up, Got, Done, Fault}
-use Rattle.wb_link.specs.World.{Block, Free, Mapped, Reserved, Quarantined, Retained, removed, Shared, Owns, Actor, effect, put_sector, put_where, if_landed, contents_for, begun, ended, given_back, drops}
+use Rattle.wb_link.specs.World.{Block, Free, Mapped, Reserved, Quarantined, Retained, removed, Shared, Owns, AbstractActor, effect, put_sector, put_where, if_landed, abstract_contents_for, block_begun, block_ended, block_given_back, drops}
 use Rattle.wb_link.proofs.Acts.{NotCache}
 use Rattle.wb_link.proofs.Link.{Ordered, Turns, Good, Sound, AllSound, Ready}
 
-pub record KeepsShared (x : Actor) (s t : Shared) : Type 0 where
+pub record KeepsShared (x : AbstractActor) (s t : Shared) : Type 0 where
   pub seal : (b : ℕ) → x.held ≢ Owns b → t.seals b ≡ s.seals b
   pub state : drops x.task ≡ false → (k : ℕ) → NotCache x k → Ordered (s.blocks k) → Turns (s.blocks k) (t.blocks k)
 
-same : (x : Actor) (s t : Shared) → t.seals ≡ s.seals → t.blocks ≡ s.blocks → KeepsShared x s t
+same : (x : AbstractActor) (s t : Shared) → t.seals ≡ s.seals → t.blocks ≡ s.blocks → KeepsShared x s t
 same x s t e f = record { seal = λ b n. ap (λ g. g b) e; state = λ h k n r. inl (ap (λ g. g k) f) }
 
 -- the desk's part, and seals, of a write
@@ -48,8 +48,8 @@ where_desk lands s location b [] contents = desk_same s
 where_desk lands s location b (o ∷ os) contents = desk_then s _ _ (landed_desk (lands o) s location b o (contents o)) (where_desk lands (if_landed (lands o) (put_sector s location b o (contents o)) s) location b os contents)
 
 pub write_desk : (s : Shared) (job : Job) (buffer : ℕ → Content) (location : Option ℕ) (b : ℕ) (os : List ℕ) (got : Got) → SameDesk s (effect s job buffer (Write_all location b os) got)
-write_desk s job buffer location b os Done = where_desk (λ o. true) s location b os (contents_for job buffer)
-write_desk s job buffer location b os (Fault lands) = where_desk (lands b) s location b os (contents_for job buffer)
+write_desk s job buffer location b os Done = where_desk (λ o. true) s location b os (abstract_contents_for job buffer)
+write_desk s job buffer location b os (Fault lands) = where_desk (lands b) s location b os (abstract_contents_for job buffer)
 write_desk s job buffer location b os got = desk_same s
 
 pub sync_cached_desk : (s : Shared) (job : Job) (buffer : ℕ → Content) (got : Got) → SameDesk s (effect s job buffer Sync_cache_device got)
@@ -62,11 +62,11 @@ sync_based_desk s job buffer Done = record { seals = refl; mapping = refl; block
 sync_based_desk s job buffer (Fault lands) = record { seals = refl; mapping = refl; blocks = refl; committing = refl; committed = refl; running = refl; root_written = refl; fail = refl }
 sync_based_desk s job buffer got = desk_same s
 
-by_desk : (x : Actor) (s t : Shared) → SameDesk s t → KeepsShared x s t
+by_desk : (x : AbstractActor) (s t : Shared) → SameDesk s t → KeepsShared x s t
 by_desk x s t i = same x s t i.seals i.blocks
 
 -- A commit's beginning and its end leave a reserved and a mapped block as it is, and make a kept one a reserved one.
-pub begun_turns : (b : Block) → Ordered b → Turns b (begun b)
+pub begun_turns : (b : Block) → Ordered b → Turns b (block_begun b)
 begun_turns Free i = inl refl
 begun_turns Mapped i = inl refl
 begun_turns Reserved i = inl refl
@@ -78,7 +78,7 @@ begun_turns (Quarantined early) i = absurd (none early i)
     none early (inl (inr e)) = absurd (cc)
     none early (inr k) = let bad : Quarantined early ≡ Retained k.0 = k.1 in absurd (cc)
 
-pub ended_turns : (b : Block) → Ordered b → Turns b (ended b)
+pub ended_turns : (b : Block) → Ordered b → Turns b (block_ended b)
 ended_turns Free i = inl refl
 ended_turns Mapped i = inl refl
 ended_turns Reserved i = inl refl
@@ -93,10 +93,10 @@ ended_turns (Quarantined true) i = absurd (none i)
     none (inr k) = let bad : Quarantined true ≡ Retained k.0 = k.1 in absurd (cc)
 
 -- a block of the actor's order
-order_keeps : (x : Actor) (s : Shared) (p : Order) (m : Locations) (b : Block) → x.order ≡ Some p → KeepsShared x s (record s { mapping = m; blocks = changed s.blocks p.cache b })
+order_keeps : (x : AbstractActor) (s : Shared) (p : Order) (m : Locations) (b : Block) → x.order ≡ Some p → KeepsShared x s (record s { mapping = m; blocks = changed s.blocks p.cache b })
 order_keeps x s p m b e = record { seal = λ c n. refl; state = λ h k n r. inl (changed_other s.blocks p.cache k b (λ y. n p e (sym y))) }
 
-pub effect_keeps : (x : Actor) (s : Shared) (job : Job) (buffer : ℕ → Content) (w : Want) (got : Got) → Ready w x s → KeepsShared x s (effect s job buffer w got)
+pub effect_keeps : (x : AbstractActor) (s : Shared) (job : Job) (buffer : ℕ → Content) (w : Want) (got : Got) → Ready w x s → KeepsShared x s (effect s job buffer w got)
 effect_keeps x s job buffer (Set_seal b seal) got r = record { seal = λ c n. changed_other s.seals b c seal (λ e. n (r ∙ ap (λ v. Owns v) (sym e))); state = λ h k n i. inl refl }
 effect_keeps x s job buffer Set_failed got r = same x s (effect s job buffer Set_failed got) refl refl
 effect_keeps x s job buffer (Write_all location b os) got r = by_desk x s _ (write_desk s job buffer location b os got)
@@ -111,7 +111,7 @@ effect_keeps x s job buffer End_running got r = record { seal = λ b n. refl; st
 effect_keeps x s job buffer (Map_to p) got r = order_keeps x s p (changed s.mapping p.block (Some p.cache)) Mapped r.0
 effect_keeps x s job buffer (Unmap_from p) got r = order_keeps x s p (changed s.mapping p.block None) (removed p.next) r.0
 effect_keeps x s job buffer (Unmap_plain b k) got r = record { seal = λ c n. refl; state = λ h j n i. let free = r.0 in absurd (cc) }
-effect_keeps x s job buffer (Give_up p) got r = order_keeps x s p s.mapping (given_back (s.blocks p.cache)) r
+effect_keeps x s job buffer (Give_up p) got r = order_keeps x s p s.mapping (block_given_back (s.blocks p.cache)) r
 effect_keeps x s job buffer w got r = by_desk x s s (desk_same s)
 
 -- Image safety after each step.
@@ -119,7 +119,7 @@ effect_keeps x s job buffer w got r = by_desk x s s (desk_same s)
 sound_desk : (s t : Shared) → SameDesk s t → AllSound s → AllSound t
 sound_desk s t i all k = rw (i.blocks, i.mapping, i.committed, i.running) (all k)
 
-sound_begun : (b : Block) (m c r : Locations) (k : ℕ) → Sound b m c r k → Sound (begun b) m c m k
+sound_begun : (b : Block) (m c r : Locations) (k : ℕ) → Sound b m c r k → Sound (block_begun b) m c m k
 sound_begun Free m c r k i = (i.0, i.1, i.0)
 sound_begun Mapped m c r k i = tt
 sound_begun Reserved m c r k i = (i.0, i.1, i.0)
@@ -128,7 +128,7 @@ sound_begun (Quarantined false) m c r k i = (i, i)
 sound_begun (Retained true) m c r k i = (i.0, i.0)
 sound_begun (Retained false) m c r k i = (i, i)
 
-sound_ended : (b : Block) (m c r : Locations) (k : ℕ) → Sound b m c r k → Sound (ended b) m r r k
+sound_ended : (b : Block) (m c r : Locations) (k : ℕ) → Sound b m c r k → Sound (block_ended b) m r r k
 sound_ended Free m c r k i = (i.0, i.2, i.2)
 sound_ended Mapped m c r k i = tt
 sound_ended Reserved m c r k i = (i.0, i.2, i.2)
@@ -137,7 +137,7 @@ sound_ended (Quarantined false) m c r k i = i
 sound_ended (Retained true) m c r k i = (i.0, i.1, i.1)
 sound_ended (Retained false) m c r k i = i
 
-pub sound_given : (b : Block) (m c r : Locations) (k : ℕ) → Sound b m c r k → Sound (given_back b) m c r k
+pub sound_given : (b : Block) (m c r : Locations) (k : ℕ) → Sound b m c r k → Sound (block_given_back b) m c r k
 sound_given Free m c r k i = i
 sound_given b m c r k i = i
 
@@ -176,7 +176,7 @@ unnamed_now m home b k homes e c y = elim (cases_eq c b) [
       let one : Some c ≡ Some b = sym (homes c k there) ∙ homes b k e in let is : c ≡ b = cc in absurd (n is)
 ]
 
-pub effect_sound : (size : ℕ) (x : Actor) (s : Shared) (d : Volume) (job : Job) (buffer : ℕ → Content) (w : Want) (got : Got) → Good size s d → Ready w x s → AllSound (effect s job buffer w got)
+pub effect_sound : (size : ℕ) (x : AbstractActor) (s : Shared) (d : Volume) (job : Job) (buffer : ℕ → Content) (w : Want) (got : Got) → Good size s d → Ready w x s → AllSound (effect s job buffer w got)
 effect_sound size x s d job buffer (Write_all location b os) got i r = sound_desk s _ (write_desk s job buffer location b os got) i.sound
 effect_sound size x s d job buffer (Begin ticket) Done i r = λ k. sound_begun (s.blocks k) s.mapping s.committed s.running k (i.sound k)
 effect_sound size x s d job buffer Begin_clean Done i r = λ k. sound_begun (s.blocks k) s.mapping s.committed s.running k (i.sound k)
@@ -191,7 +191,7 @@ effect_sound size x s d job buffer (Unmap_from p) got i r = sound_put s p.cache 
 effect_sound size x s d job buffer (Unmap_plain b k) got i r = sound_put s k (Quarantined false) (changed s.mapping b None)
     (unnamed_now s.mapping i.kept.floors.home b k (λ c j e. i.kept.floors.home_of_mapping c j (sym (ap (λ f. f c) i.agrees.mapping) ∙ e)) r.1)
     (λ j n u. unnamed_put s.mapping b j None (λ e. absurd (cc)) u) i.sound
-effect_sound size x s d job buffer (Give_up p) got i r = sound_put s p.cache (given_back (s.blocks p.cache)) s.mapping (sound_given (s.blocks p.cache) s.mapping s.committed s.running p.cache (i.sound p.cache)) (λ j n u. u) i.sound
+effect_sound size x s d job buffer (Give_up p) got i r = sound_put s p.cache (block_given_back (s.blocks p.cache)) s.mapping (sound_given (s.blocks p.cache) s.mapping s.committed s.running p.cache (i.sound p.cache)) (λ j n u. u) i.sound
 effect_sound size x s d job buffer w got i r = i.sound
 
 -- Where no commit runs, no root of one was written.
@@ -199,7 +199,7 @@ effect_sound size x s d job buffer w got i r = i.sound
 idle_desk : (s t : Shared) → SameDesk s t → (s.committing ≡ false → s.root_written ≡ false) → t.committing ≡ false → t.root_written ≡ false
 idle_desk s t i f e = i.root_written ∙ f (sym i.committing ∙ e)
 
-pub effect_idle : (x : Actor) (s : Shared) (job : Job) (buffer : ℕ → Content) (w : Want) (got : Got) → (x.leads ≡ true → s.committing ≡ true) → Ready w x s → (s.committing ≡ false → s.root_written ≡ false) →
+pub effect_idle : (x : AbstractActor) (s : Shared) (job : Job) (buffer : ℕ → Content) (w : Want) (got : Got) → (x.leads ≡ true → s.committing ≡ true) → Ready w x s → (s.committing ≡ false → s.root_written ≡ false) →
     (effect s job buffer w got).committing ≡ false → (effect s job buffer w got).root_written ≡ false
 effect_idle x s job buffer (Write_all location b os) got l r f = idle_desk s _ (write_desk s job buffer location b os got) f
 effect_idle x s job buffer (Begin ticket) Done l r f = λ e. absurd (cc)

@@ -4,13 +4,13 @@ use Rattle.wb_disk.specs.Device.{Content}
 use Rattle.wb_contents.specs.Volume.{Volume}
 use Rattle.wb_contents.specs.Acts.{after as after_act, Begin_commit}
 use Rattle.wb_link.specs.Tables.{Order, Flushing, let_go, Answer, Finished, Busy, Failed, Io, Want, Look_fail, Begin, Sync_cache_device, Sync_origin_device, Put_root, Sync_metadata, End_running, Give_up, Got, Done, Lost, Flag, Ticket, Served, Broken, Short}
-use Rattle.wb_link.specs.World.{Shared, Nothing, Actor, actor_after}
+use Rattle.wb_link.specs.World.{Shared, Nothing, AbstractActor, actor_after}
 use Rattle.wb_link.proofs.Link.{Good, Receives, Safe}
 use Rattle.wb_link.proofs.Agreeing.{begin_agrees, blocks_agrees}
 use Rattle.wb_link.proofs.Committing.{refused_safe, finishing, caching}
 use Rattle.wb_link.proofs.Givings.{at_work, script_of, Comes, quietly, gives_done, gives_flag, gives_begin}
 
-abbrev flushing : Option Order → List Want → Answer → Bool → (ℕ → Content) → Actor
+abbrev flushing : Option Order → List Want → Answer → Bool → (ℕ → Content) → AbstractActor
 flushing q steps answer leads c = at_work (Flushing q) steps answer Nothing q leads c
 
 abbrev Result : Option Order → ℕ → ℕ → ℕ → List Want → Answer → Bool → (ℕ → Content) → Shared → Volume → Got → Type 0

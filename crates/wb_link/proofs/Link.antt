@@ -8,8 +8,8 @@ use Rattle.wb_types.specs.declared.mode.Mode.TheVariants.{Passthrough}
 use Rattle.wb_contents.specs.Acts.{Act, Write, Write_origin, Write_cache, Fail_write, Finish, Fill_cache, Copy_back, Map, Unmap, Make_dirty, Make_clean, Begin_commit, Begin_suspend, Sync_cache, Sync_origin, Fail_cache_sync, Fail_origin_sync, Write_root, End_commit, Begin_flush, End_flush, after_all as after_acts}
 use Rattle.wb_contents.specs.Conditions.{IsUnnamed, IsRun as IsActs}
 use Rattle.wb_contents.proofs.Run.{KeepsAll}
-use Rattle.wb_link.specs.Tables.{Order, Job, Reading, Writing, Writing_through, Flushing, Suspending, Promoting, Returning, Invalidating, Seal, Answer, Finished, Want, Look_fail, Share, Own, Set_seal, Leave, Disown, Read_all, Write_all, Begin, Begin_clean, Sync_cache_device, Sync_origin_device, Put_root, End_running, Map_to, Unmap_from, Unmap_plain, Give_up, End, Got, Done, Flag, Gave, Fault, Script, want}
-use Rattle.wb_link.specs.World.{AreAlike, Block, Free, Mapped, Reserved, Quarantined, Retained, Shared, Held, Nothing, Shares, Owns, Actor, World, effect, actor_after, Gives, Apart, NextIsUnmapped, is_alone, job_alone, drops}
+use Rattle.wb_link.specs.Tables.{Order, Job, Reading, Writing, Writing_through, Flushing, Suspending, Promoting, Returning, Invalidating, Seal, Answer, Finished, Want, Look_fail, Share, Own, Set_seal, Leave, Disown, Read_all, Write_all, Begin, Begin_clean, Sync_cache_device, Sync_origin_device, Put_root, End_running, Map_to, Unmap_from, Unmap_plain, Give_up, End, Got, Done, Flag, Gave, Fault, Script, abstract_want}
+use Rattle.wb_link.specs.World.{AreAlike, Block, Free, Mapped, Reserved, Quarantined, Retained, Shared, Held, Nothing, Shares, Owns, AbstractActor, World, effect, actor_after, AbstractGives, ShareNoBlock, NextIsUnmapped, is_alone, job_alone, drops}
 use Rattle.wb_link.specs.Clerk.{histories_after}
 use Rattle.wb_link.proofs.Views.{BlockView, block_view, commit_view, Holds}
 use Rattle.wb_link.proofs.Acts.{Mine}
@@ -159,7 +159,7 @@ abbrev pub RestsAt : Shared → Volume → ℕ → Type 0
 RestsAt s d b = Rests (s.seals b) (block_view d b)
 
 -- What others leave alone while an actor has what it has.
-pub record Others (a : ℕ) (x : Actor) (s : Shared) (d : Volume) (t : Shared) (e : Volume) : Type 0 where
+pub record Others (a : ℕ) (x : AbstractActor) (s : Shared) (d : Volume) (t : Shared) (e : Volume) : Type 0 where
   pub seal : (b : ℕ) → Holds x.held b → t.seals b ≡ s.seals b
   pub block : (b : ℕ) → Holds x.held b → block_view e b ≡ block_view d b
   pub location : (p : Order) → x.order ≡ Some p → e.mapping p.block ≡ d.mapping p.block
@@ -181,7 +181,7 @@ MayEnd answer held s = (held ≡ Nothing) ⊎ (s.fail ≡ true)
 
 -- What a step asks of the actor, what it is told with the result, and what it has to leave.
 
-abbrev pub Ready : Want → Actor → Shared → Type 0
+abbrev pub Ready : Want → AbstractActor → Shared → Type 0
 Ready (Share b) x s = x.held ≡ Nothing
 Ready (Own b) x s = x.held ≡ Nothing
 Ready (Set_seal b seal) x s = x.held ≡ Owns b
@@ -199,7 +199,7 @@ Ready (Unmap_plain b k) x s = (drops x.task ≡ true) × (s.mapping b ≡ Some k
 Ready (Give_up p) x s = x.order ≡ Some p
 Ready w x s = Unit {0}
 
-abbrev pub Receives : Actor → Job → Want → Got → Shared → Volume → Type 0
+abbrev pub Receives : AbstractActor → Job → Want → Got → Shared → Volume → Type 0
 Receives x job (Share b) Done s d = RestsAt s d b
 Receives x job (Own b) Done s d = RestsAt s d b
 Receives x job Look_fail (Flag false) s d = job_alone job ≡ false → d.live ≡ true
@@ -227,12 +227,12 @@ pub record Right (a : ℕ) (job : Job) (w : Want) (got : Got) (d e : Volume) : T
   pub histories : e.histories ≡ histories_after d.histories job w
   pub flushes : FlushesRight a job w d e
 
-abbrev pub AllMine : ℕ → ℕ → Actor → Bool → List Act → Type 0
+abbrev pub AllMine : ℕ → ℕ → AbstractActor → Bool → List Act → Type 0
 AllMine size a x busy [] = Unit {0}
 AllMine size a x busy (y ∷ ys) = Mine size a x busy y × AllMine size a x busy ys
 
 -- A step of an actor is right, and leaves what is left safe.
-pub record Goes (size a : ℕ) (rest : Actor → Shared → Volume → Type 0) (x : Actor) (script : Script) (w : Want) (got : Got) (s t : Shared) (d e : Volume) (acts : List Act) : Type 0 where
+pub record Goes (size a : ℕ) (rest : AbstractActor → Shared → Volume → Type 0) (x : AbstractActor) (script : Script) (w : Want) (got : Got) (s t : Shared) (d e : Volume) (acts : List Act) : Type 0 where
   pub run : IsActs d acts
   pub mine : AllMine size a x s.committing acts
   pub agrees : Agrees t e
@@ -241,20 +241,20 @@ pub record Goes (size a : ℕ) (rest : Actor → Shared → Volume → Type 0) (
   pub right : Right a script.job w got d e
   pub left : rest (actor_after x script w got) t e
 
-abbrev pub Next : (size a : ℕ) → (Actor → Shared → Volume → Type 0) → Actor → Option Script → Shared → Volume → Type 0
+abbrev pub Next : (size a : ℕ) → (AbstractActor → Shared → Volume → Type 0) → AbstractActor → Option Script → Shared → Volume → Type 0
 Next size a rest x None s d = Unit {0}
-Next size a rest x (Some script) s d = (t : Shared) (e : Volume) (got : Got) → Others a x s d t e → Good size t e → Gives t (want script) got → Receives x script.job (want script) got t e →
-    Goes size a rest x script (want script) got t (effect t script.job x.buffer (want script) got) e (after_acts e (acts_of t.mapping a script.job x.buffer (want script) got)) (acts_of t.mapping a script.job x.buffer (want script) got)
+Next size a rest x (Some script) s d = (t : Shared) (e : Volume) (got : Got) → Others a x s d t e → Good size t e → AbstractGives t (abstract_want script) got → Receives x script.job (abstract_want script) got t e →
+    Goes size a rest x script (abstract_want script) got t (effect t script.job x.buffer (abstract_want script) got) e (after_acts e (acts_of t.mapping a script.job x.buffer (abstract_want script) got)) (acts_of t.mapping a script.job x.buffer (abstract_want script) got)
 
 -- What is left of an actor's task is safe for so many steps: whatever the others do before each.
-abbrev pub Safe : ℕ → ℕ → ℕ → Actor → Shared → Volume → Type 0
+abbrev pub Safe : ℕ → ℕ → ℕ → AbstractActor → Shared → Volume → Type 0
 Safe zero size a x s d = Unit {0}
 Safe (suc n) size a x s d = Next size a (λ y t e. Safe n size a y t e) x x.task s d
 
 -- Two actors do not have the same.
-pub record Disjoint (x y : Actor) : Type 0 where
+pub record Disjoint (x y : AbstractActor) : Type 0 where
   pub held : (b : ℕ) → x.held ≡ Owns b → (y.held ≢ Owns b) × (y.held ≢ Shares b)
-  pub order : (p q : Order) → x.order ≡ Some p → y.order ≡ Some q → Apart p q
+  pub order : (p q : Order) → x.order ≡ Some p → y.order ≡ Some q → ShareNoBlock p q
   pub leads : x.leads ≡ true → y.leads ≡ true → ⊥
   pub alone : is_alone x.task ≡ true → y.task ≡ None
 
@@ -273,34 +273,34 @@ Turns b c = (c ≡ b) ⊎ (IsKept b × (IsKept c ⊎ (c ≡ Reserved)))
 abbrev pub Placing : Shared → Order → Type 0
 Placing s p = (s.blocks p.cache ≡ Reserved → s.mapping p.block ≡ None) × (s.blocks p.cache ≡ Mapped → s.mapping p.block ≡ Some p.cache) × (IsKept (s.blocks p.cache) → s.mapping p.block ≡ None) × NextIsUnmapped s p
 
-abbrev pub Unowned : List Actor → ℕ → Type 0
-Unowned actors b = (a : ℕ) (x : Actor) → slice_get actors a ≡ Some x → x.held ≢ Owns b
+abbrev pub Unowned : List AbstractActor → ℕ → Type 0
+Unowned actors b = (a : ℕ) (x : AbstractActor) → slice_get actors a ≡ Some x → x.held ≢ Owns b
 
-abbrev pub NobodyAlone : List Actor → Type 0
-NobodyAlone actors = (a : ℕ) (x : Actor) → slice_get actors a ≡ Some x → is_alone x.task ≡ false
+abbrev pub NobodyAlone : List AbstractActor → Type 0
+NobodyAlone actors = (a : ℕ) (x : AbstractActor) → slice_get actors a ≡ Some x → is_alone x.task ≡ false
 
 -- What is known of the orders that are put aside.
-pub record SetAside (s : Shared) (actors : List Actor) (waiting : ℕ → Option Order) (mode : Mode) : Type 0 where
+pub record SetAside (s : Shared) (actors : List AbstractActor) (waiting : ℕ → Option Order) (mode : Mode) : Type 0 where
   pub at : (k : ℕ) (p : Order) → waiting k ≡ Some p → p.cache ≡ k
   pub stands : (k : ℕ) (p : Order) → waiting k ≡ Some p → Ordered (s.blocks p.cache)
   pub placed : (k : ℕ) (p : Order) → waiting k ≡ Some p → Placing s p
-  pub apart : (k : ℕ) (p : Order) (a : ℕ) (x : Actor) (q : Order) → waiting k ≡ Some p → slice_get actors a ≡ Some x → x.order ≡ Some q → Apart q p
-  pub each : (j k : ℕ) (p q : Order) → waiting j ≡ Some p → waiting k ≡ Some q → j ≢ k → Apart p q
+  pub apart : (k : ℕ) (p : Order) (a : ℕ) (x : AbstractActor) (q : Order) → waiting k ≡ Some p → slice_get actors a ≡ Some x → x.order ≡ Some q → ShareNoBlock q p
+  pub each : (j k : ℕ) (p q : Order) → waiting j ≡ Some p → waiting k ≡ Some q → j ≢ k → ShareNoBlock p q
   pub modes : (k : ℕ) (p : Order) → waiting k ≡ Some p → mode ≢ Passthrough
 
 -- The link's invariant.
 pub record Linked (size : ℕ) (w : World) (d : Volume) : Type 0 where
   pub good : Good size w.shared d
   pub rests : (b : ℕ) → Unowned w.actors b → RestsAt w.shared d b
-  pub disjoint : (a b : ℕ) (x y : Actor) → slice_get w.actors a ≡ Some x → slice_get w.actors b ≡ Some y → a ≢ b → Disjoint x y
-  pub leads : (a : ℕ) (x : Actor) → slice_get w.actors a ≡ Some x → x.leads ≡ true → w.shared.committing ≡ true
-  pub stands : (a : ℕ) (x : Actor) (p : Order) → slice_get w.actors a ≡ Some x → x.order ≡ Some p → Ordered (w.shared.blocks p.cache)
-  pub placed : (a : ℕ) (x : Actor) (p : Order) → slice_get w.actors a ≡ Some x → x.order ≡ Some p → Placing w.shared p
+  pub disjoint : (a b : ℕ) (x y : AbstractActor) → slice_get w.actors a ≡ Some x → slice_get w.actors b ≡ Some y → a ≢ b → Disjoint x y
+  pub leads : (a : ℕ) (x : AbstractActor) → slice_get w.actors a ≡ Some x → x.leads ≡ true → w.shared.committing ≡ true
+  pub stands : (a : ℕ) (x : AbstractActor) (p : Order) → slice_get w.actors a ≡ Some x → x.order ≡ Some p → Ordered (w.shared.blocks p.cache)
+  pub placed : (a : ℕ) (x : AbstractActor) (p : Order) → slice_get w.actors a ≡ Some x → x.order ≡ Some p → Placing w.shared p
   -- no order lives in passthrough, and a task that unmaps without one is there alone
-  pub orders : (a : ℕ) (x : Actor) (p : Order) → slice_get w.actors a ≡ Some x → x.order ≡ Some p → d.mode ≢ Passthrough
-  pub dropping : (a : ℕ) (x : Actor) → slice_get w.actors a ≡ Some x → drops x.task ≡ true → d.mode ≡ Passthrough
+  pub orders : (a : ℕ) (x : AbstractActor) (p : Order) → slice_get w.actors a ≡ Some x → x.order ≡ Some p → d.mode ≢ Passthrough
+  pub dropping : (a : ℕ) (x : AbstractActor) → slice_get w.actors a ≡ Some x → drops x.task ≡ true → d.mode ≡ Passthrough
   -- who has no task holds nothing, unless the target has failed; a target that has not failed stands, but for a suspend's
-  pub resting : (a : ℕ) (x : Actor) → slice_get w.actors a ≡ Some x → x.task ≡ None → (x.held ≡ Nothing) ⊎ (w.shared.fail ≡ true)
+  pub resting : (a : ℕ) (x : AbstractActor) → slice_get w.actors a ≡ Some x → x.task ≡ None → (x.held ≡ Nothing) ⊎ (w.shared.fail ≡ true)
   pub living : NobodyAlone w.actors → w.shared.fail ≡ false → d.live ≡ true
-  pub safe : (a : ℕ) (x : Actor) (n : ℕ) → slice_get w.actors a ≡ Some x → Safe n size a x w.shared d
+  pub safe : (a : ℕ) (x : AbstractActor) (n : ℕ) → slice_get w.actors a ≡ Some x → Safe n size a x w.shared d
   pub aside : SetAside w.shared w.actors w.waiting d.mode

@@ -4,8 +4,8 @@ use Rattle.wb_disk.specs.Device.{Content, History}
 use Rattle.wb_contents.specs.Volume.{Volume, Locations}
 use Rattle.wb_contents.specs.Acts.{Act, after as after_act}
 use Rattle.wb_contents.specs.Conditions.{MayAct}
-use Rattle.wb_link.specs.Tables.{Order, Job, Finished, Io, Want, Disown, Read_all, Write_all, Give_up, Got, Done, Gave, Fault, copy_each, release}
-use Rattle.wb_link.specs.World.{Shared, Owns, Actor, Within, AllWithin, AreAlike, newest_at, contents_for, put_sector, if_landed}
+use Rattle.wb_link.specs.Tables.{Order, Job, Finished, Io, Want, Disown, Read_all, Write_all, Give_up, Got, Done, Gave, Fault, copy_each, abstract_release}
+use Rattle.wb_link.specs.World.{Shared, Owns, AbstractActor, Within, AllWithin, AreAlike, newest_at, abstract_contents_for, put_sector, if_landed}
 use Rattle.wb_link.proofs.Acts.{Mine}
 use Rattle.wb_link.proofs.Link.{Agrees, Good, RestsAt, Others, Right, Safe, acts_of, copy_acts, if_so}
 use Rattle.wb_link.proofs.Copying.{EqualBut, alike_on, equal_on, equal_more, equal_next}
@@ -16,7 +16,7 @@ use Rattle.wb_link.proofs.Givings.{at_work, Comes, gives_read, gives_fault}
 -- a sector was written, and nothing else
 pub record Wrote (size a : ℕ) (p : Order) (Knows : Shared → Volume → Type 0) (source target : Volume → ℕ → Content) (q : ℕ) (c : Content) (e : Volume) (u : Shared) (act : Act) : Type 0 where
   pub run : MayAct e act
-  pub mine : (x : Actor) (busy : Bool) → x.held ≡ Owns p.block → x.order ≡ Some p → Mine size a x busy act
+  pub mine : (x : AbstractActor) (busy : Bool) → x.held ≡ Owns p.block → x.order ≡ Some p → Mine size a x busy act
   pub agrees : Agrees u (after_act e act)
   pub histories : (after_act e act).histories ≡ e.histories
   pub knows : Knows u (after_act e act)
@@ -30,10 +30,10 @@ pub record Way (size a : ℕ) (job : Job) (p : Order) (from to : Option ℕ) (ac
   pub right : (w : Want) (got : Got) (d e : Volume) → e.histories ≡ d.histories → Right a job w got d e
   pub reads : (locations : Locations) (c : ℕ → Content) (os : List ℕ) (got : Got) → acts_of locations a job c (Read_all from p.block os) got ≡ []
   pub writes : (locations : Locations) (c : ℕ → Content) (os : List ℕ) (got : Got) → acts_of locations a job c (Write_all to p.block os) got ≡ copy_acts (act c) p.block os got
-  pub given : (c : ℕ → Content) (q : ℕ) → contents_for job c q ≡ c q
-  pub releases : release job ≡ Disown p.block ∷ Give_up p ∷ []
+  pub given : (c : ℕ → Content) (q : ℕ) → abstract_contents_for job c q ≡ c q
+  pub releases : abstract_release job ≡ Disown p.block ∷ Give_up p ∷ []
   pub rests : (s : Shared) (d : Volume) → Knows s d → RestsAt s d p.block
-  pub on : (x : Actor) (s t : Shared) (d e : Volume) → x.held ≡ Owns p.block → x.order ≡ Some p → Good size t e → Others a x s d t e → Knows s d → Knows t e × ((i : ℕ) → (target e i ≡ target d i) × (source e i ≡ source d i))
+  pub on : (x : AbstractActor) (s t : Shared) (d e : Volume) → x.held ≡ Owns p.block → x.order ≡ Some p → Good size t e → Others a x s d t e → Knows s d → Knows t e × ((i : ℕ) → (target e i ≡ target d i) × (source e i ≡ source d i))
   pub latest : (t : Shared) (e : Volume) (q : ℕ) → Agrees t e → newest_at t from p.block q ≡ source e q
   pub wrote : (t : Shared) (e : Volume) (q : ℕ) (c : ℕ → Content) → Agrees t e → Knows t e → q < size → c q ≡ source e q → Wrote size a p Knows source target q (c q) e (put_sector t to p.block q (c q)) (act c q)
 
@@ -41,14 +41,14 @@ pub record Way (size a : ℕ) (job : Job) (p : Order) (from to : Option ℕ) (ac
 abbrev pub Came : ℕ → (Shared → Volume → Type 0) → (source target : Volume → ℕ → Content) → List (List ℕ) → Shared → Volume → Type 0
 Came size Knows source target left s d = Knows s d × EqualBut size left (target d) (source d)
 
-pub came_on : {size a : ℕ} {job : Job} {p : Order} {from to : Option ℕ} {act : (ℕ → Content) → ℕ → Act} {Knows : Shared → Volume → Type 0} {source target : Volume → ℕ → Content} (way : Way size a job p from to act Knows source target) (left : List (List ℕ)) (x : Actor) (s t : Shared) (d e : Volume) →
+pub came_on : {size a : ℕ} {job : Job} {p : Order} {from to : Option ℕ} {act : (ℕ → Content) → ℕ → Act} {Knows : Shared → Volume → Type 0} {source target : Volume → ℕ → Content} (way : Way size a job p from to act Knows source target) (left : List (List ℕ)) (x : AbstractActor) (s t : Shared) (d e : Volume) →
     x.held ≡ Owns p.block → x.order ≡ Some p → Good size t e → Others a x s d t e → Came size Knows source target left s d → Came size Knows source target left t e
 came_on {size} way left x s t d e own under g o k = let on = way.on x s t d e own under g o k.0 in (on.0, equal_on size left _ _ _ _ (λ i. (on.1 i).0) (λ i. (on.1 i).1) k.1)
 
 module _ {size a : ℕ} {job : Job} {p : Order} {from to : Option ℕ} {act : (ℕ → Content) → ℕ → Act} {Knows : Shared → Volume → Type 0} {source target : Volume → ℕ → Content} (way : Way size a job p from to act Knows source target)
     (last : List Want)
     (end : (n : ℕ) (c : ℕ → Content) (s : Shared) (d : Volume) → Came size Knows source target [] s d → Safe n size a (at_work job last Finished (Owns p.block) (Some p) false c) s d) where
-  abbrev left_of : List Want → (ℕ → Content) → Actor
+  abbrev left_of : List Want → (ℕ → Content) → AbstractActor
   left_of steps c = at_work job steps Finished (Owns p.block) (Some p) false c
 
   abbrev writing : List ℕ → List (List ℕ) → List Want
@@ -58,8 +58,8 @@ module _ {size a : ℕ} {job : Job} {p : Order} {from to : Option ℕ} {act : (�
   abbrev Copies : Bool → (ℕ → Content) → List (List ℕ) → (ℕ → ℕ → History) → List ℕ → Shared → Volume → Type 0
   Copies whole c rest histories = Sweep (λ left h. h) histories (λ left t e. Knows t e × AreAlike left c (source e) × (whole ≡ true → EqualBut size (left ∷ rest) (target e) (source e)))
 
-  one : (x : Actor) (busy whole landed : Bool) (c : ℕ → Content) (rest : List (List ℕ)) (histories : ℕ → ℕ → History) → x.held ≡ Owns p.block → x.order ≡ Some p → (whole ≡ true → landed ≡ true) →
-      (q : ℕ) (left : List ℕ) (t : Shared) (e : Volume) → q < size → Copies whole c rest histories (q ∷ left) t e → Leads size a x busy (λ f. Copies whole c rest histories left (if_landed landed (put_sector t to p.block q (contents_for job c q)) t) f) e (if_so landed (act c q ∷ []))
+  one : (x : AbstractActor) (busy whole landed : Bool) (c : ℕ → Content) (rest : List (List ℕ)) (histories : ℕ → ℕ → History) → x.held ≡ Owns p.block → x.order ≡ Some p → (whole ≡ true → landed ≡ true) →
+      (q : ℕ) (left : List ℕ) (t : Shared) (e : Volume) → q < size → Copies whole c rest histories (q ∷ left) t e → Leads size a x busy (λ f. Copies whole c rest histories left (if_landed landed (put_sector t to p.block q (abstract_contents_for job c q)) t) f) e (if_so landed (act c q ∷ []))
   one x busy whole true c rest histories own under all q left t e l k = let done = way.wrote t e q c k.agrees k.knows.0 l k.knows.1.0 in
       subst (λ (v : Content). Leads size a x busy (λ f. Copies whole c rest histories left (put_sector t to p.block q v) f) e (act c q ∷ [])) (sym (way.given c q)) (record {
         run = (done.run, tt);
@@ -75,16 +75,16 @@ module _ {size a : ℕ} {job : Job} {p : Order} {from to : Option ℕ} {act : (�
   write : (n : ℕ) (os : List ℕ) (rest : List (List ℕ)) (c : ℕ → Content) (s : Shared) (d : Volume) → Within size os → AreAlike os c (source d) → Came size Knows source target (os ∷ rest) s d →
       ((t : Shared) (e : Volume) → Came size Knows source target rest t e → Safe n size a (left_of (copy_each from to p.block rest last) c) t e) → Safe (suc n) size a (left_of (writing os rest) c) s d
   write n os rest c s d w is k next = λ t e got o g v r.
-      let x : Actor = left_of (writing os rest) c in
+      let x : AbstractActor = left_of (writing os rest) c in
       let on = way.on x s t d e refl refl g o k.0 in
       let now = came_on way (os ∷ rest) x s t d e refl refl g o k in
       let begins : (whole : Bool) → Copies whole c rest e.histories os t e = λ whole. record { agrees = g.agrees; booked = refl; knows = (now.0, alike_on os c (source d) (source e) (λ i. (on.1 i).1) is, λ y. now.1) } in
       gives_fault (λ w. Comes n size a job (writing os rest) Finished (Owns p.block) (Some p) false c t e w)
       (sweeps size a (λ y u f. Safe n size a y u f) _ _ (Write_all to p.block os) Done t _ e _ _ _ _ _ (way.writes t.mapping c os Done)
-      (sweep size a x t.committing (λ o. true) to p.block (contents_for job c) (λ q. act c q ∷ []) (Copies true c rest e.histories) (one x t.committing true true c rest e.histories refl refl (λ y. refl)) os t e w (begins true))
+      (sweep size a x t.committing (λ o. true) to p.block (abstract_contents_for job c) (λ q. act c q ∷ []) (Copies true c rest e.histories) (one x t.committing true true c rest e.histories refl refl (λ y. refl)) os t e w (begins true))
       refl (λ f. tt) (λ f h. way.right (Write_all to p.block os) Done e f h) (λ f h. next _ f (h.0, equal_next size rest _ _ (h.2 refl))))
       (λ lands. sweeps size a (λ y u f. Safe n size a y u f) _ _ (Write_all to p.block os) (Fault lands) t _ e _ _ _ _ _ (way.writes t.mapping c os (Fault lands))
-      (sweep size a x t.committing (lands p.block) to p.block (contents_for job c) (λ q. if_so (lands p.block q) (act c q ∷ [])) (Copies false c rest e.histories) (λ q. one x t.committing false (lands p.block q) c rest e.histories refl refl (λ y. absurd (cc)) q) os t e w (begins false))
+      (sweep size a x t.committing (lands p.block) to p.block (abstract_contents_for job c) (λ q. if_so (lands p.block q) (act c q ∷ [])) (Copies false c rest e.histories) (λ q. one x t.committing false (lands p.block q) c rest e.histories refl refl (λ y. absurd (cc)) q) os t e w (begins false))
       refl (λ f. tt) (λ f h. way.right (Write_all to p.block os) (Fault lands) e f h) (λ f h. failing n size a job way.plain (Owns p.block) (Some p) c _ f))
       got v
 

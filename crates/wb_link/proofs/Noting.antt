@@ -5,8 +5,8 @@ use Rattle.wb_disk.specs.Device.{Content, History, added}
 use Rattle.wb_contents.specs.Volume.{Volume, changed_at}
 use Rattle.wb_contents.proofs.Sectors.{here_is, elsewhere_is, by_sector}
 use Rattle.wb_link.specs.Tables.{Job, Writing, Writing_through, Flushing, Suspending, Finished, Want, Write_all, End, Got}
-use Rattle.wb_link.specs.World.{Shared, Held, Nothing, Owns, Actor, held_after}
-use Rattle.wb_link.specs.Clerk.{Entry, entry, added_each, entered_each, histories_after, entered_after, raised, finished_after, floors_after}
+use Rattle.wb_link.specs.World.{Shared, Held, Nothing, Owns, AbstractActor, held_after}
+use Rattle.wb_link.specs.Clerk.{Entry, entry, added_each, entered_each, histories_after, entered_after, abstract_raised, finished_after, abstract_floors_after}
 use Rattle.wb_link.proofs.Acts.{Grows}
 use Rattle.wb_link.proofs.Link.{Owes, Ready, FlushesRight}
 use Rattle.wb_link.proofs.Actors.{owns_or, disowned}
@@ -28,7 +28,7 @@ pub all_below : (d e : Volume) (es : List Entry) → Grows d e → AllEntered No
 all_below d e [] g i = tt
 all_below d e (x ∷ es) g i = (elim i.0 [ inl l ↦ (let p = g.finished x.block x.offset in omega arith) | inr h ↦ (let bad = h.0 in absurd (cc)) ], all_below d e es g i.1)
 
-raised_below : (es : List Entry) (f g : ℕ → ℕ → ℕ) → ((b o : ℕ) → f b o ≤ g b o) → AllBelow g es → (b o : ℕ) → raised es f b o ≤ g b o
+raised_below : (es : List Entry) (f g : ℕ → ℕ → ℕ) → ((b o : ℕ) → f b o ≤ g b o) → AllBelow g es → (b o : ℕ) → abstract_raised es f b o ≤ g b o
 raised_below [] f g l i b o = l b o
 raised_below (x ∷ es) f g l i b o = raised_below es (changed_at f x.block x.offset (max (f x.block x.offset) x.position)) g
     (by_sector (λ b' o'. changed_at f x.block x.offset (max (f x.block x.offset) x.position) b' o' ≤ g b' o') x.block x.offset
@@ -47,7 +47,7 @@ flushes (Flushing order) = true
 flushes Suspending = true
 flushes job = false
 
-pub floors_ok : (a : ℕ) (job : Job) (w : Want) (asked floors : ℕ → ℕ → ℕ) (d e : Volume) → ((b o : ℕ) → floors b o ≤ e.floor b o) → (flushes job ≡ true → (b o : ℕ) → asked b o ≤ d.then_finished a b o) → FlushesRight a job w d e → (b o : ℕ) → floors_after job w asked floors b o ≤ e.floor b o
+pub floors_ok : (a : ℕ) (job : Job) (w : Want) (asked floors : ℕ → ℕ → ℕ) (d e : Volume) → ((b o : ℕ) → floors b o ≤ e.floor b o) → (flushes job ≡ true → (b o : ℕ) → asked b o ≤ d.then_finished a b o) → FlushesRight a job w d e → (b o : ℕ) → abstract_floors_after job w asked floors b o ≤ e.floor b o
 floors_ok a (Flushing order) (End Finished) asked floors d e l k r b o = let p = l b o in let q = k refl b o in let h = r b o in omega arith
 floors_ok a Suspending (End Finished) asked floors d e l k r b o = let p = l b o in let q = k refl b o in let h = r b o in omega arith
 floors_ok a job w asked floors d e l k r b o = l b o
@@ -64,7 +64,7 @@ entered_on held d e (x ∷ es) g i = (
 )
 
 -- a block that is given back has all its writes finished
-pub entered_own : (x : Actor) (s t : Shared) (d e : Volume) (job : Job) (w : Want) (got : Got) (es : List Entry) → Grows d e → Ready w x s → Owes job w t e → AllEntered x.held d es → AllEntered (held_after x.held w got) e es
+pub entered_own : (x : AbstractActor) (s t : Shared) (d e : Volume) (job : Job) (w : Want) (got : Got) (es : List Entry) → Grows d e → Ready w x s → Owes job w t e → AllEntered x.held d es → AllEntered (held_after x.held w got) e es
 entered_own x s t d e job w got [] g r o i = tt
 entered_own x s t d e job w got (y ∷ es) g r o i = (
   elim i.0 [
@@ -96,7 +96,7 @@ new_entries g b (o ∷ os) c held e es is own i = new_entries (changed_at g b o 
   i,
 )
 
-pub entered_ok : (x : Actor) (s t : Shared) (d e : Volume) (job : Job) (w : Want) (got : Got) (histories : ℕ → ℕ → History) (es : List Entry) → histories ≡ d.histories → e.histories ≡ histories_after d.histories job w → Grows d e → Ready w x s → Owes job w t e → AllEntered x.held d es →
+pub entered_ok : (x : AbstractActor) (s t : Shared) (d e : Volume) (job : Job) (w : Want) (got : Got) (histories : ℕ → ℕ → History) (es : List Entry) → histories ≡ d.histories → e.histories ≡ histories_after d.histories job w → Grows d e → Ready w x s → Owes job w t e → AllEntered x.held d es →
     AllEntered (held_after x.held w got) e (entered_after histories job w es)
 entered_ok x s t d e (Writing past block all c) (Write_all location b os) got histories es same is g r p i = new_entries histories b os c x.held e es (is ∙ ap (λ h. added_each h b os c) (sym same)) r (entered_own x s t d e (Writing past block all c) (Write_all location b os) got es g r p i)
 entered_ok x s t d e (Writing_through block all c) (Write_all None b os) got histories es same is g r p i = new_entries histories b os c x.held e es (is ∙ ap (λ h. added_each h b os c) (sym same)) r (entered_own x s t d e (Writing_through block all c) (Write_all None b os) got es g r p i)

@@ -10,28 +10,28 @@ use Rattle.wb_contents.specs.Conditions.{Admits, IsUnnamed, MayAct, IsRun as IsA
 use Rattle.wb_contents.specs.Promises.{IsEntryFrom}
 use Rattle.wb_contents.proofs.Positions.{only_one}
 use Rattle.wb_contents.proofs.Run.{KeepsAll, all_kept, holds}
-use Rattle.wb_link.specs.World.{Block, Free, Mapped, Nothing, Shared, Actor, World, resting, drops}
-use Rattle.wb_link.specs.Openings.{Learnt, Stage, Settling, Caching, Basing, Looking, Rooting, Renewing, Answering, Phase, Stands, Gone, Opens, Stopping, Outcome, Settled, Fine, Learns, Refused, Broke, Shown, found_locations, found_clean, decided, stopped, Admitted, opened_on, Yields, advanced, next_phase, MayStop, emptied}
+use Rattle.wb_link.specs.World.{Block, Free, Mapped, Nothing, Shared, AbstractActor, World, abstract_resting, drops}
+use Rattle.wb_link.specs.Openings.{Learnt, Stage, Settling, Caching, Basing, Looking, Rooting, Renewing, Answering, AbstractPhase, Stands, Gone, Opens, Stopping, Outcome, Settled, Fine, Learns, Refused, Broke, Shown, found_locations, found_clean, abstract_decided, stopped, Admitted, opened_on, Yields, advanced, next_phase, MayStop, emptied}
 use Rattle.wb_link.proofs.Link.{Ordered, Placing, Told, Bounded, Good, Sound, RestsAt, Disjoint, Safe, Linked}
 use Rattle.wb_contents.proofs.Lists.{replicated}
 use Rattle.wb_link.proofs.Steady.{quiet, part}
 use Rattle.wb_link.proofs.Givings.{resting_safe}
 
 -- Where nobody has anything, the desk's rules and resting blocks are all there is.
-pub fresh : (size many : ℕ) (s : Shared) (d : Volume) → Good size s d → ((b : ℕ) → RestsAt s d b) → d.live ≡ true → Linked size (record { shared = s; actors = replicate many resting; waiting = λ k. None }) d
+pub fresh : (size many : ℕ) (s : Shared) (d : Volume) → Good size s d → ((b : ℕ) → RestsAt s d b) → d.live ≡ true → Linked size (record { shared = s; actors = replicate many abstract_resting; waiting = λ k. None }) d
 fresh size many s d g rest live = record {
   good = g;
   rests = λ b u. rest b;
-  disjoint = λ a b x y e h n. subst (λ (v : Actor). Disjoint v y) (replicated many a resting x e) (record { held = λ b e. absurd (cc); order = λ p q e f. absurd (cc); leads = λ e f. absurd (cc); alone = λ e. absurd (cc) });
-  leads = λ a x e. subst (λ (v : Actor). v.leads ≡ true → s.committing ≡ true) (replicated many a resting x e) (λ f. absurd (cc));
-  stands = λ a x p e. subst (λ (v : Actor). v.order ≡ Some p → Ordered (s.blocks p.cache)) (replicated many a resting x e) (λ f. absurd (cc));
-  placed = λ a x p e. subst (λ (v : Actor). v.order ≡ Some p → Placing s p) (replicated many a resting x e) (λ f. absurd (cc));
-  orders = λ a x p e. subst (λ (v : Actor). v.order ≡ Some p → d.mode ≢ Passthrough) (replicated many a resting x e) (λ f. absurd (cc));
-  dropping = λ a x e. subst (λ (v : Actor). drops v.task ≡ true → d.mode ≡ Passthrough) (replicated many a resting x e) (λ f. absurd (cc));
-  resting = λ a x e. subst (λ (v : Actor). v.task ≡ None → (v.held ≡ Nothing) ⊎ (s.fail ≡ true)) (replicated many a resting x e) (λ f. inl refl);
+  disjoint = λ a b x y e h n. subst (λ (v : AbstractActor). Disjoint v y) (replicated many a abstract_resting x e) (record { held = λ b e. absurd (cc); order = λ p q e f. absurd (cc); leads = λ e f. absurd (cc); alone = λ e. absurd (cc) });
+  leads = λ a x e. subst (λ (v : AbstractActor). v.leads ≡ true → s.committing ≡ true) (replicated many a abstract_resting x e) (λ f. absurd (cc));
+  stands = λ a x p e. subst (λ (v : AbstractActor). v.order ≡ Some p → Ordered (s.blocks p.cache)) (replicated many a abstract_resting x e) (λ f. absurd (cc));
+  placed = λ a x p e. subst (λ (v : AbstractActor). v.order ≡ Some p → Placing s p) (replicated many a abstract_resting x e) (λ f. absurd (cc));
+  orders = λ a x p e. subst (λ (v : AbstractActor). v.order ≡ Some p → d.mode ≢ Passthrough) (replicated many a abstract_resting x e) (λ f. absurd (cc));
+  dropping = λ a x e. subst (λ (v : AbstractActor). drops v.task ≡ true → d.mode ≡ Passthrough) (replicated many a abstract_resting x e) (λ f. absurd (cc));
+  resting = λ a x e. subst (λ (v : AbstractActor). v.task ≡ None → (v.held ≡ Nothing) ⊎ (s.fail ≡ true)) (replicated many a abstract_resting x e) (λ f. inl refl);
   living = λ nobody f. live;
   aside = record { at = λ k p e. absurd (cc); stands = λ k p e. absurd (cc); placed = λ k p e. absurd (cc); apart = λ k p a x q e. absurd (cc); each = λ j k p q e. absurd (cc); modes = λ k p e. absurd (cc) };
-  safe = λ a x n e. subst (λ (v : Actor). Safe n size a v s d) (replicated many a resting x e) (resting_safe n size a Nothing None false (λ o. []) s d);
+  safe = λ a x n e. subst (λ (v : AbstractActor). Safe n size a v s d) (replicated many a abstract_resting x e) (resting_safe n size a Nothing None false (λ o. []) s d);
 }
 
 pub record Empty (size : ℕ) (s : Shared) (d : Volume) : Type 0 where
@@ -62,13 +62,13 @@ Reached mode (Renewing i) d = Decided true true d × Knows mode i d
 Reached mode (Answering i) d = Decided true true d × Knows mode i d
 
 -- The invariant over lives.
-abbrev pub Lived : ℕ → World → Phase → Volume → Type 0
+abbrev pub Lived : ℕ → World → AbstractPhase → Volume → Type 0
 Lived size w Stands d = Linked size w d
 Lived size w Gone d = Empty size w.shared d
 Lived size w (Opens mode stage) d = Empty size w.shared d × Reached mode stage d
 
 -- whatever its phase, a site has no less than this
-pub lived_empty : (size : ℕ) (w : World) (phase : Phase) (d : Volume) → Lived size w phase d → Empty size w.shared d
+pub lived_empty : (size : ℕ) (w : World) (phase : AbstractPhase) (d : Volume) → Lived size w phase d → Empty size w.shared d
 lived_empty size w Stands d i = record { kept = i.good.kept; told = i.good.agrees.told; bounded = i.good.bounded }
 lived_empty size w Gone d i = i
 lived_empty size w (Opens mode stage) d i = i.0
@@ -132,7 +132,7 @@ pub record Went (size : ℕ) (w : World) (mode : Mode) (stage : Stage) (outcome 
   pub run : IsActs d (opening_acts mode stage outcome)
   pub lived : Lived size (emptied w (advanced w.shared mode stage outcome)) (next_phase mode stage outcome) (after_acts d (opening_acts mode stage outcome))
 
-settled_empty : (size : ℕ) (s : Shared) (d : Volume) (n : Bool) → (n ≡ true → s.root_written ≡ true) → Empty size s d → Empty size (decided s n) (after_act d (Find_image n))
+settled_empty : (size : ℕ) (s : Shared) (d : Volume) (n : Bool) → (n ≡ true → s.root_written ≡ true) → Empty size s d → Empty size (abstract_decided s n) (after_act d (Find_image n))
 settled_empty size s d n m i = record {
   kept = all_kept d (Find_image n ∷ []) ((λ e. sym i.told.root_written ∙ m e), tt) i.kept;
   told = record { origin = i.told.origin; cache = i.told.cache; committed = places_same s d n i.told; running = places_same s d n i.told; root_written = refl; committed_clean = clean_same s d n i.told; running_clean = clean_same s d n i.told };

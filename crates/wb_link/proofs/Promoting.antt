@@ -6,8 +6,8 @@ use Rattle.wb_contents.specs.Acts.{after as after_act, Fill_cache, Map}
 use Rattle.wb_contents.specs.Conditions.{IsUnused, IsUnnamed}
 use Rattle.wb_contents.proofs.Positions.{changed_same, last_of-append}
 use Rattle.wb_contents.proofs.Sectors.{here_is, elsewhere_is}
-use Rattle.wb_link.specs.Tables.{Order, Promoting, Finished, Failed, Look_fail, Own, Look_seal, Disown, Make_room, Done, Short, mapping_on, entering}
-use Rattle.wb_link.specs.World.{Block, Reserved, Shared, Held, Nothing, Owns, Actor, AllWithin, Covers}
+use Rattle.wb_link.specs.Tables.{Order, Promoting, Finished, Failed, Look_fail, Own, Look_seal, Disown, Make_room, Done, Short, mapping_on, abstract_entering}
+use Rattle.wb_link.specs.World.{Block, Reserved, Shared, Held, Nothing, Owns, AbstractActor, AllWithin, Covers}
 use Rattle.wb_link.proofs.Views.{BlockView, Holds}
 use Rattle.wb_link.proofs.Link.{Good, Sound, RestsAt, Others, Safe}
 use Rattle.wb_link.proofs.Agreeing.{fill_agrees, map_agrees}
@@ -22,7 +22,7 @@ pub record Granted (p : Order) (s : Shared) (d : Volume) : Type 0 where
   pub unmapped : d.mapping p.block ≡ None
   pub reserved : s.blocks p.cache ≡ Reserved
 
-granted_on : (a : ℕ) (x : Actor) (p : Order) (s t : Shared) (d e : Volume) → x.order ≡ Some p → Others a x s d t e → Granted p s d → Granted p t e
+granted_on : (a : ℕ) (x : AbstractActor) (p : Order) (s t : Shared) (d e : Volume) → x.order ≡ Some p → Others a x s d t e → Granted p s d → Granted p t e
 granted_on a x p s t d e own o k = record { unmapped = o.location p own ∙ k.unmapped; reserved = o.state p own (inl k.reserved) ∙ k.reserved }
 
 -- a reserved block is in no image
@@ -72,10 +72,10 @@ abbrev Copied : ℕ → Order → Shared → Volume → Type 0
 Copied size p s d = Came size (λ t e. Filling p t e) (λ e i. newest (e.origin p.block i)) (λ e i. newest (e.cache p.cache i)) [] s d
 
 -- It is mapped, and its seal is to say so.
-mapping : (n size a : ℕ) (p : Order) (os : List (List ℕ)) (c : ℕ → Content) (s : Shared) (d : Volume) → Copied size p s d → Safe n size a (at_work (Promoting p os) (entering p) Finished (Owns p.block) (Some p) false c) s d
+mapping : (n size a : ℕ) (p : Order) (os : List (List ℕ)) (c : ℕ → Content) (s : Shared) (d : Volume) → Copied size p s d → Safe n size a (at_work (Promoting p os) (abstract_entering p) Finished (Owns p.block) (Some p) false c) s d
 mapping zero size a p os c s d k = tt
-mapping (suc n) size a p os c s d k = λ t e got o g v r. let now = came_on (way size a p os) [] (at_work (Promoting p os) (entering p) Finished (Owns p.block) (Some p) false c) s t d e refl refl g o k in
-    gives_done (λ w. Comes n size a (Promoting p os) (entering p) Finished (Owns p.block) (Some p) false c t e w)
+mapping (suc n) size a p os c s d k = λ t e got o g v r. let now = came_on (way size a p os) [] (at_work (Promoting p os) (abstract_entering p) Finished (Owns p.block) (Some p) false c) s t d e refl refl g o k in
+    gives_done (λ w. Comes n size a (Promoting p os) (abstract_entering p) Finished (Owns p.block) (Some p) false c t e w)
     (record {
       run = ((now.0.live, now.0.unused, now.0.granted.unmapped, equal_all size _ _ now.1 (past_equal size e p.block p.cache g.bounded)), tt);
       mine = ((refl, (p, refl, refl, refl)), tt);

@@ -7,7 +7,7 @@ use Rattle.wb_contents.specs.Conditions.{IsCopied, IsAllWhole}
 use Rattle.wb_contents.proofs.Positions.{changed_same, last_of-append}
 use Rattle.wb_contents.proofs.Sectors.{here_is, elsewhere_is}
 use Rattle.wb_link.specs.Tables.{Order, Returning, Finished, Look_fail, Own, Look_seal, Disown, Seal, copy_dirty, unmapping, cleaning, returned}
-use Rattle.wb_link.specs.World.{Shared, Held, Nothing, Owns, Actor, AllWithin, Covers, following}
+use Rattle.wb_link.specs.World.{Shared, Held, Nothing, Owns, AbstractActor, AllWithin, Covers, following}
 use Rattle.wb_link.proofs.Views.{BlockView, Holds, block_view}
 use Rattle.wb_link.proofs.Link.{RestsAt, Others, Safe}
 use Rattle.wb_link.proofs.Actors.{others_same}
@@ -24,7 +24,7 @@ pub record Placed (p : Order) (s : Shared) (d : Volume) : Type 0 where
   pub mapped : d.mapping p.block ≡ Some p.cache
   pub live : d.live ≡ true
 
-placed_on : (a : ℕ) (x : Actor) (p : Order) (s t : Shared) (d e : Volume) → x.held ≡ Owns p.block → x.order ≡ Some p → Others a x s d t e → Placed p s d → Placed p t e
+placed_on : (a : ℕ) (x : AbstractActor) (p : Order) (s t : Shared) (d e : Volume) → x.held ≡ Owns p.block → x.order ≡ Some p → Others a x s d t e → Placed p s d → Placed p t e
 placed_on a x p s t d e own under o k = record {
   rests = rests_on a p.block x s t d e o (subst (λ (h : Held). Holds h p.block) (sym own) refl) k.rests;
   mapped = o.location p under ∙ k.mapped;

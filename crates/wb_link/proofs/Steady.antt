@@ -6,7 +6,7 @@ use Rattle.wb_contents.specs.Acts.{Act, Write, Write_origin, Write_cache, Fail_w
 use Rattle.wb_contents.specs.Conditions.{IsRun as IsActs}
 use Rattle.wb_contents.proofs.Sectors.{elsewhere_is}
 use Rattle.wb_contents.proofs.Run.{KeepsAll, act_kept}
-use Rattle.wb_link.specs.World.{Actor}
+use Rattle.wb_link.specs.World.{AbstractActor}
 use Rattle.wb_link.proofs.Acts.{Mine, Keeps, act_keeps, keeps_same, keeps_then}
 use Rattle.wb_link.proofs.Link.{Bounded, AllMine}
 
@@ -37,7 +37,7 @@ pub part : (t : Bool) (h : History) (z : Content) → h ≡ only z → cond t (o
 part true h z e = ap (λ g. only (newest g)) e
 part false h z e = e
 
-act_steady : (size a : ℕ) (x : Actor) (busy : Bool) (d : Volume) (y : Act) → Mine size a x busy y → Steady size d (after_act d y)
+act_steady : (size a : ℕ) (x : AbstractActor) (busy : Bool) (d : Volume) (y : Act) → Mine size a x busy y → Steady size d (after_act d y)
 act_steady size a x busy d (Write b o c) m = at_write size d b o c (d.mapping b) m.1
 act_steady size a x busy d (Write_origin b o c) m = at_origin size d (after_act d (Write_origin b o c)) b o _ m.1 refl refl
 act_steady size a x busy d (Write_cache b o) m = at_through size d b o (d.mapping b) m.1
@@ -62,12 +62,12 @@ act_steady size a x busy d (End_flush actor) m = quiet size d (after_act d (End_
 act_steady size a x busy d act m = absurd m
 
 -- After all acts of a step: what is kept, what others keep, what is steady.
-pub record Acted (size a : ℕ) (x : Actor) (busy : Bool) (d e : Volume) : Type 0 where
+pub record Acted (size a : ℕ) (x : AbstractActor) (busy : Bool) (d e : Volume) : Type 0 where
   pub kept : KeepsAll e
   pub keeps : Keeps a x busy d e
   pub bounded : Bounded size e
 
-pub acted : (size a : ℕ) (x : Actor) (busy : Bool) (d : Volume) (ys : List Act) → KeepsAll d → Bounded size d → IsActs d ys → AllMine size a x busy ys → Acted size a x busy d (after_acts d ys)
+pub acted : (size a : ℕ) (x : AbstractActor) (busy : Bool) (d : Volume) (ys : List Act) → KeepsAll d → Bounded size d → IsActs d ys → AllMine size a x busy ys → Acted size a x busy d (after_acts d ys)
 acted size a x busy d [] i z r m = record { kept = i; keeps = keeps_same a x busy d; bounded = z }
 acted size a x busy d (y ∷ ys) i z r m =
     let one = act_steady size a x busy d y m.0 in

@@ -4,13 +4,13 @@ use Rattle.wb_disk.specs.Device.{Content}
 use Rattle.wb_contents.specs.Volume.{Volume}
 use Rattle.wb_contents.specs.Acts.{after as after_act, Begin_suspend}
 use Rattle.wb_link.specs.Tables.{Suspending, Answer, Finished, Busy, Failed, Io, Want, Look_fail, Set_suspended, Begin_clean, Sync_cache_device, Sync_origin_device, Put_root, Sync_metadata, End_running, Got, Lost, Flag, Short}
-use Rattle.wb_link.specs.World.{Shared, Nothing, Actor, actor_after}
+use Rattle.wb_link.specs.World.{Shared, Nothing, AbstractActor, actor_after}
 use Rattle.wb_link.proofs.Link.{Others, Receives, Safe}
 use Rattle.wb_link.proofs.Agreeing.{suspend_agrees, failed_agrees}
 use Rattle.wb_link.proofs.Committing.{refused_safe, finishing, caching}
 use Rattle.wb_link.proofs.Givings.{at_work, script_of, Comes, quietly, gives_done, gives_flag, gives_suspend}
 
-abbrev suspending : List Want → Answer → Bool → (ℕ → Content) → Actor
+abbrev suspending : List Want → Answer → Bool → (ℕ → Content) → AbstractActor
 suspending steps answer leads c = at_work Suspending steps answer Nothing None leads c
 
 abbrev Result : ℕ → ℕ → ℕ → List Want → Answer → Bool → (ℕ → Content) → Shared → Volume → Got → Type 0
@@ -20,7 +20,7 @@ Result n size a steps answer leads c t e got = Comes n size a Suspending steps a
 abbrev Stood : Shared → Volume → Type 0
 Stood s d = (s.fail ≡ true) ⊎ (d.live ≡ true)
 
-stood_on : (a : ℕ) (x : Actor) (s t : Shared) (d e : Volume) → Others a x s d t e → Stood s d → Stood t e
+stood_on : (a : ℕ) (x : AbstractActor) (s t : Shared) (d e : Volume) → Others a x s d t e → Stood s d → Stood t e
 stood_on a x s t d e o (inl f) = inl (o.fail f)
 stood_on a x s t d e o (inr l) = inr (o.live ∙ l)
 

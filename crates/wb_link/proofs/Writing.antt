@@ -9,7 +9,7 @@ use Rattle.std.proofs.lemmas.Bool.{cases_eq}
 use Rattle.wb_contents.proofs.Positions.{changed_same}
 use Rattle.wb_contents.proofs.Sectors.{here_is, elsewhere_is}
 use Rattle.wb_link.specs.Tables.{Job, Writing, Finished, Look_fail, Own, Look_seal, Set_seal, Disown, Write_all, Got, Done, Fault, Seal, write_work, write_each}
-use Rattle.wb_link.specs.World.{Shared, Nothing, Owns, Actor, AllWithin, contents_for, put_sector, if_landed}
+use Rattle.wb_link.specs.World.{Shared, Nothing, Owns, AbstractActor, AllWithin, abstract_contents_for, put_sector, if_landed}
 use Rattle.wb_link.specs.Clerk.{added_each}
 use Rattle.wb_link.proofs.Views.{BlockView, block_view}
 use Rattle.wb_link.proofs.Effects.{put_sector_desk}
@@ -81,21 +81,21 @@ reaches_written to e None b o x k = k
 reaches_written to e (Some j) b o x k = k
 
 -- Extent by extent, by any job whose writes are these acts.
-module _ (size a : ℕ) (job : Job) (plain : IsPlain job) (b : ℕ) (x : Content) (to : Option ℕ) (m : Mode) (c : ℕ → Content) (given : (q : ℕ) → contents_for job c q ≡ x)
+module _ (size a : ℕ) (job : Job) (plain : IsPlain job) (b : ℕ) (x : Content) (to : Option ℕ) (m : Mode) (c : ℕ → Content) (given : (q : ℕ) → abstract_contents_for job c q ≡ x)
     (acts : (l : Locations) (os : List ℕ) (got : Got) → l b ≡ to → acts_of l a job c (Write_all to b os) got ≡ write_acts x (Write_all to b os) got)
     (right : (os : List ℕ) (got : Got) (d e : Volume) → e.histories ≡ added_each d.histories b os x → Right a job (Write_all to b os) got d e) where
   -- before each sector
   abbrev Still : (Seal → BlockView → Type 0) → (ℕ → ℕ → History) → List ℕ → Shared → Volume → Type 0
   Still Knows histories = Sweep (λ left h. added_each h b left x) histories (λ left t e. Life m e × Knows (t.seals b) (block_view e b))
 
-  put_agrees : (t : Shared) (e : Volume) (q : ℕ) → to ≡ e.mapping b → Agrees t e → Agrees (put_sector t to b q (contents_for job c q)) (sector_written e (e.mapping b) b q x)
+  put_agrees : (t : Shared) (e : Volume) (q : ℕ) → to ≡ e.mapping b → Agrees t e → Agrees (put_sector t to b q (abstract_contents_for job c q)) (sector_written e (e.mapping b) b q x)
   put_agrees t e q route g = subst (λ (v : Content). Agrees (put_sector t to b q v) (sector_written e (e.mapping b) b q x)) (sym (given q)) (write_agrees t e to b q x route g)
 
-  put_seal : (Knows : Seal → Type 0) (t : Shared) (q : ℕ) → Knows (t.seals b) → Knows ((put_sector t to b q (contents_for job c q)).seals b)
-  put_seal Knows t q k = subst (λ (f : ℕ → Seal). Knows (f b)) (sym (put_sector_desk t to b q (contents_for job c q)).seals) k
+  put_seal : (Knows : Seal → Type 0) (t : Shared) (q : ℕ) → Knows (t.seals b) → Knows ((put_sector t to b q (abstract_contents_for job c q)).seals b)
+  put_seal Knows t q k = subst (λ (f : ℕ → Seal). Knows (f b)) (sym (put_sector_desk t to b q (abstract_contents_for job c q)).seals) k
 
-  one : (y : Actor) (busy : Bool) (histories : ℕ → ℕ → History) → y.held ≡ Owns b → (q : ℕ) (left : List ℕ) (t : Shared) (e : Volume) → q < size → Still (Owning to) histories (q ∷ left) t e →
-      Leads size a y busy (λ f. Still (Owning to) histories left (put_sector t to b q (contents_for job c q)) f) e (Write b q x ∷ Finish b q ∷ [])
+  one : (y : AbstractActor) (busy : Bool) (histories : ℕ → ℕ → History) → y.held ≡ Owns b → (q : ℕ) (left : List ℕ) (t : Shared) (e : Volume) → q < size → Still (Owning to) histories (q ∷ left) t e →
+      Leads size a y busy (λ f. Still (Owning to) histories left (put_sector t to b q (abstract_contents_for job c q)) f) e (Write b q x ∷ Finish b q ∷ [])
   one y busy histories own q left t e l k = record {
     run = ((k.knows.0.0, k.knows.1.writable), (written_whole e (e.mapping b) b q x, tt));
     mine = ((own, l), (own, tt));
@@ -106,8 +106,8 @@ module _ (size a : ℕ) (job : Job) (plain : IsPlain job) (b : ℕ) (x : Content
     };
   }
 
-  lost : (y : Actor) (busy : Bool) (histories : ℕ → ℕ → History) → y.held ≡ Owns b → (landed : Bool) (q : ℕ) (left : List ℕ) (t : Shared) (e : Volume) → q < size → Still (λ w v. Reaches to v) histories (q ∷ left) t e →
-      Leads size a y busy (λ f. Still (λ w v. Reaches to v) histories left (if_landed landed (put_sector t to b q (contents_for job c q)) t) f) e (landed_or landed (Write b q x) b q x)
+  lost : (y : AbstractActor) (busy : Bool) (histories : ℕ → ℕ → History) → y.held ≡ Owns b → (landed : Bool) (q : ℕ) (left : List ℕ) (t : Shared) (e : Volume) → q < size → Still (λ w v. Reaches to v) histories (q ∷ left) t e →
+      Leads size a y busy (λ f. Still (λ w v. Reaches to v) histories left (if_landed landed (put_sector t to b q (abstract_contents_for job c q)) t) f) e (landed_or landed (Write b q x) b q x)
   lost y busy histories own true q left t e l k = record {
     run = ((k.knows.0.0, k.knows.1.0), tt);
     mine = ((own, l), tt);
@@ -119,16 +119,16 @@ module _ (size a : ℕ) (job : Job) (plain : IsPlain job) (b : ℕ) (x : Content
   writing zero extents s d w l k = tt
   writing (suc n) [] s d w l k = disowned (suc n) size a job plain b Finished None c s d k.rests
   writing (suc n) (os ∷ extents) s d w l k = λ t e got o g v r.
-      let y : Actor = at_work job (write_each to b (os ∷ extents) (Disown b ∷ [])) Finished (Owns b) None false c in
+      let y : AbstractActor = at_work job (write_each to b (os ∷ extents) (Disown b ∷ [])) Finished (Owns b) None false c in
       let life : Life m e = life_on a y s t d e m o l in
       let now : Owning to (t.seals b) (block_view e b) = held_on (λ w v. Owning to w v) a b y s t d e o refl k in
       let at : t.mapping b ≡ to = ap (λ f. f b) g.agrees.mapping ∙ sym now.route in
       gives_fault (λ w. Comes n size a job (write_each to b (os ∷ extents) (Disown b ∷ [])) Finished (Owns b) None false c t e w)
       (sweeps size a (λ y u f. Safe n size a y u f) _ _ (Write_all to b os) Done t _ e _ _ _ _ _ (acts t.mapping os Done at)
-      (sweep size a y t.committing (λ o. true) to b (contents_for job c) (λ q. Write b q x ∷ Finish b q ∷ []) (Still (Owning to) (added_each e.histories b os x)) (one y t.committing (added_each e.histories b os x) refl) os t e w.0 (record { agrees = g.agrees; booked = refl; knows = (life, now) }))
+      (sweep size a y t.committing (λ o. true) to b (abstract_contents_for job c) (λ q. Write b q x ∷ Finish b q ∷ []) (Still (Owning to) (added_each e.histories b os x)) (one y t.committing (added_each e.histories b os x) refl) os t e w.0 (record { agrees = g.agrees; booked = refl; knows = (life, now) }))
       refl (λ f. tt) (λ f. right os Done e f) (λ f h. writing n extents _ f w.1 h.0 h.1))
       (λ lands. sweeps size a (λ y u f. Safe n size a y u f) _ _ (Write_all to b os) (Fault lands) t _ e _ _ _ _ _ (acts t.mapping os (Fault lands) at)
-      (sweep size a y t.committing (lands b) to b (contents_for job c) (λ q. landed_or (lands b q) (Write b q x) b q x) (Still (λ w v. Reaches to v) (added_each e.histories b os x)) (λ q. lost y t.committing (added_each e.histories b os x) refl (lands b q) q) os t e w.0 (record { agrees = g.agrees; booked = refl; knows = (life, (now.writable, now.route)) }))
+      (sweep size a y t.committing (lands b) to b (abstract_contents_for job c) (λ q. landed_or (lands b q) (Write b q x) b q x) (Still (λ w v. Reaches to v) (added_each e.histories b os x)) (λ q. lost y t.committing (added_each e.histories b os x) refl (lands b q) q) os t e w.0 (record { agrees = g.agrees; booked = refl; knows = (life, (now.writable, now.route)) }))
       refl (λ f. tt) (λ f. right os (Fault lands) e f) (λ f h. failing n size a job plain (Owns b) None c _ f))
       got v
 

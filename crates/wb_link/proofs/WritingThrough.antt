@@ -8,7 +8,7 @@ use Rattle.wb_contents.specs.Acts.{written_through, after as after_act, Write_or
 use Rattle.wb_contents.proofs.Positions.{last_of-append}
 use Rattle.wb_contents.proofs.Sectors.{here_is, elsewhere_is}
 use Rattle.wb_link.specs.Tables.{Writing_through, Finished, Want, Look_fail, Own, Look_seal, Disown, Write_all, Done, Fault, Seal, write_through_each}
-use Rattle.wb_link.specs.World.{Shared, Nothing, Owns, Actor, Within, AllWithin, AreDistinct, AllDistinct, put_sector, if_landed}
+use Rattle.wb_link.specs.World.{Shared, Nothing, Owns, AbstractActor, Within, AllWithin, AreDistinct, AllDistinct, put_sector, if_landed}
 use Rattle.wb_link.specs.Clerk.{added_each}
 use Rattle.wb_link.proofs.Views.{BlockView, block_view}
 use Rattle.wb_link.proofs.Effects.{put_sector_desk}
@@ -57,7 +57,7 @@ module _ (size a b : ℕ) (all : List (List ℕ)) (x : Content) (k : ℕ) (c : �
   abbrev OnOrigin : (List ℕ → Seal → BlockView → Type 0) → (ℕ → ℕ → History) → List ℕ → Shared → Volume → Type 0
   OnOrigin Knows histories = Sweep (λ left h. added_each h b left x) histories (λ left t e. Life Writethrough e × Knows left (t.seals b) (block_view e b))
 
-  based : (y : Actor) (busy : Bool) (histories : ℕ → ℕ → History) (os : List ℕ) → y.held ≡ Owns b → (q : ℕ) (left : List ℕ) (t : Shared) (e : Volume) → q < size → OnOrigin (Basing os) histories (q ∷ left) t e →
+  based : (y : AbstractActor) (busy : Bool) (histories : ℕ → ℕ → History) (os : List ℕ) → y.held ≡ Owns b → (q : ℕ) (left : List ℕ) (t : Shared) (e : Volume) → q < size → OnOrigin (Basing os) histories (q ∷ left) t e →
       Leads size a y busy (λ f. OnOrigin (Basing os) histories left (put_sector t None b q x) f) e (Write_origin b q x ∷ [])
   based y busy histories os own q left t e l h = let before = h.knows.1 in record {
     run = (h.knows.0.0, tt);
@@ -89,7 +89,7 @@ module _ (size a b : ℕ) (all : List (List ℕ)) (x : Content) (k : ℕ) (c : �
   abbrev Unknown : List ℕ → Seal → BlockView → Type 0
   Unknown left seal v = Unit {0}
 
-  lost : (y : Actor) (busy : Bool) (histories : ℕ → ℕ → History) → y.held ≡ Owns b → (landed : Bool) (q : ℕ) (left : List ℕ) (t : Shared) (e : Volume) → q < size → OnOrigin Unknown histories (q ∷ left) t e →
+  lost : (y : AbstractActor) (busy : Bool) (histories : ℕ → ℕ → History) → y.held ≡ Owns b → (landed : Bool) (q : ℕ) (left : List ℕ) (t : Shared) (e : Volume) → q < size → OnOrigin Unknown histories (q ∷ left) t e →
       Leads size a y busy (λ f. OnOrigin Unknown histories left (if_landed landed (put_sector t None b q x) t) f) e (landed_or landed (Write_origin b q x) b q x)
   lost y busy histories own true q left t e l h = record { run = (h.knows.0.0, tt); mine = ((own, l), tt); ends = record { agrees = based_write_agrees t e b q x h.agrees; booked = h.booked; knows = (h.knows.0, tt) } }
   lost y busy histories own false q left t e l h = record { run = (h.knows.0.0, tt); mine = ((own, l), tt); ends = record { agrees = lose_agrees t e b q x h.agrees; booked = h.booked; knows = (h.knows.0, tt) } }
@@ -131,7 +131,7 @@ module _ (size a b : ℕ) (all : List (List ℕ)) (x : Content) (k : ℕ) (c : �
         },
       )
 
-  cached : (y : Actor) (busy : Bool) (histories : ℕ → ℕ → History) → y.held ≡ Owns b → (q : ℕ) (left : List ℕ) (t : Shared) (e : Volume) → q < size → OnCache true histories (q ∷ left) t e →
+  cached : (y : AbstractActor) (busy : Bool) (histories : ℕ → ℕ → History) → y.held ≡ Owns b → (q : ℕ) (left : List ℕ) (t : Shared) (e : Volume) → q < size → OnCache true histories (q ∷ left) t e →
       Leads size a y busy (λ f. OnCache true histories left (put_sector t (Some k) b q x) f) e (Write_cache b q ∷ Finish b q ∷ [])
   cached y busy histories own q left t e l h = let went = cached_one true q left t e (e.mapping b) (sym h.knows.1.stands.route) h.agrees h.knows.0 h.knows.1 in record {
     run = ((h.knows.0.0, (h.knows.1.half q (zero, omega arith, refl)).0), (went.1, tt));
@@ -139,7 +139,7 @@ module _ (size a b : ℕ) (all : List (List ℕ)) (x : Content) (k : ℕ) (c : �
     ends = record { agrees = finish_agrees _ _ b q went.0; booked = went.2 ∙ h.booked; knows = ((went.3.0, went.3.1), went.5 refl) };
   }
 
-  some_cached : (y : Actor) (busy : Bool) (histories : ℕ → ℕ → History) → y.held ≡ Owns b → (landed : Bool) (q : ℕ) (left : List ℕ) (t : Shared) (e : Volume) → q < size → OnCache false histories (q ∷ left) t e →
+  some_cached : (y : AbstractActor) (busy : Bool) (histories : ℕ → ℕ → History) → y.held ≡ Owns b → (landed : Bool) (q : ℕ) (left : List ℕ) (t : Shared) (e : Volume) → q < size → OnCache false histories (q ∷ left) t e →
       Leads size a y busy (λ f. OnCache false histories left (if_landed landed (put_sector t (Some k) b q x) t) f) e (if_so landed (Write_cache b q ∷ []))
   some_cached y busy histories own true q left t e l h = let went = cached_one false q left t e (e.mapping b) (sym h.knows.1.stands.route) h.agrees h.knows.0 h.knows.1 in record {
     run = ((h.knows.0.0, (h.knows.1.half q (zero, omega arith, refl)).0), tt);
@@ -157,13 +157,13 @@ module _ (size a b : ℕ) (all : List (List ℕ)) (x : Content) (k : ℕ) (c : �
   stands_at : (t : Shared) (e : Volume) → Agrees t e → Some k ≡ e.mapping b → t.mapping b ≡ Some k
   stands_at t e g r = ap (λ f. f b) g.mapping ∙ sym r
 
-  abbrev its : List Want → Actor
+  abbrev its : List Want → AbstractActor
   its steps = at_work (Writing_through b all x) steps Finished (Owns b) None false c
 
   first : (n : ℕ) (os : List ℕ) (extents : List (List ℕ)) (s : Shared) (d : Volume) → Within size os → Life Writethrough d → Halfway k [] x (s.seals b) (block_view d b) →
       ((t : Shared) (e : Volume) → Life Writethrough e → Halfway k os x (t.seals b) (block_view e b) → Safe n size a (its (second_left os extents)) t e) → Safe (suc n) size a (its (first_left (os ∷ extents))) s d
   first n os extents s d w l h next = λ t e got o g v r.
-      let y : Actor = its (first_left (os ∷ extents)) in
+      let y : AbstractActor = its (first_left (os ∷ extents)) in
       let life : Life Writethrough e = life_on a y s t d e Writethrough o l in
       let now : Halfway k [] x (t.seals b) (block_view e b) = held_on (λ w v. Halfway k [] x w v) a b y s t d e o refl h in
       let at = stands_at t e g.agrees now.stands.route in
@@ -180,7 +180,7 @@ module _ (size a b : ℕ) (all : List (List ℕ)) (x : Content) (k : ℕ) (c : �
   second : (n : ℕ) (os : List ℕ) (extents : List (List ℕ)) (s : Shared) (d : Volume) → Within size os → AreDistinct os → Life Writethrough d → Halfway k os x (s.seals b) (block_view d b) →
       ((t : Shared) (e : Volume) → Life Writethrough e → Halfway k [] x (t.seals b) (block_view e b) → Safe n size a (its (first_left extents)) t e) → Safe (suc n) size a (its (second_left os extents)) s d
   second n os extents s d w apart l h next = λ t e got o g v r.
-      let y : Actor = its (second_left os extents) in
+      let y : AbstractActor = its (second_left os extents) in
       let life : Life Writethrough e = life_on a y s t d e Writethrough o l in
       let now : Halfway k os x (t.seals b) (block_view e b) = held_on (λ w v. Halfway k os x w v) a b y s t d e o refl h in
       let begins : (whole : Bool) → OnCache whole e.histories os t e = λ whole. record { agrees = g.agrees; booked = refl; knows = (life, record { half = now.half; others = λ f. now.whole; stands = now.stands; distinct = apart }) } in

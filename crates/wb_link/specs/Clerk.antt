@@ -13,7 +13,7 @@ pub record Entry : Type 0 where
   pub offset : ℕ
   pub position : ℕ
 
-pub record Notes : Type 0 where
+pub record AbstractNotes : Type 0 where
   pub histories : ℕ → ℕ → History
   pub finished : ℕ → ℕ → ℕ
   pub floors : ℕ → ℕ → ℕ
@@ -43,54 +43,54 @@ entered_after histories (Writing past block extents c) (Write_all location b os)
 entered_after histories (Writing_through block extents c) (Write_all None b os) es = entered_each histories b os c es
 entered_after histories job w es = es
 
-abbrev pub raised : List Entry → (ℕ → ℕ → ℕ) → ℕ → ℕ → ℕ
-raised [] f = f
-raised (e ∷ es) f = raised es (changed_at f e.block e.offset (max (f e.block e.offset) e.position))
+abbrev pub abstract_raised : List Entry → (ℕ → ℕ → ℕ) → ℕ → ℕ → ℕ
+abstract_raised [] f = f
+abstract_raised (e ∷ es) f = abstract_raised es (changed_at f e.block e.offset (max (f e.block e.offset) e.position))
 
 -- what a write has entered is finished when it is answered done
 abbrev pub finished_after : Job → Want → List Entry → (ℕ → ℕ → ℕ) → ℕ → ℕ → ℕ
-finished_after (Writing past block os c) (End Finished) es f = raised es f
-finished_after (Writing_through block os c) (End Finished) es f = raised es f
+finished_after (Writing past block os c) (End Finished) es f = abstract_raised es f
+finished_after (Writing_through block os c) (End Finished) es f = abstract_raised es f
 finished_after job w es f = f
 
 -- a flush or a suspend that is answered done has covered what was finished when it began
-abbrev pub floors_after : Job → Want → (ℕ → ℕ → ℕ) → (ℕ → ℕ → ℕ) → ℕ → ℕ → ℕ
-floors_after (Flushing order) (End Finished) asked floors b o = max (floors b o) (asked b o)
-floors_after Suspending (End Finished) asked floors b o = max (floors b o) (asked b o)
-floors_after job w asked floors b o = floors b o
+abbrev pub abstract_floors_after : Job → Want → (ℕ → ℕ → ℕ) → (ℕ → ℕ → ℕ) → ℕ → ℕ → ℕ
+abstract_floors_after (Flushing order) (End Finished) asked floors b o = max (floors b o) (asked b o)
+abstract_floors_after Suspending (End Finished) asked floors b o = max (floors b o) (asked b o)
+abstract_floors_after job w asked floors b o = floors b o
 
 abbrev pub job_noted : Job → Want → Option Job
 job_noted job (End answer) = None
 job_noted job w = Some job
 
-abbrev pub noted_step : Notes → ℕ → Option Job → Want → Notes
-noted_step n a None w = n
-noted_step n a (Some job) w = record {
+abbrev pub abstract_noted_step : AbstractNotes → ℕ → Option Job → Want → AbstractNotes
+abstract_noted_step n a None w = n
+abstract_noted_step n a (Some job) w = record {
   histories = histories_after n.histories job w;
   finished = finished_after job w (n.entered a) n.finished;
-  floors = floors_after job w (n.asked a) n.floors;
+  floors = abstract_floors_after job w (n.asked a) n.floors;
   jobs = changed n.jobs a (job_noted job w);
   entered = changed n.entered a (entered_after n.histories job w (n.entered a));
   asked = n.asked;
 }
 
 -- a life begins with what its opening shows
-abbrev pub opened : (ℕ → ℕ → Content) → Notes
-opened view = record { histories = λ b o. only (view b o); finished = λ b o. 0; floors = λ b o. 0; jobs = λ a. None; entered = λ a. []; asked = λ a b o. 0 }
+abbrev pub abstract_opened : (ℕ → ℕ → Content) → AbstractNotes
+abstract_opened view = record { histories = λ b o. only (view b o); finished = λ b o. 0; floors = λ b o. 0; jobs = λ a. None; entered = λ a. []; asked = λ a b o. 0 }
 
-abbrev pub note : Notes → Record → Notes
-note n (Start a job) = record n { jobs = changed n.jobs a (Some job); entered = changed n.entered a []; asked = changed n.asked a n.finished }
-note n (Again a job) = record n { jobs = changed n.jobs a (Some job); entered = changed n.entered a []; asked = changed n.asked a n.finished }
-note n (Step a w got) = noted_step n a (n.jobs a) w
-note n (Release k) = n
+abbrev pub abstract_note : AbstractNotes → Record → AbstractNotes
+abstract_note n (Start a job) = record n { jobs = changed n.jobs a (Some job); entered = changed n.entered a []; asked = changed n.asked a n.finished }
+abstract_note n (Again a job) = record n { jobs = changed n.jobs a (Some job); entered = changed n.entered a []; asked = changed n.asked a n.finished }
+abstract_note n (Step a w got) = abstract_noted_step n a (n.jobs a) w
+abstract_note n (Release k) = n
 
 -- what a read is given is the last write
-abbrev pub GivesLatest : (ℕ → ℕ → History) → Option Job → Want → Got → Type 0
-GivesLatest histories (Some (Reading past block extents)) (Read_all location b os) (Gave contents) = AreAlike os contents (λ o. newest (histories b o))
-GivesLatest histories job w got = Unit {0}
+abbrev pub AbstractGivesLatest : (ℕ → ℕ → History) → Option Job → Want → Got → Type 0
+AbstractGivesLatest histories (Some (Reading past block extents)) (Read_all location b os) (Gave contents) = AreAlike os contents (λ o. newest (histories b o))
+AbstractGivesLatest histories job w got = Unit {0}
 
-abbrev pub IsRight : Notes → Record → Type 0
-IsRight n (Start a job) = Unit {0}
-IsRight n (Again a job) = Unit {0}
-IsRight n (Step a w got) = GivesLatest n.histories (n.jobs a) w got
-IsRight n (Release k) = Unit {0}
+abbrev pub AbstractRight : AbstractNotes → Record → Type 0
+AbstractRight n (Start a job) = Unit {0}
+AbstractRight n (Again a job) = Unit {0}
+AbstractRight n (Step a w got) = AbstractGivesLatest n.histories (n.jobs a) w got
+AbstractRight n (Release k) = Unit {0}

@@ -50,8 +50,8 @@ one_actor = Start 0 (Writing false 0 ((0 ∷ []) ∷ []) (7 ∷ [])) ∷
     dones 0 (Write_all None 0 (0 ∷ []) ∷ Unmap_from order ∷ Set_seal 0 (record { location = None; dirty = false }) ∷ Disown 0 ∷ []) Finished
 
 -- block 0 on cache block 0 is replaced by block 1
-abbrev pub replacement : Order
-replacement = record { block = 0; cache = 0; next = Some 1 }
+abbrev pub abstract_replacement : Order
+abstract_replacement = record { block = 0; cache = 0; next = Some 1 }
 
 abbrev pub follower : Order
 follower = record { block = 1; cache = 0; next = None }
@@ -59,11 +59,11 @@ follower = record { block = 1; cache = 0; next = None }
 -- two flushes wait for the next commit, and the one that leads it serves both
 abbrev pub replaced : List Record
 replaced = promoted [] ++
-    Start 0 (Returning true replacement ((0 ∷ []) ∷ [])) ∷
+    Start 0 (Returning true abstract_replacement ((0 ∷ []) ∷ [])) ∷
     Step 0 Look_fail (Flag false) ∷
     Step 0 (Own 0) Done ∷
     Step 0 (Look_seal 0) (Seen (record { location = Some 0; dirty = false })) ∷
-    dones 0 (Unmap_from replacement ∷ Set_seal 0 (record { location = None; dirty = false }) ∷ Disown 0 ∷ []) Finished ++
+    dones 0 (Unmap_from abstract_replacement ∷ Set_seal 0 (record { location = None; dirty = false }) ∷ Disown 0 ∷ []) Finished ++
     Start 1 (Flushing None) ∷
     Step 1 Look_fail (Flag false) ∷
     Step 1 (Begin None) Done ∷
@@ -90,12 +90,12 @@ abbrev pub settles : Shared → Bool → Stopping
 settles s new_root = record { origin = λ b o. newest (s.origin b o); cache = λ k o. newest (s.cache k o); new_root = new_root }
 
 -- what an opening shows that finds the committed image
-abbrev pub shown : Shared → ℕ → ℕ → Content
-shown s b o = newest (at_location s.origin s.cache (s.committed b) b o)
+abbrev pub abstract_shown : Shared → ℕ → ℕ → Content
+abstract_shown s b o = newest (at_location s.origin s.cache (s.committed b) b o)
 
 -- a whole opening, which learns and shows this
-abbrev pub opening : Mode → Learnt → (ℕ → ℕ → Content) → List Event
-opening mode learnt view = Begins mode ∷
+abbrev pub abstract_opening : Mode → Learnt → (ℕ → ℕ → Content) → List Event
+abstract_opening mode learnt view = Begins mode ∷
     Advances (Settled false) ∷
     Advances Fine ∷
     Advances Fine ∷
@@ -121,11 +121,11 @@ cut_short s = Stopped (settles s false) ∷
 
 -- and a whole one
 abbrev pub lives_of : Shared → List Event
-lives_of s = cut_short s ++ opening Writeback (record { locations = s.committed; clean = λ b. false }) (shown s)
+lives_of s = cut_short s ++ abstract_opening Writeback (record { locations = s.committed; clean = λ b. false }) (abstract_shown s)
 
 -- an opening without a crash, which finds the committed image
 abbrev pub reopening : Shared → List Event
-reopening s = opening Writeback (record { locations = s.committed; clean = s.committed_clean }) (shown s)
+reopening s = abstract_opening Writeback (record { locations = s.committed; clean = s.committed_clean }) (abstract_shown s)
 
 -- these records, and then these events
 abbrev pub then_all : List Record → List Event → List Event
@@ -178,5 +178,5 @@ past_the_cache = then_all promoted_and_suspended (
     Advances Fine ∷
     Advances (Learns one_clean) ∷
     Advances Refused ∷
-    opening Passthrough one_clean (λ b o. []) ++
+    abstract_opening Passthrough one_clean (λ b o. []) ++
     then_all read_and_written [])

@@ -8,8 +8,8 @@ use Rattle.wb_types.specs.declared.mode.Mode.TheVariants.{Passthrough}
 use Rattle.wb_contents.specs.Acts.{all_synced, partly_synced}
 use Rattle.wb_contents.specs.Conditions.{IsUnnamed}
 use Rattle.wb_contents.specs.Promises.{IsEntryFrom}
-use Rattle.wb_link.specs.World.{Block, Free, Mapped, Shared, World, Record, resting, begins, after_record, May}
-use Rattle.wb_link.specs.Clerk.{Notes, note, opened, IsRight}
+use Rattle.wb_link.specs.World.{Block, Free, Mapped, Shared, World, Record, abstract_resting, abstract_begins, after_record, AbstractMay}
+use Rattle.wb_link.specs.Clerk.{AbstractNotes, abstract_note, abstract_opened, AbstractRight}
 
 -- what an opening has read
 pub record Learnt : Type 0 where
@@ -26,16 +26,16 @@ pub data Stage : Type 0 where
   Renewing : Learnt → Stage
   Answering : Learnt → Stage
 
-pub data Phase : Type 0 where
+pub data AbstractPhase : Type 0 where
   -- a target: its tasks take their steps
-  Stands : Phase
+  Stands : AbstractPhase
   -- none, and nobody opens
-  Gone : Phase
-  Opens : Mode → Stage → Phase
+  Gone : AbstractPhase
+  Opens : Mode → Stage → AbstractPhase
 
 pub record Site : Type 0 where
   pub world : World
-  pub phase : Phase
+  pub phase : AbstractPhase
 
 -- what a crash leaves of each sector and of the metadata
 pub record Stopping : Type 0 where
@@ -69,8 +69,8 @@ found_clean s true = s.running_clean
 found_clean s false = s.committed_clean
 
 -- metadata that stand for this image alone
-abbrev pub decided : Shared → Bool → Shared
-decided s new_root = record s {
+abbrev pub abstract_decided : Shared → Bool → Shared
+abstract_decided s new_root = record s {
   committed = found_locations s new_root;
   running = found_locations s new_root;
   root_written = false;
@@ -79,7 +79,7 @@ decided s new_root = record s {
 }
 
 abbrev pub stopped : Shared → Stopping → Shared
-stopped s r = record (decided s r.new_root) { origin = λ b o. only (r.origin b o); cache = λ k o. only (r.cache k o) }
+stopped s r = record (abstract_decided s r.new_root) { origin = λ b o. only (r.origin b o); cache = λ k o. only (r.cache k o) }
 
 -- passthrough opens only what is clean
 abbrev pub Admitted : Mode → Learnt → Type 0
@@ -128,7 +128,7 @@ Yields s mode stage outcome = ⊥
 
 -- what it does: a failed root write may have landed
 abbrev pub advanced : Shared → Mode → Stage → Outcome → Shared
-advanced s mode Settling (Settled new_root) = decided s new_root
+advanced s mode Settling (Settled new_root) = abstract_decided s new_root
 advanced s mode Caching Fine = record s { cache = all_synced s.cache }
 advanced s mode Caching (Broke lands) = record s { cache = partly_synced lands s.cache }
 advanced s mode Basing Fine = record s { origin = all_synced s.origin }
@@ -138,7 +138,7 @@ advanced s mode (Rooting i) outcome = record s { running = i.locations; running_
 advanced s mode (Answering i) (Shown blocks view) = opened_on s mode i blocks
 advanced s mode stage outcome = s
 
-abbrev pub next_phase : Mode → Stage → Outcome → Phase
+abbrev pub next_phase : Mode → Stage → Outcome → AbstractPhase
 next_phase mode Settling (Settled new_root) = Opens mode Caching
 next_phase mode Caching Fine = Opens mode Basing
 next_phase mode Basing Fine = Opens mode Looking
@@ -158,16 +158,16 @@ abbrev pub MayOpen : Site → Type 0
 MayOpen w = (w.phase ≢ Stands) ⊎ (w.world.shared.fail ≡ true)
 
 abbrev pub MayHappen : ℕ → Site → Event → Type 0
-MayHappen size w (On r) = (w.phase ≡ Stands) × May size w.world r
+MayHappen size w (On r) = (w.phase ≡ Stands) × AbstractMay size w.world r
 MayHappen size w (Stopped r) = MayStop w.world.shared r
 MayHappen size w (Begins mode) = MayOpen w
 MayHappen size w (Advances outcome) = (mode : Mode) × (stage : Stage) × (w.phase ≡ Opens mode stage) × Yields w.world.shared mode stage outcome
 
 -- no tasks
 abbrev pub emptied : World → Shared → World
-emptied w s = record { shared = s; actors = replicate (length w.actors) resting; waiting = λ k. None }
+emptied w s = record { shared = s; actors = replicate (length w.actors) abstract_resting; waiting = λ k. None }
 
-abbrev pub advance : World → Phase → Outcome → Site
+abbrev pub advance : World → AbstractPhase → Outcome → Site
 advance w (Opens mode stage) outcome = record { world = emptied w (advanced w.shared mode stage outcome); phase = next_phase mode stage outcome }
 advance w phase outcome = record { world = w; phase = phase }
 
@@ -181,39 +181,39 @@ abbrev pub after_events : Site → List Event → Site
 after_events w [] = w
 after_events w (e ∷ es) = after_events (after_event w e) es
 
-abbrev pub Happens : ℕ → Site → List Event → Type 0
-Happens size w [] = Unit {0}
-Happens size w (e ∷ es) = MayHappen size w e × Happens size (after_event w e) es
+abbrev pub AbstractHappens : ℕ → Site → List Event → Type 0
+AbstractHappens size w [] = Unit {0}
+AbstractHappens size w (e ∷ es) = MayHappen size w e × AbstractHappens size (after_event w e) es
 
 abbrev pub site : ℕ → Content → Site
-site many z = record { world = begins many z; phase = Stands }
+site many z = record { world = abstract_begins many z; phase = Stands }
 
 -- The clerk's part: a history begins with what an opening shows.
 
-abbrev pub note_outcome : Notes → Outcome → Notes
-note_outcome n (Shown blocks view) = opened view
+abbrev pub note_outcome : AbstractNotes → Outcome → AbstractNotes
+note_outcome n (Shown blocks view) = abstract_opened view
 note_outcome n outcome = n
 
-abbrev pub note_event : Notes → Event → Notes
-note_event n (On r) = note n r
+abbrev pub note_event : AbstractNotes → Event → AbstractNotes
+note_event n (On r) = abstract_note n r
 note_event n (Stopped r) = n
 note_event n (Begins mode) = n
 note_event n (Advances outcome) = note_outcome n outcome
 
-abbrev pub ShowsRight : Notes → Outcome → Type 0
+abbrev pub ShowsRight : AbstractNotes → Outcome → Type 0
 ShowsRight n (Shown blocks view) = (b o : ℕ) → IsEntryFrom (n.floors b o) (n.histories b o) (view b o)
 ShowsRight n outcome = Unit {0}
 
-abbrev pub EventRight : Notes → Event → Type 0
-EventRight n (On r) = IsRight n r
+abbrev pub EventRight : AbstractNotes → Event → Type 0
+EventRight n (On r) = AbstractRight n r
 EventRight n (Stopped r) = Unit {0}
 EventRight n (Begins mode) = Unit {0}
 EventRight n (Advances outcome) = ShowsRight n outcome
 
-abbrev pub AllRight : Notes → List Event → Type 0
-AllRight n [] = Unit {0}
-AllRight n (e ∷ es) = EventRight n e × AllRight (note_event n e) es
+abbrev pub AllEventsRight : AbstractNotes → List Event → Type 0
+AllEventsRight n [] = Unit {0}
+AllEventsRight n (e ∷ es) = EventRight n e × AllEventsRight (note_event n e) es
 
-abbrev pub noted : Notes → List Event → Notes
-noted n [] = n
-noted n (e ∷ es) = noted (note_event n e) es
+abbrev pub abstract_noted : AbstractNotes → List Event → AbstractNotes
+abstract_noted n [] = n
+abstract_noted n (e ∷ es) = abstract_noted (note_event n e) es

@@ -101,9 +101,9 @@ write_through_each None b extents rest = write_each None b extents rest
 write_through_each (Some k) b [] rest = rest
 write_through_each (Some k) b (os ∷ extents) rest = Write_all None b os ∷ Write_all (Some k) b os ∷ write_through_each (Some k) b extents rest
 
-abbrev pub dirtying : ℕ → Option ℕ → Bool → List Want → List Want
-dirtying b (Some k) false rest = Set_seal b (record { location = Some k; dirty = true }) ∷ rest
-dirtying b location dirty rest = rest
+abbrev pub abstract_dirtying : ℕ → Option ℕ → Bool → List Want → List Want
+abstract_dirtying b (Some k) false rest = Set_seal b (record { location = Some k; dirty = true }) ∷ rest
+abstract_dirtying b location dirty rest = rest
 
 abbrev pub copy_dirty : Bool → Order → List (List ℕ) → List Want → List Want
 copy_dirty true order os rest = copy_each (Some order.cache) None order.block os rest
@@ -119,11 +119,11 @@ abbrev pub returned : (leaves : Bool) → Order → List Want
 returned true order = unmapping order
 returned false order = cleaning order
 
-abbrev pub entering : Order → List Want
-entering order = Map_to order ∷ Set_seal order.block (record { location = Some order.cache; dirty = false }) ∷ Disown order.block ∷ []
+abbrev pub abstract_entering : Order → List Want
+abstract_entering order = Map_to order ∷ Set_seal order.block (record { location = Some order.cache; dirty = false }) ∷ Disown order.block ∷ []
 
 abbrev pub mapping_on : Order → List Want
-mapping_on order = Make_room ∷ entering order
+mapping_on order = Make_room ∷ abstract_entering order
 
 -- in passthrough, under no order
 abbrev pub dropping : ℕ → Option ℕ → List Want → List Want
@@ -138,58 +138,58 @@ read_from false location = location
 -- a write past the cache unmaps its block first
 abbrev pub write_work : (past : Bool) → ℕ → List (List ℕ) → Seal → List Want
 write_work true b os seal = dropping b seal.location (write_each None b os (Disown b ∷ []))
-write_work false b os seal = dirtying b seal.location seal.dirty (write_each seal.location b os (Disown b ∷ []))
+write_work false b os seal = abstract_dirtying b seal.location seal.dirty (write_each seal.location b os (Disown b ∷ []))
 
 -- once the seal was seen
-abbrev pub work : Job → Seal → List Want
-work (Reading past b os) seal = read_each (read_from past seal.location) b os (Leave b ∷ [])
-work (Writing past b os c) seal = write_work past b os seal
-work (Writing_through b os c) seal = write_through_each seal.location b os (Disown b ∷ [])
-work (Invalidating b) seal = dropping b seal.location (Disown b ∷ [])
-work (Flushing order) seal = []
-work Suspending seal = []
-work (Promoting order os) seal = copy_each None (Some order.cache) order.block os (mapping_on order)
-work (Returning leaves order os) seal = copy_dirty seal.dirty order os (returned leaves order)
+abbrev pub abstract_work : Job → Seal → List Want
+abstract_work (Reading past b os) seal = read_each (read_from past seal.location) b os (Leave b ∷ [])
+abstract_work (Writing past b os c) seal = write_work past b os seal
+abstract_work (Writing_through b os c) seal = write_through_each seal.location b os (Disown b ∷ [])
+abstract_work (Invalidating b) seal = dropping b seal.location (Disown b ∷ [])
+abstract_work (Flushing order) seal = []
+abstract_work Suspending seal = []
+abstract_work (Promoting order os) seal = copy_each None (Some order.cache) order.block os (mapping_on order)
+abstract_work (Returning leaves order os) seal = copy_dirty seal.dirty order os (returned leaves order)
 
-abbrev pub acquire : Job → List Want
-acquire (Reading past b os) = Share b ∷ Look_seal b ∷ []
-acquire (Writing past b os c) = Own b ∷ Look_seal b ∷ []
-acquire (Writing_through b os c) = Own b ∷ Look_seal b ∷ []
-acquire (Invalidating b) = Own b ∷ Look_seal b ∷ []
-acquire (Flushing order) = Begin None ∷ Sync_cache_device ∷ Sync_origin_device ∷ Put_root ∷ Sync_metadata ∷ End_running ∷ []
-acquire Suspending = Begin_clean ∷ Sync_cache_device ∷ Sync_origin_device ∷ Put_root ∷ Sync_metadata ∷ End_running ∷ Set_suspended ∷ []
-acquire (Promoting order os) = Own order.block ∷ Look_seal order.block ∷ []
-acquire (Returning leaves order os) = Own order.block ∷ Look_seal order.block ∷ []
+abbrev pub abstract_acquire : Job → List Want
+abstract_acquire (Reading past b os) = Share b ∷ Look_seal b ∷ []
+abstract_acquire (Writing past b os c) = Own b ∷ Look_seal b ∷ []
+abstract_acquire (Writing_through b os c) = Own b ∷ Look_seal b ∷ []
+abstract_acquire (Invalidating b) = Own b ∷ Look_seal b ∷ []
+abstract_acquire (Flushing order) = Begin None ∷ Sync_cache_device ∷ Sync_origin_device ∷ Put_root ∷ Sync_metadata ∷ End_running ∷ []
+abstract_acquire Suspending = Begin_clean ∷ Sync_cache_device ∷ Sync_origin_device ∷ Put_root ∷ Sync_metadata ∷ End_running ∷ Set_suspended ∷ []
+abstract_acquire (Promoting order os) = Own order.block ∷ Look_seal order.block ∷ []
+abstract_acquire (Returning leaves order os) = Own order.block ∷ Look_seal order.block ∷ []
 
-abbrev pub table : Job → Script
-table job = record { job = job; steps = Look_fail ∷ acquire job; answer = Finished }
+abbrev pub abstract_table : Job → Script
+abstract_table job = record { job = job; steps = Look_fail ∷ abstract_acquire job; answer = Finished }
 
-abbrev pub release : Job → List Want
-release (Reading past b os) = Leave b ∷ []
-release (Writing past b os c) = Disown b ∷ []
-release (Writing_through b os c) = Disown b ∷ []
-release (Invalidating b) = Disown b ∷ []
-release (Flushing order) = []
-release Suspending = []
-release (Promoting order os) = Disown order.block ∷ Give_up order ∷ []
-release (Returning leaves order os) = Disown order.block ∷ Give_up order ∷ []
+abbrev pub abstract_release : Job → List Want
+abstract_release (Reading past b os) = Leave b ∷ []
+abstract_release (Writing past b os c) = Disown b ∷ []
+abstract_release (Writing_through b os c) = Disown b ∷ []
+abstract_release (Invalidating b) = Disown b ∷ []
+abstract_release (Flushing order) = []
+abstract_release Suspending = []
+abstract_release (Promoting order os) = Disown order.block ∷ Give_up order ∷ []
+abstract_release (Returning leaves order os) = Disown order.block ∷ Give_up order ∷ []
 
 abbrev pub first_of_steps : List Want → Answer → Want
 first_of_steps [] answer = End answer
 first_of_steps (w ∷ ws) answer = w
 
-abbrev pub want : Script → Want
-want s = first_of_steps s.steps s.answer
+abbrev pub abstract_want : Script → Want
+abstract_want s = first_of_steps s.steps s.answer
 
-abbrev pub later_steps : List Want → List Want
-later_steps [] = []
-later_steps (w ∷ ws) = ws
+abbrev pub abstract_later_steps : List Want → List Want
+abstract_later_steps [] = []
+abstract_later_steps (w ∷ ws) = ws
 
-abbrev pub onward : Script → Script
-onward s = record s { steps = later_steps s.steps }
+abbrev pub abstract_onward : Script → Script
+abstract_onward s = record s { steps = abstract_later_steps s.steps }
 
-abbrev pub refused : Script → List Want → Answer → Script
-refused s steps answer = record { job = s.job; steps = steps; answer = answer }
+abbrev pub abstract_refused : Script → List Want → Answer → Script
+abstract_refused s steps answer = record { job = s.job; steps = steps; answer = answer }
 
 -- after a fault of a write or a sync; that of a commit's step breaks the commits
 abbrev pub breaking : Job → List Want
@@ -197,13 +197,13 @@ breaking (Flushing order) = Set_failed ∷ Break_commits ∷ []
 breaking Suspending = Set_failed ∷ Break_commits ∷ []
 breaking job = Set_failed ∷ []
 
-abbrev pub after_fault : Script → Want → Script
-after_fault s (Read_all location b os) = refused s (release s.job) Io
-after_fault s w = refused s (breaking s.job) Io
+abbrev pub abstract_after_fault : Script → Want → Script
+abstract_after_fault s (Read_all location b os) = abstract_refused s (abstract_release s.job) Io
+abstract_after_fault s w = abstract_refused s (breaking s.job) Io
 
 abbrev pub after_flag : Script → Bool → Script
-after_flag s true = refused s [] Failed
-after_flag s false = onward s
+after_flag s true = abstract_refused s [] Failed
+after_flag s false = abstract_onward s
 
 -- A replacement's flush that is refused so gives its order up, a promotion its block and its order.
 abbrev pub let_go : Option Order → List Want
@@ -212,17 +212,17 @@ let_go (Some order) = Give_up order ∷ []
 
 abbrev pub letting : Job → List Want
 letting (Flushing order) = let_go order
-letting (Promoting order os) = release (Promoting order os)
+letting (Promoting order os) = abstract_release (Promoting order os)
 letting job = []
 
-abbrev pub after : Script → Got → Script
-after s Done = onward s
-after s Lost = refused s [] Busy
-after s (Flag f) = after_flag s f
-after s (Seen seal) = record s { steps = work s.job seal }
-after s (Gave contents) = onward s
-after s (Ticket k) = record s { steps = Begin (Some k) ∷ later_steps s.steps }
-after s Served = refused s [] Finished
-after s Broken = refused s [] Failed
-after s Short = refused s (letting s.job) Failed
-after s (Fault lands) = after_fault s (want s)
+abbrev pub abstract_after : Script → Got → Script
+abstract_after s Done = abstract_onward s
+abstract_after s Lost = abstract_refused s [] Busy
+abstract_after s (Flag f) = after_flag s f
+abstract_after s (Seen seal) = record s { steps = abstract_work s.job seal }
+abstract_after s (Gave contents) = abstract_onward s
+abstract_after s (Ticket k) = record s { steps = Begin (Some k) ∷ abstract_later_steps s.steps }
+abstract_after s Served = abstract_refused s [] Finished
+abstract_after s Broken = abstract_refused s [] Failed
+abstract_after s Short = abstract_refused s (letting s.job) Failed
+abstract_after s (Fault lands) = abstract_after_fault s (abstract_want s)

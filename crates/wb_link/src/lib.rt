@@ -6,8 +6,8 @@
 
 ghost use Rattle.std.specs.Prelude.{◌≡◌, ℕ, true, List, []};
 ghost use Rattle.wb_disk.specs.Device.{Content};
-ghost use Rattle.wb_link.specs.World.{IsRun, begins};
-ghost use Rattle.wb_link.specs.Openings.{Event, Happens, Site, site};
+ghost use Rattle.wb_link.specs.World.{IsAbstractRun, abstract_begins};
+ghost use Rattle.wb_link.specs.Openings.{Event, AbstractHappens, Site, site};
 ghost use Rattle.wb_link.specs.Headline.{Headline};
 ghost use Rattle.wb_link.specs.Examples.{one_actor, replaced, lives_of, reopening, past_the_cache};
 
@@ -18,15 +18,15 @@ ghost use Rattle.wb_link.specs.Examples.{one_actor, replaced, lives_of, reopenin
 /// history, what an opening shows is an entry at its durable floor or later, and so is each content that the devices have
 /// pending where the metadata may say that a block is.
 pub fn headline()
-    ensures { (size many : ℕ) (z : Content) (es : List Event) → Happens size (site many z) es → Headline many z es }
+    ensures { (size many : ℕ) (z : Content) (es : List Event) → AbstractHappens size (site many z) es → Headline many z es }
 {}
 
 /// There are such runs: one of one actor; one of three, with a replacement and a commit that two flushes share; one that goes
 /// on in passthrough, with reads past the cache and a write that unmaps its block; and any site can crash and be opened, or be opened without a crash once it has failed.
 pub fn runs_exist()
-    ensures one_actor { IsRun 1 (begins 1 []) one_actor }
-    ensures replaced { IsRun 1 (begins 3 []) replaced }
-    ensures crashed { (size : ℕ) (w : Site) → Happens size w (lives_of w.world.shared) }
-    ensures passed { Happens 1 (site 1 []) past_the_cache }
-    ensures failed { (size : ℕ) (w : Site) → w.world.shared.fail ≡ true → Happens size w (reopening w.world.shared) }
+    ensures one_actor { IsAbstractRun 1 (abstract_begins 1 []) one_actor }
+    ensures replaced { IsAbstractRun 1 (abstract_begins 3 []) replaced }
+    ensures crashed { (size : ℕ) (w : Site) → AbstractHappens size w (lives_of w.world.shared) }
+    ensures passed { AbstractHappens 1 (site 1 []) past_the_cache }
+    ensures failed { (size : ℕ) (w : Site) → w.world.shared.fail ≡ true → AbstractHappens size w (reopening w.world.shared) }
 {}

@@ -4,11 +4,11 @@ use Rattle.wb_disk.specs.Device.{Content}
 use Rattle.wb_tasks.specs.declared.step.Migration.{Migration}
 use Rattle.wb_tasks.specs.declared.step.Migration.TheVariants.{Promote}
 use Rattle.wb_link.specs.Tables.{Order, Job, Disown, Give_up, Want as AbstractWant, Answer as AbstractAnswer, Failed as AnsweredFailed}
-use Rattle.wb_link.specs.World.{order_of as order_of_job, Owns, Actor}
+use Rattle.wb_link.specs.World.{abstract_order_of as order_of_job, Owns, AbstractActor}
 use Rattle.wb_refines.specs.Migrations.{job_under}
 use Rattle.wb_refines.specs.Carrying.{CarryingFollowed}
 
-abbrev owning : Job → Order → (ℕ → Content) → AbstractAnswer → List AbstractWant → Actor
+abbrev owning : Job → Order → (ℕ → Content) → AbstractAnswer → List AbstractWant → AbstractActor
 owning job order buffer answer steps = record { task = Some (record { job = job; steps = steps; answer = answer }); held = Owns order.block; order = Some order; leads = false; buffer = buffer }
 
 -- a migration's job is under its order

@@ -18,7 +18,7 @@ use Rattle.wb_tasks.specs.declared.step.Want.{Want}
 use Rattle.wb_tasks.specs.declared.step.Want.TheVariants.{Cell, Device, Desk}
 use Rattle.wb_tasks.specs.declared.step.Got.TheVariants.{Word, Fault, Refused}
 use Rattle.wb_link.specs.Tables.{Flag, Short, Done as DoneThere, Fault as FaultThere, Want as AbstractWant, Flushing as FlushingFor, Sync_cache_device, Sync_origin_device, Answer as AnswerThere}
-use Rattle.wb_link.specs.World.{Shared, Nothing, Actor}
+use Rattle.wb_link.specs.World.{Shared, Nothing, AbstractActor}
 use Rattle.wb_refines.specs.Translation.{wants_of, answer_for}
 use Rattle.wb_refines.specs.Going.{AreQuiet, shared_after, gone}
 use Rattle.wb_refines.specs.Flushes.{flushing, Leads, IsOnMetadata, IsNoBegin, IsWrittenAfter, FlushStepsFollowed}
@@ -35,12 +35,12 @@ releases_are : (size : ℕ) (serves : List OBlock) → wants_of size (FlushingFo
 releases_are size [] = refl
 releases_are size (b ∷ bs) = releases_are size bs
 
-module _ (size : ℕ) (serves : List OBlock) (most : ℕ) (content : Content) (actors : List Actor) (a : ℕ) (s : Shared) (buffer : ℕ → Content) where
+module _ (size : ℕ) (serves : List OBlock) (most : ℕ) (content : Content) (actors : List AbstractActor) (a : ℕ) (s : Shared) (buffer : ℕ → Content) where
   -- an actor with these steps of a flush
-  abbrev pub asking : List AbstractWant → AnswerThere → Bool → Actor
+  abbrev pub asking : List AbstractWant → AnswerThere → Bool → AbstractActor
   asking steps answer leads = record { task = Some (record { job = FlushingFor None; steps = steps; answer = answer }); held = Nothing; order = None; leads = leads; buffer = buffer }
 
-  abbrev pub flusher : List Want → Answer → Bool → Actor
+  abbrev pub flusher : List Want → Answer → Bool → AbstractActor
   flusher steps answer leads = asking (wants_of size (FlushingFor None) steps) (answer_for (FlushingFor None) answer) leads
 
   -- a fault of whatever step on the metadata
@@ -75,22 +75,22 @@ module _ (size : ℕ) (serves : List OBlock) (most : ℕ) (content : Content) (a
   refused_by GenerationEnd later answer n = record { results = Short ∷ []; may = (tt, tt, tt); quiet = (tt, tt); shared = refl; at = record { buffer = buffer; is = λ i. asking (sym (releases_are size serves) i) (answer_for (FlushingFor None) (Refuses GenerationEnd)) false } }
   refused_by refusal later answer n = absurd n
 
-moved : {size : ℕ} {content : Content} {actors : List Actor} {a : ℕ} {s t : Shared} {plan : Plan} {leads : Bool} {y z : Actor} → y ≡ z → Leads size content actors a s z t plan leads → Leads size content actors a s y t plan leads
-moved {size} {content} {actors} {a} {s} {t} {plan} {leads} e l = subst (λ (v : Actor). Leads size content actors a s v t plan leads) (sym e) l
+moved : {size : ℕ} {content : Content} {actors : List AbstractActor} {a : ℕ} {s t : Shared} {plan : Plan} {leads : Bool} {y z : AbstractActor} → y ≡ z → Leads size content actors a s z t plan leads → Leads size content actors a s y t plan leads
+moved {size} {content} {actors} {a} {s} {t} {plan} {leads} e l = subst (λ (v : AbstractActor). Leads size content actors a s v t plan leads) (sym e) l
 
 pub flush_steps_followed : FlushStepsFollowed
 flush_steps_followed = record {
-  looks = λ size serves most word content actors a s y answer f is. subst (λ (v : Actor). Leads size content actors a s v s (after (flushing serves most (Cell (Look Fail) ∷ Desk (BeginCommit false most) ∷ []) answer) (Word word)) false) (sym is.is) (looks_at size serves most content actors a s is.buffer word answer f);
+  looks = λ size serves most word content actors a s y answer f is. subst (λ (v : AbstractActor). Leads size content actors a s v s (after (flushing serves most (Cell (Look Fail) ∷ Desk (BeginCommit false most) ∷ []) answer) (Word word)) false) (sym is.is) (looks_at size serves most content actors a s is.buffer word answer f);
   begins = λ size serves most nodes content actors a s y later answer c b is. moved is.is (record { results = DoneThere ∷ []; may = ((c, b, tt), tt, tt); quiet = (tt, tt); shared = refl; at = record { buffer = is.buffer; is = λ i. asking size serves most content actors a s is.buffer (Sync_cache_device ∷ Sync_origin_device ∷ sym (nodes_are size nodes 0 root_steps) i) (answer_for (FlushingFor None) answer) true } });
-  is_refused = λ size serves most refusal content actors a s y later answer n is. subst (λ (v : Actor). Leads size content actors a s v s (after (flushing serves most (Desk (BeginCommit false most) ∷ later) answer) (Refused refusal)) false) (sym is.is) (refused_by size serves most content actors a s is.buffer refusal later answer n);
+  is_refused = λ size serves most refusal content actors a s y later answer n is. subst (λ (v : AbstractActor). Leads size content actors a s v s (after (flushing serves most (Desk (BeginCommit false most) ∷ later) answer) (Refused refusal)) false) (sym is.is) (refused_by size serves most content actors a s is.buffer refusal later answer n);
   syncs_cache = λ later size serves most content actors a s y answer is. moved is.is (record { results = DoneThere ∷ []; may = (tt, tt, tt); quiet = (tt, tt); shared = refl; at = record { buffer = is.buffer; is = refl } });
   syncs_origin = λ later size serves most content actors a s y answer is. moved is.is (record { results = DoneThere ∷ []; may = (tt, tt, tt); quiet = (tt, tt); shared = refl; at = record { buffer = is.buffer; is = refl } });
-  nodes = λ number later size serves most content actors a s y answer is. record { results = []; may = tt; quiet = subst (λ (v : Actor). AreQuiet v.task []) (sym is.is) tt; shared = ap (λ (v : Actor). shared_after s v v.task []) is.is; at = record { buffer = is.buffer; is = ap (λ (v : Actor). gone v v.task []) is.is } };
-  syncs_metadata = λ later size serves most content actors a s y answer is. record { results = []; may = tt; quiet = subst (λ (v : Actor). AreQuiet v.task []) (sym is.is) tt; shared = ap (λ (v : Actor). shared_after s v v.task []) is.is; at = record { buffer = is.buffer; is = ap (λ (v : Actor). gone v v.task []) is.is } };
+  nodes = λ number later size serves most content actors a s y answer is. record { results = []; may = tt; quiet = subst (λ (v : AbstractActor). AreQuiet v.task []) (sym is.is) tt; shared = ap (λ (v : AbstractActor). shared_after s v v.task []) is.is; at = record { buffer = is.buffer; is = ap (λ (v : AbstractActor). gone v v.task []) is.is } };
+  syncs_metadata = λ later size serves most content actors a s y answer is. record { results = []; may = tt; quiet = subst (λ (v : AbstractActor). AreQuiet v.task []) (sym is.is) tt; shared = ap (λ (v : AbstractActor). shared_after s v v.task []) is.is; at = record { buffer = is.buffer; is = ap (λ (v : AbstractActor). gone v v.task []) is.is } };
   writes_root = λ later size serves most content actors a s y answer is. moved is.is (record { results = DoneThere ∷ []; may = (tt, tt, tt); quiet = (tt, tt); shared = refl; at = record { buffer = is.buffer; is = refl } });
   ends = λ size serves most content actors a s y answer is. moved is.is (record { results = DoneThere ∷ DoneThere ∷ []; may = (tt, tt, (tt, tt, tt)); quiet = (tt, (tt, tt)); shared = refl; at = record { buffer = is.buffer; is = refl } });
   fails_cache = λ settled later size serves most content actors a s y answer is. moved is.is (record { results = FaultThere settled ∷ []; may = (tt, tt, tt); quiet = (tt, tt); shared = refl; at = record { buffer = is.buffer; is = refl } });
   fails_origin = λ settled later size serves most content actors a s y answer is. moved is.is (record { results = FaultThere settled ∷ []; may = (tt, tt, tt); quiet = (tt, tt); shared = refl; at = record { buffer = is.buffer; is = refl } });
-  fails_metadata = λ size serves most step content actors a s y later answer m is. let one = fails_on size serves most content actors a s is.buffer step later answer m in (one.0, one.1, subst (λ (v : Actor). Leads size content actors a s v (record s { root_written = one.0 }) (after (flushing serves most (Device step ∷ later) answer) Fault) true) (sym is.is) one.2);
+  fails_metadata = λ size serves most step content actors a s y later answer m is. let one = fails_on size serves most content actors a s is.buffer step later answer m in (one.0, one.1, subst (λ (v : AbstractActor). Leads size content actors a s v (record s { root_written = one.0 }) (after (flushing serves most (Device step ∷ later) answer) Fault) true) (sym is.is) one.2);
   fails = λ size serves most content actors a s y answer is. moved is.is (record { results = DoneThere ∷ DoneThere ∷ []; may = (tt, tt, (tt, tt, tt)); quiet = (tt, (tt, tt)); shared = refl; at = record { buffer = is.buffer; is = refl } });
 }

@@ -32,8 +32,8 @@ use Rattle.wb_tasks.specs.declared.step.DeskStep.TheVariants.{ReleaseOrder}
 use Rattle.wb_tasks.specs.declared.step.Migration.TheVariants.{Promote, Demote, Clean}
 use Rattle.wb_tasks.specs.declared.step.Want.{Want}
 use Rattle.wb_tasks.specs.declared.step.Want.TheVariants.{Cell, Desk}
-use Rattle.wb_link.specs.Tables.{Done, Lost, Flag, Seen, Look_fail, Look_seal, acquire, work as work_there, Want as AbstractWant, Answer as AbstractAnswer, Busy as AnsweredBusy, Failed as AnsweredFailed}
-use Rattle.wb_link.specs.World.{Shared, Held, Nothing, Actor}
+use Rattle.wb_link.specs.Tables.{Done, Lost, Flag, Seen, Look_fail, Look_seal, abstract_acquire, abstract_work as work_there, Want as AbstractWant, Answer as AbstractAnswer, Busy as AnsweredBusy, Failed as AnsweredFailed}
+use Rattle.wb_link.specs.World.{Shared, Held, Nothing, AbstractActor}
 use Rattle.wb_refines.specs.Translation.{number_of, cell_wants}
 use Rattle.wb_refines.specs.Going.{WinsBeside}
 use Rattle.wb_refines.specs.Models.{SealAgrees, WordsAgree, HasStopped, TellsPlace, held_of, held_for, SawSeal, plan_of}
@@ -90,12 +90,12 @@ parting_plain job (Desk (ReleaseOrder b) ∷ []) p = tt
 parting_plain job ws p = absurd p
 
 -- Of a job that plays this role each step on the words is followed.
-module _ (role : Role) (job : BlockJob) (plays : Plays role job) (actors : List Actor) (a : ℕ) (s : Shared) (words : Words) (card : Card) (answer : Answer) (told : AbstractAnswer) (buffer : ℕ → Content) (alike : role.alike answer told) (w : WordsAgree words s) where
+module _ (role : Role) (job : BlockJob) (plays : Plays role job) (actors : List AbstractActor) (a : ℕ) (s : Shared) (words : Words) (card : Card) (answer : Answer) (told : AbstractAnswer) (buffer : ℕ → Content) (alike : role.alike answer told) (w : WordsAgree words s) where
   abbrev block : OBlock
   block = block_of job
 
   -- the actor with these steps to come
-  abbrev on : List AbstractWant → Held → Actor
+  abbrev on : List AbstractWant → Held → AbstractActor
   on steps held = acting role steps told held buffer
 
   abbrev Goal : CellStep → List Want → Type 0
@@ -116,7 +116,7 @@ module _ (role : Role) (job : BlockJob) (plays : Plays role job) (actors : List 
   lost Owned held words' plan' card' w' at = record { results = Lost ∷ []; may = (tt, tt, tt); quiet = (tt, tt); words_agree = w'; same = same_else s; order = refl; at = at }
 
   -- so where it does not get its block
-  is_lost : {steps : List AbstractWant} (words' : Words) (card' : Card) → WordsAgree words' s → steps ≡ acquire role.job → card'.hold ≡ card.hold → DoesToo role actors a s (on steps (held_of card.hold)) words' (plan_of job [] (Refuses Busy)) card'
+  is_lost : {steps : List AbstractWant} (words' : Words) (card' : Card) → WordsAgree words' s → steps ≡ abstract_acquire role.job → card'.hold ≡ card.hold → DoesToo role actors a s (on steps (held_of card.hold)) words' (plan_of job [] (Refuses Busy)) card'
   is_lost words' card' w' e h = by (e ∙ plays.begins) (lost (access_of job) (held_of card.hold) words' (plan_of job [] (Refuses Busy)) card' w' (inl (record { answer = AnsweredBusy; buffer = buffer; is = λ i. acting role (sym plays.ends i) AnsweredBusy (held_of (sym h i)) buffer; alike = plays.busy; saw = tt })))
 
   -- the fail word is looked at
@@ -238,5 +238,5 @@ module _ (role : Role) (job : BlockJob) (plays : Plays role job) (actors : List 
 
 pub cell_steps_followed : (role : Role) (job : BlockJob) → Plays role job → StepsFollowed role job
 cell_steps_followed role job plays blocks words cards actors a card s y step later answer rule here below w t suits is =
-    subst (λ (v : Actor). DoesToo role actors a s v (words_after words step) (after (plan_of job (Cell step ∷ later) answer) (got_of (result_of words step))) (card_after words step card)) (sym is.is)
+    subst (λ (v : AbstractActor). DoesToo role actors a s v (words_after words step) (after (plan_of job (Cell step ∷ later) answer) (got_of (result_of words step))) (card_after words step card)) (sym is.is)
     (cell role job plays actors a s words card answer is.answer is.buffer is.alike w blocks cards rule here suits.0 step later below t suits.1 is.saw)

@@ -8,7 +8,7 @@ use Rattle.wb_words.specs.declared.card.Hold.TheVariants.{Nothing as HoldsNothin
 use Rattle.wb_words.specs.declared.card.Card.{Card}
 use Rattle.wb_words.specs.declared.word.FailBit.TheVariants.{Failed}
 use Rattle.wb_words.specs.Cards.{total, is_block, owns, shares, failing, failing_at}
-use Rattle.wb_link.specs.World.{Nothing, Shares, Owns, Actor}
+use Rattle.wb_link.specs.World.{Nothing, Shares, Owns, AbstractActor}
 use Rattle.wb_refines.specs.Models.{IsBelow, held_of}
 
 pub is_one : (block : OBlock) → is_block block.0 block ≡ 1
@@ -25,14 +25,14 @@ shares_there (HoldsBlock Owned b) block e = absurd (cc)
 shares_there (HoldsBlock Sharing b) block e = let same : b.0 ≡ block = cc in subst (λ (v : ℕ). shares v (HoldsBlock Sharing b) ≡ 1) same (is_one b)
 
 -- any card counts nothing
-pub holds_nothing : (y : Actor) (card : Card) → y.held ≡ Nothing → IsBelow y card
+pub holds_nothing : (y : AbstractActor) (card : Card) → y.held ≡ Nothing → IsBelow y card
 holds_nothing y card e = record {
   owned = λ block k. let bad : Nothing ≡ Owns block = sym e ∙ k in absurd (cc);
   shared = λ block k. let bad : Nothing ≡ Shares block = sym e ∙ k in absurd (cc);
 }
 
 -- what was owned where the failed bit is set is kept
-pub keeps_owned : (y : Actor) (card : Card) → y.held ≡ held_of card.hold → IsBelow y (failing Failed card)
+pub keeps_owned : (y : AbstractActor) (card : Card) → y.held ≡ held_of card.hold → IsBelow y (failing Failed card)
 keeps_owned y card e = record {
   owned = λ block k. owned card.hold block refl (sym e ∙ k);
   shared = λ block k. shared card.hold block refl (sym e ∙ k);

@@ -11,7 +11,7 @@ use Rattle.wb_words.specs.Cards.{total, owns, shares, owners, sharers}
 use Rattle.wb_words.specs.Rule.{LockRule}
 use Rattle.wb_words.proofs.Totals.{total_at, at_slice}
 use Rattle.wb_link.specs.Tables.{Done}
-use Rattle.wb_link.specs.World.{Nothing, Shares, Owns, Actor}
+use Rattle.wb_link.specs.World.{Nothing, Shares, Owns, AbstractActor}
 use Rattle.wb_refines.proofs.Holding.{is_one, owns_there, shares_there}
 use Rattle.wb_refines.specs.Going.{WinsBeside}
 use Rattle.wb_refines.specs.Models.{BelowBeside, IsBelow, held_of, held_for}
@@ -30,7 +30,7 @@ total_two f (z ∷ xs) zero (suc j) x y n e g = let same : z ≡ x = cc in let i
 total_two f (z ∷ xs) (suc i) zero x y n e g = let same : z ≡ y = cc in let is : f z ≡ f y = ap f same in let l = total_at f xs i x (at_slice xs i x e) in omega (arith, is, l)
 total_two f (z ∷ xs) (suc i) (suc j) x y n e g = let l = total_two f xs i j x y (λ s. n (ap suc s)) e g in omega (arith, l)
 
-module _ (blocks : ℕ) (words : Words) (cards : List Card) (actors : List Actor) (a : ℕ) (card : Card) (block : OBlock) (rule : LockRule blocks words cards) (inside : block.0 < blocks) (here : slice_get cards a ≡ Some card) (below : BelowBeside actors cards a) where
+module _ (blocks : ℕ) (words : Words) (cards : List Card) (actors : List AbstractActor) (a : ℕ) (card : Card) (block : OBlock) (rule : LockRule blocks words cards) (inside : block.0 < blocks) (here : slice_get cards a ≡ Some card) (below : BelowBeside actors cards a) where
   pub wins : (access : Access) → card.hold ≡ HoldsBlock access block → WinsBeside actors a Nothing (claim access block) Done
   wins Sharing h = (
     refl,
@@ -71,7 +71,7 @@ held_cases (Cell (Look (Number block)) ∷ ws) card = inl refl
 held_cases ws card = inr refl
 
 -- what it has is counted
-pub held_below : (ws : List Want) (card : Card) (y : Actor) → y.held ≡ held_for ws card → IsBelow y card
+pub held_below : (ws : List Want) (card : Card) (y : AbstractActor) → y.held ≡ held_for ws card → IsBelow y card
 held_below ws card y e = record {
   owned = λ block k. elim (held_cases ws card) [
     | inl n ↦ let bad : Nothing ≡ Owns block = sym n ∙ sym e ∙ k in absurd (cc)
@@ -84,4 +84,4 @@ held_below ws card y e = record {
 }
 
 pub has_no_more : HasNoMore
-has_no_more size content plan card y is = held_below plan.steps card y (ap (λ (v : Actor). v.held) is.is)
+has_no_more size content plan card y is = held_below plan.steps card y (ap (λ (v : AbstractActor). v.held) is.is)

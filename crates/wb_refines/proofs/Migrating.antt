@@ -6,7 +6,7 @@ use Rattle.wb_tasks.specs.declared.step.Migration.{Migration}
 use Rattle.wb_tasks.specs.declared.step.Migration.TheVariants.{Promote, Demote, Clean}
 use Rattle.wb_tasks.specs.Tables.{BlockRange, Migrating, OnBlock, copies, work, ending}
 use Rattle.wb_tasks.specs.declared.step.Want.{Want}
-use Rattle.wb_link.specs.Tables.{Order, Want as AbstractWant, Read_all, Write_all, copy_each, work as work_there, table as table_there, release as release_there, breaking}
+use Rattle.wb_link.specs.Tables.{Order, Want as AbstractWant, Read_all, Write_all, copy_each, abstract_work as work_there, abstract_table as table_there, abstract_release as release_there, breaking}
 use Rattle.wb_words.specs.declared.step.CellStep.TheVariants.{SetFailed}
 use Rattle.wb_tasks.specs.declared.step.Want.TheVariants.{Cell}
 use Rattle.wb_tasks.specs.Plan.{first_steps, lets_go}

@@ -11,7 +11,7 @@ use Rattle.wb_tasks.specs.declared.step.Answer.{Answer}
 use Rattle.wb_tasks.specs.declared.step.DeviceStep.{DeviceStep}
 use Rattle.wb_tasks.specs.declared.step.Want.{Want}
 use Rattle.wb_tasks.specs.declared.step.Want.TheVariants.{Device}
-use Rattle.wb_link.specs.World.{Shared, Actor, newest_at, contents_for, put_where}
+use Rattle.wb_link.specs.World.{Shared, AbstractActor, newest_at, abstract_contents_for, put_where}
 use Rattle.wb_refines.specs.Translation.{script_for, location_at, offsets_in}
 use Rattle.wb_refines.specs.Models.{IsAt, plan_of}
 use Rattle.wb_refines.specs.Data.{row, IsSide, IsInBlock, ExtentsFollowed}
@@ -19,11 +19,11 @@ use Rattle.wb_refines.proofs.Cells.{IsPlain, held_plain, saw_plain}
 use Rattle.wb_refines.proofs.Extents.{alike_self, reads_newest, put_where_is, where_beside, same_beside}
 
 -- a request that has moved an extent goes on with what is left of it
-pub goes_on_at : (size : ℕ) (content : Content) (job : BlockJob) (step : DeviceStep) (later : List Want) (answer : Answer) (card : Card) (y : Actor) (buffer : ℕ → Content) → IsPlain later → IsAt size content (plan_of job (Device step ∷ later) answer) card y →
+pub goes_on_at : (size : ℕ) (content : Content) (job : BlockJob) (step : DeviceStep) (later : List Want) (answer : Answer) (card : Card) (y : AbstractActor) (buffer : ℕ → Content) → IsPlain later → IsAt size content (plan_of job (Device step ∷ later) answer) card y →
     IsAt size content (plan_of job later answer) card (record y { task = Some (script_for size content (plan_of job later answer)); buffer = buffer })
 goes_on_at size content job step later answer card y buffer plain is = record {
   buffer = buffer;
-  is = ap (λ (v : Actor). record v { task = Some (script_for size content (plan_of job later answer)); buffer = buffer }) is.is ∙ (λ i. record { task = Some (script_for size content (plan_of job later answer)); held = sym (held_plain later card plain) i; order = None; leads = false; buffer = buffer });
+  is = ap (λ (v : AbstractActor). record v { task = Some (script_for size content (plan_of job later answer)); buffer = buffer }) is.is ∙ (λ i. record { task = Some (script_for size content (plan_of job later answer)); held = sym (held_plain later card plain) i; order = None; leads = false; buffer = buffer });
   saw = saw_plain (plan_of job later answer) later card plain;
 }
 
@@ -41,7 +41,7 @@ pub extents_followed : ExtentsFollowed
 extents_followed = record {
   read_done = λ size blank actors a s y job to block os rest answer list i. record { may = (alike_self os (newest_at s to block), tt, tt); side_is = i; beside = same_beside to s; is = refl };
   read_fails = λ size blank actors a s y job to block os rest answer list i. record { may = (tt, tt, tt); side_is = i; beside = same_beside to s; is = refl };
-  write_done = λ size blank actors a s y job block device e rest answer list n i l. record { may = (tt, tt, tt); side_is = lands_so size blank s block device e list n i (λ q. true) (contents_for job y.buffer) l; beside = where_beside size blank (location_at size device e) block (contents_for job y.buffer) (λ q. true) (offsets_in size e) s s (same_beside (location_at size device e) s); is = refl };
-  write_fails = λ size blank actors a s y job block device e rest answer list lands n i l. record { may = (tt, tt, tt); side_is = lands_so size blank s block device e list n i lands (contents_for job y.buffer) l; beside = where_beside size blank (location_at size device e) block (contents_for job y.buffer) lands (offsets_in size e) s s (same_beside (location_at size device e) s); is = refl };
+  write_done = λ size blank actors a s y job block device e rest answer list n i l. record { may = (tt, tt, tt); side_is = lands_so size blank s block device e list n i (λ q. true) (abstract_contents_for job y.buffer) l; beside = where_beside size blank (location_at size device e) block (abstract_contents_for job y.buffer) (λ q. true) (offsets_in size e) s s (same_beside (location_at size device e) s); is = refl };
+  write_fails = λ size blank actors a s y job block device e rest answer list lands n i l. record { may = (tt, tt, tt); side_is = lands_so size blank s block device e list n i lands (abstract_contents_for job y.buffer) l; beside = where_beside size blank (location_at size device e) block (abstract_contents_for job y.buffer) lands (offsets_in size e) s s (same_beside (location_at size device e) s); is = refl };
   reads = λ size blank s block device e list contents n i m g. given size blank s block device e list n i contents m g;
 }

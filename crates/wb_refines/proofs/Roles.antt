@@ -15,8 +15,8 @@ use Rattle.wb_tasks.specs.declared.step.Want.{Want}
 use Rattle.wb_tasks.specs.declared.step.Answer.TheVariants.{Refused as Refuses}
 use Rattle.wb_tasks.specs.declared.step.Migration.{Migration}
 use Rattle.wb_tasks.specs.declared.step.Migration.TheVariants.{Promote, Demote, Clean}
-use Rattle.wb_link.specs.Tables.{Order, Job as AbstractJob, Seal as SealThere, Answer as AbstractAnswer, Finished as AnsweredDone, work as work_there, Look_seal, Set_failed, acquire, breaking, Busy as AnsweredBusy}
-use Rattle.wb_link.specs.World.{Actor, job_alone}
+use Rattle.wb_link.specs.Tables.{Order, Job as AbstractJob, Seal as SealThere, Answer as AbstractAnswer, Finished as AnsweredDone, abstract_work as work_there, Look_seal, Set_failed, abstract_acquire, breaking, Busy as AnsweredBusy}
+use Rattle.wb_link.specs.World.{AbstractActor, job_alone}
 use Rattle.wb_refines.specs.Translation.{number_of, offsets, job_for, answer_for, wants_of}
 use Rattle.wb_refines.specs.Models.{SealAgrees, IsRequest, IsAt, held_for, plan_of}
 use Rattle.wb_refines.specs.Roles.{acting, IsAs, Plays, request_role, RequestCellsFollowed, claim}
@@ -38,10 +38,10 @@ undone : (job : AbstractJob) (refusal : Refusal) (answer : AbstractAnswer) → a
 undone job refusal answer is e = refused_undone job refusal (sym is ∙ e)
 
 -- a request that is at this is so in its role, and the other way round
-pub as_request : (size : ℕ) (content : Content) (job : BlockJob) (steps : List Want) (answer : Answer) (card : Card) (y : Actor) → IsAt size content (plan_of job steps answer) card y → IsAs (request_role size content job) (plan_of job steps answer) card y
+pub as_request : (size : ℕ) (content : Content) (job : BlockJob) (steps : List Want) (answer : Answer) (card : Card) (y : AbstractActor) → IsAt size content (plan_of job steps answer) card y → IsAs (request_role size content job) (plan_of job steps answer) card y
 as_request size content job steps answer card y i = record { answer = answer_for (job_for size content (OnBlock job)) answer; buffer = i.buffer; is = i.is; alike = refl; saw = i.saw }
 
-pub at_request : (size : ℕ) (content : Content) (job : BlockJob) (plan : Plan) (card : Card) (y : Actor) → plan.job ≡ OnBlock job → IsAs (request_role size content job) plan card y → IsAt size content plan card y
+pub at_request : (size : ℕ) (content : Content) (job : BlockJob) (plan : Plan) (card : Card) (y : AbstractActor) → plan.job ≡ OnBlock job → IsAs (request_role size content job) plan card y → IsAt size content plan card y
 at_request size content job plan card y e i = subst (λ (k : TaskJob). IsAt size content (record { job = k; steps = plan.steps; answer = plan.answer }) card y) (sym e)
     (by (subst (λ (k : TaskJob). IsAs (request_role size content job) (record { job = k; steps = plan.steps; answer = plan.answer }) card y) e i))
   where
@@ -53,7 +53,7 @@ module _ (size : ℕ) (content : Content) (job : BlockJob) (sized : size ≡ (ra
   abbrev there : ℕ → AbstractJob
   there n = job_for n content (OnBlock job)
 
-  request_plays : acquire (there size) ≡ claim (access_of job) (block_of job) ∷ Look_seal (block_of job).0 ∷ [] → breaking (there size) ≡ Set_failed ∷ [] → job_alone (there size) ≡ false → AnsweredBusy ≡ answer_for (there size) (Refuses Busy) → ((d e : Bool) → work_there (there size) (record { location = None; dirty = d }) ≡ work_there (there size) (record { location = None; dirty = e })) →
+  request_plays : abstract_acquire (there size) ≡ claim (access_of job) (block_of job) ∷ Look_seal (block_of job).0 ∷ [] → breaking (there size) ≡ Set_failed ∷ [] → job_alone (there size) ≡ false → AnsweredBusy ≡ answer_for (there size) (Refuses Busy) → ((d e : Bool) → work_there (there size) (record { location = None; dirty = d }) ≡ work_there (there size) (record { location = None; dirty = e })) →
       ((place : Option CBlock) (dirty : Bool) → wants_of (range_of job).block_sectors (there (range_of job).block_sectors) (work job place dirty) ≡ work_there (there (range_of job).block_sectors) (record { location = number_of place; dirty = dirty })) → Plays (request_role size content job) job
   request_plays begins breaks among busy any is = record {
     begins = begins;

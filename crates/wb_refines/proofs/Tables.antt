@@ -10,7 +10,7 @@ use Rattle.wb_disk.specs.Device.{Content}
 use Rattle.wb_tasks.specs.Tables.{BlockRange, OnBlock, Reading, Writing, cache_extent, read_step, write_step, work}
 use Rattle.wb_tasks.proofs.Working.{read_work_back, write_work_back}
 use Rattle.wb_tasks.specs.declared.step.Want.{Want}
-use Rattle.wb_link.specs.Tables.{Read_all, Write_all, Set_seal, Job as AbstractJob, read_each, write_each, work as work_there}
+use Rattle.wb_link.specs.Tables.{Read_all, Write_all, Set_seal, Job as AbstractJob, read_each, write_each, abstract_work as work_there}
 use Rattle.wb_refines.specs.Translation.{number_of, location_at, offsets_in, offsets, block_in, job_for, wants_of}
 use Rattle.wb_refines.specs.Laws.{TablesAgree}
 

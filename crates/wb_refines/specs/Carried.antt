@@ -9,7 +9,7 @@ use Rattle.wb_tasks.specs.declared.step.Answer.{Answer}
 use Rattle.wb_tasks.specs.declared.step.Answer.TheVariants.{Done as Finished, Refused as Refuses}
 use Rattle.wb_tasks.specs.declared.step.Migration.{Migration}
 use Rattle.wb_link.specs.Tables.{Order, Answer as AbstractAnswer, Finished as AnsweredDone}
-use Rattle.wb_link.specs.World.{Actor}
+use Rattle.wb_link.specs.World.{AbstractActor}
 use Rattle.wb_refines.specs.Translation.{offsets}
 use Rattle.wb_refines.specs.Migrations.{job_under, migration_wants, order_on, Fills, IsWhere}
 use Rattle.wb_refines.specs.Roles.{Role, IsAs, StepsFollowed}
@@ -29,7 +29,7 @@ migration_role part c next migration kept = record {
 }
 
 -- An abstract actor is at what is left of this migration.
-abbrev pub IsMigrationAt : BlockRange → CBlock → Option ℕ → Migration → Option Order → Plan → Card → Actor → Type 0
+abbrev pub IsMigrationAt : BlockRange → CBlock → Option ℕ → Migration → Option Order → Plan → Card → AbstractActor → Type 0
 IsMigrationAt part c next migration kept plan card y = IsAs (migration_role part c next migration kept) plan card y
 
 abbrev pub MigrationCellsFollowed : Type 0

@@ -5,8 +5,8 @@ use Rattle.wb_disk.specs.Device.{Content}
 use Rattle.wb_tasks.specs.Tables.{BlockRange, OnBlock, Reading, Writing, Flushing}
 use Rattle.wb_tasks.specs.Plan.{Plan, table}
 use Rattle.wb_words.specs.declared.card.Card.{Card}
-use Rattle.wb_link.specs.Tables.{table as table_there}
-use Rattle.wb_link.specs.World.{Actor}
+use Rattle.wb_link.specs.Tables.{abstract_table as table_there}
+use Rattle.wb_link.specs.World.{AbstractActor}
 use Rattle.wb_refines.specs.Models.{IsAt, IsBelow}
 use Rattle.wb_refines.specs.Translation.{script_for, job_for}
 
@@ -19,4 +19,4 @@ TablesAgree = (size most : ℕ) (content : Content) (part : BlockRange) (serves 
 
 -- An abstract actor that is at a task has no block that the card does not count: so what the others have agrees, too.
 abbrev pub HasNoMore : Type 0
-HasNoMore = (size : ℕ) (content : Content) (plan : Plan) (card : Card) (y : Actor) → IsAt size content plan card y → IsBelow y card
+HasNoMore = (size : ℕ) (content : Content) (plan : Plan) (card : Card) (y : AbstractActor) → IsAt size content plan card y → IsBelow y card

@@ -11,8 +11,8 @@ use Rattle.wb_words.specs.declared.step.CellStep.TheVariants.{SetFailed}
 use Rattle.wb_tasks.specs.Tables.{BlockRange, Migrating, OnBlock, work}
 use Rattle.wb_tasks.specs.Plan.{first_steps, lets_go}
 use Rattle.wb_disk.specs.Device.{Content}
-use Rattle.wb_link.specs.World.{Owns, Actor}
-use Rattle.wb_link.specs.Tables.{Order, Answer as AbstractAnswer, Job as AbstractJob, Promoting, Returning, Want as AbstractWant, Make_room, Map_to, Unmap_from, Give_up, Read_all, Write_all, table as table_there, work as work_there, release as release_there, breaking}
+use Rattle.wb_link.specs.World.{Owns, AbstractActor}
+use Rattle.wb_link.specs.Tables.{Order, Answer as AbstractAnswer, Job as AbstractJob, Promoting, Returning, Want as AbstractWant, Make_room, Map_to, Unmap_from, Give_up, Read_all, Write_all, abstract_table as table_there, abstract_work as work_there, abstract_release as release_there, breaking}
 use Rattle.wb_refines.specs.Translation.{location_at, offsets_in, offsets, cell_wants, number_of}
 
 -- a migration under this order, of these sectors
@@ -60,7 +60,7 @@ pub record MigrationTablesAgree : Type 0 where
       migration_wants size (order_on part c next) os migration (Cell SetFailed ∷ []) ≡ breaking (job_under (order_on part c next) os migration)
 
 -- what an abstract actor is that has the block of its migration, with these real steps to come
-abbrev pub migrating : ℕ → Order → List (List ℕ) → Migration → List Want → AbstractAnswer → (ℕ → Content) → Actor
+abbrev pub migrating : ℕ → Order → List (List ℕ) → Migration → List Want → AbstractAnswer → (ℕ → Content) → AbstractActor
 migrating size order os migration steps answer buffer = record {
   task = Some (record { job = job_under order os migration; steps = migration_wants size order os migration steps; answer = answer });
   held = Owns order.block;

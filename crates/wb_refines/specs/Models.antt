@@ -20,7 +20,7 @@ use Rattle.wb_tasks.specs.declared.step.Want.{Want}
 use Rattle.wb_tasks.specs.declared.step.Want.TheVariants.{Cell}
 use Rattle.wb_tasks.specs.declared.step.Answer.TheVariants.{Done as Finished, Refused as Refuses}
 use Rattle.wb_link.specs.Tables.{Seal, Script, Finished as AnsweredDone}
-use Rattle.wb_link.specs.World.{job_alone, Shared, Held, Nothing, Shares, Owns, Actor}
+use Rattle.wb_link.specs.World.{job_alone, Shared, Held, Nothing, Shares, Owns, AbstractActor}
 use Rattle.wb_refines.specs.Translation.{number_of, script_for}
 
 -- a read or a write
@@ -61,7 +61,7 @@ SawSeal plan (Cell SetFailed ∷ later) card = (refusal : Refusal) × (plan.answ
 SawSeal plan steps card = Unit {0}
 
 -- An abstract actor is at what is left of this task.
-pub record IsAt (size : ℕ) (content : Content) (plan : Plan) (card : Card) (y : Actor) : Type 0 where
+pub record IsAt (size : ℕ) (content : Content) (plan : Plan) (card : Card) (y : AbstractActor) : Type 0 where
   pub buffer : ℕ → Content
   pub is : y ≡ record { task = Some (script_for size content plan); held = held_for plan.steps card; order = None; leads = false; buffer = buffer }
   pub saw : SawSeal plan plan.steps card
@@ -73,18 +73,18 @@ OnlyParts (Cell (Release access block) ∷ []) = Unit {0}
 OnlyParts steps = ⊥
 
 -- An abstract actor has no block that the card does not count.
-pub record IsBelow (y : Actor) (card : Card) : Type 0 where
+pub record IsBelow (y : AbstractActor) (card : Card) : Type 0 where
   pub owned : (block : ℕ) → y.held ≡ Owns block → 0 < owners block card
   pub shared : (block : ℕ) → y.held ≡ Shares block → 0 < sharers block card
 
 -- it holds nothing, or the target has failed and there is nothing to give back
-abbrev pub IsFree : Bool → List Want → Actor → Type 0
+abbrev pub IsFree : Bool → List Want → AbstractActor → Type 0
 IsFree failed [] y = (y.held ≡ Nothing) ⊎ (failed ≡ true)
 IsFree failed steps y = y.held ≡ Nothing
 
 -- Refused, an abstract actor has only to answer: it has set the failed bit and keeps what it owns, or it has nothing, since it did
 -- not take the block whose number was found worn.
-pub record HasStopped (failed : Bool) (plan : Plan) (card : Card) (y : Actor) : Type 0 where
+pub record HasStopped (failed : Bool) (plan : Plan) (card : Card) (y : AbstractActor) : Type 0 where
   pub over : OnlyParts plan.steps
   pub refused : plan.answer ≢ Finished
   pub script : Script
@@ -119,8 +119,8 @@ pub record SameElse (s t : Shared) : Type 0 where
   pub images : SameImages s t
 
 -- Whoever holds a block there beside this actor has a card that counts what it holds.
-abbrev pub BelowBeside : List Actor → List Card → ℕ → Type 0
-BelowBeside actors cards a = (b : ℕ) (y : Actor) → b ≢ a → slice_get actors b ≡ Some y → y.held ≢ Nothing → (card : Card) × (slice_get cards b ≡ Some card) × IsBelow y card
+abbrev pub BelowBeside : List AbstractActor → List Card → ℕ → Type 0
+BelowBeside actors cards a = (b : ℕ) (y : AbstractActor) → b ≢ a → slice_get actors b ≡ Some y → y.held ≢ Nothing → (card : Card) × (slice_get cards b ≡ Some card) × IsBelow y card
 
 -- a seal that is stored tells the place that it was made of
 abbrev pub TellsPlace : CellStep → Type 0

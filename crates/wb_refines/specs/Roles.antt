@@ -21,8 +21,8 @@ use Rattle.wb_tasks.specs.declared.step.Answer.{Answer}
 use Rattle.wb_tasks.specs.declared.step.Answer.TheVariants.{Refused as Refuses}
 use Rattle.wb_tasks.specs.declared.step.Want.{Want}
 use Rattle.wb_tasks.specs.declared.step.Want.TheVariants.{Cell}
-use Rattle.wb_link.specs.Tables.{Order, Seal, Got, Job as AbstractJob, Want as AbstractWant, Share, Own, Look_seal, Set_failed, Answer as AbstractAnswer, Finished as AnsweredDone, Busy as AnsweredBusy, Failed as AnsweredFailed, acquire, breaking, work as work_there}
-use Rattle.wb_link.specs.World.{job_alone, Shared, Held, Actor}
+use Rattle.wb_link.specs.Tables.{Order, Seal, Got, Job as AbstractJob, Want as AbstractWant, Share, Own, Look_seal, Set_failed, Answer as AbstractAnswer, Finished as AnsweredDone, Busy as AnsweredBusy, Failed as AnsweredFailed, abstract_acquire, breaking, abstract_work as work_there}
+use Rattle.wb_link.specs.World.{job_alone, Shared, Held, AbstractActor}
 use Rattle.wb_refines.specs.Translation.{cell_wants, wants_of, job_for, answer_for}
 use Rattle.wb_refines.specs.Going.{AreQuiet, shared_after, gone, MayGo}
 use Rattle.wb_refines.specs.Models.{SealAgrees, WordsAgree, SawSeal, HasStopped, SameElse, IsRequest, BelowBeside, TellsPlace, held_for, plan_of}
@@ -37,11 +37,11 @@ pub record Role : Type 1 where
   pub finds : (seal : ℕ) → Type 0
 
 -- an actor in this role, with these steps to come
-abbrev pub acting : Role → List AbstractWant → AbstractAnswer → Held → (ℕ → Content) → Actor
+abbrev pub acting : Role → List AbstractWant → AbstractAnswer → Held → (ℕ → Content) → AbstractActor
 acting role steps answer held buffer = record { task = Some (record { job = role.job; steps = steps; answer = answer }); held = held; order = role.order; leads = false; buffer = buffer }
 
 -- It is at what is left of this task.
-pub record IsAs (role : Role) (plan : Plan) (card : Card) (y : Actor) : Type 0 where
+pub record IsAs (role : Role) (plan : Plan) (card : Card) (y : AbstractActor) : Type 0 where
   pub answer : AbstractAnswer
   pub buffer : ℕ → Content
   pub is : y ≡ acting role (role.wants plan.steps) answer (held_for plan.steps card) buffer
@@ -56,7 +56,7 @@ claim Owned block = Own block.0
 -- The role is this job's: it takes the same block in the same way, its steps on the words stand for what the translation says, and with the seal
 -- that it sees it has the same work.
 pub record Plays (role : Role) (job : BlockJob) : Type 0 where
-  pub begins : acquire role.job ≡ claim (access_of job) (block_of job) ∷ Look_seal (block_of job).0 ∷ []
+  pub begins : abstract_acquire role.job ≡ claim (access_of job) (block_of job) ∷ Look_seal (block_of job).0 ∷ []
   pub steps : (step : CellStep) (later : List Want) → role.wants (Cell step ∷ later) ≡ cell_wants role.job step (role.wants later)
   pub ends : role.wants [] ≡ []
   pub works : (word : ℕ) (seal : Seal) → role.finds word → SealAgrees word seal → work_there role.job seal ≡ role.wants (work_of (OnBlock job) word)
@@ -77,7 +77,7 @@ request_role size content job = record {
 }
 
 -- What an actor did on the words, which are these now, the abstract actor can do too, and both are at the same then.
-pub record DoesToo (role : Role) (actors : List Actor) (a : ℕ) (s : Shared) (y : Actor) (words : Words) (plan : Plan) (card : Card) : Type 0 where
+pub record DoesToo (role : Role) (actors : List AbstractActor) (a : ℕ) (s : Shared) (y : AbstractActor) (words : Words) (plan : Plan) (card : Card) : Type 0 where
   pub results : List Got
   pub may : MayGo actors a s y y.task results
   pub quiet : AreQuiet y.task results
@@ -87,14 +87,14 @@ pub record DoesToo (role : Role) (actors : List Actor) (a : ℕ) (s : Shared) (y
   pub at : IsAs role plan card (gone y y.task results) ⊎ ((k : HasStopped (flag words.fail) plan card (gone y y.task results)) × (k.script.job ≡ role.job))
 
 -- Where a number is looked at the block is taken there: then the others have no more than their cards count, and its seal is as the job is to find it.
-abbrev pub TakesBeside : Role → CellStep → List Actor → List Card → ℕ → Card → Type 0
+abbrev pub TakesBeside : Role → CellStep → List AbstractActor → List Card → ℕ → Card → Type 0
 TakesBeside role (Look (Number block)) actors cards a card = BelowBeside actors cards a × ((seal : ℕ) → card.seal ≡ Some seal → role.finds seal)
 TakesBeside role step actors cards a card = Unit {0}
 
 -- Each step of this job on the shared words, which keep their rule, is followed in an abstract world: where what is shared there, the actor, and what the
 -- others have agree with the words and the cards before it, they do so after it.
 abbrev pub StepsFollowed : Role → BlockJob → Type 0
-StepsFollowed role job = (blocks : ℕ) (words : Words) (cards : List Card) (actors : List Actor) (a : ℕ) (card : Card) (s : Shared) (y : Actor) (step : CellStep) (later : List Want) (answer : Answer) →
+StepsFollowed role job = (blocks : ℕ) (words : Words) (cards : List Card) (actors : List AbstractActor) (a : ℕ) (card : Card) (s : Shared) (y : AbstractActor) (step : CellStep) (later : List Want) (answer : Answer) →
     LockRule blocks words cards → slice_get cards a ≡ Some card → TakesBeside role step actors cards a card → WordsAgree words s → TellsPlace step →
     Suits blocks (plan_of job (Cell step ∷ later) answer) card → IsAs role (plan_of job (Cell step ∷ later) answer) card y →
     DoesToo role actors a s y (words_after words step) (after (plan_of job (Cell step ∷ later) answer) (got_of (result_of words step))) (card_after words step card)

@@ -23,7 +23,7 @@ use Rattle.wb_tasks.specs.declared.step.DeskStep.{DeskStep}
 use Rattle.wb_tasks.specs.declared.step.DeskStep.TheVariants.{BeginCommit, EndCommit}
 use Rattle.wb_tasks.specs.declared.step.Want.{Want}
 use Rattle.wb_tasks.specs.declared.step.Want.TheVariants.{Cell, Device, Desk, End}
-use Rattle.wb_link.specs.Tables.{Script, Read_all, Write_all, acquire, breaking, Job as AbstractJob, Reading as ReadingAt, Writing as WritingAt, Flushing as FlushingFor, Want as AbstractWant, Look_fail, Set_seal, Leave, Disown, Sync_cache_device, Sync_origin_device, Put_root, Sync_metadata, End_running, Answer as AbstractAnswer, Finished as AnsweredDone, Busy as AnsweredBusy, Failed as AnsweredFailed, Io as AnsweredIo}
+use Rattle.wb_link.specs.Tables.{Script, Read_all, Write_all, abstract_acquire, breaking, Job as AbstractJob, Reading as ReadingAt, Writing as WritingAt, Flushing as FlushingFor, Want as AbstractWant, Look_fail, Set_seal, Leave, Disown, Sync_cache_device, Sync_origin_device, Put_root, Sync_metadata, End_running, Answer as AbstractAnswer, Finished as AnsweredDone, Busy as AnsweredBusy, Failed as AnsweredFailed, Io as AnsweredIo}
 
 -- the number of the cache block in which a block stands
 abbrev pub number_of : Option CBlock → Option ℕ
@@ -59,9 +59,9 @@ block_in job = 0
 
 abbrev pub cell_wants : AbstractJob → CellStep → List AbstractWant → List AbstractWant
 cell_wants job (Look Fail) rest = Look_fail ∷ rest
-cell_wants job (Look (LockWord block)) rest = acquire job
-cell_wants job (Look (SealWord block)) rest = acquire job
-cell_wants job (Look (Number block)) rest = acquire job
+cell_wants job (Look (LockWord block)) rest = abstract_acquire job
+cell_wants job (Look (SealWord block)) rest = abstract_acquire job
+cell_wants job (Look (Number block)) rest = abstract_acquire job
 cell_wants job (Look (CountWord kind)) rest = rest
 cell_wants job (Take access block seen) rest = rest
 cell_wants job (Release Shared block) rest = Leave block.0 ∷ rest
@@ -83,7 +83,7 @@ device_wants size job WriteRoot rest = Put_root ∷ rest
 device_wants size job step rest = rest
 
 abbrev pub desk_wants : AbstractJob → DeskStep → List AbstractWant → List AbstractWant
-desk_wants job (BeginCommit clean most) rest = acquire job
+desk_wants job (BeginCommit clean most) rest = abstract_acquire job
 desk_wants job EndCommit rest = Sync_metadata ∷ End_running ∷ rest
 desk_wants job step rest = rest
 

@@ -15,7 +15,7 @@ use Rattle.wb_devices.specs.declared.devices.Devices.{Devices}
 use Rattle.wb_types.specs.declared.number.OBlock.{OBlock}
 use Rattle.wb_words.specs.declared.card.Card.{Card}
 use Rattle.wb_link.specs.Tables.{Order as AbstractOrder, Got}
-use Rattle.wb_link.specs.World.{World, Shared, Record, IsRun, Actor as AbstractActor, is_alone, after_all}
+use Rattle.wb_link.specs.World.{World, Shared, Record, IsAbstractRun, AbstractActor, is_alone, abstract_after_all}
 use Rattle.wb_refines.specs.Going.{records, shared_after, gone, MayGo}
 use Rattle.wb_refines.specs.Models.{WordsAgree}
 use Rattle.wb_refines.specs.Roles.{Role, TakesBeside}
@@ -112,7 +112,7 @@ module _ (now : Situation) (words' : Words) (up : flag now.words.fail ≡ true �
       was d v ev l = elim (who s.actors a y y' ey d v ev) [ inl one ↦ (y, ap (slice_get s.actors) one.0 ∙ ey, subst (Leading y) one.1 leading l) | inr one ↦ (v, one.1, (l, λ more. more)) ]
 
   -- the world goes on by these records, of which it is told, to where all agrees
-  pub follows_by : (turn : Turn) (telling : Telling) (committing' : Bool) (orders' : List (Option Order)) (devices' : Devices (List History)) (rs : List Record) (w : World) → IsRun now.size s rs → after_all s rs ≡ w → IsTold telling a y.task rs → Agrees (then_at committing' orders' devices') w → TurnedTo turn s.shared w.shared → DeskTurnedTo turn s.shared w.shared →
+  pub follows_by : (turn : Turn) (telling : Telling) (committing' : Bool) (orders' : List (Option Order)) (devices' : Devices (List History)) (rs : List Record) (w : World) → IsAbstractRun now.size s rs → abstract_after_all s rs ≡ w → IsTold telling a y.task rs → Agrees (then_at committing' orders' devices') w → TurnedTo turn s.shared w.shared → DeskTurnedTo turn s.shared w.shared →
       WorldFollowsBy turn telling a s (record now { words = words'; committing = committing'; orders = orders'; devices = devices' }) x'
   follows_by turn telling committing' orders' devices' rs w run is told agrees turned desk = record {
     records = rs;

@@ -14,8 +14,8 @@ use Rattle.wb_tasks.specs.declared.step.Migration.{Migration}
 use Rattle.wb_tasks.specs.declared.step.Migration.TheVariants.{Promote, Demote, Clean}
 use Rattle.wb_tasks.specs.declared.step.Want.{Want}
 use Rattle.wb_devices.specs.declared.devices.Devices.{Devices}
-use Rattle.wb_link.specs.Tables.{Script, Got, Order as AbstractOrder, Want as AbstractWant, End, after, want}
-use Rattle.wb_link.specs.World.{World, Shared, actor_after, task_after, is_alone, job_alone, Actor as AbstractActor}
+use Rattle.wb_link.specs.Tables.{Script, Got, Order as AbstractOrder, Want as AbstractWant, End, abstract_after, abstract_want}
+use Rattle.wb_link.specs.World.{World, Shared, actor_after, task_after, is_alone, job_alone, AbstractActor}
 use Rattle.wb_refines.specs.Going.{shared_after, gone, MayGo, IsQuiet, AreQuiet}
 use Rattle.wb_refines.specs.Migrations.{order_on, job_under}
 use Rattle.wb_refines.specs.Models.{WordsAgree, SameImages, IsBelow}
@@ -46,9 +46,9 @@ HasTask (Some script) = Unit {0}
 going : (results : List Got) (y : AbstractActor) (task : Option Script) → HasTask (gone y task results).task → IsMigratingOf task → AreCarried task results
 going results y None h m = tt
 going [] y (Some script) h m = tt
-going (got ∷ gots) y (Some script) h m = let r = by (want script) h (λ u i. going gots u (Some (after script got)) i (subst IsMigrating (sym (job_on script got)) m)) in (m, r.0, r.1)
+going (got ∷ gots) y (Some script) h m = let r = by (abstract_want script) h (λ u i. going gots u (Some (abstract_after script got)) i (subst IsMigrating (sym (job_on script got)) m)) in (m, r.0, r.1)
   where
-    by : (next : AbstractWant) → HasTask (gone (actor_after y script next got) (task_after script next got) gots).task → ((u : AbstractActor) → HasTask (gone u (Some (after script got)) gots).task → AreCarried (Some (after script got)) gots) → IsNoEnd next × AreCarried (task_after script next got) gots
+    by : (next : AbstractWant) → HasTask (gone (actor_after y script next got) (task_after script next got) gots).task → ((u : AbstractActor) → HasTask (gone u (Some (abstract_after script got)) gots).task → AreCarried (Some (abstract_after script got)) gots) → IsNoEnd next × AreCarried (task_after script next got) gots
     by (End answer) h rest = absurd h
     by next h rest = (tt, rest (actor_after y script next got) h)
 
@@ -56,9 +56,9 @@ going (got ∷ gots) y (Some script) h m = let r = by (want script) h (λ u i. g
 pub quiet_are_carried : (results : List Got) (task : Option Script) → IsMigratingOf task → AreQuiet task results → AreCarried task results
 quiet_are_carried results None m q = tt
 quiet_are_carried [] (Some script) m q = tt
-quiet_are_carried (got ∷ gots) (Some script) m q = let r = by (want script) q.0 q.1 (λ p. quiet_are_carried gots (Some (after script got)) (subst IsMigrating (sym (job_on script got)) m) p) in (m, r.0, r.1)
+quiet_are_carried (got ∷ gots) (Some script) m q = let r = by (abstract_want script) q.0 q.1 (λ p. quiet_are_carried gots (Some (abstract_after script got)) (subst IsMigrating (sym (job_on script got)) m) p) in (m, r.0, r.1)
   where
-    by : (next : AbstractWant) → IsQuiet next → AreQuiet (task_after script next got) gots → (AreQuiet (Some (after script got)) gots → AreCarried (Some (after script got)) gots) → IsNoEnd next × AreCarried (task_after script next got) gots
+    by : (next : AbstractWant) → IsQuiet next → AreQuiet (task_after script next got) gots → (AreQuiet (Some (abstract_after script got)) gots → AreCarried (Some (abstract_after script got)) gots) → IsNoEnd next × AreCarried (task_after script next got) gots
     by (End answer) i q later = absurd i
     by next i q later = (tt, later q)
 

@@ -16,7 +16,7 @@ use Rattle.wb_tasks.specs.declared.step.Want.{Want}
 use Rattle.wb_tasks.specs.declared.step.Want.TheVariants.{Cell}
 use Rattle.wb_types.specs.declared.refusal.Refusal.TheVariants.{Failed}
 use Rattle.wb_link.specs.Tables.{Script, Got, Job as AbstractJob}
-use Rattle.wb_link.specs.World.{Shared, Actor, is_alone}
+use Rattle.wb_link.specs.World.{Shared, AbstractActor, is_alone}
 use Rattle.wb_refines.specs.Going.{shared_after, gone, MayGo, AreQuiet}
 use Rattle.wb_refines.specs.Models.{plan_of, WordsAgree, SameElse, HasStopped, IsBelow, TellsPlace}
 use Rattle.wb_refines.specs.Roles.{Role, IsAs, Plays, TakesBeside}
@@ -30,15 +30,15 @@ use Rattle.wb_simulation.specs.Actors.{IsLate}
 use Rattle.wb_simulation.specs.Worlds.{IsUnfinished}
 
 -- refused, and what it has it keeps; its job there is of this kind
-abbrev pub StoppedAs : (AbstractJob → Type 0) → Bool → Plan → Card → Actor → Type 0
+abbrev pub StoppedAs : (AbstractJob → Type 0) → Bool → Plan → Card → AbstractActor → Type 0
 StoppedAs Is failed plan card y = (k : HasStopped failed plan card y) × Is k.script.job
 
 -- who leads a commit has led it before, and if it has still something to do it had so
-abbrev pub Leading : Actor → Actor → Type 0
+abbrev pub Leading : AbstractActor → AbstractActor → Type 0
 Leading y y' = y'.leads ≡ true → (y.leads ≡ true) × (IsUnfinished y'.task → IsUnfinished y.task)
 
 -- These results of an abstract actor lead to these words, and leave it at this.
-pub record Acted (At : Actor → Type 0) (Is : AbstractJob → Type 0) (actors : List Actor) (a : ℕ) (s : Shared) (y : Actor) (words : Words) (plan : Plan) (card : Card) : Type 0 where
+pub record Acted (At : AbstractActor → Type 0) (Is : AbstractJob → Type 0) (actors : List AbstractActor) (a : ℕ) (s : Shared) (y : AbstractActor) (words : Words) (plan : Plan) (card : Card) : Type 0 where
   pub results : List Got
   pub may : MayGo actors a s y y.task results
   pub quiet : AreQuiet y.task results
@@ -53,11 +53,11 @@ pub record Acted (At : Actor → Type 0) (Is : AbstractJob → Type 0) (actors :
   pub among_others : is_alone (gone y y.task results).task ≡ false
 
 -- nothing was done there
-pub shared_stays : (s : Shared) (y : Actor) (task : Option Script) → shared_after s y task [] ≡ s
+pub shared_stays : (s : Shared) (y : AbstractActor) (task : Option Script) → shared_after s y task [] ≡ s
 shared_stays s y None = refl
 shared_stays s y (Some script) = refl
 
-pub gone_nowhere : (y : Actor) (task : Option Script) → gone y task [] ≡ y
+pub gone_nowhere : (y : AbstractActor) (task : Option Script) → gone y task [] ≡ y
 gone_nowhere y None = refl
 gone_nowhere y (Some script) = refl
 
@@ -70,8 +70,8 @@ pub tells : (size block : ℕ) (step : CellStep) (ws : List Want) → AreOfBlock
 tells size block (Seal b place dirty) ws o = o
 tells size block step ws o = (tt, o)
 
-module _ (job : BlockJob) (Is : AbstractJob → Type 0) (words : Words) (actors : List Actor) (a : ℕ) (card : Card) (s : Shared) (y : Actor) (answer : Answer) (w : WordsAgree words s) where
-  abbrev Goal : (Actor → Type 0) → CellStep → List Want → Type 0
+module _ (job : BlockJob) (Is : AbstractJob → Type 0) (words : Words) (actors : List AbstractActor) (a : ℕ) (card : Card) (s : Shared) (y : AbstractActor) (answer : Answer) (w : WordsAgree words s) where
+  abbrev Goal : (AbstractActor → Type 0) → CellStep → List Want → Type 0
   Goal At step ws = Acted At Is actors a s y (words_after words step) (after (plan_of job (Cell step ∷ ws) answer) (got_of (result_of words step))) (card_after words step card)
 
   -- it is at the same there
@@ -81,7 +81,7 @@ module _ (job : BlockJob) (Is : AbstractJob → Type 0) (words : Words) (actors 
       let f = cell_steps_followed role job plays blocks words cards actors a card s y step ws answer rule here below w t suits is in
       let z = gone y y.task f.results in
       let plan' = after (plan_of job (Cell step ∷ ws) answer) (got_of (result_of words step)) in
-      let leads : z.leads ≡ false = elim f.at [ inl i ↦ ap (λ (v : Actor). v.leads) i.is | inr k ↦ k.0.leads ] in
+      let leads : z.leads ≡ false = elim f.at [ inl i ↦ ap (λ (v : AbstractActor). v.leads) i.is | inr k ↦ k.0.leads ] in
       record {
         results = f.results;
         may = f.may;
@@ -91,14 +91,14 @@ module _ (job : BlockJob) (Is : AbstractJob → Type 0) (words : Words) (actors 
         failed = flag (words_after words step).fail;
         has_failed = λ e. e;
         at = elim f.at [ inl i ↦ inl i | inr k ↦ inr (inl (k.0, subst Is (sym k.1) its)) ];
-        below = elim f.at [ inl i ↦ held_below plan'.steps (card_after words step card) z (ap (λ (v : Actor). v.held) i.is) | inr k ↦ k.0.below ];
-        order = f.order ∙ sym (ap (λ (v : Actor). v.order) is.is);
+        below = elim f.at [ inl i ↦ held_below plan'.steps (card_after words step card) z (ap (λ (v : AbstractActor). v.held) i.is) | inr k ↦ k.0.below ];
+        order = f.order ∙ sym (ap (λ (v : AbstractActor). v.order) is.is);
         leads = λ l. let bad : true ≡ false = sym l ∙ leads in absurd (cc);
-        among_others = elim f.at [ inl i ↦ ap (λ (v : Actor). is_alone v.task) i.is ∙ plays.among_others | inr k ↦ ap is_alone k.0.task ∙ k.0.among_others ];
+        among_others = elim f.at [ inl i ↦ ap (λ (v : AbstractActor). is_alone v.task) i.is ∙ plays.among_others | inr k ↦ ap is_alone k.0.task ∙ k.0.among_others ];
       }
 
   -- nothing is done there
-  nothing : {At : Actor → Type 0} (words' : Words) (plan' : Plan) (card' : Card) → WordsAgree words' s → (failed : Bool) → (failed ≡ true → flag words'.fail ≡ true) → StoppedAs Is failed plan' card' y ⊎ IsLate failed plan' y → IsBelow y card' → is_alone y.task ≡ false → Acted At Is actors a s y words' plan' card'
+  nothing : {At : AbstractActor → Type 0} (words' : Words) (plan' : Plan) (card' : Card) → WordsAgree words' s → (failed : Bool) → (failed ≡ true → flag words'.fail ≡ true) → StoppedAs Is failed plan' card' y ⊎ IsLate failed plan' y → IsBelow y card' → is_alone y.task ≡ false → Acted At Is actors a s y words' plan' card'
   nothing {At} words' plan' card' w' failed has r below alone = record {
     results = [];
     may = tt;
@@ -107,17 +107,17 @@ module _ (job : BlockJob) (Is : AbstractJob → Type 0) (words : Words) (actors 
     same = subst (λ (t : Shared). SameElse s t) (sym (shared_stays s y y.task)) (same_else s);
     failed = failed;
     has_failed = has;
-    at = inr (subst (λ (z : Actor). StoppedAs Is failed plan' card' z ⊎ IsLate failed plan' z) (sym (gone_nowhere y y.task)) r);
-    below = subst (λ (z : Actor). IsBelow z card') (sym (gone_nowhere y y.task)) below;
-    order = ap (λ (z : Actor). z.order) (gone_nowhere y y.task);
+    at = inr (subst (λ (z : AbstractActor). StoppedAs Is failed plan' card' z ⊎ IsLate failed plan' z) (sym (gone_nowhere y y.task)) r);
+    below = subst (λ (z : AbstractActor). IsBelow z card') (sym (gone_nowhere y y.task)) below;
+    order = ap (λ (z : AbstractActor). z.order) (gone_nowhere y y.task);
     leads = subst (Leading y) (sym (gone_nowhere y y.task)) (λ l. (l, λ more. more));
-    among_others = ap (λ (z : Actor). is_alone z.task) (gone_nowhere y y.task) ∙ alone;
+    among_others = ap (λ (z : AbstractActor). is_alone z.task) (gone_nowhere y y.task) ∙ alone;
   }
 
   -- what it is at may rest on this, that the target has failed
   module _ (failed : Bool) (has : failed ≡ true → flag words.fail ≡ true) where
     -- it has nothing left but to give back the block, which is not taken there
-    stopped : {At : Actor → Type 0} (step : CellStep) (ws : List Want) → is_alone y.task ≡ false → StoppedAs Is failed (plan_of job (Cell step ∷ ws) answer) card y → Goal At step ws
+    stopped : {At : AbstractActor → Type 0} (step : CellStep) (ws : List Want) → is_alone y.task ≡ false → StoppedAs Is failed (plan_of job (Cell step ∷ ws) answer) card y → Goal At step ws
     stopped (Release access b) [] alone k =
         let below = holds_nothing y (card_after words (Release access b) card) k.0.free in
         nothing (words_after words (Release access b)) (plan_of job [] answer) (card_after words (Release access b) card) (record { fail = w.fail; seals = w.seals }) failed has
@@ -125,7 +125,7 @@ module _ (job : BlockJob) (Is : AbstractJob → Type 0) (words : Words) (actors 
     stopped step ws alone k = absurd k.0.over
 
     -- it has no task there, and finds that the target has failed
-    late : {At : Actor → Type 0} (step : CellStep) (ws : List Want) → is_alone y.task ≡ false → IsBelow y card → IsLate failed (plan_of job (Cell step ∷ ws) answer) y → Goal At step ws
+    late : {At : AbstractActor → Type 0} (step : CellStep) (ws : List Want) → is_alone y.task ≡ false → IsBelow y card → IsLate failed (plan_of job (Cell step ∷ ws) answer) y → Goal At step ws
     late {At} step ws alone below l = elim l.at [
       | inl e ↦ let steps : Cell step ∷ ws ≡ Cell (Look Fail) ∷ Cell (Look (LockWord (range_of job).block)) ∷ [] = ap (λ (p : Plan). p.steps) e in
           let same : step ≡ Look Fail = cc in subst (λ (v : CellStep). Goal At v ws) (sym same)
@@ -135,6 +135,6 @@ module _ (job : BlockJob) (Is : AbstractJob → Type 0) (words : Words) (actors 
     ]
 
     -- so where it is at nothing there, or has only to answer
-    pub acts_over : {At : Actor → Type 0} (step : CellStep) (ws : List Want) → IsBelow y card → is_alone y.task ≡ false → StoppedAs Is failed (plan_of job (Cell step ∷ ws) answer) card y ⊎ IsLate failed (plan_of job (Cell step ∷ ws) answer) y → Goal At step ws
+    pub acts_over : {At : AbstractActor → Type 0} (step : CellStep) (ws : List Want) → IsBelow y card → is_alone y.task ≡ false → StoppedAs Is failed (plan_of job (Cell step ∷ ws) answer) card y ⊎ IsLate failed (plan_of job (Cell step ∷ ws) answer) y → Goal At step ws
     acts_over step ws below alone (inl k) = stopped step ws alone k
     acts_over step ws below alone (inr l) = late step ws alone below l

@@ -24,7 +24,7 @@ use Rattle.wb_tasks.specs.declared.step.Want.TheVariants.{Cell, Device, Desk}
 use Rattle.wb_devices.specs.declared.devices.Devices.{Devices}
 use Rattle.wb_devices.specs.Moving.{device_in}
 use Rattle.wb_link.specs.Tables.{Order as AbstractOrder, Job as AbstractJob, Script, Want as AbstractWant, Got as AbstractGot, Done as DoneThere, Answer as AbstractAnswer, Io as AnsweredIo, breaking}
-use Rattle.wb_link.specs.World.{World, Shared, Held as Having, Owns, Actor as AbstractActor, newest_at, contents_for}
+use Rattle.wb_link.specs.World.{World, Shared, Held as Having, Owns, AbstractActor, newest_at, abstract_contents_for}
 use Rattle.wb_refines.specs.Going.{shared_after, gone, MayGo}
 use Rattle.wb_contents.specs.Devices.{by_block}
 use Rattle.wb_refines.specs.Translation.{location_at, offsets, offsets_in}
@@ -78,7 +78,7 @@ blocks_are Demote Metadata e = elim e [ inl f ↦ absurd (cc) | inr f ↦ absurd
 blocks_are Clean Metadata e = elim e [ inl f ↦ absurd (cc) | inr f ↦ absurd (cc) ]
 blocks_are migration device e = tt
 
-writes_read : (order : AbstractOrder) (os : List (List ℕ)) (migration : Migration) (buffer : ℕ → Content) → contents_for (job_under order os migration) buffer ≡ buffer
+writes_read : (order : AbstractOrder) (os : List (List ℕ)) (migration : Migration) (buffer : ℕ → Content) → abstract_contents_for (job_under order os migration) buffer ≡ buffer
 writes_read order os (Promote c) buffer = refl
 writes_read order os migration buffer = refl
 
@@ -231,7 +231,7 @@ module _ (now : Situation) (blocks : ℕ) (a : ℕ) (x : Actor) (s : World) (y :
     side_written = side_of now a x s y ex ey g device e writes_at
 
     -- what is written is what was read
-    written_is : map (contents_for (job_under (order_on part f.c f.next) (offsets now.size part.extents) migration) y.buffer) (offsets_in now.size e) ≡ x.buffer
+    written_is : map (abstract_contents_for (job_under (order_on part f.c f.next) (offsets now.size part.extents) migration) y.buffer) (offsets_in now.size e) ≡ x.buffer
     written_is = ap (λ (there : ℕ → Content). map there (offsets_in now.size e)) (writes_read (order_on part f.c f.next) (offsets now.size part.extents) migration y.buffer) ∙ sym f.read
 
     pub writes : Carried Stays a s (record now { devices = with_device device now.devices (written_each list e.first x.buffer) }) (record x { task = Some (Migrate migration block, plan_of (Migrating migration part) ws answer) })

@@ -5,7 +5,7 @@ use Rattle.std.proofs.lemmas.List.{get_or-set_same, get_or-set_other, length-set
 use Rattle.std.proofs.lemmas.Option.{unwrap_or-slice_get}
 use Rattle.wb_contents.specs.Volume.{changed_at}
 use Rattle.wb_contents.proofs.Sectors.{Elsewhere, here_is, elsewhere_is}
-use Rattle.wb_link.specs.Clerk.{Entry, raised as raised_there}
+use Rattle.wb_link.specs.Clerk.{Entry, abstract_raised as raised_there}
 use Rattle.wb_promise.specs.Clerk.{Position, raised, all_raised, greater_of}
 use Rattle.wb_simulation.specs.Noting.{counts_by_block, AreEntries}
 use Rattle.wb_contents.proofs.Devices.{apart}

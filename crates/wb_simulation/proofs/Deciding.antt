@@ -17,7 +17,7 @@ use Rattle.wb_tasks.specs.declared.step.Want.{Want}
 use Rattle.wb_tasks.specs.declared.step.Want.TheVariants.{Cell, Desk}
 use Rattle.wb_stage.specs.Asking.{is_of}
 use Rattle.wb_link.specs.Tables.{Order as AbstractOrder, Got, Done as DoneThere, Short, Map_to, Unmap_from, Give_up, Promoting, Returning, Failed as AnsweredFailed}
-use Rattle.wb_link.specs.World.{World, Shared, Nothing, effect, Actor as AbstractActor, following}
+use Rattle.wb_link.specs.World.{World, Shared, Nothing, effect, AbstractActor, following}
 use Rattle.wb_contents.proofs.Lists.{set_there, set_other}
 use Rattle.wb_refines.specs.Translation.{offsets}
 use Rattle.wb_refines.specs.Models.{WordsAgree, plan_of, held_of, SawSeal, held_for}

@@ -12,7 +12,7 @@ use Rattle.wb_tasks.specs.declared.step.Answer.{Answer}
 use Rattle.wb_tasks.specs.declared.step.Want.{Want}
 use Rattle.wb_tasks.specs.declared.step.Want.TheVariants.{End}
 use Rattle.wb_link.specs.Tables.{Script, Done as DoneThere}
-use Rattle.wb_link.specs.World.{World, Nothing, Record, Actor as AbstractActor}
+use Rattle.wb_link.specs.World.{World, Nothing, Record, AbstractActor}
 use Rattle.wb_refines.specs.Going.{records, shared_after, gone, MayGo}
 use Rattle.wb_refines.specs.Translation.{job_for}
 use Rattle.wb_refines.specs.Models.{IsAt, HasStopped, IsFree, held_of}

@@ -18,7 +18,7 @@ use Rattle.wb_tasks.specs.declared.step.Want.TheVariants.{Cell, Device, Desk, En
 use Rattle.wb_tasks.specs.declared.step.Got.TheVariants.{Done, Fault, Began, Refused}
 use Rattle.wb_devices.specs.Moving.{device_in}
 use Rattle.wb_link.specs.Tables.{Flushing as FlushingFor}
-use Rattle.wb_link.specs.World.{World, Nothing, Actor as AbstractActor}
+use Rattle.wb_link.specs.World.{World, Nothing, AbstractActor}
 use Rattle.wb_refines.specs.Flushes.{IsFlushing, IsWrittenAfter, flushing}
 use Rattle.wb_promise.specs.declared.job.Job.TheVariants.{Flush}
 use Rattle.wb_promise.specs.States.{Actor, with_device}

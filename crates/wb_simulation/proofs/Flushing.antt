@@ -28,7 +28,7 @@ use Rattle.wb_devices.specs.declared.devices.Devices.{Devices}
 use Rattle.wb_devices.specs.Moving.{device_in}
 use Rattle.wb_tasks.specs.Ready.{HoldsBlocks}
 use Rattle.wb_link.specs.Tables.{Begin, End_running, Done as DoneThere, Flushing as FlushingFor}
-use Rattle.wb_link.specs.World.{World, Shared, Actor as AbstractActor, effect}
+use Rattle.wb_link.specs.World.{World, Shared, AbstractActor, effect}
 use Rattle.wb_refines.specs.Going.{gone, AreQuiet, shared_after}
 use Rattle.wb_refines.specs.Translation.{wants_of}
 use Rattle.wb_refines.specs.Models.{WordsAgree}

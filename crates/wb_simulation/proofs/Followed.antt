@@ -17,7 +17,7 @@ use Rattle.wb_tasks.specs.declared.step.Answer.{Answer}
 use Rattle.wb_tasks.specs.declared.step.Want.TheVariants.{Cell, End}
 use Rattle.wb_tasks.proofs.Readiness.{job_stays}
 use Rattle.wb_link.specs.Tables.{Job as AbstractJob}
-use Rattle.wb_link.specs.World.{World, Actor as AbstractActor}
+use Rattle.wb_link.specs.World.{World, AbstractActor}
 use Rattle.wb_refines.specs.Going.{records, shared_after, gone}
 use Rattle.wb_refines.specs.Models.{IsRequest, IsAt, HasStopped, OnlyParts, TellsPlace, plan_of}
 use Rattle.wb_refines.specs.Roles.{Role, IsAs, request_role}

@@ -14,7 +14,7 @@ use Rattle.wb_tasks.specs.declared.step.Want.{Want}
 use Rattle.wb_tasks.specs.declared.step.Want.TheVariants.{Device, Desk}
 use Rattle.wb_devices.specs.declared.devices.Devices.{Devices}
 use Rattle.wb_link.specs.Tables.{Flushing as FlushingFor}
-use Rattle.wb_link.specs.World.{World, Shared, Actor as AbstractActor, is_alone, job_alone}
+use Rattle.wb_link.specs.World.{World, Shared, AbstractActor, is_alone, job_alone}
 use Rattle.wb_refines.specs.Going.{gone}
 use Rattle.wb_refines.specs.Translation.{job_for, wants_of}
 use Rattle.wb_refines.specs.Models.{WordsAgree}

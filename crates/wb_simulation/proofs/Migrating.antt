@@ -20,7 +20,7 @@ use Rattle.wb_tasks.specs.declared.step.Answer.{Answer}
 use Rattle.wb_tasks.specs.declared.step.Migration.{Migration}
 use Rattle.wb_tasks.specs.declared.step.Want.{Want}
 use Rattle.wb_tasks.specs.declared.step.Want.TheVariants.{Cell}
-use Rattle.wb_link.specs.World.{World, Actor as AbstractActor}
+use Rattle.wb_link.specs.World.{World, AbstractActor}
 use Rattle.wb_refines.specs.Models.{plan_of}
 use Rattle.wb_refines.specs.Migrations.{order_on, IsWhere}
 use Rattle.wb_refines.specs.Roles.{Role, IsAs}

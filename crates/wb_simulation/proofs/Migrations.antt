@@ -21,7 +21,7 @@ use Rattle.wb_tasks.specs.declared.step.Migration.TheVariants.{Promote, Demote}
 use Rattle.wb_tasks.specs.declared.step.Want.{Want}
 use Rattle.wb_tasks.specs.declared.step.Want.TheVariants.{Device, Desk, End}
 use Rattle.wb_devices.specs.Moving.{device_in}
-use Rattle.wb_link.specs.World.{World, Actor as AbstractActor}
+use Rattle.wb_link.specs.World.{World, AbstractActor}
 use Rattle.wb_refines.specs.Models.{plan_of, held_of}
 use Rattle.wb_refines.specs.Migrations.{Fills, order_on}
 use Rattle.wb_promise.specs.declared.job.Job.TheVariants.{Migrate}

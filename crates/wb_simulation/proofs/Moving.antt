@@ -22,7 +22,7 @@ use Rattle.wb_tasks.specs.declared.step.Got.TheVariants.{Done, Fault}
 use Rattle.wb_devices.specs.declared.devices.Devices.{Devices}
 use Rattle.wb_devices.specs.Moving.{device_in}
 use Rattle.wb_link.specs.Tables.{Seal, Script, Read_all, Gave, Got as AbstractGot, Done as DoneThere}
-use Rattle.wb_link.specs.World.{World, Shared, Actor as AbstractActor, newest_at, is_alone}
+use Rattle.wb_link.specs.World.{World, Shared, AbstractActor, newest_at, is_alone}
 use Rattle.wb_refines.specs.Going.{records, shared_after}
 use Rattle.wb_refines.specs.Translation.{location_at, wants_of, job_for, script_for, answer_for, offsets, offsets_in}
 use Rattle.wb_refines.specs.Data.{IsSide, SameBeside, Moves, read_fault, write_fault}

@@ -9,10 +9,10 @@ use Rattle.wb_disk.specs.Device.{Content, History, only}
 use Rattle.wb_contents.specs.Volume.{changed}
 use Rattle.wb_contents.specs.Devices.{by_block}
 use Rattle.wb_contents.proofs.Positions.{changed_same, changed_other}
-use Rattle.wb_link.specs.Tables.{Script, Job as AbstractJob, Reading, Writing, Writing_through, Promoting, Returning, Flushing, Suspending, Want, Write_all, End, Got, Gave, Done, Answer as AbstractAnswer, Finished as AnsweredDone, want, after, table, Flag, Order as AbstractOrder}
-use Rattle.wb_link.specs.World.{Release, release_order, World, Shared, Record, Start, Again, Actor as AbstractActor, resting, after_all, after_record, actor_after, task_after, start_actor, again_actor, reserved, given, aside, taken, order_of}
-use Rattle.wb_link.specs.Clerk.{Notes as AbstractNotes, Entry, histories_after, entered_after, finished_after, floors_after, job_noted, note, noted_step, opened, raised as raised_there}
-use Rattle.wb_link.specs.Openings.{On, AllRight}
+use Rattle.wb_link.specs.Tables.{Script, Job as AbstractJob, Reading, Writing, Writing_through, Promoting, Returning, Flushing, Suspending, Want, Write_all, End, Got, Gave, Done, Answer as AbstractAnswer, Finished as AnsweredDone, abstract_want, abstract_after, abstract_table, Flag, Order as AbstractOrder}
+use Rattle.wb_link.specs.World.{Release, release_order, World, Shared, Record, Start, Again, AbstractActor, abstract_resting, abstract_after_all, after_record, actor_after, task_after, start_actor, again_actor, abstract_reserved, abstract_given, aside, abstract_taken, abstract_order_of}
+use Rattle.wb_link.specs.Clerk.{AbstractNotes, Entry, histories_after, entered_after, finished_after, abstract_floors_after, job_noted, abstract_note, abstract_noted_step as noted_step, abstract_opened, abstract_raised as raised_there}
+use Rattle.wb_link.specs.Openings.{On, AllEventsRight}
 use Rattle.wb_contents.proofs.Lists.{set_there, set_other, replicated, set_twice, set_same}
 use Rattle.wb_link.proofs.Steps.{in_set}
 use Rattle.wb_refines.specs.Going.{records, shared_after, gone}
@@ -33,7 +33,7 @@ use Rattle.wb_simulation.proofs.Told.{IsJob, untold, reads_newest, Wrote, writes
 abbrev AreGoing : Option Script → List Got → Type 0
 AreGoing None gots = Unit {0}
 AreGoing (Some script) [] = Unit {0}
-AreGoing (Some script) (got ∷ gots) = IsNoEnd (want script) × AreGoing (task_after script (want script) got) gots
+AreGoing (Some script) (got ∷ gots) = IsNoEnd (abstract_want script) × AreGoing (task_after script (abstract_want script) got) gots
 
 unnoted_goes : (next : Want) → Rattle.wb_simulation.specs.Telling.IsUnnoted next → IsNoEnd next
 unnoted_goes (Write_all location b os) u = absurd u
@@ -43,9 +43,9 @@ unnoted_goes next u = tt
 unnoted_going : (task : Option Script) (gots : List Got) → AreUnnoted task gots → AreGoing task gots
 unnoted_going None gots u = tt
 unnoted_going (Some script) [] u = tt
-unnoted_going (Some script) (got ∷ gots) u = (unnoted_goes (want script) u.0, unnoted_going (task_after script (want script) got) gots u.1)
+unnoted_going (Some script) (got ∷ gots) u = (unnoted_goes (abstract_want script) u.0, unnoted_going (task_after script (abstract_want script) got) gots u.1)
 
-task_goes : (script : Script) (next : Want) (got : Got) → IsNoEnd next → task_after script next got ≡ Some (after script got)
+task_goes : (script : Script) (next : Want) (got : Got) → IsNoEnd next → task_after script next got ≡ Some (abstract_after script got)
 task_goes script (End answer) got u = absurd u
 task_goes script next got u = refl
 
@@ -59,9 +59,9 @@ gone_job [] y None e u = e
 gone_job [] y (Some script) e u = (script, e, refl)
 gone_job (got ∷ gots) y None e u = e
 gone_job (got ∷ gots) y (Some script) e u =
-    let y' = actor_after y script (want script) got in
-    let then_task = (gone y' (task_after script (want script) got) gots).task in
-    let later = subst (λ (t : Option Script). SameJob t then_task) (task_goes script (want script) got u.0) (gone_job gots y' (task_after script (want script) got) refl u.1) in
+    let y' = actor_after y script (abstract_want script) got in
+    let then_task = (gone y' (task_after script (abstract_want script) got) gots).task in
+    let later = subst (λ (t : Option Script). SameJob t then_task) (task_goes script (abstract_want script) got u.0) (gone_job gots y' (task_after script (abstract_want script) got) refl u.1) in
     (later.0, later.1, later.2 ∙ job_on script got)
 
 noted_job : (size sectors : ℕ) (task then_task : Option Script) (o : Option (Option Doing)) (a : ℕ) (m : AbstractNotes) → SameJob task then_task → IsNotedSo size sectors task o a m → IsNotedSo size sectors then_task o a m
@@ -109,7 +109,7 @@ refused_note m a job answer undone = λ i. record {
     finished_end (Writing_through b os c) AnsweredDone es f undone = absurd (undone refl)
     finished_end job answer es f undone = refl
 
-    floors_end : (job : AbstractJob) (answer : AbstractAnswer) (asked floors : ℕ → ℕ → ℕ) → answer ≢ AnsweredDone → (b o : ℕ) → floors_after job (End answer) asked floors b o ≡ floors b o
+    floors_end : (job : AbstractJob) (answer : AbstractAnswer) (asked floors : ℕ → ℕ → ℕ) → answer ≢ AnsweredDone → (b o : ℕ) → abstract_floors_after job (End answer) asked floors b o ≡ floors b o
     floors_end (Flushing order) AnsweredDone asked floors undone b o = absurd (undone refl)
     floors_end Suspending AnsweredDone asked floors undone b o = absurd (undone refl)
     floors_end job answer asked floors undone b o = refl
@@ -141,7 +141,7 @@ module _ (size a : ℕ) (s : World) (y : AbstractActor) (n : Notes) (m : Abstrac
 
   -- by these steps
   abbrev After : List Got → Notes → Type 0
-  After gots n' = NotesAgree size n' (after_all s (records a y.task gots)) (told m (records a y.task gots))
+  After gots n' = NotesAgree size n' (abstract_after_all s (records a y.task gots)) (told m (records a y.task gots))
 
   to_world : (gots : List Got) (n' : Notes) → NotesAgree size n' (with_own s a (shared_after s.shared y y.task gots) (gone y y.task gots)) (told m (records a y.task gots)) → After gots n'
   to_world gots n' k = subst (λ (v : World). NotesAgree size n' v (told m (records a y.task gots))) (sym (own_steps gots s a y y.task ey refl)) k
@@ -250,17 +250,17 @@ module _ (size a : ℕ) (s : World) (y : AbstractActor) (n : Notes) (m : Abstrac
   -- ---- starts
 
   -- its job is given to it, under whatever order
-  began_after : (waiting : ℕ → Option AbstractOrder) (t : Shared) (abstract_job : AbstractJob) (job : Job) (was : Option Doing) → slice_get n.doings a ≡ Some was → NotesAgree size (put n a (Some (begun n job))) (record { shared = t; actors = slice_set s.actors a (given y abstract_job); waiting = waiting }) (note m (Start a abstract_job))
-  began_after waiting t abstract_job job was here = agree_after waiting (put n a (Some (begun n job))) (note m (Start a abstract_job)) t (given y abstract_job) g.histories g.finished g.floors refl refl refl (put_others (Some (begun n job))) (length-set n.doings a (Some (begun n job)))
+  began_after : (waiting : ℕ → Option AbstractOrder) (t : Shared) (abstract_job : AbstractJob) (job : Job) (was : Option Doing) → slice_get n.doings a ≡ Some was → NotesAgree size (put n a (Some (begun n job))) (record { shared = t; actors = slice_set s.actors a (abstract_given y abstract_job); waiting = waiting }) (abstract_note m (Start a abstract_job))
+  began_after waiting t abstract_job job was here = agree_after waiting (put n a (Some (begun n job))) (abstract_note m (Start a abstract_job)) t (abstract_given y abstract_job) g.histories g.finished g.floors refl refl refl (put_others (Some (begun n job))) (length-set n.doings a (Some (begun n job)))
       (λ b ne. changed_other m.jobs a b (Some abstract_job) ne) (λ b ne. changed_other m.entered a b [] ne) (λ b ne. changed_other m.asked a b m.finished ne)
-      (subst (λ (o : Option (Option Doing)). IsNotedSo size (length n.histories) (Some (table abstract_job)) o a (note m (Start a abstract_job))) (sym (set_here (Some (begun n job)) was here)) (record {
+      (subst (λ (o : Option (Option Doing)). IsNotedSo size (length n.histories) (Some (abstract_table abstract_job)) o a (abstract_note m (Start a abstract_job))) (sym (set_here (Some (begun n job)) was here)) (record {
         job_is = changed_same m.jobs a (Some abstract_job);
         entered = subst (λ (es : List Entry). AreEntries size (length n.histories) [] es) (sym (changed_same m.entered a [])) (no_entries_alike size (length n.histories));
         asked = changed_same m.asked a m.finished ∙ g.finished;
       }))
 
-  start_after : (abstract_job : AbstractJob) (job : Job) (was : Option Doing) → slice_get n.doings a ≡ Some was → NotesAgree size (put n a (Some (begun n job))) (after_all s (Start a abstract_job ∷ [])) (told m (Start a abstract_job ∷ []))
-  start_after abstract_job job was here = subst (λ (v : World). NotesAgree size (put n a (Some (begun n job))) v (note m (Start a abstract_job))) (sym (ap (λ o. start_actor s a o abstract_job) ey)) (began_after (aside s.waiting y.order) (reserved s.shared abstract_job) abstract_job job was here)
+  start_after : (abstract_job : AbstractJob) (job : Job) (was : Option Doing) → slice_get n.doings a ≡ Some was → NotesAgree size (put n a (Some (begun n job))) (abstract_after_all s (Start a abstract_job ∷ [])) (told m (Start a abstract_job ∷ []))
+  start_after abstract_job job was here = subst (λ (v : World). NotesAgree size (put n a (Some (begun n job))) v (abstract_note m (Start a abstract_job))) (sym (ap (λ o. start_actor s a o abstract_job) ey)) (began_after (aside s.waiting y.order) (abstract_reserved s.shared abstract_job) abstract_job job was here)
 
   late_after : (gots : List Got) (job : Job) → y.task ≡ None → After gots (put n a (Some (begun n job)))
   late_after gots job e = absent gots (put n a (Some (begun n job))) e (without_task (Some (begun n job)) e)
@@ -294,7 +294,7 @@ migrating_note m a job next i = absurd i
 carried_goes : (task : Option Script) (gots : List Got) → AreCarried task gots → AreGoing task gots
 carried_goes None gots c = tt
 carried_goes (Some script) [] c = tt
-carried_goes (Some script) (got ∷ gots) c = (c.1, carried_goes (task_after script (want script) got) gots c.2)
+carried_goes (Some script) (got ∷ gots) c = (c.1, carried_goes (task_after script (abstract_want script) got) gots c.2)
 
 -- a step that is no answer is noted as nothing
 migrating_nothing : (m : AbstractNotes) (a : ℕ) (job : AbstractJob) (next : Want) → m.jobs a ≡ Some job → IsMigrating job → IsNoEnd next → noted_step m a (m.jobs a) next ≡ m
@@ -308,26 +308,26 @@ carried_untold : (gots : List Got) (task : Option Script) (m : AbstractNotes) (a
 carried_untold gots None m a j c = refl
 carried_untold [] (Some script) m a j c = refl
 carried_untold (got ∷ gots) (Some script) m a j c =
-    let is = task_goes script (want script) got c.1 in
-    let later : IsJob m a (task_after script (want script) got) = subst (λ (t : Option Script). IsJob m a t) (sym is) (j ∙ ap (λ (k : AbstractJob). Some k) (sym (job_on script got))) in
-    ap (λ (k : AbstractNotes). told k (records a (task_after script (want script) got) gots)) (migrating_nothing m a script.job (want script) j c.0 c.1) ∙ carried_untold gots (task_after script (want script) got) m a later c.2
+    let is = task_goes script (abstract_want script) got c.1 in
+    let later : IsJob m a (task_after script (abstract_want script) got) = subst (λ (t : Option Script). IsJob m a t) (sym is) (j ∙ ap (λ (k : AbstractJob). Some k) (sym (job_on script got))) in
+    ap (λ (k : AbstractNotes). told k (records a (task_after script (abstract_want script) got) gots)) (migrating_nothing m a script.job (abstract_want script) j c.0 c.1) ∙ carried_untold gots (task_after script (abstract_want script) got) m a later c.2
 
 module _ (size a : ℕ) (s : World) (y : AbstractActor) (n : Notes) (m : AbstractNotes) (ey : slice_get s.actors a ≡ Some y) (among : a < length n.doings) (g : NotesAgree size n s m) where
-  carried_after : (gots : List Got) → AreCarried y.task gots → NotesAgree size n (after_all s (records a y.task gots)) (told m (records a y.task gots))
+  carried_after : (gots : List Got) → AreCarried y.task gots → NotesAgree size n (abstract_after_all s (records a y.task gots)) (told m (records a y.task gots))
   carried_after gots u = untold_after size a s y n m ey among g gots (carried_untold gots y.task m a (job_here size a s y n m ey among g) u) (carried_goes y.task gots u)
 
   -- its answer
-  rests_after : (task : Option Script) → y.task ≡ task → Rested y.task → NotesAgree size (put n a None) (after_all s (records a y.task (Done ∷ []))) (told m (records a y.task (Done ∷ [])))
+  rests_after : (task : Option Script) → y.task ≡ task → Rested y.task → NotesAgree size (put n a None) (abstract_after_all s (records a y.task (Done ∷ []))) (told m (records a y.task (Done ∷ [])))
   rests_after None e r = absent size a s y n m ey among g (Done ∷ []) (put n a None) e (without_task size a s y n m ey among g None e)
   rests_after (Some script) e r = let k = subst (λ (t : Option Script). Rested t) e r in ends_alone size a s y n m ey among g script e k.0 (migrating_note m a script.job (End script.answer) k.1)
 
   -- it begins once more
-  again_after : (abstract_job : AbstractJob) (job : Job) (was : Option Doing) → slice_get n.doings a ≡ Some was → NotesAgree size (put n a (Some (begun n job))) (after_all s (Again a abstract_job ∷ [])) (told m (Again a abstract_job ∷ []))
-  again_after abstract_job job was here = subst (λ (v : World). NotesAgree size (put n a (Some (begun n job))) v (note m (Again a abstract_job))) (sym (ap (λ o. again_actor s a o abstract_job) ey))
-      (began_after size a s y n m ey among g (taken (aside s.waiting y.order) (order_of abstract_job)) s.shared abstract_job job was here)
+  again_after : (abstract_job : AbstractJob) (job : Job) (was : Option Doing) → slice_get n.doings a ≡ Some was → NotesAgree size (put n a (Some (begun n job))) (abstract_after_all s (Again a abstract_job ∷ [])) (told m (Again a abstract_job ∷ []))
+  again_after abstract_job job was here = subst (λ (v : World). NotesAgree size (put n a (Some (begun n job))) v (abstract_note m (Again a abstract_job))) (sym (ap (λ o. again_actor s a o abstract_job) ey))
+      (began_after size a s y n m ey among g (abstract_taken (aside s.waiting y.order) (abstract_order_of abstract_job)) s.shared abstract_job job was here)
 
 -- an order that is given up is no actor's
-release_after : (size : ℕ) (n : Notes) (s : World) (m : AbstractNotes) (k : ℕ) → NotesAgree size n s m → NotesAgree size n (after_all s (Release k ∷ [])) (told m (Release k ∷ []))
+release_after : (size : ℕ) (n : Notes) (s : World) (m : AbstractNotes) (k : ℕ) → NotesAgree size n s m → NotesAgree size n (abstract_after_all s (Release k ∷ [])) (told m (Release k ∷ []))
 release_after size n s m k g = by (s.waiting k)
   where
     by : (o : Option AbstractOrder) → NotesAgree size n (release_order s k o) m
@@ -343,7 +343,7 @@ module _ (size a : ℕ) (s : World) (y : AbstractActor) (n : Notes) (m : Abstrac
   s1 = after_record s (Start a abstract_job)
 
   abbrev y1 : AbstractActor
-  y1 = given y abstract_job
+  y1 = abstract_given y abstract_job
 
   ey1 : slice_get s1.actors a ≡ Some y1
   ey1 = subst (λ (w : World). slice_get w.actors a ≡ Some y1) (sym (ap (λ o. start_actor s a o abstract_job) ey)) (set_there s.actors a y y1 ey)
@@ -352,27 +352,27 @@ module _ (size a : ℕ) (s : World) (y : AbstractActor) (n : Notes) (m : Abstrac
   among1 = subst (λ (k : ℕ). a < k) (sym (length-set n.doings a (Some (begun n job)))) among
 
   abbrev s2 : World
-  s2 = after_all s1 (records a (Some (table abstract_job)) (Flag true ∷ []))
+  s2 = abstract_after_all s1 (records a (Some (abstract_table abstract_job)) (Flag true ∷ []))
 
   abbrev y2 : AbstractActor
-  y2 = gone y1 (Some (table abstract_job)) (Flag true ∷ [])
+  y2 = gone y1 (Some (abstract_table abstract_job)) (Flag true ∷ [])
 
   abbrev looked : Script
-  looked = after (table abstract_job) (Flag true)
+  looked = abstract_after (abstract_table abstract_job) (Flag true)
 
   ey2 : slice_get s2.actors a ≡ Some y2
-  ey2 = subst (λ (w : World). slice_get w.actors a ≡ Some y2) (sym (own_steps (Flag true ∷ []) s1 a y1 (Some (table abstract_job)) ey1 refl)) (set_there s1.actors a y1 y2 ey1)
+  ey2 = subst (λ (w : World). slice_get w.actors a ≡ Some y2) (sym (own_steps (Flag true ∷ []) s1 a y1 (Some (abstract_table abstract_job)) ey1 refl)) (set_there s1.actors a y1 y2 ey1)
 
-  g2 : NotesAgree size n1 s2 (told (note m (Start a abstract_job)) (records a (Some (table abstract_job)) (Flag true ∷ [])))
-  g2 = carried_after size a s1 y1 n1 (note m (Start a abstract_job)) ey1 among1 (start_after size a s y n m ey among g abstract_job job was here) (Flag true ∷ []) (migrates, tt, tt)
+  g2 : NotesAgree size n1 s2 (told (abstract_note m (Start a abstract_job)) (records a (Some (abstract_table abstract_job)) (Flag true ∷ [])))
+  g2 = carried_after size a s1 y1 n1 (abstract_note m (Start a abstract_job)) ey1 among1 (start_after size a s y n m ey among g abstract_job job was here) (Flag true ∷ []) (migrates, tt, tt)
 
-  stops : (j : AbstractJob) → IsMigrating j → ((after (table j) (Flag true)).steps ≡ []) × IsMigrating (after (table j) (Flag true)).job
+  stops : (j : AbstractJob) → IsMigrating j → ((abstract_after (abstract_table j) (Flag true)).steps ≡ []) × IsMigrating (abstract_after (abstract_table j) (Flag true)).job
   stops (Promoting order os) i = (refl, tt)
   stops (Returning leaves order os) i = (refl, tt)
   stops j i = absurd i
 
   abbrev s3 : World
-  s3 = after_all s2 (records a (Some looked) (Done ∷ []))
+  s3 = abstract_after_all s2 (records a (Some looked) (Done ∷ []))
 
   ends : (script : Script) → y2.task ≡ Some script → script.steps ≡ [] → (gone y2 (Some script) (Done ∷ [])).task ≡ None
   ends script e n' = ap (λ (w : Script). (gone y2 (Some w) (Done ∷ [])).task) (λ i. record { job = script.job; steps = n' i; answer = script.answer })
@@ -380,58 +380,58 @@ module _ (size a : ℕ) (s : World) (y : AbstractActor) (n : Notes) (m : Abstrac
   ey3 : slice_get s3.actors a ≡ Some (gone y2 (Some looked) (Done ∷ []))
   ey3 = subst (λ (w : World). slice_get w.actors a ≡ Some (gone y2 (Some looked) (Done ∷ []))) (sym (own_steps (Done ∷ []) s2 a y2 (Some looked) ey2 refl)) (set_there s2.actors a y2 (gone y2 (Some looked) (Done ∷ [])) ey2)
 
-  failing_after : NotesAgree size n1 (after_all s (Start a abstract_job ∷ records a (Some (table abstract_job)) (Flag true ∷ Done ∷ []))) (told m (Start a abstract_job ∷ records a (Some (table abstract_job)) (Flag true ∷ Done ∷ [])))
+  failing_after : NotesAgree size n1 (abstract_after_all s (Start a abstract_job ∷ records a (Some (abstract_table abstract_job)) (Flag true ∷ Done ∷ []))) (told m (Start a abstract_job ∷ records a (Some (abstract_table abstract_job)) (Flag true ∷ Done ∷ [])))
   failing_after =
       let k = stops abstract_job migrates in
-      let g3 = rests_after size a s2 y2 n1 (told (note m (Start a abstract_job)) (records a (Some (table abstract_job)) (Flag true ∷ []))) ey2 among1 g2 (Some looked) refl k in
+      let g3 = rests_after size a s2 y2 n1 (told (abstract_note m (Start a abstract_job)) (records a (Some (abstract_table abstract_job)) (Flag true ∷ []))) ey2 among1 g2 (Some looked) refl k in
       let among3 : a < length (put n1 a None).doings = subst (λ (i : ℕ). a < i) (sym (length-set n1.doings a None)) among1 in
       let g4 = set_aside size a s3 (gone y2 (Some looked) (Done ∷ [])) (put n1 a None) _ ey3 among3 g3 (Some (begun n job)) (ends looked refl k.0) in
-      subst (λ (ds : List (Option Doing)). NotesAgree size (record n { doings = ds }) s3 (told m (Start a abstract_job ∷ records a (Some (table abstract_job)) (Flag true ∷ Done ∷ []))))
+      subst (λ (ds : List (Option Doing)). NotesAgree size (record n { doings = ds }) s3 (told m (Start a abstract_job ∷ records a (Some (abstract_table abstract_job)) (Flag true ∷ Done ∷ []))))
       (set_twice (slice_set n.doings a (Some (begun n job))) a None (Some (begun n job)) ∙ set_twice n.doings a (Some (begun n job)) (Some (begun n job))) g4
 
 pub notes_followed : NotesFollowed
 notes_followed = record {
   quiet = λ turn a s now x f y n m ey among g.
       let t = f.told y ey in
-      subst (λ (rs : List Record). NotesAgree now.size n (after_all s rs) (told m rs)) (sym t.2) (unnoted_after now.size a s y n m ey among g t.0 t.1);
+      subst (λ (rs : List Record). NotesAgree now.size n (abstract_after_all s rs) (told m rs)) (sym t.2) (unnoted_after now.size a s y n m ey among g t.0 t.1);
   read = λ block offset contents turn a s now x f y n m ey among g.
       let t = f.told y ey in
-      subst (λ (rs : List Record). NotesAgree now.size n (after_all s rs) (told m rs)) (sym t.told_is)
+      subst (λ (rs : List Record). NotesAgree now.size n (abstract_after_all s rs) (told m rs)) (sym t.told_is)
       (unnoted_after now.size a s y n m ey among g (Gave t.there ∷ []) (subst (λ (k : Option Script). AreUnnoted k (Gave t.there ∷ [])) (sym t.at) (tt, tt)));
   write = λ block offset count content turn a s now x f y n m ey among g doing here l inside.
       let t = f.told y ey in
       let n' = write_note n a doing (enter_each content (rising (block * now.size + offset) count) (entering n doing)) in
-      subst (λ (rs : List Record). NotesAgree now.size n' (after_all s rs) (told m rs)) (sym t.told_is)
+      subst (λ (rs : List Record). NotesAgree now.size n' (abstract_after_all s rs) (told m rs)) (sym t.told_is)
       (write_after now.size a s y n m ey among g block offset count content t.location t.all t.rest t.answer t.got doing t.at here l inside);
   read_answered = λ block os turn a s now x f y n m ey among g.
       let t = f.told y ey in let k = script_of (Reading false block os) y.task t.0 in
-      subst (λ (rs : List Record). NotesAgree now.size (put n a None) (after_all s rs) (told m rs)) (sym t.1) (read_answers now.size a s y n m ey among g block os k.script k.at k.none k.done k.is);
+      subst (λ (rs : List Record). NotesAgree now.size (put n a None) (abstract_after_all s rs) (told m rs)) (sym t.1) (read_answers now.size a s y n m ey among g block os k.script k.at k.none k.done k.is);
   write_answered = λ block os content turn a s now x f y n m ey among g doing here.
       let t = f.told y ey in let k = script_of (Writing false block os content) y.task t.0 in
-      subst (λ (rs : List Record). NotesAgree now.size (put (record n { finished = all_raised n.finished doing.entered }) a None) (after_all s rs) (told m rs)) (sym t.1)
+      subst (λ (rs : List Record). NotesAgree now.size (put (record n { finished = all_raised n.finished doing.entered }) a None) (abstract_after_all s rs) (told m rs)) (sym t.1)
       (write_answers now.size a s y n m ey among g block os content k.script doing k.at k.none k.done k.is here);
   flush_answered = λ turn a s now x f y n m ey among g doing here long.
       let t = f.told y ey in let k = script_of (Flushing None) y.task t.0 in
-      subst (λ (rs : List Record). NotesAgree now.size (put (record n { floors = greater_of n.floors doing.then_finished }) a None) (after_all s rs) (told m rs)) (sym t.1)
+      subst (λ (rs : List Record). NotesAgree now.size (put (record n { floors = greater_of n.floors doing.then_finished }) a None) (abstract_after_all s rs) (told m rs)) (sym t.1)
       (flush_answers now.size a s y n m ey among g k.script doing k.at k.none k.done k.is here long);
   refused = λ job refusal turn a s now x f y n m ey among g.
       let t = f.told y ey in
-      subst (λ (rs : List Record). NotesAgree now.size (put n a None) (after_all s rs) (told m rs)) (sym t.1) (by_task now.size a s y n m ey among g job refusal y.task refl t.0);
+      subst (λ (rs : List Record). NotesAgree now.size (put n a None) (abstract_after_all s rs) (told m rs)) (sym t.1) (by_task now.size a s y n m ey among g job refusal y.task refl t.0);
   starts = λ abstract_job job turn a s now x f y n m ey among g was here.
-      subst (λ (rs : List Record). NotesAgree now.size (put n a (Some (begun n job))) (after_all s rs) (told m rs)) (sym (f.told y ey)) (start_after now.size a s y n m ey among g abstract_job job was here);
+      subst (λ (rs : List Record). NotesAgree now.size (put n a (Some (begun n job))) (abstract_after_all s rs) (told m rs)) (sym (f.told y ey)) (start_after now.size a s y n m ey among g abstract_job job was here);
   starts_late = λ job turn a s now x f y n m ey among g none.
       let t = f.told y ey in
-      subst (λ (rs : List Record). NotesAgree now.size (put n a (Some (begun n job))) (after_all s rs) (told m rs)) (sym t.2) (late_after now.size a s y n m ey among g t.0 job none);
+      subst (λ (rs : List Record). NotesAgree now.size (put n a (Some (begun n job))) (abstract_after_all s rs) (told m rs)) (sym t.2) (late_after now.size a s y n m ey among g t.0 job none);
   resumes = λ job turn a s now x f y n m ey among g was here. resumed now.size a s y n m ey among g job was here f.records (f.told y ey);
   carries = λ turn a s now x f y n m ey among g.
       let t = f.told y ey in
-      subst (λ (rs : List Record). NotesAgree now.size n (after_all s rs) (told m rs)) (sym t.2) (carried_after now.size a s y n m ey among g t.0 t.1);
+      subst (λ (rs : List Record). NotesAgree now.size n (abstract_after_all s rs) (told m rs)) (sym t.2) (carried_after now.size a s y n m ey among g t.0 t.1);
   released = λ turn a s now x f y n m ey among g.
       let t = f.told y ey in
-      subst (λ (rs : List Record). NotesAgree now.size n (after_all s rs) (told m rs)) (sym t.1) (release_after now.size n s m t.0 g);
+      subst (λ (rs : List Record). NotesAgree now.size n (abstract_after_all s rs) (told m rs)) (sym t.1) (release_after now.size n s m t.0 g);
   rests = λ turn a s now x f y n m ey among g.
       let t = f.told y ey in
-      subst (λ (rs : List Record). NotesAgree now.size (put n a None) (after_all s rs) (told m rs)) (sym t.1) (rests_after now.size a s y n m ey among g y.task refl t.0);
+      subst (λ (rs : List Record). NotesAgree now.size (put n a None) (abstract_after_all s rs) (told m rs)) (sym t.1) (rests_after now.size a s y n m ey among g y.task refl t.0);
   redone = λ size n s m a doing doing' g here e f. record {
     histories = g.histories;
     finished = g.finished;
@@ -451,7 +451,7 @@ notes_followed = record {
     floors = g.floors;
     as_many = g.as_many;
     floors_as_many = g.floors_as_many;
-    each = λ b z l e. subst (λ (v : AbstractActor). IsNotedSo size (length n.histories) v.task (slice_get (nobody n.doings) b) b m) (replicated (length s.actors) b resting z e) tt;
+    each = λ b z l e. subst (λ (v : AbstractActor). IsNotedSo size (length n.histories) v.task (slice_get (nobody n.doings) b) b m) (replicated (length s.actors) b abstract_resting z e) tt;
   };
   anew = λ size many shown view s t same. record {
     histories = sym same;
@@ -459,14 +459,14 @@ notes_followed = record {
     floors = no_counts size shown;
     as_many = length-map shown (λ (c : Content). 0) ∙ sym (length-map shown only);
     floors_as_many = length-map shown (λ (c : Content). 0) ∙ sym (length-map shown only);
-    each = λ b z l e. subst (λ (v : AbstractActor). IsNotedSo size (length (map only shown)) v.task (slice_get (begins many shown).doings b) b (opened view)) (replicated (length s.actors) b resting z e) tt;
+    each = λ b z l e. subst (λ (v : AbstractActor). IsNotedSo size (length (map only shown)) v.task (slice_get (begins many shown).doings b) b (abstract_opened view)) (replicated (length s.actors) b abstract_resting z e) tt;
   };
   newest_read = λ turn block offset contents a s now x f y n m ey among g right.
       let t = f.told y ey in
       let job = subst (λ (k : Option Script). IsJob m a k) t.at (is_job now.size (length n.histories) y.task (slice_get n.doings a) a m (g.each a y among ey)) in
       subst (λ (h : ℕ → ℕ → History). AreNewest h block offset contents) g.histories
       (reads_newest t.location block t.all contents t.there offset m a job t.given
-      (subst (λ (k : Option Script). AllRight m (map (λ (r : Record). On r) (records a k (Gave t.there ∷ [])))) t.at (subst (λ (rs : List Record). AllRight m (map (λ (r : Record). On r) rs)) t.told_is right)).0);
+      (subst (λ (k : Option Script). AllEventsRight m (map (λ (r : Record). On r) (records a k (Gave t.there ∷ [])))) t.at (subst (λ (rs : List Record). AllEventsRight m (map (λ (r : Record). On r) rs)) t.told_is right)).0);
 }
   where
     script_of : (job : AbstractJob) (task : Option Script) → AnswersSo job Finished task → IsOver job task
@@ -474,12 +474,12 @@ notes_followed = record {
     script_of job (Some script) so = record { script = script; at = refl; none = so.0; done = so.1; is = so.2 }
 
     by_task : (size a : ℕ) (s : World) (y : AbstractActor) (n : Notes) (m : AbstractNotes) (ey : slice_get s.actors a ≡ Some y) (among : a < length n.doings) (g : NotesAgree size n s m) (job : AbstractJob) (refusal : Refusal) (task : Option Script) → y.task ≡ task → AnswersSo job (Refuses refusal) y.task →
-        NotesAgree size (put n a None) (after_all s (records a y.task (Done ∷ []))) (told m (records a y.task (Done ∷ [])))
+        NotesAgree size (put n a None) (abstract_after_all s (records a y.task (Done ∷ []))) (told m (records a y.task (Done ∷ [])))
     by_task size a s y n m ey among g job refusal None e so = absent size a s y n m ey among g (Done ∷ []) (put n a None) e (without_task size a s y n m ey among g None e)
     by_task size a s y n m ey among g job refusal (Some script) e so = let so' = subst (λ (t : Option Script). AnswersSo job (Refuses refusal) t) e so in ends_alone size a s y n m ey among g script e so'.0 (refused_note m a script.job script.answer so'.1)
 
-    resumed : (size a : ℕ) (s : World) (y : AbstractActor) (n : Notes) (m : AbstractNotes) (ey : slice_get s.actors a ≡ Some y) (among : a < length n.doings) (g : NotesAgree size n s m) (job : Job) (was : Option Doing) → slice_get n.doings a ≡ Some was → (rs : List Record) → IsResumed a y.task rs → NotesAgree size (put n a (Some (begun n job))) (after_all s rs) (told m rs)
-    resumed size a s y n m ey among g job was here rs (Given j i e) = subst (λ (qs : List Record). NotesAgree size (put n a (Some (begun n job))) (after_all s qs) (told m qs)) (sym e) (start_after size a s y n m ey among g j job was here)
-    resumed size a s y n m ey among g job was here rs (Kept j i e) = subst (λ (qs : List Record). NotesAgree size (put n a (Some (begun n job))) (after_all s qs) (told m qs)) (sym e) (again_after size a s y n m ey among g j job was here)
-    resumed size a s y n m ey among g job was here rs (Failing j i none e) = subst (λ (qs : List Record). NotesAgree size (put n a (Some (begun n job))) (after_all s qs) (told m qs)) (sym e) (failing_after size a s y n m ey among g j i job was here)
-    resumed size a s y n m ey among g job was here rs (Nowhere none e) = subst (λ (qs : List Record). NotesAgree size (put n a (Some (begun n job))) (after_all s qs) (told m qs)) (sym e) (set_aside size a s y n m ey among g (Some (begun n job)) none)
+    resumed : (size a : ℕ) (s : World) (y : AbstractActor) (n : Notes) (m : AbstractNotes) (ey : slice_get s.actors a ≡ Some y) (among : a < length n.doings) (g : NotesAgree size n s m) (job : Job) (was : Option Doing) → slice_get n.doings a ≡ Some was → (rs : List Record) → IsResumed a y.task rs → NotesAgree size (put n a (Some (begun n job))) (abstract_after_all s rs) (told m rs)
+    resumed size a s y n m ey among g job was here rs (Given j i e) = subst (λ (qs : List Record). NotesAgree size (put n a (Some (begun n job))) (abstract_after_all s qs) (told m qs)) (sym e) (start_after size a s y n m ey among g j job was here)
+    resumed size a s y n m ey among g job was here rs (Kept j i e) = subst (λ (qs : List Record). NotesAgree size (put n a (Some (begun n job))) (abstract_after_all s qs) (told m qs)) (sym e) (again_after size a s y n m ey among g j job was here)
+    resumed size a s y n m ey among g job was here rs (Failing j i none e) = subst (λ (qs : List Record). NotesAgree size (put n a (Some (begun n job))) (abstract_after_all s qs) (told m qs)) (sym e) (failing_after size a s y n m ey among g j i job was here)
+    resumed size a s y n m ey among g job was here rs (Nowhere none e) = subst (λ (qs : List Record). NotesAgree size (put n a (Some (begun n job))) (abstract_after_all s qs) (told m qs)) (sym e) (set_aside size a s y n m ey among g (Some (begun n job)) none)

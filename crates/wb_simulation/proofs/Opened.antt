@@ -9,7 +9,7 @@ use Rattle.wb_words.specs.declared.step.CellStep.TheVariants.{Take, Seal as Seal
 use Rattle.wb_words.specs.SharedWords.{Words, word_at, fresh_words, seal_word, flag, with_cell, taken}
 use Rattle.wb_words.specs.Effects.{words_after}
 use Rattle.wb_tree.specs.Mapping.{IsMapping}
-use Rattle.wb_link.specs.World.{Shared, Actor as AbstractActor, resting as idle}
+use Rattle.wb_link.specs.World.{Shared, AbstractActor, abstract_resting as idle}
 use Rattle.wb_contents.proofs.Lists.{replicated, none_there}
 use Rattle.wb_refines.specs.Models.{SealAgrees}
 use Rattle.wb_refines.specs.Translation.{number_of}

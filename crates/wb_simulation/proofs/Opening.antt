@@ -16,7 +16,7 @@ use Rattle.wb_types.specs.declared.mode.Mode.TheVariants.{Writeback}
 use Rattle.wb_promise.specs.Headline.{place_of}
 use Rattle.wb_devices.specs.declared.devices.Devices.{Devices}
 use Rattle.wb_link.specs.World.{Shared}
-use Rattle.wb_link.specs.Openings.{Site, Phase, Gone, Opens, Learnt, Stage, Settling, Caching, Basing, Looking, Rooting, Renewing, Answering, Stopping, Outcome, Settled, Fine, Learns, Refused, Broke, Shown, Stopped, Begins, Advances, Yields, advance, advanced, next_phase, decided}
+use Rattle.wb_link.specs.Openings.{Site, AbstractPhase, Gone, Opens, Learnt, Stage, Settling, Caching, Basing, Looking, Rooting, Renewing, Answering, Stopping, Outcome, Settled, Fine, Learns, Refused, Broke, Shown, Stopped, Begins, Advances, Yields, advance, advanced, next_phase, abstract_decided}
 use Rattle.wb_simulation.specs.Sites.{IsRunning, ImagesAgree, DevicesAgree, LeadsTo, LeadsToOne, OpeningsFollowed, ImagesFollowed}
 use Rattle.wb_simulation.specs.Worlds.{zeros}
 
@@ -26,7 +26,7 @@ pub record IsDecidedBy (geometry : Geometry) (committed : Stored) (later : Optio
   pub written : new_root ≡ true → s.root_written ≡ true
   pub state : Stored
   pub one_of : (state ≡ committed) ⊎ (later ≡ Some state)
-  pub images : ImagesAgree geometry state None metadata (decided s new_root)
+  pub images : ImagesAgree geometry state None metadata (abstract_decided s new_root)
   pub settled : IsSettled metadata
 
 decides : (geometry : Geometry) (committed : Stored) (later : Option Stored) (old new : List History) (s : Shared) (g : ImagesAgree geometry committed later old s) → IsDecided geometry committed later new → IsDecidedBy geometry committed later new s
@@ -60,8 +60,8 @@ module _ (geometry : Geometry) (size : ℕ) (committed : Stored) (later : Option
   advances y g = record {
     event = Advances outcome;
     may = (mode, stage, at, y);
-    phase_is = ap (λ (p : Phase). (advance w.world p outcome).phase) at;
-    agrees = subst (λ (p : Phase). DevicesAgree geometry size committed later devices (advance w.world p outcome).world.shared) (sym at) g;
+    phase_is = ap (λ (p : AbstractPhase). (advance w.world p outcome).phase) at;
+    agrees = subst (λ (p : AbstractPhase). DevicesAgree geometry size committed later devices (advance w.world p outcome).world.shared) (sym at) g;
   }
 
 module _ (geometry : Geometry) (size : ℕ) (committed : Stored) (later : Option Stored) (w : Site) (devices devices' : Devices (List History)) (g : DevicesAgree geometry size committed later devices w.world.shared) where
@@ -77,7 +77,7 @@ module _ (geometry : Geometry) (size : ℕ) (committed : Stored) (later : Option
         cache = λ b i. subst (λ (f : ℕ → ℕ → History). Contains (entries (f b i)) (newest (by_block size zeros devices'.cache b i))) (sym g.cache) (left_cache.pending b i);
       };
       phase_is = refl;
-      agrees = record { origin = sym left_origin.alone; cache = sym left_cache.alone; images = same_images geometry d.state None devices'.metadata (decided w.world.shared d.new_root) _ refl refl refl d.images };
+      agrees = record { origin = sym left_origin.alone; cache = sym left_cache.alone; images = same_images geometry d.state None devices'.metadata (abstract_decided w.world.shared d.new_root) _ refl refl refl d.images };
     };
     settled = d.settled;
   }

@@ -15,8 +15,8 @@ use Rattle.wb_tasks.specs.Tables.{BlockRange, whole_block}
 use Rattle.wb_tasks.specs.Plan.{Plan}
 use Rattle.wb_tasks.specs.declared.step.Migration.{Migration}
 use Rattle.wb_tasks.specs.declared.step.Migration.TheVariants.{Promote}
-use Rattle.wb_link.specs.Tables.{Job as AbstractJob, Order as AbstractOrder, Finished as AnsweredDone, Script, Flag, Done as DoneThere, table as table_there}
-use Rattle.wb_link.specs.World.{IsRun, World, Shared, Start, Again, Apart, Ungiven, MayStart, MayAgain, Actor as AbstractActor, reserved, Record, order_of as order_of_job, aside, taken, given, after_all, start_actor, again_actor}
+use Rattle.wb_link.specs.Tables.{Job as AbstractJob, Order as AbstractOrder, Finished as AnsweredDone, Script, Flag, Done as DoneThere, abstract_table as table_there}
+use Rattle.wb_link.specs.World.{IsAbstractRun, World, Shared, Start, Again, ShareNoBlock, Ungiven, MayStart, MayAgain, AbstractActor, abstract_reserved, Record, abstract_order_of as order_of_job, aside, abstract_taken, abstract_given, abstract_after_all, start_actor, again_actor}
 use Rattle.wb_contents.proofs.Lists.{set_there, set_other, set_twice}
 use Rattle.wb_refines.specs.Tasks.{AllInBlocks, IsResting}
 use Rattle.wb_refines.specs.Models.{held_of}
@@ -52,11 +52,11 @@ module _ (now : Situation) (s : World) (g : Agrees now s) where
   its_slot : (b : ℕ) (v : AbstractActor) (p : AbstractOrder) → slice_get s.actors b ≡ Some v → v.order ≡ Some p → (z : Actor) × (slice_get now.actors b ≡ Some z) × IsOf now.orders (held z) p
   its_slot b v p ev e = let z = whose now s g b v ev in (z.0, z.1, g.orders_agree.ours b z.0 v p z.1 ev e)
 
-  apart_of : (own p : AbstractOrder) (q : Order) → IsUngiven s.shared.mapping now.orders own → slice_get now.orders p.cache ≡ Some (Some q) → IsThere s p → Apart p own
+  apart_of : (own p : AbstractOrder) (q : Order) → IsUngiven s.shared.mapping now.orders own → slice_get now.orders p.cache ≡ Some (Some q) → IsThere s p → ShareNoBlock p own
   apart_of own p q free e there =
       let both : Some (order_there s.shared.mapping p.cache q) ≡ Some p = (g.orders_agree.live p.cache (Some q) e p refl).1 there in
       let same : order_there s.shared.mapping p.cache q ≡ p = cc in
-      subst (λ (r : AbstractOrder). Apart r own) same (free p.cache q e)
+      subst (λ (r : AbstractOrder). ShareNoBlock r own) same (free p.cache q e)
 
   ungiven : (own : AbstractOrder) → IsUngiven s.shared.mapping now.orders own → Ungiven s own
   ungiven own free = (
@@ -107,7 +107,7 @@ module _ (now : Situation) (a : ℕ) (x : Actor) (migration : Migration) (block 
   own_job : order_of_job job ≡ Some own
   own_job = under_order own (offsets now.size cut) migration
 
-  given_is : IsResting y → given y job ≡ begun_there
+  given_is : IsResting y → abstract_given y job ≡ begun_there
   given_is idle = λ i. record { task = Some (begins_as migration i); held = idle.held i; order = own_job i; leads = idle.leads i; buffer = y.buffer }
     where
       begins_as : (m : Migration) → table_there (job_under own (offsets now.size cut) m) ≡ record { job = job_under own (offsets now.size cut) m; steps = migration_wants now.size own (offsets now.size cut) m plan.steps; answer = AnsweredDone }
@@ -153,7 +153,7 @@ module _ (now : Situation) (a : ℕ) (x : Actor) (migration : Migration) (block 
   may_again m may = (within_offsets now.size cut inside, whole_covered now.size block some cut is_cut, may)
 
   -- an order that is given reserves a promotion's cache block, and is nothing else to what is shared
-  is_given : (m : Migration) → IsGiven now.words (given_by m c.0) s.shared (reserved s.shared (job_under own (offsets now.size cut) m))
+  is_given : (m : Migration) → IsGiven now.words (given_by m c.0) s.shared (abstract_reserved s.shared (job_under own (offsets now.size cut) m))
   is_given (Promote k) = record { words_agree = record { fail = g.words_agree.fail; seals = g.words_agree.seals }; origin = refl; cache = refl; mode = refl; commits = refl; broken = refl; mapping = refl; turned = (refl, refl, refl); desk = (refl, refl) }
   is_given m = record { words_agree = g.words_agree; origin = refl; cache = refl; mode = refl; commits = refl; broken = refl; mapping = refl; turned = (refl, refl, refl); desk = (refl, refl) }
 
@@ -184,7 +184,7 @@ module _ (now : Situation) (a : ℕ) (x : Actor) (migration : Migration) (block 
     done fills = is_done now.size orders' migration block part plan x' begun_there (carried_then orders' its slot mine fills) now.words refl refl
 
     -- it has begun there, and then this is shared
-    begins_there : (turn : Turn) (rs : List Record) → Fills migration c → IsRun now.size s rs → after_all s rs ≡ record { shared = t; actors = slice_set s.actors a begun_there; waiting = waiting } → IsResumed a y.task rs → IsGiven now.words turn s.shared t → WorldFollowsBy turn Resumes a s (record now { orders = orders' }) x'
+    begins_there : (turn : Turn) (rs : List Record) → Fills migration c → IsAbstractRun now.size s rs → abstract_after_all s rs ≡ record { shared = t; actors = slice_set s.actors a begun_there; waiting = waiting } → IsResumed a y.task rs → IsGiven now.words turn s.shared t → WorldFollowsBy turn Resumes a s (record now { orders = orders' }) x'
     begins_there turn rs fills run is told i = begins now a x x' s y g ex ey turn Resumes orders' rs waiting t begun_there run is told i (λ l. let bad : false ≡ true = l in absurd (cc))
         (carried_stands now.size orders' migration block part plan x' begun_there (carried_then orders' its slot mine fills) now.words refl now.most) (ordered begun_there refl (done fills))
 
@@ -192,7 +192,7 @@ module _ (now : Situation) (a : ℕ) (x : Actor) (migration : Migration) (block 
     abbrev fallen : AbstractActor
     fallen = record y { task = None; order = Some own }
 
-    falls_there : (turn : Turn) (rs : List Record) → flag now.words.fail ≡ true → IsRun now.size s rs → after_all s rs ≡ record { shared = t; actors = slice_set s.actors a fallen; waiting = waiting } → IsResumed a y.task rs → IsGiven now.words turn s.shared t → WorldFollowsBy turn Resumes a s (record now { orders = orders' }) x'
+    falls_there : (turn : Turn) (rs : List Record) → flag now.words.fail ≡ true → IsAbstractRun now.size s rs → abstract_after_all s rs ≡ record { shared = t; actors = slice_set s.actors a fallen; waiting = waiting } → IsResumed a y.task rs → IsGiven now.words turn s.shared t → WorldFollowsBy turn Resumes a s (record now { orders = orders' }) x'
     falls_there turn rs failed run is told i = begins now a x x' s y g ex ey turn Resumes orders' rs waiting t fallen run is told i (λ l. (l, λ more. absurd more))
         (record { failed = false; has_failed = λ e. absurd (cc); at = tt; below = record { owned = st.below.owned; shared = st.below.shared }; among_others = refl }) (ordered fallen refl (late_done now.size now.words orders' migration block part plan x' fallen refl refl true (λ e. failed) (record { has_failed = refl; nothing = refl; at = inl refl })))
 
@@ -221,15 +221,15 @@ module _ (now : Situation) (a : ℕ) (x : Actor) (migration : Migration) (block 
     aside_not d p e w = not_aside now s g c.0 no_order a y ey d p e w
 
     starts_so : IsResting y → Goal
-    starts_so idle = begins_there orders_then (order ∷ x.orders) (set_there now.orders c.0 None (Some order) no_order) (Contains-first order x.orders) (λ d n. set_other now.orders c.0 d (Some order) n) (aside s.waiting y.order) (λ d n. refl) aside_not alone (reserved s.shared job) (is_given migration).mapping (given_by migration c.0) (Start a job ∷ []) (fills_given migration may)
+    starts_so idle = begins_there orders_then (order ∷ x.orders) (set_there now.orders c.0 None (Some order) no_order) (Contains-first order x.orders) (λ d n. set_other now.orders c.0 d (Some order) n) (aside s.waiting y.order) (λ d n. refl) aside_not alone (abstract_reserved s.shared job) (is_given migration).mapping (given_by migration c.0) (Start a job ∷ []) (fills_given migration may)
         ((y, record { actor = ey; task = idle.task; free = inl (idle.held, idle.leads); nobody_alone = nobody_alone now s g; may = may_start migration may free waits }), tt)
-        (ap (λ (o : Option AbstractActor). start_actor s a o job) ey ∙ (λ i. record { shared = reserved s.shared job; actors = slice_set s.actors a (given_is idle i); waiting = aside s.waiting y.order })) (Given job (under_migrates own (offsets now.size cut) migration) refl) (is_given migration)
+        (ap (λ (o : Option AbstractActor). start_actor s a o job) ey ∙ (λ i. record { shared = abstract_reserved s.shared job; actors = slice_set s.actors a (given_is idle i); waiting = aside s.waiting y.order })) (Given job (under_migrates own (offsets now.size cut) migration) refl) (is_given migration)
 
     -- it has kept something at a failure, and is refused there at once
     starts_failing : flag now.words.fail ≡ true → Goal
     starts_failing failed =
-        let t = reserved s.shared job in
-        let y1 = given y job in
+        let t = abstract_reserved s.shared job in
+        let y1 = abstract_given y job in
         let results = Flag true ∷ DoneThere ∷ [] in
         let w1 : World = record { shared = t; actors = slice_set s.actors a y1; waiting = aside s.waiting y.order } in
         let begun_is : start_actor s a (slice_get s.actors a) job ≡ w1 = ap (λ (o : Option AbstractActor). start_actor s a o job) ey in
@@ -237,12 +237,12 @@ module _ (now : Situation) (a : ℕ) (x : Actor) (migration : Migration) (block 
         let f = falls (slice_set s.actors a y1) migration t y1 stopped in
         let went = goes now.size results w1 a y1 (Some (table_there job)) (set_there s.actors a y y1 ey) refl f.0 in
         let w2 : World = record { shared = t; actors = slice_set s.actors a (record y { task = None; order = Some own }); waiting = aside s.waiting y.order } in
-        let then_is : after_all w1 (records a (Some (table_there job)) results) ≡ w2 = went.is ∙ (λ i. record { shared = f.1 i; actors = slice_set (slice_set s.actors a y1) a (f.2 i); waiting = aside s.waiting y.order }) ∙ (λ i. record { shared = t; actors = set_twice s.actors a y1 (record y { task = None; order = under_order own (offsets now.size cut) migration i }) i; waiting = aside s.waiting y.order }) in
+        let then_is : abstract_after_all w1 (records a (Some (table_there job)) results) ≡ w2 = went.is ∙ (λ i. record { shared = f.1 i; actors = slice_set (slice_set s.actors a y1) a (f.2 i); waiting = aside s.waiting y.order }) ∙ (λ i. record { shared = t; actors = set_twice s.actors a y1 (record y { task = None; order = under_order own (offsets now.size cut) migration i }) i; waiting = aside s.waiting y.order }) in
         falls_there orders_then (order ∷ x.orders) (set_there now.orders c.0 None (Some order) no_order) (Contains-first order x.orders) (λ d n. set_other now.orders c.0 d (Some order) n) (aside s.waiting y.order) (λ d n. refl) aside_not alone t (is_given migration).mapping (given_by migration c.0) (Start a job ∷ records a (Some (table_there job)) results) failed (
           (y, record { actor = ey; task = rest.0; free = inr (g.words_agree.fail ∙ failed); nobody_alone = nobody_alone now s g; may = may_start migration may free waits }),
-          subst (λ (w : World). IsRun now.size w (records a (Some (table_there job)) results)) (sym begun_is) went.run,
+          subst (λ (w : World). IsAbstractRun now.size w (records a (Some (table_there job)) results)) (sym begun_is) went.run,
         )
-        (ap (λ (w : World). after_all w (records a (Some (table_there job)) results)) begun_is ∙ then_is) (Failing job (under_migrates own (offsets now.size cut) migration) rest.0 refl) (is_given migration)
+        (ap (λ (w : World). abstract_after_all w (records a (Some (table_there job)) results)) begun_is ∙ then_is) (Failing job (under_migrates own (offsets now.size cut) migration) rest.0 refl) (is_given migration)
 
     pub starts : Goal
     starts = elim rest.1 [ inl idle ↦ starts_so idle | inr failed ↦ starts_failing failed ]
@@ -274,10 +274,10 @@ module _ (now : Situation) (a : ℕ) (x : Actor) (migration : Migration) (block 
     is_put = is_aside now.size now.words now.orders now.actors a s y ey g.orders_agree c.0 (Some order) live own refl there (λ b v n ev e. nobody_else b v own n ev e refl)
 
     again_so : IsResting y → Again_goal
-    again_so idle = begins_there now.orders x.orders live mine (λ d n. refl) (taken (aside s.waiting y.order) (order_of_job job)) (λ d n. ap (λ (o : Option AbstractOrder). taken (aside s.waiting y.order) o d) own_job ∙ changed_other (aside s.waiting y.order) c.0 d None n)
-        (λ d p e w. let bad : None ≡ Some p = sym (ap (λ (o : Option AbstractOrder). taken (aside s.waiting y.order) o c.0) own_job ∙ changed_same (aside s.waiting y.order) c.0 None) ∙ ap (taken (aside s.waiting y.order) (order_of_job job)) (sym e) ∙ w in absurd (cc)) nobody_else s.shared refl Stays (Again a job ∷ []) (fills_kept migration may)
+    again_so idle = begins_there now.orders x.orders live mine (λ d n. refl) (abstract_taken (aside s.waiting y.order) (order_of_job job)) (λ d n. ap (λ (o : Option AbstractOrder). abstract_taken (aside s.waiting y.order) o d) own_job ∙ changed_other (aside s.waiting y.order) c.0 d None n)
+        (λ d p e w. let bad : None ≡ Some p = sym (ap (λ (o : Option AbstractOrder). abstract_taken (aside s.waiting y.order) o c.0) own_job ∙ changed_same (aside s.waiting y.order) c.0 None) ∙ ap (abstract_taken (aside s.waiting y.order) (order_of_job job)) (sym e) ∙ w in absurd (cc)) nobody_else s.shared refl Stays (Again a job ∷ []) (fills_kept migration may)
         ((y, record { actor = ey; task = idle.task; free = inl (idle.held, idle.leads); order = (own, own_job, is_put); nobody_alone = nobody_alone now s g; may = may_again migration may }), tt)
-        (ap (λ (o : Option AbstractActor). again_actor s a o job) ey ∙ (λ i. record { shared = s.shared; actors = slice_set s.actors a (given_is idle i); waiting = taken (aside s.waiting y.order) (order_of_job job) })) (Kept job (under_migrates own (offsets now.size cut) migration) refl) (given_nothing now.words s.shared g.words_agree)
+        (ap (λ (o : Option AbstractActor). again_actor s a o job) ey ∙ (λ i. record { shared = s.shared; actors = slice_set s.actors a (given_is idle i); waiting = abstract_taken (aside s.waiting y.order) (order_of_job job) })) (Kept job (under_migrates own (offsets now.size cut) migration) refl) (given_nothing now.words s.shared g.words_agree)
 
     pub again : Again_goal
     again = elim rest.1 [ inl idle ↦ again_so idle | inr failed ↦ late failed ]

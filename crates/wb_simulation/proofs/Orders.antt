@@ -14,7 +14,7 @@ use Rattle.wb_tasks.specs.declared.step.Answer.{Answer}
 use Rattle.wb_tasks.specs.declared.step.Migration.{Migration}
 use Rattle.wb_tasks.specs.declared.step.Want.{Want}
 use Rattle.wb_link.specs.Tables.{Order as AbstractOrder}
-use Rattle.wb_link.specs.World.{aside, World, Shared, Actor as AbstractActor}
+use Rattle.wb_link.specs.World.{aside, World, Shared, AbstractActor}
 use Rattle.wb_link.proofs.Aside.{aside_cases}
 use Rattle.wb_contents.proofs.Lists.{set_there, set_other}
 use Rattle.wb_refines.specs.Migrations.{order_on}

@@ -4,7 +4,7 @@ use Rattle.std.proofs.lemmas.List.{length-replicate}
 use Rattle.wb_disk.specs.Device.{Content, only}
 use Rattle.wb_contents.specs.Devices.{by_block}
 use Rattle.wb_words.specs.SharedWords.{fresh_words}
-use Rattle.wb_link.specs.World.{begins as world_begins, Actor as AbstractActor, resting as idle}
+use Rattle.wb_link.specs.World.{abstract_begins as world_begins, AbstractActor, abstract_resting as idle}
 use Rattle.wb_contents.proofs.Lists.{replicated}
 use Rattle.wb_refines.specs.Models.{SealAgrees}
 use Rattle.wb_refines.proofs.Holding.{holds_nothing}

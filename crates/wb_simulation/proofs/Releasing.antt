@@ -5,7 +5,7 @@ use Rattle.wb_contents.specs.Volume.{changed}
 use Rattle.wb_contents.proofs.Positions.{changed_same, changed_other}
 use Rattle.wb_policy.specs.declared.order.Order.{Order}
 use Rattle.wb_link.specs.Tables.{Order as AbstractOrder}
-use Rattle.wb_link.specs.World.{World, Shared, Release, release_order, given_back, aside, after_record, Actor as AbstractActor}
+use Rattle.wb_link.specs.World.{World, Shared, Release, release_order, block_given_back, aside, after_record, AbstractActor}
 use Rattle.wb_contents.proofs.Lists.{set_there, set_other, set_same}
 use Rattle.wb_promise.specs.States.{Actor}
 use Rattle.wb_simulation.specs.Actors.{StandsFor}
@@ -45,7 +45,7 @@ module _ (now : Situation) (a : ℕ) (x x' : Actor) (s : World) (y : AbstractAct
   ]
 
   abbrev t : Shared
-  t = record s.shared { blocks = changed s.shared.blocks c (given_back (s.shared.blocks c)) }
+  t = record s.shared { blocks = changed s.shared.blocks c (block_given_back (s.shared.blocks c)) }
 
   world_is : after_record s (Release c) ≡ record { shared = t; actors = slice_set s.actors a y; waiting = changed s.waiting c None }
   world_is = ap (release_order s c) waits ∙ ap (λ (ys : List AbstractActor). record { shared = t; actors = ys; waiting = changed s.waiting c None }) (sym (set_same s.actors a y ey))

@@ -5,7 +5,7 @@ use Rattle.wb_policy.specs.declared.order.Order.{Order}
 use Rattle.wb_tasks.specs.Tables.{BlockRange, Reading, Writing, OnBlock, Flushing}
 use Rattle.wb_tasks.specs.Plan.{Plan, table}
 use Rattle.wb_link.specs.Tables.{Job as AbstractJob, Order as AbstractOrder, Flushing as FlushingFor}
-use Rattle.wb_link.specs.World.{World, Shared, Record, Start, MayStart, IsRun, Actor as AbstractActor, job_alone, order_of, aside, given, reserved, start_actor, after_all}
+use Rattle.wb_link.specs.World.{World, Shared, Record, Start, MayStart, IsAbstractRun, AbstractActor, job_alone, abstract_order_of, aside, abstract_given, abstract_reserved, start_actor, abstract_after_all}
 use Rattle.wb_refines.specs.Translation.{job_for, script_for}
 use Rattle.wb_refines.specs.Models.{WordsAgree, held_of}
 use Rattle.wb_refines.specs.Tasks.{IsResting, AllInBlocks}
@@ -41,7 +41,7 @@ given_nothing words s w = record { words_agree = w; origin = refl; cache = refl;
 
 module _ (now : Situation) (a : ℕ) (x x' : Actor) (s : World) (y : AbstractActor) (g : Agrees now s) (ex : slice_get now.actors a ≡ Some x) (ey : slice_get s.actors a ≡ Some y) where
   -- These records give it something to do, and its actor there is this one then.
-  pub begins : (turn : Turn) (telling : Telling) (orders' : List (Option Order)) (rs : List Record) (waiting : ℕ → Option AbstractOrder) (t : Shared) (y' : AbstractActor) → IsRun now.size s rs → after_all s rs ≡ record { shared = t; actors = slice_set s.actors a y'; waiting = waiting } → IsTold telling a y.task rs → IsGiven now.words turn s.shared t → Leading y y' → StandsFor now.size now.most now.words x' y' →
+  pub begins : (turn : Turn) (telling : Telling) (orders' : List (Option Order)) (rs : List Record) (waiting : ℕ → Option AbstractOrder) (t : Shared) (y' : AbstractActor) → IsAbstractRun now.size s rs → abstract_after_all s rs ≡ record { shared = t; actors = slice_set s.actors a y'; waiting = waiting } → IsTold telling a y.task rs → IsGiven now.words turn s.shared t → Leading y y' → StandsFor now.size now.most now.words x' y' →
       OrdersAgree now.size now.words orders' (slice_set now.actors a x') (record { shared = t; actors = slice_set s.actors a y'; waiting = waiting }) → WorldFollowsBy turn telling a s (record now { orders = orders' }) x'
   begins turn telling orders' rs waiting t y' run is told i leading st ordered = follows_by now now.words (λ f. f) a x x' s y g ex ey turn telling now.committing orders' now.devices rs _ run is told
       (agrees_on now now.words (λ f. f) a x x' s y g ex ey orders' now.devices waiting t y' leading st i.words_agree (i.origin ∙ g.origin) (i.cache ∙ g.cache) i.mode i.commits i.broken ordered) i.turned i.desk
@@ -57,14 +57,14 @@ module _ (now : Situation) (a : ℕ) (x : Actor) (s : World) (ex : slice_get now
   y = its.0
 
   -- The same job is started there, or nothing is, since the actor has kept something.
-  starts : (job : Job) (plan : Plan) (there : AbstractJob) → MigratesNot job → MayStart now.size s there → reserved s.shared there ≡ s.shared → order_of there ≡ None → job_alone there ≡ false → plan ≡ table plan.job → (IsResting y → IsDoing now.size now.most (flag now.words.fail) job plan x.card (given y there)) → (IsLate (flag now.words.fail) plan y → IsDoing now.size now.most (flag now.words.fail) job plan x.card y) →
+  starts : (job : Job) (plan : Plan) (there : AbstractJob) → MigratesNot job → MayStart now.size s there → abstract_reserved s.shared there ≡ s.shared → abstract_order_of there ≡ None → job_alone there ≡ false → plan ≡ table plan.job → (IsResting y → IsDoing now.size now.most (flag now.words.fail) job plan x.card (abstract_given y there)) → (IsLate (flag now.words.fail) plan y → IsDoing now.size now.most (flag now.words.fail) job plan x.card y) →
       Begun there a s now (record x { task = Some (job, plan) })
   starts job plan there other may same no_order among begun doing late = elim (rests now.size now.most now.words x y its.2 none).1 [
-    | inl idle ↦ inl (begins now a x x' s y g ex its.1 Stays (Starts there) now.orders (Start a there ∷ []) (aside s.waiting y.order) s.shared (given y there)
+    | inl idle ↦ inl (begins now a x x' s y g ex its.1 Stays (Starts there) now.orders (Start a there ∷ []) (aside s.waiting y.order) s.shared (abstract_given y there)
         ((y, record { actor = its.1; task = idle.task; free = inl (idle.held, idle.leads); nobody_alone = nobody_alone now s g; may = may }), tt)
-        (ap (λ (o : Option AbstractActor). start_actor s a o there) its.1 ∙ ap (λ (u : Shared). record { shared = u; actors = slice_set s.actors a (given y there); waiting = aside s.waiting y.order }) same) refl (given_nothing now.words s.shared g.words_agree)
-        (λ l. let bad : true ≡ false = sym l ∙ idle.leads in absurd (cc)) (record { failed = flag now.words.fail; has_failed = λ e. e; at = doing idle; below = holds_nothing (given y there) x.card idle.held; among_others = among })
-        (orders_begun now.size now.words now.orders now.actors a x x' s y (given y there) s.shared ex its.1 g.orders_agree no_order refl (does_none _ _ _ _ _ other)))
+        (ap (λ (o : Option AbstractActor). start_actor s a o there) its.1 ∙ ap (λ (u : Shared). record { shared = u; actors = slice_set s.actors a (abstract_given y there); waiting = aside s.waiting y.order }) same) refl (given_nothing now.words s.shared g.words_agree)
+        (λ l. let bad : true ≡ false = sym l ∙ idle.leads in absurd (cc)) (record { failed = flag now.words.fail; has_failed = λ e. e; at = doing idle; below = holds_nothing (abstract_given y there) x.card idle.held; among_others = among })
+        (orders_begun now.size now.words now.orders now.actors a x x' s y (abstract_given y there) s.shared ex its.1 g.orders_agree no_order refl (does_none _ _ _ _ _ other)))
     | inr f ↦ inr (stays_there now a x x' s y g ex its.1 Quietly ([], unnoted_none y.task, refl)
         (record { failed = flag now.words.fail; has_failed = λ e. e; at = late (record { has_failed = f; nothing = (rests now.size now.most now.words x y its.2 none).0; at = inl begun }); below = its.2.below; among_others = its.2.among_others }) (λ o h. h) (does_none _ _ _ _ _ other))
   ]

@@ -6,8 +6,8 @@ use Rattle.wb_tasks.specs.Tables.{TaskJob}
 use Rattle.wb_tasks.specs.Plan.{Plan, table}
 use Rattle.wb_tasks.specs.declared.step.Answer.{Answer}
 use Rattle.wb_tasks.specs.declared.step.Answer.TheVariants.{Done as Finished, Refused as Refuses}
-use Rattle.wb_link.specs.Tables.{Job as AbstractJob, Script, Want, Write_all, End, Got, want}
-use Rattle.wb_link.specs.World.{Actor as AbstractActor, task_after}
+use Rattle.wb_link.specs.Tables.{Job as AbstractJob, Script, Want, Write_all, End, Got, abstract_want}
+use Rattle.wb_link.specs.World.{AbstractActor, task_after}
 use Rattle.wb_refines.specs.Going.{records, IsQuiet, AreQuiet}
 use Rattle.wb_refines.specs.Translation.{script_for, job_for}
 use Rattle.wb_refines.specs.Models.{HasStopped}
@@ -28,7 +28,7 @@ quiet_unnoted next q = tt
 pub quiet_are_unnoted : (task : Option Script) (gots : List Got) → AreQuiet task gots → AreUnnoted task gots
 quiet_are_unnoted None gots q = tt
 quiet_are_unnoted (Some script) [] q = tt
-quiet_are_unnoted (Some script) (got ∷ gots) q = (quiet_unnoted (want script) q.0, quiet_are_unnoted (task_after script (want script) got) gots q.1)
+quiet_are_unnoted (Some script) (got ∷ gots) q = (quiet_unnoted (abstract_want script) q.0, quiet_are_unnoted (task_after script (abstract_want script) got) gots q.1)
 
 -- nothing is told of who has no task, whatever the results
 pub nothing_told : (a : ℕ) (task : Option Script) (results : List Got) → task ≡ None → records a task [] ≡ records a task results

@@ -8,9 +8,9 @@ use Rattle.wb_contents.specs.Volume.{changed, changed_at}
 use Rattle.wb_contents.specs.Devices.{by_block}
 use Rattle.wb_contents.proofs.Devices.{write_is_act}
 use Rattle.wb_contents.proofs.Positions.{changed_same, changed_other}
-use Rattle.wb_link.specs.Tables.{Script, Job, Reading, Writing, Writing_through, Flushing, Suspending, Want, Read_all, Write_all, End, Got, Gave, want, after}
+use Rattle.wb_link.specs.Tables.{Script, Job, Reading, Writing, Writing_through, Flushing, Suspending, Want, Read_all, Write_all, End, Got, Gave, abstract_want, abstract_after}
 use Rattle.wb_link.specs.World.{AreAlike, Step, task_after}
-use Rattle.wb_link.specs.Clerk.{Notes, Entry, entry, added_each, entered_each, note, noted_step, histories_after, entered_after, finished_after, floors_after, job_noted, GivesLatest}
+use Rattle.wb_link.specs.Clerk.{AbstractNotes, Entry, entry, added_each, entered_each, abstract_note, abstract_noted_step, histories_after, entered_after, finished_after, abstract_floors_after, job_noted, AbstractGivesLatest}
 use Rattle.wb_refines.specs.Going.{records}
 use Rattle.wb_promise.specs.Clerk.{Position, Entering, enter, enter_each, next_position}
 use Rattle.wb_link.proofs.Actors.{job_on}
@@ -47,7 +47,7 @@ finished_stay (Writing past b all c) (End answer) es f u = absurd u
 finished_stay (Writing_through b all c) (End answer) es f u = absurd u
 finished_stay job w es f u = refl
 
-floors_stay : (job : Job) (w : Want) (asked floors : ℕ → ℕ → ℕ) → IsUnnoted w → (b o : ℕ) → floors_after job w asked floors b o ≡ floors b o
+floors_stay : (job : Job) (w : Want) (asked floors : ℕ → ℕ → ℕ) → IsUnnoted w → (b o : ℕ) → abstract_floors_after job w asked floors b o ≡ floors b o
 floors_stay (Flushing order) (End answer) asked floors u b o = absurd u
 floors_stay Suspending (End answer) asked floors u b o = absurd u
 floors_stay job w asked floors u b o = refl
@@ -56,8 +56,8 @@ job_stays : (job : Job) (w : Want) → IsUnnoted w → job_noted job w ≡ Some 
 job_stays job (End answer) u = absurd u
 job_stays job w u = refl
 
-pub unnoted : (m : Notes) (a : ℕ) (job : Job) (w : Want) (got : Got) → m.jobs a ≡ Some job → IsUnnoted w → note m (Step a w got) ≡ m
-unnoted m a job w got e u = ap (λ (o : Option Job). noted_step m a o w) e ∙ (λ i. record {
+pub unnoted : (m : AbstractNotes) (a : ℕ) (job : Job) (w : Want) (got : Got) → m.jobs a ≡ Some job → IsUnnoted w → abstract_note m (Step a w got) ≡ m
+unnoted m a job w got e u = ap (λ (o : Option Job). abstract_noted_step m a o w) e ∙ (λ i. record {
   histories = histories_stay m.histories job w u i;
   finished = finished_stay job w (m.entered a) m.finished u i;
   floors = λ b o. floors_stay job w (m.asked a) m.floors u b o i;
@@ -67,21 +67,21 @@ unnoted m a job w got e u = ap (λ (o : Option Job). noted_step m a o w) e ∙ (
 })
 
 -- this is its job
-abbrev pub IsJob : Notes → ℕ → Option Script → Type 0
+abbrev pub IsJob : AbstractNotes → ℕ → Option Script → Type 0
 IsJob m a None = Unit {0}
 IsJob m a (Some script) = m.jobs a ≡ Some script.job
 
-pub task_stays : (script : Script) (w : Want) (got : Got) → IsUnnoted w → task_after script w got ≡ Some (after script got)
+pub task_stays : (script : Script) (w : Want) (got : Got) → IsUnnoted w → task_after script w got ≡ Some (abstract_after script got)
 task_stays script (End answer) got u = absurd u
 task_stays script w got u = refl
 
-pub untold : (gots : List Got) (task : Option Script) (m : Notes) (a : ℕ) → IsJob m a task → AreUnnoted task gots → told m (records a task gots) ≡ m
+pub untold : (gots : List Got) (task : Option Script) (m : AbstractNotes) (a : ℕ) → IsJob m a task → AreUnnoted task gots → told m (records a task gots) ≡ m
 untold gots None m a j u = refl
 untold [] (Some script) m a j u = refl
 untold (got ∷ gots) (Some script) m a j u =
-    let is = task_stays script (want script) got u.0 in
-    let later : IsJob m a (task_after script (want script) got) = subst (λ (t : Option Script). IsJob m a t) (sym is) (j ∙ ap (λ (k : Job). Some k) (sym (job_on script got))) in
-    ap (λ (k : Notes). told k (records a (task_after script (want script) got) gots)) (unnoted m a script.job (want script) got j u.0) ∙ untold gots (task_after script (want script) got) m a later u.1
+    let is = task_stays script (abstract_want script) got u.0 in
+    let later : IsJob m a (task_after script (abstract_want script) got) = subst (λ (t : Option Script). IsJob m a t) (sym is) (j ∙ ap (λ (k : Job). Some k) (sym (job_on script got))) in
+    ap (λ (k : AbstractNotes). told k (records a (task_after script (abstract_want script) got) gots)) (unnoted m a script.job (abstract_want script) got j u.0) ∙ untold gots (task_after script (abstract_want script) got) m a later u.1
 
 -- ---- reads
 
@@ -90,9 +90,9 @@ alike_newest : (histories : ℕ → ℕ → History) (b : ℕ) (there : ℕ → 
 alike_newest histories b there zero o k = tt
 alike_newest histories b there (suc count) o k = (k.0, alike_newest histories b there count (o + 1) k.1)
 
-pub reads_newest : (location : Option ℕ) (b : ℕ) (all : List (List ℕ)) (contents : List Content) (there : ℕ → Content) (o : ℕ) (m : Notes) (a : ℕ) → m.jobs a ≡ Some (Reading false b all) → contents ≡ map there (rising o (length contents)) →
-    GivesLatest m.histories (m.jobs a) (Read_all location b (rising o (length contents))) (Gave there) → AreNewest m.histories b o contents
-reads_newest location b all contents there o m a j is r = subst (λ (cs : List Content). AreNewest m.histories b o cs) (sym is) (alike_newest m.histories b there (length contents) o (subst (λ (k : Option Job). GivesLatest m.histories k (Read_all location b (rising o (length contents))) (Gave there)) j r))
+pub reads_newest : (location : Option ℕ) (b : ℕ) (all : List (List ℕ)) (contents : List Content) (there : ℕ → Content) (o : ℕ) (m : AbstractNotes) (a : ℕ) → m.jobs a ≡ Some (Reading false b all) → contents ≡ map there (rising o (length contents)) →
+    AbstractGivesLatest m.histories (m.jobs a) (Read_all location b (rising o (length contents))) (Gave there) → AreNewest m.histories b o contents
+reads_newest location b all contents there o m a j is r = subst (λ (cs : List Content). AreNewest m.histories b o cs) (sym is) (alike_newest m.histories b there (length contents) o (subst (λ (k : Option Job). AbstractGivesLatest m.histories k (Read_all location b (rising o (length contents))) (Gave there)) j r))
 
 -- ---- writes
 
@@ -104,7 +104,7 @@ next_there size h b o l inside =
     ∙ ap (λ (v : Option History). length (unwrap_or v (only zeros)).later + 1) found ∙ sym (ap next_position found)
 
 -- What is noted of a write: these histories and entries; and nothing else.
-pub record Wrote (size sectors a : ℕ) (m m' : Notes) (e : Entering) : Type 0 where
+pub record Wrote (size sectors a : ℕ) (m m' : AbstractNotes) (e : Entering) : Type 0 where
   pub histories : m'.histories ≡ by_block size zeros e.histories
   pub entered : AreEntries size sectors e.entered (m'.entered a)
   pub others : (b : ℕ) → b ≢ a → m'.entered b ≡ m.entered b
@@ -142,10 +142,10 @@ each_written size b c (suc count) o f es h entered here are l inside =
     (there.0, subst (λ (k : ℕ). AreEntries size k (enter_each c (rising at (suc count)) (record { histories = h; entered = entered })).entered (entered_each f b (rising o (suc count)) c es)) as_long there.1)
 
 -- the notes after a write's step, whatever came of it
-pub writes_told : (size : ℕ) (to : Option ℕ) (b : ℕ) (all : List (List ℕ)) (c : Content) (a count : ℕ) (got : Got) (o : ℕ) (m : Notes) (h : List History) (entered : List Position) →
+pub writes_told : (size : ℕ) (to : Option ℕ) (b : ℕ) (all : List (List ℕ)) (c : Content) (a count : ℕ) (got : Got) (o : ℕ) (m : AbstractNotes) (h : List History) (entered : List Position) →
     m.jobs a ≡ Some (Writing false b all c) → m.histories ≡ by_block size zeros h → AreEntries size (length h) entered (m.entered a) → o + count ≤ size → b * size + o + count ≤ length h →
-    Wrote size (length h) a m (note m (Step a (Write_all to b (rising o count)) got)) (enter_each c (rising (b * size + o) count) (record { histories = h; entered = entered }))
-writes_told size to b all c a count got o m h entered j here are l inside = subst (λ (m' : Notes). Wrote size (length h) a m m' (enter_each c (rising (b * size + o) count) (record { histories = h; entered = entered }))) (sym (ap (λ (k : Option Job). noted_step m a k (Write_all to b (rising o count))) j)) (record {
+    Wrote size (length h) a m (abstract_note m (Step a (Write_all to b (rising o count)) got)) (enter_each c (rising (b * size + o) count) (record { histories = h; entered = entered }))
+writes_told size to b all c a count got o m h entered j here are l inside = subst (λ (m' : AbstractNotes). Wrote size (length h) a m m' (enter_each c (rising (b * size + o) count) (record { histories = h; entered = entered }))) (sym (ap (λ (k : Option Job). abstract_noted_step m a k (Write_all to b (rising o count))) j)) (record {
   histories = each.0;
   entered = subst (λ (es : List Entry). AreEntries size (length h) (enter_each c (rising (b * size + o) count) (record { histories = h; entered = entered })).entered es) (sym (changed_same m.entered a (entered_each m.histories b (rising o count) c (m.entered a)))) each.1;
   others = λ k n. changed_other m.entered a k (entered_each m.histories b (rising o count) c (m.entered a)) n;

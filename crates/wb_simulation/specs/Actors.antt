@@ -14,7 +14,7 @@ use Rattle.wb_tasks.specs.declared.step.DeviceStep.TheVariants.{Sync}
 use Rattle.wb_types.specs.declared.mode.Dev.TheVariants.{Cache, Origin}
 use Rattle.wb_tasks.specs.declared.step.DeskStep.TheVariants.{BeginCommit, ReleaseOrder}
 use Rattle.wb_types.specs.declared.number.OBlock.{OBlock}
-use Rattle.wb_link.specs.World.{Actor as AbstractActor, is_alone}
+use Rattle.wb_link.specs.World.{AbstractActor, is_alone}
 use Rattle.wb_refines.specs.Models.{IsAt, HasStopped, IsBelow}
 use Rattle.wb_refines.specs.Flushes.{IsFlushing, IsOnMetadata}
 use Rattle.wb_refines.specs.Tasks.{IsResting}

@@ -16,7 +16,7 @@ use Rattle.wb_tasks.specs.declared.step.Migration.TheVariants.{Promote as Promot
 use Rattle.wb_tasks.specs.declared.step.Want.{Want}
 use Rattle.wb_tasks.specs.declared.step.Want.TheVariants.{Device}
 use Rattle.wb_link.specs.Tables.{Order as AbstractOrder}
-use Rattle.wb_link.specs.World.{Actor as AbstractActor}
+use Rattle.wb_link.specs.World.{AbstractActor}
 use Rattle.wb_refines.specs.Translation.{offsets_in}
 use Rattle.wb_refines.specs.Models.{HasStopped, plan_of}
 use Rattle.wb_refines.specs.Migrations.{order_on, Fills}

@@ -34,7 +34,7 @@ use Rattle.wb_words.specs.declared.step.CellStep.TheVariants.{Look}
 use Rattle.wb_policy.specs.declared.order.Order.TheVariants.{Replace as ReplaceOrder, Demote as DemoteOrder}
 use Rattle.wb_tasks.specs.declared.step.DeskStep.TheVariants.{Map, Unmap, ReleaseOrder}
 use Rattle.wb_tasks.specs.declared.step.Migration.TheVariants.{Promote, Demote}
-use Rattle.wb_link.specs.World.{World, Shared, Free, Mapped, Reserved, Apart}
+use Rattle.wb_link.specs.World.{World, Shared, Free, Mapped, Reserved, ShareNoBlock}
 use Rattle.wb_link.specs.Tables.{Order as AbstractOrder}
 use Rattle.wb_refines.specs.Migrations.{IsWhere}
 use Rattle.wb_promise.specs.Effects.{contents_at, dropped, replacing}
@@ -45,7 +45,7 @@ use Rattle.wb_simulation.specs.Worlds.{Situation, Agrees, Turn, Stays, Reserves,
 
 -- no order that is live shares a block with this one
 abbrev pub IsUngiven : Locations → List (Option Order) → AbstractOrder → Type 0
-IsUngiven m orders order = (c : ℕ) (o : Order) → slice_get orders c ≡ Some (Some o) → Apart (order_there m c o) order
+IsUngiven m orders order = (c : ℕ) (o : Order) → slice_get orders c ≡ Some (Some o) → ShareNoBlock (order_there m c o) order
 
 -- a promotion brings a block that is nowhere into a cache block that is free; another order is of a block that stands there
 abbrev pub MayBeGiven : Migration → ℕ → ℕ → Shared → Type 0

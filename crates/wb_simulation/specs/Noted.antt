@@ -6,9 +6,9 @@ use Rattle.wb_contents.specs.Devices.{by_block}
 use Rattle.wb_tasks.specs.declared.step.Answer.TheVariants.{Done as Finished, Refused as Refuses}
 use Rattle.wb_types.specs.declared.refusal.Refusal.{Refusal}
 use Rattle.wb_link.specs.Tables.{Job as AbstractJob, Reading, Writing, Flushing}
-use Rattle.wb_link.specs.World.{World, Shared, Record, Actor as AbstractActor, after_all}
-use Rattle.wb_link.specs.Clerk.{Notes as AbstractNotes, opened}
-use Rattle.wb_link.specs.Openings.{On, noted, AllRight, emptied}
+use Rattle.wb_link.specs.World.{World, Shared, Record, AbstractActor, abstract_after_all}
+use Rattle.wb_link.specs.Clerk.{AbstractNotes, abstract_opened}
+use Rattle.wb_link.specs.Openings.{On, abstract_noted, AllEventsRight, emptied}
 use Rattle.wb_promise.specs.declared.job.Job.{Job}
 use Rattle.wb_promise.specs.Clerk.{Notes, Doing, begins, begun, put, nobody, entering, enter_each, write_note, all_raised, greater_of}
 use Rattle.wb_promise.specs.States.{Actor}
@@ -18,7 +18,7 @@ use Rattle.wb_simulation.specs.Worlds.{zeros, Situation, Turn, WorldFollowsBy}
 
 -- the abstract notes after these records
 abbrev pub told : AbstractNotes → List Record → AbstractNotes
-told m rs = noted m (map (λ (r : Record). On r) rs)
+told m rs = abstract_noted m (map (λ (r : Record). On r) rs)
 
 -- each of these contents is the newest of its sector's history, from this offset of a block on
 abbrev pub AreNewest : (ℕ → ℕ → History) → ℕ → ℕ → List Content → Type 0
@@ -28,7 +28,7 @@ AreNewest histories b o (c ∷ contents) = (c ≡ newest (histories b o)) × Are
 -- What a run of the abstract world that follows a happening makes of notes that agree, whose actor is this one there before it.
 abbrev pub Kept : Telling → ((size : ℕ) (n : Notes) (a : ℕ) (y : AbstractActor) → (Notes → Type 0) → Type 0) → Type 0
 Kept telling Premise = (turn : Turn) (a : ℕ) (s : World) (now : Situation) (x : Actor) (f : WorldFollowsBy turn telling a s now x) (y : AbstractActor) (n : Notes) (m : AbstractNotes) →
-    slice_get s.actors a ≡ Some y → a < length n.doings → NotesAgree now.size n s m → Premise now.size n a y (λ (n' : Notes). NotesAgree now.size n' (after_all s f.records) (told m f.records))
+    slice_get s.actors a ≡ Some y → a < length n.doings → NotesAgree now.size n s m → Premise now.size n a y (λ (n' : Notes). NotesAgree now.size n' (abstract_after_all s f.records) (told m f.records))
 
 pub record NotesFollowed : Type 0 where
   -- nothing is noted
@@ -57,7 +57,7 @@ pub record NotesFollowed : Type 0 where
   -- a crash and an opening's start end what all are at
   pub ended : (size : ℕ) (n : Notes) (s : World) (t : Shared) (m : AbstractNotes) → NotesAgree size n s m → NotesAgree size (record n { doings = nobody n.doings }) (emptied s t) m
   -- an opening that is answered done begins notes anew with what it shows
-  pub anew : (size many : ℕ) (shown : List Content) (view : ℕ → ℕ → Content) (s : World) (t : Shared) → by_block size zeros (map only shown) ≡ (λ b o. only (view b o)) → NotesAgree size (begins many shown) (emptied s t) (opened view)
+  pub anew : (size many : ℕ) (shown : List Content) (view : ℕ → ℕ → Content) (s : World) (t : Shared) → by_block size zeros (map only shown) ≡ (λ b o. only (view b o)) → NotesAgree size (begins many shown) (emptied s t) (abstract_opened view)
   -- where the records are right, what a read is given are the last entries of the histories
   pub newest_read : (turn : Turn) (block offset : ℕ) (contents : List Content) (a : ℕ) (s : World) (now : Situation) (x : Actor) (f : WorldFollowsBy turn (Reads block offset contents) a s now x) (y : AbstractActor) (n : Notes) (m : AbstractNotes) →
-      slice_get s.actors a ≡ Some y → a < length n.doings → NotesAgree now.size n s m → AllRight m (map (λ (r : Record). On r) f.records) → AreNewest (by_block now.size zeros n.histories) block offset contents
+      slice_get s.actors a ≡ Some y → a < length n.doings → NotesAgree now.size n s m → AllEventsRight m (map (λ (r : Record). On r) f.records) → AreNewest (by_block now.size zeros n.histories) block offset contents

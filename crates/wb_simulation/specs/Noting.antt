@@ -2,8 +2,8 @@
 use Rattle.std.specs.Prelude.{◌≡◌, ◌<◌, ◌+◌, ◌*◌, ℕ, List, Option, Some, None, cond, nat_lt, length, slice_get, unwrap_or}
 use Rattle.wb_contents.specs.Devices.{by_block}
 use Rattle.wb_link.specs.Tables.{Script, Job as AbstractJob}
-use Rattle.wb_link.specs.World.{World, Actor as AbstractActor}
-use Rattle.wb_link.specs.Clerk.{Notes as AbstractNotes, Entry, raised as raised_there}
+use Rattle.wb_link.specs.World.{World, AbstractActor}
+use Rattle.wb_link.specs.Clerk.{AbstractNotes, Entry, abstract_raised as raised_there}
 use Rattle.wb_promise.specs.Clerk.{Notes, Doing, Position, all_raised}
 use Rattle.wb_simulation.specs.Worlds.{zeros}
 

@@ -7,7 +7,7 @@ use Rattle.wb_contents.specs.Devices.{by_block}
 use Rattle.wb_words.specs.SharedWords.{fresh_words}
 use Rattle.wb_tree.specs.Mapping.{IsMapping}
 use Rattle.wb_devices.specs.declared.devices.Devices.{Devices}
-use Rattle.wb_link.specs.World.{Block, Shared, resting as idle}
+use Rattle.wb_link.specs.World.{Block, Shared, abstract_resting as idle}
 use Rattle.wb_link.specs.Openings.{Learnt, opened_on}
 use Rattle.wb_promise.specs.States.{Actor}
 use Rattle.wb_promise.specs.Effects.{sealing_steps, words_by}

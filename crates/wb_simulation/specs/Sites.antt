@@ -17,7 +17,7 @@ use Rattle.wb_meta.specs.Roots.{MayBeReadAs, IsSettled}
 use Rattle.wb_devices.specs.declared.devices.Devices.{Devices}
 use Rattle.wb_contents.specs.Conditions.{IsUnnamed}
 use Rattle.wb_link.specs.World.{Shared, Block, Free, Mapped}
-use Rattle.wb_link.specs.Openings.{Site, Phase, Stands, Gone, Opens, Learnt, Stage, Settling, Caching, Basing, Looking, Rooting, Renewing, Answering, Event, MayOpen, MayHappen, after_event}
+use Rattle.wb_link.specs.Openings.{Site, AbstractPhase, Stands, Gone, Opens, Learnt, Stage, Settling, Caching, Basing, Looking, Rooting, Renewing, Answering, Event, MayOpen, MayHappen, after_event}
 use Rattle.wb_promise.specs.Headline.{place_of}
 use Rattle.wb_simulation.specs.Worlds.{zeros, Stays, Begins, Puts, Ends, TurnedTo}
 
@@ -43,14 +43,14 @@ pub record DevicesAgree (geometry : Geometry) (size : ℕ) (committed : Stored) 
   pub images : ImagesAgree geometry committed later devices.metadata s
 
 -- An event may come there, which leads to this phase, these devices agreeing with it then.
-pub record LeadsTo (geometry : Geometry) (size : ℕ) (committed : Stored) (later : Option Stored) (w : Site) (phase : Phase) (devices : Devices (List History)) : Type 0 where
+pub record LeadsTo (geometry : Geometry) (size : ℕ) (committed : Stored) (later : Option Stored) (w : Site) (phase : AbstractPhase) (devices : Devices (List History)) : Type 0 where
   pub event : Event
   pub may : MayHappen size w event
   pub phase_is : (after_event w event).phase ≡ phase
   pub agrees : DevicesAgree geometry size committed later devices (after_event w event).world.shared
 
 -- the same, once it is known as which of two images the metadata are read
-pub record LeadsToOne (geometry : Geometry) (size : ℕ) (committed : Stored) (later : Option Stored) (w : Site) (phase : Phase) (devices : Devices (List History)) : Type 0 where
+pub record LeadsToOne (geometry : Geometry) (size : ℕ) (committed : Stored) (later : Option Stored) (w : Site) (phase : AbstractPhase) (devices : Devices (List History)) : Type 0 where
   pub state : Stored
   pub one_of : (state ≡ committed) ⊎ (later ≡ Some state)
   pub leads : LeadsTo geometry size state None w phase devices

@@ -4,7 +4,7 @@ use Rattle.wb_types.specs.Extents.{rising}
 use Rattle.wb_disk.specs.Device.{Content}
 use Rattle.wb_tasks.specs.declared.step.Answer.{Answer}
 use Rattle.wb_tasks.specs.declared.step.Answer.TheVariants.{Done as Finished, Refused as Refuses}
-use Rattle.wb_link.specs.Tables.{Script, Flag, table, Job, Reading, Writing, Promoting, Returning, Want, Read_all, Write_all, End, Got, Gave, Done, Finished as AnsweredDone, Answer as AbstractAnswer, want}
+use Rattle.wb_link.specs.Tables.{Script, Flag, abstract_table, Job, Reading, Writing, Promoting, Returning, Want, Read_all, Write_all, End, Got, Gave, Done, Finished as AnsweredDone, Answer as AbstractAnswer, abstract_want}
 use Rattle.wb_link.specs.World.{Release, Record, Start, Again, task_after}
 use Rattle.wb_refines.specs.Going.{records}
 
@@ -18,7 +18,7 @@ IsUnnoted next = Unit {0}
 abbrev pub AreUnnoted : Option Script → List Got → Type 0
 AreUnnoted None gots = Unit {0}
 AreUnnoted (Some script) [] = Unit {0}
-AreUnnoted (Some script) (got ∷ gots) = IsUnnoted (want script) × AreUnnoted (task_after script (want script) got) gots
+AreUnnoted (Some script) (got ∷ gots) = IsUnnoted (abstract_want script) × AreUnnoted (task_after script (abstract_want script) got) gots
 
 -- a job of one block
 abbrev pub reading : ℕ → List (List ℕ) → List Want → AbstractAnswer → Script
@@ -42,7 +42,7 @@ IsNoEnd next = Unit {0}
 abbrev pub AreCarried : Option Script → List Got → Type 0
 AreCarried None gots = Unit {0}
 AreCarried (Some script) [] = Unit {0}
-AreCarried (Some script) (got ∷ gots) = IsMigrating script.job × IsNoEnd (want script) × AreCarried (task_after script (want script) got) gots
+AreCarried (Some script) (got ∷ gots) = IsMigrating script.job × IsNoEnd (abstract_want script) × AreCarried (task_after script (abstract_want script) got) gots
 
 -- It is told nothing that it notes; that a read is given these contents of a block's sectors from an offset on; that a write writes
 -- this content to so many of them, done or failing; that a task of this job is answered; that the actor is given a job; and of a migration,
@@ -90,7 +90,7 @@ AnswersSo job (Refuses refusal) (Some script) = (script.steps ≡ []) × (script
 pub data IsResumed (a : ℕ) (task : Option Script) (told : List Record) : Type 0 where
   Given : (job : Job) → IsMigrating job → told ≡ Start a job ∷ [] → IsResumed a task told
   Kept : (job : Job) → IsMigrating job → told ≡ Again a job ∷ [] → IsResumed a task told
-  Failing : (job : Job) → IsMigrating job → task ≡ None → told ≡ Start a job ∷ records a (Some (table job)) (Flag true ∷ Done ∷ []) → IsResumed a task told
+  Failing : (job : Job) → IsMigrating job → task ≡ None → told ≡ Start a job ∷ records a (Some (abstract_table job)) (Flag true ∷ Done ∷ []) → IsResumed a task told
   Nowhere : task ≡ None → told ≡ [] → IsResumed a task told
 
 -- nothing is left of a migration but its answer, or it is there no more

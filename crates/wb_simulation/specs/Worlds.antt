@@ -13,7 +13,7 @@ use Rattle.wb_tasks.specs.Plan.{Plan}
 use Rattle.wb_tasks.specs.declared.step.Migration.{Migration}
 use Rattle.wb_promise.specs.declared.job.Job.TheVariants.{Migrate}
 use Rattle.wb_simulation.specs.Carried.{held, live_there, IsOf, IsAtMigration}
-use Rattle.wb_link.specs.World.{World, Shared, Block, Mapped, Reserved, removed, begun, ended, given_back, Record, IsRun, after_all, Actor as AbstractActor}
+use Rattle.wb_link.specs.World.{World, Shared, Block, Mapped, Reserved, removed, block_begun, block_ended, block_given_back, Record, IsAbstractRun, abstract_after_all, AbstractActor}
 use Rattle.wb_refines.specs.Models.{WordsAgree}
 use Rattle.wb_promise.specs.States.{Actor}
 use Rattle.wb_simulation.specs.Actors.{StandsFor}
@@ -101,12 +101,12 @@ mapping_by turn s = s.mapping
 
 -- and the state of each cache block
 abbrev pub blocks_by : Turn → Shared → ℕ → Block
-blocks_by Begins s = λ c. begun (s.blocks c)
-blocks_by Ends s = λ c. ended (s.blocks c)
+blocks_by Begins s = λ c. block_begun (s.blocks c)
+blocks_by Ends s = λ c. block_ended (s.blocks c)
 blocks_by (Reserves cache) s = changed s.blocks cache Reserved
 blocks_by (Maps block cache) s = changed s.blocks cache Mapped
 blocks_by (Unmaps block cache next) s = changed s.blocks cache (removed next)
-blocks_by (GivesUp cache) s = changed s.blocks cache (given_back (s.blocks cache))
+blocks_by (GivesUp cache) s = changed s.blocks cache (block_given_back (s.blocks cache))
 blocks_by turn s = s.blocks
 
 abbrev pub DeskTurnedTo : Turn → (s t : Shared) → Type 0
@@ -116,10 +116,10 @@ DeskTurnedTo turn s t = (t.mapping ≡ mapping_by turn s) × (t.blocks ≡ block
 -- images.
 pub record WorldFollowsBy (turn : Turn) (telling : Telling) (a : ℕ) (s : World) (now : Situation) (x : Actor) : Type 0 where
   pub records : List Record
-  pub run : IsRun now.size s records
-  pub agrees : Agrees (record now { actors = slice_set now.actors a x }) (after_all s records)
-  pub turned : TurnedTo turn s.shared (after_all s records).shared
-  pub desk : DeskTurnedTo turn s.shared (after_all s records).shared
+  pub run : IsAbstractRun now.size s records
+  pub agrees : Agrees (record now { actors = slice_set now.actors a x }) (abstract_after_all s records)
+  pub turned : TurnedTo turn s.shared (abstract_after_all s records).shared
+  pub desk : DeskTurnedTo turn s.shared (abstract_after_all s records).shared
   pub told : (y : AbstractActor) → slice_get s.actors a ≡ Some y → IsTold telling a y.task records
 
 -- the same, and desk and images stay
