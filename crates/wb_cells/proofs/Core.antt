@@ -19,7 +19,7 @@ use Rattle.wb_words.specs.Cards.{blank_card}
 use Rattle.wb_words.specs.Rule.{LockRule}
 use Rattle.wb_cells.specs.Fractions.{IsWhole}
 use Rattle.wb_cells.specs.Views.{Ruled, AllHaveParts, all_cards, view_pieces, words_or}
-use Rattle.wb_cells.specs.Moves.{card_at, Found, SeatMoves}
+use Rattle.wb_cells.specs.Moves.{card_at, FoundWords, SeatMoves}
 use Rattle.wb_cells.proofs.Decoding.{decode_get, decode_set}
 use Rattle.wb_cells.proofs.Halves.{crowd, whole_sum, same_parts, some_pieces}
 use Rattle.wb_cells.proofs.Flatten.{flat, alone}
@@ -88,7 +88,7 @@ steps n slots id word k me f bits Q E named turn can grows s r _ at small =
     let some_part : v.fraction.pieces ≢ 0 = has_part n s r id k v c at stands in
     let rule : (ws : Option (List ℕ)) → LockRule n (decode (set s.words i (f x))) (all_cards (set s.views id (fitted v (bits ++ v.fail) (set v.cards k d) ws))) =
     λ ws. subst (λ (z : Words × List Card). LockRule n z.0 z.1) (λ j. (sym put_is j, sym (place.2 (fitted v (bits ++ v.fail) (set v.cards k d) ws) d refl) j)) t.1 in
-    let found : Found (E x) k v = record {
+    let found : FoundWords (E x) k v = record {
       was = decode s.words;
       now = put (decode s.words) word (f x);
       changed = t.3;

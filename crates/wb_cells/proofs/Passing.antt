@@ -15,7 +15,7 @@ use Rattle.wb_words.specs.declared.card.Card.{Card}
 use Rattle.wb_cells.specs.declared.view.View.{View}
 use Rattle.wb_words.specs.SharedWords.{IsWord, HasBits, fail_word}
 use Rattle.wb_cells.specs.Flat.{decode}
-use Rattle.wb_words.specs.Cards.{blank_card, total, is_block, is_write, is_count, is_share, is_own, seal_times, seal_count, is_newest, is_bit, shares, owns, sharers, owners, writes_on, counts_of, shared_of, owned_of, stores, seals_on, ends, times_set, merged}
+use Rattle.wb_words.specs.Cards.{blank_card, total, is_block, count_of_write, is_count, is_share, is_own, seal_times, seal_count, is_newest, is_bit, shares, owns, sharers, owners, writes_on, counts_of, shared_of, owned_of, stores, seals_on, ends, times_set, merged}
 use Rattle.wb_words.specs.Rule.{block, AllSawNoMore, Knows, LooksAllowed, LossesAllowed, NotesWhatWas, LockRule, IsLock}
 use Rattle.wb_words.specs.Moments.{Moment}
 use Rattle.wb_types.specs.declared.number.OBlock.{OBlock}
@@ -185,7 +185,7 @@ notes_merged cs c d k l = record {
 
 module _ (c d : Card) where
   pub merged_writes : (b : ℕ) → writes_on b (merged c d) ≡ writes_on b c + writes_on b d
-  merged_writes b = total-append (is_write b) c.added d.added
+  merged_writes b = total-append (count_of_write b) c.added d.added
 
   pub merged_counts : (kind : Kind) → counts_of kind (merged c d) ≡ counts_of kind c + counts_of kind d
   merged_counts kind = total-append (is_count kind) c.added d.added

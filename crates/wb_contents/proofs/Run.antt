@@ -3,8 +3,8 @@ use Rattle.wb_disk.specs.Device.{Content, History, newest}
 use Rattle.wb_contents.specs.Volume.{Volume, Whole, Half, at_location, location}
 use Rattle.wb_types.specs.declared.mode.Mode.{Mode}
 use Rattle.wb_types.specs.declared.mode.Mode.TheVariants.{Writeback, Writethrough, Passthrough}
-use Rattle.wb_contents.specs.Acts.{sector_written, written_through, life_ended, life_begun, all_synced, partly_synced, only_chosen, image_found, Act, Write, Write_origin, Write_cache, Fail_write, Finish, Fill_cache, Copy_back, Map, Unmap, Make_dirty, Make_clean, Begin_commit, Begin_suspend, Sync_cache, Sync_origin, Fail_cache_sync, Fail_origin_sync, Write_root, End_commit, Begin_flush, End_flush, Crash, Find_image, Write_opening_root, Open, after, after_all}
-use Rattle.wb_contents.specs.Conditions.{IsCopied, MayAct, IsRun}
+use Rattle.wb_contents.specs.Acts.{sector_written, written_through, life_ended, life_begun, all_synced, partly_synced, only_chosen, image_found, Act, Write, Write_origin, Write_cache, Fail_write, Finish, Fill_cache, Copy_back, Map, Unmap, Make_dirty, Make_clean, Begin_commit, Begin_suspend, Sync_cache, Sync_origin, Fail_cache_sync, Fail_origin_sync, Write_root, End_commit, Begin_flush, End_flush, Crash, Find_image, Write_opening_root, Open, volume_after, volume_after_all}
+use Rattle.wb_contents.specs.Conditions.{IsCopied, MayAct, IsRunOfActs}
 use Rattle.wb_contents.specs.Promises.{IsEntryFrom, AllEntriesFrom, first_volume, route, visible, IsConsistent}
 use Rattle.wb_contents.proofs.Positions.{get_last, at_lower, only_one}
 use Rattle.wb_contents.proofs.Floors.{Floored, KeepsFloors, HasHomes, shorter_same, shorter_synced, shorter_partly, shorter_kept, write_origin_kept, write_cache_kept, lost_kept, copied_kept, through_kept, fill_kept, freed, finished_bound}
@@ -87,19 +87,19 @@ ended_all d origin cache t r wo wc i = record {
   seals = ended_clean d origin cache (image_found d t) (found_same d t r i) wo wc;
 }
 
-pub unmap_all : (d : Volume) (b k : ℕ) → d.live ≡ true → d.mapping b ≡ Some k → IsCopied d b k → KeepsAll d → KeepsAll (after d (Unmap b))
+pub unmap_all : (d : Volume) (b k : ℕ) → d.live ≡ true → d.mapping b ≡ Some k → IsCopied d b k → KeepsAll d → KeepsAll (volume_after d (Unmap b))
 unmap_all d b k l m copied i = record {
   flushes = i.flushes;
   floors = unmap_kept (ground d) b k m copied i.floors;
   latest = unmap_latest d b k m copied i.latest;
-  seals = sealed_live (after d (Unmap b)) l (i.seals.open_committed l) (i.seals.open_running l);
+  seals = sealed_live (volume_after d (Unmap b)) l (i.seals.open_committed l) (i.seals.open_running l);
 }
 
-pub act_kept : (d : Volume) (x : Act) → MayAct d x → KeepsAll d → KeepsAll (after d x)
+pub act_kept : (d : Volume) (x : Act) → MayAct d x → KeepsAll d → KeepsAll (volume_after d x)
 act_kept d (Write b o c) m i = write_all d (d.mapping b) b o c refl m.0 m.1 i
-act_kept d (Write_origin b o c) m i = record { flushes = i.flushes; floors = write_origin_kept (ground d) b o c i.floors; latest = half_write_latest d b o c i.latest; seals = sealed_live (after d (Write_origin b o c)) m (i.seals.open_committed m) (i.seals.open_running m) }
+act_kept d (Write_origin b o c) m i = record { flushes = i.flushes; floors = write_origin_kept (ground d) b o c i.floors; latest = half_write_latest d b o c i.latest; seals = sealed_live (volume_after d (Write_origin b o c)) m (i.seals.open_committed m) (i.seals.open_running m) }
 act_kept d (Write_cache b o) m i = through_all d (d.mapping b) b o refl m.0 m.1 i
-act_kept d (Fail_write b o c) m i = record { flushes = i.flushes; floors = lost_kept (ground d) b o c i.floors; latest = failed_write_latest d b o c i.latest; seals = sealed_live (after d (Fail_write b o c)) m (i.seals.open_committed m) (i.seals.open_running m) }
+act_kept d (Fail_write b o c) m i = record { flushes = i.flushes; floors = lost_kept (ground d) b o c i.floors; latest = failed_write_latest d b o c i.latest; seals = sealed_live (volume_after d (Fail_write b o c)) m (i.seals.open_committed m) (i.seals.open_running m) }
 act_kept d (Finish b o) m i = record {
   flushes = finish_flushes (tally d) b o (length (d.histories b o).later) (finished_bound (ground d) b o i.floors) i.flushes;
   floors = finish_kept (ground d) b o (length (d.histories b o).later) (finished_bound (ground d) b o i.floors) (last_at d b o (newest (location d d.mapping b o)) ((i.latest.sectors b o).latest m)) i.floors;
@@ -110,19 +110,19 @@ act_kept d (Fill_cache k o c) m i = let j = freed (ground d) k m.1.0 m.1.1 m.1.2
   flushes = i.flushes;
   floors = fill_kept (ground d) k o c j.0 j.1;
   latest = fill_latest d k o c m.1.0 i.latest;
-  seals = sealed_live (after d (Fill_cache k o c)) m.0 (i.seals.open_committed m.0) (i.seals.open_running m.0);
+  seals = sealed_live (volume_after d (Fill_cache k o c)) m.0 (i.seals.open_committed m.0) (i.seals.open_running m.0);
 }
 act_kept d (Copy_back b o) m i = record {
   flushes = i.flushes;
   floors = copied_kept (ground d) b o (newest (location d d.mapping b o)) (i.floors.mapping_newest b o) i.floors;
   latest = copied_back_latest d b o m.1 i.latest;
-  seals = sealed_live (after d (Copy_back b o)) m.0 (i.seals.open_committed m.0) (i.seals.open_running m.0);
+  seals = sealed_live (volume_after d (Copy_back b o)) m.0 (i.seals.open_committed m.0) (i.seals.open_running m.0);
 }
 act_kept d (Map b k) m i = let j = freed (ground d) k m.1.0 m.1.1 m.1.2 i.floors in record {
   flushes = i.flushes;
   floors = map_kept (ground d) b k m.2 m.3 j.0 j.1;
   latest = map_latest d b k m.2 m.3 i.latest;
-  seals = sealed_live (after d (Map b k)) m.0 (i.seals.open_committed m.0) (i.seals.open_running m.0);
+  seals = sealed_live (volume_after d (Map b k)) m.0 (i.seals.open_committed m.0) (i.seals.open_running m.0);
 }
 act_kept d (Unmap b) m i = let k = m.1.0 in elim m.1.2 [
   | inl copied ↦ unmap_all d b k m.0 m.1.1 copied i
@@ -138,13 +138,13 @@ act_kept d (Make_clean b) m i = record {
   flushes = i.flushes;
   floors = i.floors;
   latest = made_clean_latest d b m.1.0 m.1.1 m.1.2 i.latest;
-  seals = sealed_live (after d (Make_clean b)) m.0 (i.seals.open_committed m.0) (i.seals.open_running m.0);
+  seals = sealed_live (volume_after d (Make_clean b)) m.0 (i.seals.open_committed m.0) (i.seals.open_running m.0);
 }
 act_kept d Begin_commit m i = record {
   flushes = begin_flushes (tally d) i.flushes;
   floors = begin_kept (ground d) m.1 i.floors;
   latest = record { sectors = i.latest.sectors; passed = i.latest.passed };
-  seals = sealed_live (after d Begin_commit) m.0 (i.seals.open_committed m.0) (λ b. refl);
+  seals = sealed_live (volume_after d Begin_commit) m.0 (i.seals.open_committed m.0) (λ b. refl);
 }
 act_kept d Begin_suspend m i = record { flushes = begin_flushes (tally d) i.flushes; floors = begin_kept (ground d) m.1 i.floors; latest = record { sectors = i.latest.sectors; passed = i.latest.passed }; seals = suspend_sealed d m.0 m.1 m.2 i.latest i.seals }
 act_kept d Sync_cache m i = record {
@@ -195,9 +195,9 @@ act_kept d (Open mode) m i = record {
   seals = sealed_live (life_begun d mode) refl (λ b. refl) (λ b. refl);
 }
 
-pub all_kept : (d : Volume) (xs : List Act) → IsRun d xs → KeepsAll d → KeepsAll (after_all d xs)
+pub all_kept : (d : Volume) (xs : List Act) → IsRunOfActs d xs → KeepsAll d → KeepsAll (volume_after_all d xs)
 all_kept d [] m i = i
-all_kept d (x ∷ xs) m i = all_kept (after d x) xs m.1 (act_kept d x m.0 i)
+all_kept d (x ∷ xs) m i = all_kept (volume_after d x) xs m.1 (act_kept d x m.0 i)
 
 pub first_kept : (m : Mode) (c : ℕ → ℕ → Content) → KeepsAll (first_volume m c)
 first_kept m c = record {

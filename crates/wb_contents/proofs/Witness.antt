@@ -2,13 +2,13 @@ use Rattle.std.proofs.Common.{◌≡◌, inl, inr, ℕ, zero, suc, [], ◌∷◌
 use Rattle.wb_contents.proofs.Sectors.{by_sector, elsewhere_is}
 use Rattle.std.proofs.lemmas.Bool.{cases_eq}
 use Rattle.wb_contents.proofs.Positions.{changed_other}
-use Rattle.wb_contents.specs.Examples.{blank, nothing, one, one_kept, Breaks, suspend_root_before_its_syncs, flush_by_an_older_commit, flush_of_syncs_alone, root_before_its_syncs, opening_without_the_origin_sync, committed_cache_block_filled, dirty_block_removed_uncopied, passthrough_over_a_dirty_block, two, two_lives, a_third_life, flushed_one, stale_copy}
+use Rattle.wb_contents.specs.Examples.{blank_volume, nothing, one, one_kept, Breaks, suspend_root_before_its_syncs, flush_by_an_older_commit, flush_of_syncs_alone, root_before_its_syncs, opening_without_the_origin_sync, committed_cache_block_filled, dirty_block_removed_uncopied, passthrough_over_a_dirty_block, two, two_lives, a_third_life, flushed_one, stale_copy}
 use Rattle.wb_disk.specs.Device.{Content, History, entries, newest, added, only}
-use Rattle.wb_contents.specs.Acts.{all_synced, after_all}
+use Rattle.wb_contents.specs.Acts.{all_synced, volume_after_all}
 use Rattle.wb_types.specs.declared.mode.Mode.TheVariants.{Writeback}
 use Rattle.wb_contents.specs.Volume.{Standing, Whole, Half, changed, changed_at}
 use Rattle.wb_contents.specs.Promises.{IsEntryFrom, first_volume, IsConsistent}
-use Rattle.wb_contents.specs.Conditions.{IsRun}
+use Rattle.wb_contents.specs.Conditions.{IsRunOfActs}
 
 -- Runs that leave out one condition each, and break what holds.
 
@@ -62,10 +62,10 @@ with_two = changed_at (all_synced with_one) 0 0 (added (all_synced with_one 0 0)
 pub may_keep : (k o : ℕ) → Contains (entries (with_two k o)) (one_kept k o)
 may_keep = by_sector (λ k o. Contains (entries (with_two k o)) (one_kept k o)) 0 0 (0, omega arith, refl)
     (λ k o n. let e : with_two k o ≡ only [] = elsewhere_is (all_synced with_one) 0 0 k o (added (all_synced with_one 0 0) two) n ∙ ap (λ (h : History). only (newest h)) (elsewhere_is zeros 0 0 k o (added (only []) one) n) in
-    let f : one_kept k o ≡ nothing = elsewhere_is blank 0 0 k o one n in
+    let f : one_kept k o ≡ nothing = elsewhere_is blank_volume 0 0 k o one n in
     subst (λ (h : History). Contains (entries h) (one_kept k o)) (sym e) (subst (λ (c : Content). Contains (entries (only [])) c) (sym f) (0, omega arith, refl)))
 
-pub two_lives_run : IsRun (first_volume Writeback blank) two_lives
+pub two_lives_run : IsRunOfActs (first_volume Writeback blank_volume) two_lives
 two_lives_run = (
   (refl, ((λ b e. absurd (cc)), (λ b e. absurd (cc)), (λ b e. absurd (cc))), refl, (λ o. refl)),
   (
@@ -134,7 +134,7 @@ mid k o = only (one_kept k o)
 pub copied : (o : ℕ) → newest (changed_at mid 0 0 (added (mid 0 0) two) 0 o) ≡ newest (changed_at zeros 0 0 (added (only []) two) 0 o)
 copied o = elim (cases_eq o 0) [
   | inl e ↦ subst (λ (v : ℕ). newest (changed_at mid 0 0 (added (mid 0 0) two) 0 v) ≡ newest (changed_at zeros 0 0 (added (only []) two) 0 v)) (sym e) refl
-  | inr n ↦ ap newest (elsewhere_is mid 0 0 0 o (added (mid 0 0) two) (inr n)) ∙ elsewhere_is blank 0 0 0 o one (inr n) ∙ sym (ap newest (elsewhere_is zeros 0 0 0 o (added (only []) two) (inr n)))
+  | inr n ↦ ap newest (elsewhere_is mid 0 0 0 o (added (mid 0 0) two) (inr n)) ∙ elsewhere_is blank_volume 0 0 0 o one (inr n) ∙ sym (ap newest (elsewhere_is zeros 0 0 0 o (added (only []) two) (inr n)))
 ]
 
 abbrev pub whole : ℕ → ℕ → Standing
@@ -156,7 +156,7 @@ admitted b k e = elim (cases_eq b 0) [
   | inr n ↦ let bad : None ≡ Some k = sym (changed_other nowhere 0 b (Some 0) n) ∙ e in absurd (cc)
 ]
 
-pub a_third_life_runs : IsRun (after_all (first_volume Writeback blank) two_lives) a_third_life
+pub a_third_life_runs : IsRunOfActs (volume_after_all (first_volume Writeback blank_volume) two_lives) a_third_life
 a_third_life_runs = (
   (refl, (0, refl, inr copied)),
   (

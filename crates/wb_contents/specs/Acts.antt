@@ -118,34 +118,34 @@ life_begun d m = record d {
 }
 
 -- what an act leaves
-abbrev pub after : Volume → Act → Volume
-after d (Write b o c) = sector_written d (d.mapping b) b o c
-after d (Write_origin b o c) = record d { origin = changed_at d.origin b o (added (d.origin b o) c); histories = changed_at d.histories b o (added (d.histories b o) c); standing = changed_at d.standing b o Half }
-after d (Write_cache b o) = written_through d (d.mapping b) b o
-after d (Fail_write b o c) = record d { histories = changed_at d.histories b o (added (d.histories b o) c); standing = changed_at d.standing b o Torn }
-after d (Finish b o) = record d { finished = changed_at d.finished b o (length (d.histories b o).later) }
-after d (Fill_cache k o c) = record d { cache = changed_at d.cache k o (added (d.cache k o) c) }
-after d (Copy_back b o) = record d { origin = changed_at d.origin b o (added (d.origin b o) (newest (location d d.mapping b o))) }
-after d (Map b k) = record d { mapping = changed d.mapping b (Some k); dirty = changed d.dirty b false }
-after d (Unmap b) = record d { mapping = changed d.mapping b None }
-after d (Make_dirty b) = record d { dirty = changed d.dirty b true }
-after d (Make_clean b) = record d { dirty = changed d.dirty b false }
-after d Begin_commit = record d { began = d.began + 1; running = record { locations = d.mapping; clean = λ b. false }; running_floor = d.finished; cache_synced = false; origin_synced = false }
-after d Begin_suspend = record d { began = d.began + 1; running = record { locations = d.mapping; clean = λ b. cond (d.dirty b) false true }; running_floor = d.finished; cache_synced = false; origin_synced = false; live = false }
-after d Sync_cache = record d { cache = all_synced d.cache; cache_synced = true }
-after d Sync_origin = record d { origin = all_synced d.origin; origin_synced = true }
-after d (Fail_cache_sync choice) = record d { cache = partly_synced choice d.cache }
-after d (Fail_origin_sync choice) = record d { origin = partly_synced choice d.origin }
-after d Write_root = record d { root_written = true }
-after d End_commit = record d { ended = d.began; committed = d.running; committed_floor = d.running_floor; root_written = false }
-after d (Begin_flush a) = record d { ticket = changed d.ticket a (d.began + 1); then_finished = changed d.then_finished a d.finished }
-after d (End_flush a) = record d { floor = λ b o. max (d.floor b o) (d.then_finished a b o) }
-after d (Crash origin cache new_root) = life_ended d (only_chosen origin) (only_chosen cache) (image_found d new_root)
-after d (Find_image new_root) = life_ended d d.origin d.cache (image_found d new_root)
-after d Write_opening_root = record d { running = unclean d.committed; running_floor = d.committed_floor; root_written = true; then_finished = λ a b o. 0 }
-after d (Open m) = life_begun d m
+abbrev pub volume_after : Volume → Act → Volume
+volume_after d (Write b o c) = sector_written d (d.mapping b) b o c
+volume_after d (Write_origin b o c) = record d { origin = changed_at d.origin b o (added (d.origin b o) c); histories = changed_at d.histories b o (added (d.histories b o) c); standing = changed_at d.standing b o Half }
+volume_after d (Write_cache b o) = written_through d (d.mapping b) b o
+volume_after d (Fail_write b o c) = record d { histories = changed_at d.histories b o (added (d.histories b o) c); standing = changed_at d.standing b o Torn }
+volume_after d (Finish b o) = record d { finished = changed_at d.finished b o (length (d.histories b o).later) }
+volume_after d (Fill_cache k o c) = record d { cache = changed_at d.cache k o (added (d.cache k o) c) }
+volume_after d (Copy_back b o) = record d { origin = changed_at d.origin b o (added (d.origin b o) (newest (location d d.mapping b o))) }
+volume_after d (Map b k) = record d { mapping = changed d.mapping b (Some k); dirty = changed d.dirty b false }
+volume_after d (Unmap b) = record d { mapping = changed d.mapping b None }
+volume_after d (Make_dirty b) = record d { dirty = changed d.dirty b true }
+volume_after d (Make_clean b) = record d { dirty = changed d.dirty b false }
+volume_after d Begin_commit = record d { began = d.began + 1; running = record { locations = d.mapping; clean = λ b. false }; running_floor = d.finished; cache_synced = false; origin_synced = false }
+volume_after d Begin_suspend = record d { began = d.began + 1; running = record { locations = d.mapping; clean = λ b. cond (d.dirty b) false true }; running_floor = d.finished; cache_synced = false; origin_synced = false; live = false }
+volume_after d Sync_cache = record d { cache = all_synced d.cache; cache_synced = true }
+volume_after d Sync_origin = record d { origin = all_synced d.origin; origin_synced = true }
+volume_after d (Fail_cache_sync choice) = record d { cache = partly_synced choice d.cache }
+volume_after d (Fail_origin_sync choice) = record d { origin = partly_synced choice d.origin }
+volume_after d Write_root = record d { root_written = true }
+volume_after d End_commit = record d { ended = d.began; committed = d.running; committed_floor = d.running_floor; root_written = false }
+volume_after d (Begin_flush a) = record d { ticket = changed d.ticket a (d.began + 1); then_finished = changed d.then_finished a d.finished }
+volume_after d (End_flush a) = record d { floor = λ b o. max (d.floor b o) (d.then_finished a b o) }
+volume_after d (Crash origin cache new_root) = life_ended d (only_chosen origin) (only_chosen cache) (image_found d new_root)
+volume_after d (Find_image new_root) = life_ended d d.origin d.cache (image_found d new_root)
+volume_after d Write_opening_root = record d { running = unclean d.committed; running_floor = d.committed_floor; root_written = true; then_finished = λ a b o. 0 }
+volume_after d (Open m) = life_begun d m
 
 -- what a list of acts leaves
-abbrev pub after_all : Volume → List Act → Volume
-after_all d [] = d
-after_all d (x ∷ xs) = after_all (after d x) xs
+abbrev pub volume_after_all : Volume → List Act → Volume
+volume_after_all d [] = d
+volume_after_all d (x ∷ xs) = volume_after_all (volume_after d x) xs

@@ -4,7 +4,7 @@ use Rattle.wb_types.specs.declared.mode.Mode.{Mode}
 use Rattle.wb_types.specs.declared.mode.Mode.TheVariants.{Writeback, Passthrough}
 use Rattle.wb_disk.specs.Device.{entries, newest}
 use Rattle.wb_contents.specs.Volume.{Locations, Image, Whole, Half, Volume}
-use Rattle.wb_contents.specs.Acts.{Act, Write, Write_origin, Write_cache, Fail_write, Finish, Fill_cache, Copy_back, Map, Unmap, Make_dirty, Make_clean, Begin_commit, Begin_suspend, Write_root, End_commit, End_flush, Crash, Find_image, Write_opening_root, Open, after}
+use Rattle.wb_contents.specs.Acts.{Act, Write, Write_origin, Write_cache, Fail_write, Finish, Fill_cache, Copy_back, Map, Unmap, Make_dirty, Make_clean, Begin_commit, Begin_suspend, Write_root, End_commit, End_flush, Crash, Find_image, Write_opening_root, Open, volume_after}
 
 -- a cache block and a block of the origin have the same newest content in each sector
 abbrev pub IsCopied : Volume → ℕ → ℕ → Type 0
@@ -52,6 +52,6 @@ MayAct d (Open m) = (d.live ≡ false) × (d.cache_synced ≡ true) × (d.origin
 MayAct d other = Unit {0}
 
 -- a list of acts, each of which meets its condition
-abbrev pub IsRun : Volume → List Act → Type 0
-IsRun d [] = Unit {0}
-IsRun d (x ∷ xs) = MayAct d x × IsRun (after d x) xs
+abbrev pub IsRunOfActs : Volume → List Act → Type 0
+IsRunOfActs d [] = Unit {0}
+IsRunOfActs d (x ∷ xs) = MayAct d x × IsRunOfActs (volume_after d x) xs

@@ -1,6 +1,6 @@
 -- A device's sectors seen by block and offset, and its steps seen as acts.
 use Rattle.std.specs.Prelude.{◌≡◌, ◌<◌, ◌+◌, ◌*◌, ℕ, Bool, cond, List, length, slice_get, unwrap_or, Contains, nat_lt}
-use Rattle.wb_disk.specs.Device.{Content, History, Gives, Crashed, entries, newest, added, only, written, synced}
+use Rattle.wb_disk.specs.Device.{Content, History, ReadGives, Crashed, entries, newest, added, only, written, synced}
 use Rattle.wb_disk.specs.Failing.{synced_where}
 use Rattle.wb_contents.specs.Volume.{changed_at}
 use Rattle.wb_contents.specs.Acts.{all_synced, partly_synced, only_chosen}
@@ -13,7 +13,7 @@ by_block size blank device b o = cond (nat_lt o size) (unwrap_or (slice_get devi
 -- a read gives the newest content
 abbrev pub ReadIsNewest : Type 0
 ReadIsNewest = (size : ℕ) (blank : Content) (device : List History) (b o : ℕ) (c : Content) → o < size →
-    Gives device (b * size + o) c → newest (by_block size blank device b o) ≡ c
+    ReadGives device (b * size + o) c → newest (by_block size blank device b o) ≡ c
 
 -- a write adds its content to that sector, and changes no other
 abbrev pub WriteIsAct : Type 0

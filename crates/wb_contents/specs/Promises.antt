@@ -4,7 +4,7 @@ use Rattle.wb_types.specs.declared.mode.Mode.{Mode}
 use Rattle.wb_types.specs.declared.mode.Mode.TheVariants.{Writeback, Writethrough, Passthrough}
 use Rattle.wb_disk.specs.Device.{Content, History, entries, newest, only}
 use Rattle.wb_contents.specs.Volume.{Volume, Whole, at_location, location}
-use Rattle.wb_contents.specs.Acts.{Open, after}
+use Rattle.wb_contents.specs.Acts.{Open, volume_after}
 use Rattle.wb_contents.specs.Conditions.{MayAct}
 
 -- an entry of the history at this position or a later one
@@ -62,4 +62,4 @@ pub record IsConsistent (d : Volume) : Type 0 where
   -- a read gives the latest write
   pub latest : (b o : ℕ) → d.standing b o ≡ Whole → read_given d b o ≡ newest (d.histories b o)
   -- what an opening shows is allowed, and the next life's history begins with it
-  pub shown : (m : Mode) → MayAct d (Open m) → (b o : ℕ) → IsEntryFrom (d.floor b o) (d.histories b o) (visible d b o) × ((after d (Open m)).histories b o ≡ only (visible d b o))
+  pub shown : (m : Mode) → MayAct d (Open m) → (b o : ℕ) → IsEntryFrom (d.floor b o) (d.histories b o) (visible d b o) × ((volume_after d (Open m)).histories b o ≡ only (visible d b o))

@@ -7,17 +7,17 @@ ghost use Rattle.std.specs.Prelude.{ℕ, List};
 ghost use Rattle.wb_types.specs.declared.mode.Mode.{Mode};
 ghost use Rattle.wb_types.specs.declared.mode.Mode.TheVariants.{Writeback};
 ghost use Rattle.wb_disk.specs.Device.{Content};
-ghost use Rattle.wb_contents.specs.Acts.{Act, after_all};
-ghost use Rattle.wb_contents.specs.Conditions.{IsRun};
+ghost use Rattle.wb_contents.specs.Acts.{Act, volume_after_all};
+ghost use Rattle.wb_contents.specs.Conditions.{IsRunOfActs};
 ghost use Rattle.wb_contents.specs.Promises.{IsConsistent, IsEntryFrom, first_volume};
 ghost use Rattle.wb_contents.specs.Devices.{ReadIsNewest, WriteIsAct, SyncIsAct, FailedSyncIsAct, CrashIsAct};
-ghost use Rattle.wb_contents.specs.Examples.{blank, nothing, Breaks, two_lives, a_third_life, flushed_one, stale_copy, suspend_root_before_its_syncs, flush_by_an_older_commit, flush_of_syncs_alone, root_before_its_syncs, opening_without_the_origin_sync, committed_cache_block_filled, dirty_block_removed_uncopied, passthrough_over_a_dirty_block};
+ghost use Rattle.wb_contents.specs.Examples.{blank_volume, nothing, Breaks, two_lives, a_third_life, flushed_one, stale_copy, suspend_root_before_its_syncs, flush_by_an_older_commit, flush_of_syncs_alone, root_before_its_syncs, opening_without_the_origin_sync, committed_cache_block_filled, dirty_block_removed_uncopied, passthrough_over_a_dirty_block};
 
 /// After any run of acts whose conditions are met, over any number of crashes, ends and openings, in any mode: a read gives
 /// the last entry of its sector's history, and whatever a crash leaves, and whatever an opening shows, is an entry at or
 /// after the durable floor.
 pub fn lives_are_consistent()
-    ensures { (m : Mode) (c : ℕ → ℕ → Content) (acts : List Act) → IsRun (first_volume m c) acts → IsConsistent (after_all (first_volume m c) acts) }
+    ensures { (m : Mode) (c : ℕ → ℕ → Content) (acts : List Act) → IsRunOfActs (first_volume m c) acts → IsConsistent (volume_after_all (first_volume m c) acts) }
 {}
 
 /// Runs that leave out one condition each, after which the promises do not hold; and one state that no run reaches, in
@@ -37,8 +37,8 @@ pub fn conditions_are_needed()
 
 /// A run over three lives, in each mode once, that meets every condition: the law is not empty.
 pub fn conditions_can_be_met()
-    ensures two_lives { IsRun (first_volume Writeback blank) two_lives }
-    ensures a_third_life { IsRun (after_all (first_volume Writeback blank) two_lives) a_third_life }
+    ensures two_lives { IsRunOfActs (first_volume Writeback blank_volume) two_lives }
+    ensures a_third_life { IsRunOfActs (volume_after_all (first_volume Writeback blank_volume) two_lives) a_third_life }
 {}
 
 /// A device's steps on its list of sectors are acts on the same sectors seen by block and offset.

@@ -20,16 +20,16 @@ use Rattle.wb_space.specs.declared.block.Block.TheVariants.{Free, Mapped, Reserv
 use Rattle.wb_space.specs.Blocks.{state, released as block_released, commit_begun as block_begun, commit_ended as block_ended, opened_block}
 use Rattle.wb_orders.specs.declared.live_order.LiveOrder.{LiveOrder as Living}
 use Rattle.wb_orders.specs.Named.{first_of, second_of, IsNamed}
-use Rattle.wb_orders.specs.Orders.{Orders, AreOrders, IsTaken, IsQueue, order_at, cost_of, slots_taken, queue_taken, taken, without_order, unmarked}
+use Rattle.wb_orders.specs.Orders.{Orders, AreOrders, IsTaken, IsQueue, order_at, cost_of, slots_taken, queue_taken, order_taken, without_order, unmarked}
 use Rattle.wb_orders.proofs.Kept.{Slots, within_of, none_kept, none_cost}
 use Rattle.wb_orders.proofs.Calls.{given_kept, given_cost, taken_kept, taken_cost, over_kept, over_cost}
-use Rattle.wb_desk.specs.Allocation.{LiveOrder, Allocation, AllocationInvariant, MayGive, Apart, Shareless, NoneTwice, at_opening, opened_entry, IsActRun, Act, Over, Unmap as UnmapBlock, after_act, after_acts, entry_in, cost, without, cache_at}
+use Rattle.wb_desk.specs.Allocation.{LiveOrder, Allocation, AllocationInvariant, MayGiveOrder, Apart, Shareless, NoneTwice, at_opening, block_as_opened, IsActRun, DeskAct, Over, Unmap as UnmapBlock, after_act, after_acts, origin_in, cost, orders_without, cache_at}
 use Rattle.wb_desk.specs.Desks.{DeskState, DeskInvariant, MayReserve, holdings, sectors_asked}
 use Rattle.wb_desk.specs.Calls.{reserved, released, next_order_taken}
 use Rattle.wb_desk.specs.Entries.{MayMap, IsRemoved, entry_of, mapped, unmapped, keeps, orders_past, is_replacement}
 use Rattle.wb_desk.specs.Opening.{opened}
 use Rattle.wb_desk.specs.Commits.{commit_begun, commit_ended}
-use Rattle.wb_desk.specs.Safety.{HeldImages, Call, TakeOrder, Tell, GiveOrder, Release, Map, Unmap, BeginCommit, EndCommit, Does, AreCalls, images_after, images_since, desk_after}
+use Rattle.wb_desk.specs.Safety.{HeldImages, DeskCall, TakeOrder, Tell, GiveOrder, Release, Map, Unmap, BeginCommit, EndCommit, Does, AreCalls, images_after, images_since, desk_after}
 use Rattle.wb_desk.specs.Acting.{IsAllocation, spoken_of, as_given, order_in, rank_in, acts_of, acts_removing, acts_since}
 use Rattle.wb_desk.proofs.Acts.{all_kept, opened_kept}
 use Rattle.wb_desk.proofs.Entering.{entrance}
@@ -62,34 +62,34 @@ given_listed os slots c o vacant all k = elim (cases_eq k c) [
   | inr n ↦ in_push_other os (as_given c o) k n ∙ all k ∙ sym (ap (λ (s : Option Living). option_map (as_given k) s) (get_or-set_other slots c k (Some o) None n))
 ]
 
-over_listed : (os : List LiveOrder) (slots : Slots) (c : ℕ) (o : Living) → order_at slots c ≡ Some o → Shareless os → AreListed os slots → AreListed (without os (rank_in os c)) (set slots c None)
+over_listed : (os : List LiveOrder) (slots : Slots) (c : ℕ) (o : Living) → order_at slots c ≡ Some o → Shareless os → AreListed os slots → AreListed (orders_without os (rank_in os c)) (set slots c None)
 over_listed os slots c o at shareless all k = elim (cases_eq k c) [
-  | inl e ↦ subst (λ (k : ℕ). order_in (without os (rank_in os c)) k ≡ option_map (as_given k) (order_at (set slots c None) k)) (sym e)
+  | inl e ↦ subst (λ (k : ℕ). order_in (orders_without os (rank_in os c)) k ≡ option_map (as_given k) (order_at (set slots c None) k)) (sym e)
       (in_without_same os c shareless ∙ sym (ap (λ (s : Option Living). option_map (as_given c) s) (get_or-set_same slots c None None (within_of slots c o at))))
   | inr n ↦ in_without_other os c k n ∙ all k ∙ sym (ap (λ (s : Option Living). option_map (as_given k) s) (get_or-set_other slots c k None None n))
 ]
 
-over_sectors : (os : List LiveOrder) (slots : Slots) (c : ℕ) (o : Living) → order_at slots c ≡ Some o → AreListed os slots → cost os ≡ cost_of slots → cost (without os (rank_in os c)) ≡ cost_of (set slots c None)
+over_sectors : (os : List LiveOrder) (slots : Slots) (c : ℕ) (o : Living) → order_at slots c ≡ Some o → AreListed os slots → cost os ≡ cost_of slots → cost (orders_without os (rank_in os c)) ≡ cost_of (set slots c None)
 over_sectors os slots c o at all same = omega (arith, same, cost_without os c (as_given c o) (there_in os slots c o all at), over_cost slots c o at)
 
 -- who takes an order changes nothing of what it keeps
 taken_listed : (slots : Slots) (cs : List CBlock) (c : ℕ) → IsQueue slots 0 cs → option_map (as_given c) (order_at (slots_taken slots cs) c) ≡ option_map (as_given c) (order_at slots c)
 taken_listed slots [] c queue = refl
-taken_listed slots (k ∷ cs) c queue = subst (λ (s : Option Living). option_map (as_given c) (order_at (set slots k.0 (option_map taken s)) c) ≡ option_map (as_given c) (order_at slots c)) (sym queue.1)
+taken_listed slots (k ∷ cs) c queue = subst (λ (s : Option Living). option_map (as_given c) (order_at (set slots k.0 (option_map order_taken s)) c) ≡ option_map (as_given c) (order_at slots c)) (sym queue.1)
     (elim (cases_eq c k.0) [
-      | inl e ↦ ap (λ (s : Option Living). option_map (as_given c) s) (ap (λ (n : ℕ). order_at (set slots k.0 (Some (taken queue.0))) n) e ∙ get_or-set_same slots k.0 (Some (taken queue.0)) None (within_of slots k.0 queue.0 queue.1))
+      | inl e ↦ ap (λ (s : Option Living). option_map (as_given c) s) (ap (λ (n : ℕ). order_at (set slots k.0 (Some (order_taken queue.0))) n) e ∙ get_or-set_same slots k.0 (Some (order_taken queue.0)) None (within_of slots k.0 queue.0 queue.1))
           ∙ sym (ap (λ (s : Option Living). option_map (as_given c) s) (ap (λ (n : ℕ). order_at slots n) e ∙ queue.1))
-      | inr n ↦ ap (λ (s : Option Living). option_map (as_given c) s) (get_or-set_other slots k.0 c (Some (taken queue.0)) None n)
+      | inr n ↦ ap (λ (s : Option Living). option_map (as_given c) s) (get_or-set_other slots k.0 c (Some (order_taken queue.0)) None n)
     ])
 
 taken_sectors : (slots : Slots) (cs : List CBlock) → IsQueue slots 0 cs → cost_of (slots_taken slots cs) ≡ cost_of slots
 taken_sectors slots [] queue = refl
-taken_sectors slots (k ∷ cs) queue = ap (λ (s : Option Living). cost_of (set slots k.0 (option_map taken s))) queue.1 ∙ taken_cost slots k.0 queue.0 queue.1
+taken_sectors slots (k ∷ cs) queue = ap (λ (s : Option Living). cost_of (set slots k.0 (option_map order_taken s))) queue.1 ∙ taken_cost slots k.0 queue.0 queue.1
 
 next_kept : (slots : Slots) (busy : List Bool) (cs : List CBlock) (given : ℕ) → AreOrders (record { slots = slots; busy = busy; waiting = cs; given = given })
     → AreOrders (record { slots = slots_taken slots cs; busy = busy; waiting = queue_taken cs; given = given })
 next_kept slots busy [] given a = a
-next_kept slots busy (c ∷ cs) given a = subst (λ (s : Option Living). AreOrders (record { slots = set slots c.0 (option_map taken s); busy = busy; waiting = cs; given = given })) (sym a.queue.1)
+next_kept slots busy (c ∷ cs) given a = subst (λ (s : Option Living). AreOrders (record { slots = set slots c.0 (option_map order_taken s); busy = busy; waiting = cs; given = given })) (sym a.queue.1)
     (taken_kept slots busy c cs given a.queue.0 a a.queue.1)
 
 ended_kept : (orders : Orders) (c : CBlock) (o : Living) → AreOrders orders → order_at orders.slots c.0 ≡ Some o → o.waits ≡ false → AreOrders (without_order orders c)
@@ -122,7 +122,7 @@ apart_new orders os c order sectors threshold k p a all vacant first second e = 
     idle : (b : ℕ) → slice_get orders.busy b ≡ Some false → IsNamed live.0.order b → ⊥
     idle b is named = differs (sym (a.marks k b live.0 live.1 named) ∙ get_or_from_slice_get orders.busy b false false is)
 
-unmapped_in : (m : Holdings) (b : ℕ) → IsUnmapped m b → (k : ℕ) → entry_in m k ≢ Some b
+unmapped_in : (m : Holdings) (b : ℕ) → IsUnmapped m b → (k : ℕ) → origin_in m k ≢ Some b
 unmapped_in m b none k e = elim (cases_lt k (length m)) [
   | inl l ↦ none k (slice_get-get_or m k None l ∙ ap (λ (x : Option ℕ). Some x) e)
   | inr p ↦ nothing (sym (get_or_past m k None p) ∙ e)
@@ -146,11 +146,11 @@ past_kept orders c (Some o) is removed r = by (is_replacement o.order)
 
 -- ---- lists of acts
 
-run_then : (a : Allocation) (first second : List Act) → IsActRun a first → IsActRun (after_acts a first) second → IsActRun a (first ++ second)
+run_then : (a : Allocation) (first second : List DeskAct) → IsActRun a first → IsActRun (after_acts a first) second → IsActRun a (first ++ second)
 run_then a [] second f s = s
 run_then a (x ∷ first) second f s = (f.0, run_then (after_act a x) first second f.1 s)
 
-acts_then : (a : Allocation) (first second : List Act) → after_acts a (first ++ second) ≡ after_acts (after_acts a first) second
+acts_then : (a : Allocation) (first second : List DeskAct) → after_acts a (first ++ second) ≡ after_acts (after_acts a first) second
 acts_then a [] second = refl
 acts_then a (x ∷ first) second = acts_then (after_act a x) first second
 
@@ -158,7 +158,7 @@ acts_then a (x ∷ first) second = acts_then (after_act a x) first second
 
 module _ {P : Type 0} where
   -- the acts of a call may be, and lead to the allocation of what it made
-  abbrev Follows : HeldImages → Allocation → DeskState P → Call → DeskState P → Type 0
+  abbrev Follows : HeldImages → Allocation → DeskState P → DeskCall → DeskState P → Type 0
   Follows images a d call new = IsActRun a (acts_of a d call new) × IsAllocation new (images_after d images call) (after_acts a (acts_of a d call new))
 
   take_follows : (d : DeskState P) (images : HeldImages) (a : Allocation) → IsAllocation d images a → AreOrders d.orders → Follows images a d TakeOrder (next_order_taken d)
@@ -192,7 +192,7 @@ module _ {P : Type 0} where
   )
 
   may_give : (d : DeskState P) (images : HeldImages) (a : Allocation) (c : CBlock) (order : Order) → IsAllocation d images a → AreOrders d.orders → AllocationInvariant a → MayReserve d c order
-      → MayGive a (spoken_of c.0 order (sectors_asked d.geometry order) d.threshold)
+      → MayGiveOrder a (spoken_of c.0 order (sectors_asked d.geometry order) d.threshold)
   may_give d images a c order s r i may = record {
     apart = apart_all (spoken_of c.0 order (sectors_asked d.geometry order) d.threshold) a.orders i.shareless
         (λ k p e. apart_new d.orders a.orders c.0 order (sectors_asked d.geometry order) d.threshold k p r s.orders may.give.vacant may.give.idle.0 may.give.idle.1 e);
@@ -308,7 +308,7 @@ module _ {P : Type 0} where
           (
             ap (λ (x : List Block). slice_get x c.0) s.blocks ∙ may.reserved,
             subst (λ (m : Holdings). c.0 < length m) (sym s.mapping) within,
-            subst (λ (m : Holdings). (k : ℕ) → entry_in m k ≢ Some b.0) (sym s.mapping) (unmapped_in (holdings d) b.0 way.unmapped),
+            subst (λ (m : Holdings). (k : ℕ) → origin_in m k ≢ Some b.0) (sym s.mapping) (unmapped_in (holdings d) b.0 way.unmapped),
           ),
           (rank_within a.orders c.0 (as_given c.0 may.live) (there_in a.orders d.orders.slots c.0 may.live s.orders may.there), tt),
         ),
@@ -359,7 +359,7 @@ module _ {P : Type 0} where
     )
 
     left_under : (demotions : ℕ) (o : Living) → order_at d.orders.slots c.0 ≡ Some o → (r : Bool)
-        → (let acts : List Act = if r then UnmapBlock c.0 true ∷ [] else UnmapBlock c.0 false ∷ Over (rank_in a.orders c.0) ∷ [] in
+        → (let acts : List DeskAct = if r then UnmapBlock c.0 true ∷ [] else UnmapBlock c.0 false ∷ Over (rank_in a.orders c.0) ∷ [] in
         IsActRun a acts × IsAllocation (left_with d c tree policy r (if r then d.orders else without_order d.orders c) demotions) images (after_acts a acts))
     left_under demotions o is true = (
       ((there, has_one a.orders c.0 (as_given c.0 o) (there_in a.orders d.orders.slots c.0 o s.orders is)), tt),
@@ -427,7 +427,7 @@ module _ {P : Type 0} where
     },
   )
 
-  call_follows : (knows : P → Holdings → Type 0) (d new : DeskState P) (call : Call) (images : HeldImages) (a : Allocation) → DeskInvariant knows d → AreOrders d.orders → IsAllocation d images a
+  call_follows : (knows : P → Holdings → Type 0) (d new : DeskState P) (call : DeskCall) (images : HeldImages) (a : Allocation) → DeskInvariant knows d → AreOrders d.orders → IsAllocation d images a
       → AllocationInvariant a → Does d call new → Follows images a d call new
   call_follows knows d new TakeOrder images a v r s i does = subst (λ (x : DeskState P). Follows images a d TakeOrder x) (sym does) (take_follows d images a s r)
   call_follows knows d new Tell images a v r s i does = tell_follows d new images a s does
@@ -446,7 +446,7 @@ module _ {P : Type 0} where
   orders_of : (new old : DeskState P) → new ≡ old → AreOrders old.orders → AreOrders new.orders
   orders_of new old e r = subst (λ (x : DeskState P). AreOrders x.orders) (sym e) r
 
-  orders_kept : (d new : DeskState P) (call : Call) → Does d call new → AreOrders d.orders → AreOrders new.orders
+  orders_kept : (d new : DeskState P) (call : DeskCall) → Does d call new → AreOrders d.orders → AreOrders new.orders
   orders_kept d new TakeOrder does r = orders_of new (next_order_taken d) does (next_kept d.orders.slots d.orders.busy d.orders.waiting d.orders.given r)
   orders_kept d new Tell does r = subst (λ (x : Orders). AreOrders x) (sym (ap (λ (x : DeskState P). x.orders) does)) r
   orders_kept d new (GiveOrder c order waits) does r = orders_of new (reserved d c order waits) does.1
@@ -461,7 +461,7 @@ module _ {P : Type 0} where
 
   -- ---- lists of calls
 
-  pub calls_follow : (knows : P → Holdings → Type 0) (d : DeskState P) (calls : List (Call × DeskState P)) (images : HeldImages) (a : Allocation)
+  pub calls_follow : (knows : P → Holdings → Type 0) (d : DeskState P) (calls : List (DeskCall × DeskState P)) (images : HeldImages) (a : Allocation)
       → AreCalls knows d calls → AreOrders d.orders → IsAllocation d images a → AllocationInvariant a
       → IsActRun a (acts_since a d calls) × AllocationInvariant (after_acts a (acts_since a d calls)) × AreOrders (desk_after d calls).orders
       × IsAllocation (desk_after d calls) (images_since d images calls) (after_acts a (acts_since a d calls))
@@ -489,7 +489,7 @@ no_orders_listed n c = ap (λ (s : Option Living). option_map (as_given c) s) (s
       | inr p ↦ get_or_past (replicate n None) c None (omega (arith, p, length-replicate {A = Option Living} n None))
     ]
 
-opened_blocks : (entries : List (Option Entry)) → map opened_entry (origins entries) ≡ map opened_block (map is_some entries)
+opened_blocks : (entries : List (Option Entry)) → map block_as_opened (origins entries) ≡ map opened_block (map is_some entries)
 opened_blocks [] = refl
 opened_blocks (None ∷ entries) = ap (λ (xs : List Block). Free ∷ xs) (opened_blocks entries)
 opened_blocks (Some e ∷ entries) = ap (λ (xs : List Block). Mapped ∷ xs) (opened_blocks entries)
@@ -503,7 +503,7 @@ none_twice cache_blocks origin_blocks entries m b c k p q =
     same_origin : (x y : OBlock) → x.0 ≡ y.0 → x ≡ y
     same_origin x y e = ap (λ (n : ℕ). let b : OBlock = record { 0 = n } in b) e
 
-    entry_of_origin : (entries : List (Option Entry)) (c b : ℕ) → entry_in (origins entries) c ≡ Some b → (e : Entry) × (get_or entries c None ≡ Some e) × (e.origin.0 ≡ b)
+    entry_of_origin : (entries : List (Option Entry)) (c b : ℕ) → origin_in (origins entries) c ≡ Some b → (e : Entry) × (get_or entries c None ≡ Some e) × (e.origin.0 ≡ b)
     entry_of_origin entries c b p = by (get_or entries c None) refl (sym (get_or-map (option_map (λ (e : Entry). e.origin.0)) entries c None) ∙ p)
       where
         by : (e : Option Entry) → get_or entries c None ≡ e → option_map (λ (x : Entry). x.origin.0) e ≡ Some b → (x : Entry) × (get_or entries c None ≡ Some x) × (x.origin.0 ≡ b)

@@ -7,7 +7,7 @@ use Rattle.std.proofs.Math.ListN.{get_or-map}
 use Rattle.wb_space.specs.declared.block.Block.{Block}
 use Rattle.wb_space.specs.declared.block.Block.TheVariants.{Free, Mapped, Reserved, Quarantined}
 use Rattle.wb_space.specs.Blocks.{released, commit_begun, commit_ended, state, IsClaimed}
-use Rattle.wb_desk.specs.Allocation.{BlockMap, LiveOrder, Allocation, Act, Give, Over, Map, Unmap, Begin, End, Threshold, Apart, ApartAll, Shareless, WithinFrom, ImageSafe, AllocationInvariant, MayAct, IsActRun, after_act, after_acts, without, cost, entry_in, cache_at, HasOrder, StaysQuarantined, StaysOrEnds, NoneTwice, at_opening, opened_entry}
+use Rattle.wb_desk.specs.Allocation.{BlockMap, LiveOrder, Allocation, DeskAct, Give, Over, Map, Unmap, Begin, End, Threshold, Apart, ApartAll, Shareless, WithinFrom, ImageSafe, AllocationInvariant, DeskMayAct, IsActRun, after_act, after_acts, orders_without, cost, origin_in, cache_at, HasOrder, StaysQuarantined, StaysOrEnds, NoneTwice, at_opening, block_as_opened}
 
 -- Orders
 
@@ -28,12 +28,12 @@ pub shareless_push : (os : List LiveOrder) (p : LiveOrder) → Shareless os → 
 shareless_push [] p s a = (tt, tt)
 shareless_push (o ∷ os) p s a = (apart_push o p os s.0 (apart_sym p o a.0), shareless_push os p s.1 a.1)
 
-apart_without : (o : LiveOrder) (os : List LiveOrder) (i : ℕ) → ApartAll o os → ApartAll o (without os i)
+apart_without : (o : LiveOrder) (os : List LiveOrder) (i : ℕ) → ApartAll o os → ApartAll o (orders_without os i)
 apart_without o [] i a = a
 apart_without o (p ∷ os) zero a = a.1
 apart_without o (p ∷ os) (suc i) a = (a.0, apart_without o os i a.1)
 
-pub shareless_without : (os : List LiveOrder) (i : ℕ) → Shareless os → Shareless (without os i)
+pub shareless_without : (os : List LiveOrder) (i : ℕ) → Shareless os → Shareless (orders_without os i)
 shareless_without [] i s = s
 shareless_without (o ∷ os) zero s = s.1
 shareless_without (o ∷ os) (suc i) s = (apart_without o os i s.0, shareless_without os i s.1)
@@ -47,7 +47,7 @@ within_less : (before less : ℕ) (os : List LiveOrder) → less ≤ before → 
 within_less before less [] l w = w
 within_less before less (o ∷ os) l w = (omega (arith, w.0), within_less (before + o.sectors) (less + o.sectors) os (omega arith) w.1)
 
-pub within_without : (before : ℕ) (os : List LiveOrder) (i : ℕ) → WithinFrom before os → WithinFrom before (without os i)
+pub within_without : (before : ℕ) (os : List LiveOrder) (i : ℕ) → WithinFrom before os → WithinFrom before (orders_without os i)
 within_without before [] i w = w
 within_without before (o ∷ os) zero w = within_less (before + o.sectors) before os (omega arith) w.1
 within_without before (o ∷ os) (suc i) w = (w.0, within_without (before + o.sectors) os i w.1)
@@ -55,31 +55,31 @@ within_without before (o ∷ os) (suc i) w = (w.0, within_without (before + o.se
 -- Blocks
 
 abbrev pub SoundAt : Allocation → ℕ → Type 0
-SoundAt d c = ImageSafe (state d.blocks c) (entry_in d.mapping c) (entry_in d.committed c) (entry_in d.running c)
+SoundAt d c = ImageSafe (state d.blocks c) (origin_in d.mapping c) (origin_in d.committed c) (origin_in d.running c)
 
 abbrev pub AllSound : Allocation → Type 0
 AllSound d = (c : ℕ) → SoundAt d c
 
 -- one block changes its state, the mapping and the images stay
-pub block_sound : (d : Allocation) (c : ℕ) (b : Block) → (c < length d.blocks → ImageSafe b (entry_in d.mapping c) (entry_in d.committed c) (entry_in d.running c)) → AllSound d → (k : ℕ) → ImageSafe (state (set d.blocks c b) k) (entry_in d.mapping k) (entry_in d.committed k) (entry_in d.running k)
+pub block_sound : (d : Allocation) (c : ℕ) (b : Block) → (c < length d.blocks → ImageSafe b (origin_in d.mapping c) (origin_in d.committed c) (origin_in d.running c)) → AllSound d → (k : ℕ) → ImageSafe (state (set d.blocks c b) k) (origin_in d.mapping k) (origin_in d.committed k) (origin_in d.running k)
 block_sound d c b here all k = elim (cases_eq k c) [
-  | inl e ↦ subst (λ (k : ℕ). ImageSafe (state (set d.blocks c b) k) (entry_in d.mapping k) (entry_in d.committed k) (entry_in d.running k)) (sym e) at
-  | inr n ↦ subst (λ (x : Block). ImageSafe x (entry_in d.mapping k) (entry_in d.committed k) (entry_in d.running k)) (sym (get_or-set_other d.blocks c k b Free n)) (all k)
+  | inl e ↦ subst (λ (k : ℕ). ImageSafe (state (set d.blocks c b) k) (origin_in d.mapping k) (origin_in d.committed k) (origin_in d.running k)) (sym e) at
+  | inr n ↦ subst (λ (x : Block). ImageSafe x (origin_in d.mapping k) (origin_in d.committed k) (origin_in d.running k)) (sym (get_or-set_other d.blocks c k b Free n)) (all k)
 ]
   where
-    at : ImageSafe (state (set d.blocks c b) c) (entry_in d.mapping c) (entry_in d.committed c) (entry_in d.running c)
+    at : ImageSafe (state (set d.blocks c b) c) (origin_in d.mapping c) (origin_in d.committed c) (origin_in d.running c)
     at = elim (cases_lt c (length d.blocks)) [
-      | inl l ↦ subst (λ (x : Block). ImageSafe x (entry_in d.mapping c) (entry_in d.committed c) (entry_in d.running c)) (sym (get_or-set_same d.blocks c b Free l)) (here l)
-      | inr p ↦ subst (λ (x : List Block). ImageSafe (state x c) (entry_in d.mapping c) (entry_in d.committed c) (entry_in d.running c)) (sym (set_past d.blocks c b p)) (all c)
+      | inl l ↦ subst (λ (x : Block). ImageSafe x (origin_in d.mapping c) (origin_in d.committed c) (origin_in d.running c)) (sym (get_or-set_same d.blocks c b Free l)) (here l)
+      | inr p ↦ subst (λ (x : List Block). ImageSafe (state x c) (origin_in d.mapping c) (origin_in d.committed c) (origin_in d.running c)) (sym (set_past d.blocks c b p)) (all c)
     ]
 
 -- with its entry of the mapping
-pub entry_sound : (d : Allocation) (c : ℕ) (b : Block) (m : Option ℕ) → c < length d.blocks → (ImageSafe b (get_or (set d.mapping c m) c None) (entry_in d.committed c) (entry_in d.running c)) → AllSound d → (k : ℕ) → ImageSafe (state (set d.blocks c b) k) (entry_in (set d.mapping c m) k) (entry_in d.committed k) (entry_in d.running k)
+pub entry_sound : (d : Allocation) (c : ℕ) (b : Block) (m : Option ℕ) → c < length d.blocks → (ImageSafe b (get_or (set d.mapping c m) c None) (origin_in d.committed c) (origin_in d.running c)) → AllSound d → (k : ℕ) → ImageSafe (state (set d.blocks c b) k) (origin_in (set d.mapping c m) k) (origin_in d.committed k) (origin_in d.running k)
 entry_sound d c b m l here all k = elim (cases_eq k c) [
-  | inl e ↦ subst (λ (k : ℕ). ImageSafe (state (set d.blocks c b) k) (entry_in (set d.mapping c m) k) (entry_in d.committed k) (entry_in d.running k)) (sym e)
-      (subst (λ (x : Block). ImageSafe x (entry_in (set d.mapping c m) c) (entry_in d.committed c) (entry_in d.running c)) (sym (get_or-set_same d.blocks c b Free l)) here)
-  | inr n ↦ subst (λ (x : Block). ImageSafe x (entry_in (set d.mapping c m) k) (entry_in d.committed k) (entry_in d.running k)) (sym (get_or-set_other d.blocks c k b Free n))
-      (subst (λ (x : Option ℕ). ImageSafe (state d.blocks k) x (entry_in d.committed k) (entry_in d.running k)) (sym (get_or-set_other d.mapping c k m None n)) (all k))
+  | inl e ↦ subst (λ (k : ℕ). ImageSafe (state (set d.blocks c b) k) (origin_in (set d.mapping c m) k) (origin_in d.committed k) (origin_in d.running k)) (sym e)
+      (subst (λ (x : Block). ImageSafe x (origin_in (set d.mapping c m) c) (origin_in d.committed c) (origin_in d.running c)) (sym (get_or-set_same d.blocks c b Free l)) here)
+  | inr n ↦ subst (λ (x : Block). ImageSafe x (origin_in (set d.mapping c m) k) (origin_in d.committed k) (origin_in d.running k)) (sym (get_or-set_other d.blocks c k b Free n))
+      (subst (λ (x : Option ℕ). ImageSafe (state d.blocks k) x (origin_in d.committed k) (origin_in d.running k)) (sym (get_or-set_other d.mapping c k m None n)) (all k))
 ]
 
 -- each kind of change, at one block
@@ -107,8 +107,8 @@ sound_ended (Quarantined true true) now committed running s = (s.0, s.1, s.1)
 sound_ended (Quarantined false true) now committed running s = (s.0, s.1, s.1)
 
 -- what is asked at a block gives its state
-at_block : (d : Allocation) (c : ℕ) (b : Block) → slice_get d.blocks c ≡ Some b → AllSound d → ImageSafe b (entry_in d.mapping c) (entry_in d.committed c) (entry_in d.running c)
-at_block d c b e all = subst (λ (x : Block). ImageSafe x (entry_in d.mapping c) (entry_in d.committed c) (entry_in d.running c)) (get_or_from_slice_get d.blocks c b Free e) (all c)
+at_block : (d : Allocation) (c : ℕ) (b : Block) → slice_get d.blocks c ≡ Some b → AllSound d → ImageSafe b (origin_in d.mapping c) (origin_in d.committed c) (origin_in d.running c)
+at_block d c b e all = subst (λ (x : Block). ImageSafe x (origin_in d.mapping c) (origin_in d.committed c) (origin_in d.running c)) (get_or_from_slice_get d.blocks c b Free e) (all c)
 
 none_at : (m : BlockMap) (c : ℕ) → get_or (set m c None) c None ≡ None
 none_at m c = elim (cases_lt c (length m)) [
@@ -127,7 +127,7 @@ holds_new : (os : List LiveOrder) (p : LiveOrder) (c : ℕ) → p.cache ≡ c �
 holds_new [] p c e = inl e
 holds_new (o ∷ os) p c e = inr (holds_new os p c e)
 
-holds_without : (os : List LiveOrder) (i c : ℕ) → cache_at os i ≢ c → HasOrder os c → HasOrder (without os i) c
+holds_without : (os : List LiveOrder) (i c : ℕ) → cache_at os i ≢ c → HasOrder os c → HasOrder (orders_without os i) c
 holds_without [] i c n h = h
 holds_without (o ∷ os) zero c n (inl e) = absurd (n e)
 holds_without (o ∷ os) zero c n (inr h) = h
@@ -168,7 +168,7 @@ set_held d c b k new h i = elim (cases_eq k c) [
       | inr p ↦ i.held c (subst (λ (x : List Block). IsClaimed (state x c)) (set_past d.blocks c b p) h)
     ]
 
-over_held : (d : Allocation) (n k : ℕ) → IsClaimed (state (set d.blocks (cache_at d.orders n) (released (state d.blocks (cache_at d.orders n)))) k) → AllocationInvariant d → HasOrder (without d.orders n) k
+over_held : (d : Allocation) (n k : ℕ) → IsClaimed (state (set d.blocks (cache_at d.orders n) (released (state d.blocks (cache_at d.orders n)))) k) → AllocationInvariant d → HasOrder (orders_without d.orders n) k
 over_held d n k h i = elim (cases_eq k (cache_at d.orders n)) [
   | inl e ↦ absurd (gone (subst (λ (k : ℕ). IsClaimed (state (set d.blocks (cache_at d.orders n) (released (state d.blocks (cache_at d.orders n)))) k)) e h))
   | inr o ↦ holds_without d.orders n k (λ e. o (sym e)) (i.held k (subst IsClaimed (get_or-set_other d.blocks (cache_at d.orders n) k (released (state d.blocks (cache_at d.orders n))) Free o) h))
@@ -188,7 +188,7 @@ over_held d n k h i = elim (cases_eq k (cache_at d.orders n)) [
 none_some : (m : Option ℕ) (b : ℕ) → m ≡ None → m ≢ Some b
 none_some m b e f = let bad : None ≡ Some b = sym e ∙ f in cc
 
-once_mapped : (m : BlockMap) (c b : ℕ) → ((k : ℕ) → entry_in m k ≢ Some b) → NoneTwice m → NoneTwice (set m c (Some b))
+once_mapped : (m : BlockMap) (c b : ℕ) → ((k : ℕ) → origin_in m k ≢ Some b) → NoneTwice m → NoneTwice (set m c (Some b))
 once_mapped m c b new once x j k p q = elim (cases_eq j c) [
   | inl e ↦ elim (cases_eq k c) [
     | inl f ↦ e ∙ sym f
@@ -200,25 +200,25 @@ once_mapped m c b new once x j k p q = elim (cases_eq j c) [
   ]
 ]
   where
-    same : (k : ℕ) → k ≡ c → entry_in (set m c (Some b)) k ≡ Some x → Some b ≡ Some x
+    same : (k : ℕ) → k ≡ c → origin_in (set m c (Some b)) k ≡ Some x → Some b ≡ Some x
     same k e q = elim (cases_lt c (length m)) [
-      | inl l ↦ sym (get_or-set_same m c (Some b) None l) ∙ sym (ap (λ (n : ℕ). entry_in (set m c (Some b)) n) e) ∙ q
-      | inr past ↦ absurd (none_some (entry_in (set m c (Some b)) k) x
-          (ap (λ (n : ℕ). entry_in (set m c (Some b)) n) e ∙ ap (λ (l : BlockMap). entry_in l c) (set_past m c (Some b) past) ∙ get_or_past m c None past) q)
+      | inl l ↦ sym (get_or-set_same m c (Some b) None l) ∙ sym (ap (λ (n : ℕ). origin_in (set m c (Some b)) n) e) ∙ q
+      | inr past ↦ absurd (none_some (origin_in (set m c (Some b)) k) x
+          (ap (λ (n : ℕ). origin_in (set m c (Some b)) n) e ∙ ap (λ (l : BlockMap). origin_in l c) (set_past m c (Some b) past) ∙ get_or_past m c None past) q)
     ]
 
 once_unmapped : (m : BlockMap) (c : ℕ) → NoneTwice m → NoneTwice (set m c None)
 once_unmapped m c once x j k p q = elim (cases_eq j c) [
-  | inl e ↦ absurd (none_some (entry_in (set m c None) j) x (ap (λ (n : ℕ). entry_in (set m c None) n) e ∙ none_at m c) p)
+  | inl e ↦ absurd (none_some (origin_in (set m c None) j) x (ap (λ (n : ℕ). origin_in (set m c None) n) e ∙ none_at m c) p)
   | inr e ↦ elim (cases_eq k c) [
-    | inl f ↦ absurd (none_some (entry_in (set m c None) k) x (ap (λ (n : ℕ). entry_in (set m c None) n) f ∙ none_at m c) q)
+    | inl f ↦ absurd (none_some (origin_in (set m c None) k) x (ap (λ (n : ℕ). origin_in (set m c None) n) f ∙ none_at m c) q)
     | inr f ↦ once x j k (sym (get_or-set_other m c j None None e) ∙ p) (sym (get_or-set_other m c k None None f) ∙ q)
   ]
 ]
 
 -- Every act
 
-pub act_kept : (d : Allocation) (a : Act) → MayAct d a → AllocationInvariant d → AllocationInvariant (after_act d a)
+pub act_kept : (d : Allocation) (a : DeskAct) → DeskMayAct d a → AllocationInvariant d → AllocationInvariant (after_act d a)
 act_kept d (Give o true) may i = let free = at_block d o.cache Free may.1 i.sound in record {
   sound = block_sound d o.cache Reserved (λ l. free) i.sound;
   idle = i.idle;
@@ -243,7 +243,7 @@ act_kept d (Give o false) may i = record {
   running_once = i.running_once;
 }
 act_kept d (Over n) may i = let c = cache_at d.orders n in record {
-  sound = block_sound d c (released (state d.blocks c)) (λ l. sound_given_back (state d.blocks c) (entry_in d.mapping c) (entry_in d.committed c) (entry_in d.running c) (i.sound c)) i.sound;
+  sound = block_sound d c (released (state d.blocks c)) (λ l. sound_given_back (state d.blocks c) (origin_in d.mapping c) (origin_in d.committed c) (origin_in d.running c) (i.sound c)) i.sound;
   idle = i.idle;
   held = λ k h. over_held d n k h i;
   shareless = shareless_without d.orders n i.shareless;
@@ -283,7 +283,7 @@ act_kept d (Unmap c true) may i = let l = slice_get_within d.blocks c Mapped may
   running_once = i.running_once;
 }
 act_kept d Begin may i = record {
-  sound = λ c. subst (λ (x : Block). ImageSafe x (entry_in d.mapping c) (entry_in d.committed c) (entry_in d.mapping c)) (sym (get_or-map commit_begun d.blocks c Free)) (sound_begun (state d.blocks c) (entry_in d.mapping c) (entry_in d.committed c) (entry_in d.running c) (i.sound c));
+  sound = λ c. subst (λ (x : Block). ImageSafe x (origin_in d.mapping c) (origin_in d.committed c) (origin_in d.mapping c)) (sym (get_or-map commit_begun d.blocks c Free)) (sound_begun (state d.blocks c) (origin_in d.mapping c) (origin_in d.committed c) (origin_in d.running c) (i.sound c));
   idle = λ e. absurd (cc);
   held = λ c h. i.held c (kept_begun (state d.blocks c) (subst IsClaimed (get_or-map commit_begun d.blocks c Free) h));
   shareless = i.shareless;
@@ -293,7 +293,7 @@ act_kept d Begin may i = record {
   running_once = i.mapping_once;
 }
 act_kept d End may i = record {
-  sound = λ c. subst (λ (x : Block). ImageSafe x (entry_in d.mapping c) (entry_in d.running c) (entry_in d.running c)) (sym (get_or-map commit_ended d.blocks c Free)) (sound_ended (state d.blocks c) (entry_in d.mapping c) (entry_in d.committed c) (entry_in d.running c) (i.sound c));
+  sound = λ c. subst (λ (x : Block). ImageSafe x (origin_in d.mapping c) (origin_in d.running c) (origin_in d.running c)) (sym (get_or-map commit_ended d.blocks c Free)) (sound_ended (state d.blocks c) (origin_in d.mapping c) (origin_in d.committed c) (origin_in d.running c) (i.sound c));
   idle = λ e. refl;
   held = λ c h. i.held c (kept_ended (state d.blocks c) (subst IsClaimed (get_or-map commit_ended d.blocks c Free) h));
   shareless = i.shareless;
@@ -304,7 +304,7 @@ act_kept d End may i = record {
 }
 act_kept d (Threshold n) may i = record { sound = i.sound; idle = i.idle; held = i.held; shareless = i.shareless; within = i.within; mapping_once = i.mapping_once; committed_once = i.committed_once; running_once = i.running_once }
 
-pub all_kept : (d : Allocation) (acts : List Act) → IsActRun d acts → AllocationInvariant d → AllocationInvariant (after_acts d acts)
+pub all_kept : (d : Allocation) (acts : List DeskAct) → IsActRun d acts → AllocationInvariant d → AllocationInvariant (after_acts d acts)
 all_kept d [] run i = i
 all_kept d (a ∷ acts) run i = all_kept (after_act d a) acts run.1 (act_kept d a run.0 i)
 
@@ -354,7 +354,7 @@ set_stays B E blocks c b k h = elim (cases_eq k c) [
 pub from_block : (B E : Type 0) (blocks : List Block) (c : ℕ) (b x : Block) → slice_get blocks c ≡ Some b → StaysQuarantined B E b x → StaysQuarantined B E (state blocks c) x
 from_block B E blocks c b x e h = subst (λ (y : Block). StaysQuarantined B E y x) (sym (get_or_from_slice_get blocks c b Free e)) h
 
-pub stays : (d : Allocation) (a : Act) → MayAct d a → (c : ℕ) → StaysOrEnds (state d.blocks c) a (state (after_act d a).blocks c)
+pub stays : (d : Allocation) (a : DeskAct) → DeskMayAct d a → (c : ℕ) → StaysOrEnds (state d.blocks c) a (state (after_act d a).blocks c)
 stays d (Give o true) may c = set_stays _ _ d.blocks o.cache Reserved c (from_block _ _ d.blocks o.cache Free Reserved may.1 tt)
 stays d (Give o false) may c = same_stays _ _ (state d.blocks c)
 stays d (Over n) may c = set_stays _ _ d.blocks (cache_at d.orders n) (released (state d.blocks (cache_at d.orders n))) c (stays_given_back _ _ (state d.blocks (cache_at d.orders n)))
@@ -367,19 +367,19 @@ stays d (Threshold n) may c = same_stays _ _ (state d.blocks c)
 
 -- The first state, and what no image entry_in
 
-opened_sound : (m : Option ℕ) → ImageSafe (opened_entry m) m m m
+opened_sound : (m : Option ℕ) → ImageSafe (block_as_opened m) m m m
 opened_sound None = (refl, refl, refl)
 opened_sound (Some b) = (b, refl, inr refl, inr refl)
 
-opened_held : (m : Option ℕ) → IsClaimed (opened_entry m) → ⊥
+opened_held : (m : Option ℕ) → IsClaimed (block_as_opened m) → ⊥
 opened_held None h = h
 opened_held (Some b) h = h
 
 pub opened_kept : (m : BlockMap) (n : ℕ) → NoneTwice m → AllocationInvariant (at_opening m n)
 opened_kept m n once = record {
-  sound = λ c. subst (λ (x : Block). ImageSafe x (entry_in m c) (entry_in m c) (entry_in m c)) (sym (get_or-map opened_entry m c None)) (opened_sound (entry_in m c));
+  sound = λ c. subst (λ (x : Block). ImageSafe x (origin_in m c) (origin_in m c) (origin_in m c)) (sym (get_or-map block_as_opened m c None)) (opened_sound (origin_in m c));
   idle = λ e. refl;
-  held = λ c h. absurd (opened_held (entry_in m c) (subst IsClaimed (get_or-map opened_entry m c None) h));
+  held = λ c h. absurd (opened_held (origin_in m c) (subst IsClaimed (get_or-map block_as_opened m c None) h));
   shareless = tt;
   within = tt;
   mapping_once = once;
@@ -387,8 +387,8 @@ opened_kept m n once = record {
   running_once = once;
 }
 
-pub unnamed : (d : Allocation) → AllocationInvariant d → (c : ℕ) → (state d.blocks c ≡ Free) ⊎ (state d.blocks c ≡ Reserved) → (b : ℕ) → (entry_in d.mapping c ≢ Some b) × (entry_in d.committed c ≢ Some b) × (entry_in d.running c ≢ Some b)
-unnamed d i c (inl e) b = let s : ImageSafe Free (entry_in d.mapping c) (entry_in d.committed c) (entry_in d.running c) = subst (λ (x : Block). ImageSafe x (entry_in d.mapping c) (entry_in d.committed c) (entry_in d.running c)) e (i.sound c) in
-    (none_some (entry_in d.mapping c) b s.0, none_some (entry_in d.committed c) b s.1, none_some (entry_in d.running c) b s.2)
-unnamed d i c (inr e) b = let s : ImageSafe Reserved (entry_in d.mapping c) (entry_in d.committed c) (entry_in d.running c) = subst (λ (x : Block). ImageSafe x (entry_in d.mapping c) (entry_in d.committed c) (entry_in d.running c)) e (i.sound c) in
-    (none_some (entry_in d.mapping c) b s.0, none_some (entry_in d.committed c) b s.1, none_some (entry_in d.running c) b s.2)
+pub unnamed : (d : Allocation) → AllocationInvariant d → (c : ℕ) → (state d.blocks c ≡ Free) ⊎ (state d.blocks c ≡ Reserved) → (b : ℕ) → (origin_in d.mapping c ≢ Some b) × (origin_in d.committed c ≢ Some b) × (origin_in d.running c ≢ Some b)
+unnamed d i c (inl e) b = let s : ImageSafe Free (origin_in d.mapping c) (origin_in d.committed c) (origin_in d.running c) = subst (λ (x : Block). ImageSafe x (origin_in d.mapping c) (origin_in d.committed c) (origin_in d.running c)) e (i.sound c) in
+    (none_some (origin_in d.mapping c) b s.0, none_some (origin_in d.committed c) b s.1, none_some (origin_in d.running c) b s.2)
+unnamed d i c (inr e) b = let s : ImageSafe Reserved (origin_in d.mapping c) (origin_in d.committed c) (origin_in d.running c) = subst (λ (x : Block). ImageSafe x (origin_in d.mapping c) (origin_in d.committed c) (origin_in d.running c)) e (i.sound c) in
+    (none_some (origin_in d.mapping c) b s.0, none_some (origin_in d.committed c) b s.1, none_some (origin_in d.running c) b s.2)

@@ -11,12 +11,12 @@ use Rattle.wb_policy.specs.declared.situation.Tick.{Tick}
 use Rattle.wb_policy.specs.Law.{AreMapped}
 use Rattle.wb_policy.specs.Situations.{is_passthrough}
 use Rattle.wb_policy.specs.Recency.{AgreesWith, least_recent, is_idle, is_dirty_and_idle}
-use Rattle.wb_policy.specs.TinyLfu.{Knowledge, WasTold, after_access, ordered, decided, may_come_in, way_in, promotion, replacement, is_mapped, write_back, cleaned as written_back}
+use Rattle.wb_policy.specs.TinyLfu.{Knowledge, WasTold, after_access, ordered, decided, may_come_in, way_in, promotion, replacing_order, knows_mapped, write_back, cleaned as written_back}
 use Rattle.wb_policy.specs.Cleaner.{Progress, chosen, next_in_turn, cleaned, ticked}
 use Rattle.wb_policy.proofs.Laws.{uses, least_recent-mapped}
 use Rattle.wb_policy.proofs.Turns.{lawful-chosen}
 use Rattle.wb_desk.specs.Desks.{DeskState, holdings}
-use Rattle.wb_desk.specs.Settling.{Fits, IsAccess, IsGiven, IsTick, NoneFits}
+use Rattle.wb_desk.specs.Settling.{Fits, IsAccess, OrderIsGiven, IsTick, NoneFits}
 use Rattle.wb_desk.specs.Decisions.{IsInService, IsWaiting, DecisionsAreGiven, TicksEndWithoutOrder, CleanerEndsWithoutOrder}
 use Rattle.wb_desk.proofs.Leaving.{mapped_within}
 use Rattle.wb_types.proofs.Truth.{and_true}
@@ -48,7 +48,7 @@ module _ (d : DeskState Knowledge) (b : OBlock) (a : Settled) (k : Knowledge) (s
     countable = service.countable;
   })
 
-  fits_replacement : (v : Option (ℕ × ℕ)) → least_recent (is_idle a.busy.now) k.recency ≡ v → IfSome (replacement k a v) (λ o. Fits d o)
+  fits_replacement : (v : Option (ℕ × ℕ)) → least_recent (is_idle a.busy.now) k.recency ≡ v → IfSome (replacing_order k a v) (λ o. Fits d o)
   fits_replacement None e = tt
   fits_replacement (Some v) e = if_so _ (Replace (record { 0 = v.0 }) a.block (record { 0 = v.1 })) (λ o. Fits d o) (λ h.
       let at = least_recent-mapped (holdings d) k.recency (is_idle a.busy.now) v told e in
@@ -68,10 +68,10 @@ module _ (d : DeskState Knowledge) (b : OBlock) (a : Settled) (k : Knowledge) (s
 
 fits_ordered : (d : DeskState Knowledge) (b : OBlock) (a : Settled) → IsInService WasTold d d.policy.block_sectors → IsAccess d b a → b.0 < d.geometry.origin_blocks
     → IfSome (ordered d.policy a) (λ o. Fits d o)
-fits_ordered d b a service access within = if_not (is_mapped d.policy a.block.0) (decided (after_access d.policy a.block.0) a) (λ o. Fits d o)
+fits_ordered d b a service access within = if_not (knows_mapped d.policy a.block.0) (decided (after_access d.policy a.block.0) a) (λ o. Fits d o)
     (fits_decided d b a (after_access d.policy a.block.0) service access within refl (uses (holdings d) d.policy.recency a.block.0 service.desk.known))
 
-surely : {P : Type 0} (d : DeskState P) (p : P) (o : Option Order) (new : DeskState P) → IfSome o (λ x. Fits d x) → IsGiven (record d { policy = p }) o new → IsWaiting (record d { policy = p }) o new
+surely : {P : Type 0} (d : DeskState P) (p : P) (o : Option Order) (new : DeskState P) → IfSome o (λ x. Fits d x) → OrderIsGiven (record d { policy = p }) o new → IsWaiting (record d { policy = p }) o new
 surely d p None new fits given = given
 surely d p (Some o) new fits (inl given) = given
 surely d p (Some o) new fits (inr not_so) = absurd (not_so.0 (record { first = fits.first; second = fits.second; room = fits.room; countable = fits.countable }))

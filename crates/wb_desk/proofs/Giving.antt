@@ -21,8 +21,8 @@ use Rattle.wb_space.specs.Blocks.{state, is_free}
 use Rattle.wb_orders.specs.declared.live_order.LiveOrder.{LiveOrder}
 use Rattle.wb_orders.specs.Named.{first_of, second_of, IsNamed}
 use Rattle.wb_orders.specs.Orders.{AreOrders, MayGive, cost_of, order_at}
-use Rattle.wb_desk.specs.Desks.{DeskState, DeskInvariant, MayReserve, IsLawful as OrderIsLawful, Names, NamesWhatIs, holdings, sectors_asked}
-use Rattle.wb_desk.specs.Settling.{Fits, IsAccess, IsGiven, IsSettled, IsTick, NoneFits, TickGives, TickEnds, IsTicked}
+use Rattle.wb_desk.specs.Desks.{DeskState, DeskInvariant, MayReserve, IsGivenLawfully as OrderIsLawful, Names, NamesWhatIs, holdings, sectors_asked}
+use Rattle.wb_desk.specs.Settling.{Fits, IsAccess, OrderIsGiven, AccessIsSettled, IsTick, NoneFits, TickGives, TickEnds, IsTicked}
 use Rattle.wb_desk.specs.Calls.{reserved}
 use Rattle.wb_desk.proofs.Leaving.{mapped_within, mapped_state}
 
@@ -191,13 +191,13 @@ module _ {P : Type 0} where
       → (a : Settled) × IsAccess d b a × (Some o ≡ ordered d.policy a) × (mid ≡ record d { policy = settled d.policy a })
       → (Fits d o → (c : CBlock) × MayReserve d c o)
       → OnTrue r ((c : CBlock) × MayReserve mid c o × (new ≡ reserved mid c o true)) → OnFalse r ((c : CBlock) → MayReserve mid c o → ⊥) → OnFalse r (new ≡ mid)
-      → IsSettled ordered settled d b new
-  settled_by ordered settled d mid new b r o s may given never same = (s.0, s.1, subst (λ (x : Option Order). IsGiven told x new) s.2 (by r given never same))
+      → AccessIsSettled ordered settled d b new
+  settled_by ordered settled d mid new b r o s may given never same = (s.0, s.1, subst (λ (x : Option Order). OrderIsGiven told x new) s.2 (by r given never same))
     where
       told : DeskState P
       told = record d { policy = settled d.policy s.0 }
 
-      by : (r : Bool) → OnTrue r ((c : CBlock) × MayReserve mid c o × (new ≡ reserved mid c o true)) → OnFalse r ((c : CBlock) → MayReserve mid c o → ⊥) → OnFalse r (new ≡ mid) → IsGiven told (Some o) new
+      by : (r : Bool) → OnTrue r ((c : CBlock) × MayReserve mid c o × (new ≡ reserved mid c o true)) → OnFalse r ((c : CBlock) → MayReserve mid c o → ⊥) → OnFalse r (new ≡ mid) → OrderIsGiven told (Some o) new
       by true given never same = inl (subst (λ (x : DeskState P). (c : CBlock) × MayReserve x c o × (new ≡ reserved x c o true)) s.3 given)
       by false given never same = inr (none_fits d (settled d.policy s.0) o may (subst (λ (x : DeskState P). (c : CBlock) → MayReserve x c o → ⊥) s.3 never), same ∙ s.3)
 

@@ -17,7 +17,7 @@ use Rattle.std.proofs.lemmas.List.Sums.{sum_by-cons}
 use Rattle.std.proofs.lemmas.Option.{slice_get_read, slice_get-get_or, slice_get_within}
 use Rattle.wb_policy.proofs.Laws.{slice_get-set_other}
 use Rattle.wb_desk.specs.Fields.{IsIndex}
-use Rattle.wb_desk.specs.Desks.{DeskState, holdings, Takes, IsLawful, MayReserve, Names}
+use Rattle.wb_desk.specs.Desks.{DeskState, holdings, Takes, IsGivenLawfully, MayReserve, Names}
 
 -- the entry of a block that stands there
 pub record EntryFor (entries : List (Option Entry)) (b at : ℕ) : Type 0 where
@@ -95,7 +95,7 @@ place_right n mapping cached b None i l e = (tt, i.missing b (slice_get_read cac
 place_right n mapping cached b (Some c) i l e = (i.found b c (slice_get_read cached n b (Some c) (sym i.size) l e), tt)
 
 module _ {P : Type 0} where
-  pub lawful_takes : (d : DeskState P) (c : CBlock) (order : Order) → IsLawful d c order → Takes (holdings d) c order
+  pub lawful_takes : (d : DeskState P) (c : CBlock) (order : Order) → IsGivenLawfully d c order → Takes (holdings d) c order
   lawful_takes d c (Promote b x) l = l.0
   lawful_takes d c (Replace v b x) l = l.0
   lawful_takes d c (Demote b) l = l

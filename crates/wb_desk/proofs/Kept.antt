@@ -14,8 +14,8 @@ use Rattle.wb_space.specs.declared.block.Block.TheVariants.{Free, Mapped, Reserv
 use Rattle.wb_space.specs.Blocks.{state, IsClaimed, released as block_released}
 use Rattle.wb_orders.specs.declared.live_order.LiveOrder.{LiveOrder}
 use Rattle.wb_orders.specs.Named.{first_of, second_of}
-use Rattle.wb_orders.specs.Orders.{order_at, taken, slots_taken, unmarked, IsTaken}
-use Rattle.wb_desk.specs.Desks.{DeskState, DeskInvariant, IsRight, HasOne, NamesWhatIs, Names, MayReserve, IsLawful, IsLive, holdings, is_mapped, Takes, sectors_asked}
+use Rattle.wb_orders.specs.Orders.{order_at, order_taken, slots_taken, unmarked, IsTaken}
+use Rattle.wb_desk.specs.Desks.{DeskState, DeskInvariant, IsRight, HasOne, NamesWhatIs, Names, MayReserve, IsGivenLawfully, IsLive, holdings, is_mapped, Takes, sectors_asked}
 use Rattle.wb_desk.specs.Calls.{blocks_reserved, reserved, released, next_order_taken}
 use Rattle.wb_orders.proofs.Kept.{within_of}
 use Rattle.wb_desk.proofs.Index.{names_take, takes_once, lawful_takes}
@@ -42,20 +42,20 @@ one_changes mapping entries blocks slots n c b s lb ls each here k l = elim (cas
 
 -- ---- the order that waits longest is taken
 
-taken_right : (mapping : Holdings) (c : ℕ) (entry : Option Entry) (b : Block) (s : Option LiveOrder) → IsRight mapping c entry b s → IsRight mapping c entry b (option_map taken s)
+taken_right : (mapping : Holdings) (c : ℕ) (entry : Option Entry) (b : Block) (s : Option LiveOrder) → IsRight mapping c entry b s → IsRight mapping c entry b (option_map order_taken s)
 taken_right mapping c entry b None r = r
 taken_right mapping c entry b (Some o) r = record { filled = r.filled; held = λ h. tt; stands = r.stands }
 
 length_taken : (slots : List (Option LiveOrder)) (waiting : List CBlock) → length (slots_taken slots waiting) ≡ length slots
 length_taken slots [] = refl
-length_taken slots (c ∷ cs) = length-set slots c.0 (option_map taken (order_at slots c.0))
+length_taken slots (c ∷ cs) = length-set slots c.0 (option_map order_taken (order_at slots c.0))
 
 each_taken : (mapping : Holdings) (entries : List (Option Entry)) (blocks : List Block) (slots : List (Option LiveOrder)) (n : ℕ) (waiting : List CBlock)
     → length blocks ≡ n → length slots ≡ n → Each mapping entries blocks slots n → Each mapping entries blocks (slots_taken slots waiting) n
 each_taken mapping entries blocks slots n [] lb ls each = each
 each_taken mapping entries blocks slots n (c ∷ cs) lb ls each =
     subst (λ (x : List Block). Each mapping entries x (slots_taken slots (c ∷ cs)) n) (set-get_or blocks c.0 Free)
-    (one_changes mapping entries blocks slots n c.0 (state blocks c.0) (option_map taken (order_at slots c.0)) lb ls each
+    (one_changes mapping entries blocks slots n c.0 (state blocks c.0) (option_map order_taken (order_at slots c.0)) lb ls each
     (λ l. taken_right mapping c.0 (get_or entries c.0 None) (state blocks c.0) (order_at slots c.0) (each c.0 l)))
 
 -- ---- an order is over
@@ -81,7 +81,7 @@ blocks_by blocks mapping c (Demote b) t = sym (set-get_or blocks c.0 Free)
 blocks_by blocks mapping c (Clean b) t = sym (set-get_or blocks c.0 Free)
 
 module _ {P : Type 0} where
-  new_right : (d : DeskState P) (c : CBlock) (o : LiveOrder) (entry : Option Entry) (order : Order) → o.order ≡ order → IsLawful d c order
+  new_right : (d : DeskState P) (c : CBlock) (o : LiveOrder) (entry : Option Entry) (order : Order) → o.order ≡ order → IsGivenLawfully d c order
       → (r : (s : Option LiveOrder) × IsRight (holdings d) c.0 entry (state d.space.blocks c.0) s)
       → IsRight (holdings d) c.0 entry (new_block order (state d.space.blocks c.0)) (Some o)
   new_right d c o entry (Promote b x) e l r = record {

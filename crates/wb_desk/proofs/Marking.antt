@@ -16,17 +16,17 @@ use Rattle.wb_tree.specs.declared.image.Image.{Image}
 use Rattle.wb_tree.proofs.Images.Changes.{few_changed}
 use Rattle.wb_tree.proofs.Stored.Edited.{edited-none, edited-more}
 use Rattle.wb_policy.specs.Law.{origins}
-use Rattle.wb_desk.specs.Marks.{marked_entry, marked, AreMarked, OfImaged}
+use Rattle.wb_desk.specs.Marks.{marked_entry, marked_entries, AreMarked, OfImaged}
 
 -- ---- entries
 
-length-marked : (hint : ℕ → ℕ) (dirty : List Bool) (es : List (Option Entry)) → length (marked hint dirty es) ≡ length es
+length-marked : (hint : ℕ → ℕ) (dirty : List Bool) (es : List (Option Entry)) → length (marked_entries hint dirty es) ≡ length es
 length-marked hint dirty [] = refl
 length-marked hint [] (e ∷ es) = ap suc (length-marked hint [] es)
 length-marked hint (b ∷ dirty) (e ∷ es) = ap suc (length-marked hint dirty es)
 
 get_or-marked : (hint : ℕ → ℕ) (dirty : List Bool) (es : List (Option Entry)) (c : ℕ)
-    → get_or (marked hint dirty es) c None ≡ marked_entry hint (get_or dirty c false) (get_or es c None)
+    → get_or (marked_entries hint dirty es) c None ≡ marked_entry hint (get_or dirty c false) (get_or es c None)
 get_or-marked hint dirty [] c = refl
 get_or-marked hint [] (e ∷ es) zero = refl
 get_or-marked hint [] (e ∷ es) (suc c) = get_or-marked hint [] es c
@@ -38,11 +38,11 @@ origin-marked hint bit None = refl
 origin-marked hint bit (Some e) = refl
 
 -- the origin blocks stay
-pub origins-marked : (hint : ℕ → ℕ) (dirty : List Bool) (es : List (Option Entry)) → origins (marked hint dirty es) ≡ origins es
+pub origins-marked : (hint : ℕ → ℕ) (dirty : List Bool) (es : List (Option Entry)) → origins (marked_entries hint dirty es) ≡ origins es
 origins-marked hint dirty [] = refl
-origins-marked hint [] (e ∷ es) = ap (λ (x : Option ℕ). x ∷ origins (marked hint [] es)) (origin-marked hint false e)
+origins-marked hint [] (e ∷ es) = ap (λ (x : Option ℕ). x ∷ origins (marked_entries hint [] es)) (origin-marked hint false e)
     ∙ ap (λ (xs : List (Option ℕ)). option_map (λ (x : Entry). x.origin.0) e ∷ xs) (origins-marked hint [] es)
-origins-marked hint (b ∷ dirty) (e ∷ es) = ap (λ (x : Option ℕ). x ∷ origins (marked hint dirty es)) (origin-marked hint b e)
+origins-marked hint (b ∷ dirty) (e ∷ es) = ap (λ (x : Option ℕ). x ∷ origins (marked_entries hint dirty es)) (origin-marked hint b e)
     ∙ ap (λ (xs : List (Option ℕ)). option_map (λ (x : Entry). x.origin.0) e ∷ xs) (origins-marked hint dirty es)
 
 is_some-origin : (e : Option Entry) → is_some (option_map (λ (x : Entry). x.origin.0) e) ≡ is_some e
@@ -171,8 +171,8 @@ pub up_to_all : (hint : ℕ → ℕ) (dirty : List Bool) (old : Mapping) (n c : 
 up_to_all hint dirty old n c m from to u = subst (λ (k : ℕ). AreMarkedUpTo hint dirty old n k m) (omega (arith, from, to)) u
 
 module _ (hint : ℕ → ℕ) (dirty : List Bool) (old : Mapping) (n : ℕ) (m : Mapping) (u : AreMarkedUpTo hint dirty old n n m) (size : length old.entries ≡ n) where
-  entries_are : m.entries ≡ marked hint dirty old.entries
-  entries_are = ext_get_or None m.entries (marked hint dirty old.entries) (u.size ∙ sym size ∙ sym (length-marked hint dirty old.entries))
+  entries_are : m.entries ≡ marked_entries hint dirty old.entries
+  entries_are = ext_get_or None m.entries (marked_entries hint dirty old.entries) (u.size ∙ sym size ∙ sym (length-marked hint dirty old.entries))
       (λ k l. u.before k (omega (arith, l, u.size)) ∙ sym (get_or-marked hint dirty old.entries k))
 
   pub all_marked : AreMarked hint dirty old m

@@ -2,7 +2,7 @@
 use Rattle.std.proofs.Common.{◌≡◌, ◌≢◌, ◌<◌, ◌+◌, inl, inr, ℕ, suc, Bool, List, [], ◌∷◌, ◌++◌, Option, Some, None, length, cond, refl, sym, ap, ◌∙◌, arith}
 use Rattle.std.proofs.lemmas.Bool.{cases_eq}
 use Rattle.std.proofs.lemmas.Bool.Decides.{eqb_tells}
-use Rattle.wb_desk.specs.Allocation.{LiveOrder, Apart, ApartAll, Shareless, cost, without, cache_at, HasOrder}
+use Rattle.wb_desk.specs.Allocation.{LiveOrder, Apart, ApartAll, Shareless, cost, orders_without, cache_at, HasOrder}
 use Rattle.wb_desk.specs.Acting.{order_in, rank_in}
 
 abbrev Here : LiveOrder → List LiveOrder → ℕ → Type 0
@@ -65,17 +65,17 @@ rank_there (o ∷ os) c p e = elim (cases_eq o.cache c) [
   | inr n ↦ ap (λ (i : ℕ). cache_at (o ∷ os) i) (there o os c n).1 ∙ rank_there os c p (sym (there o os c n).0 ∙ e)
 ]
 
-pub in_without_other : (os : List LiveOrder) (c k : ℕ) → k ≢ c → order_in (without os (rank_in os c)) k ≡ order_in os k
+pub in_without_other : (os : List LiveOrder) (c k : ℕ) → k ≢ c → order_in (orders_without os (rank_in os c)) k ≡ order_in os k
 in_without_other [] c k n = refl
 in_without_other (o ∷ os) c k n = elim (cases_eq o.cache c) [
-  | inl h ↦ ap (λ (i : ℕ). order_in (without (o ∷ os) i) k) (here o os c h).1 ∙ sym (there o os k (λ e. n (sym e ∙ h))).0
-  | inr m ↦ ap (λ (i : ℕ). order_in (without (o ∷ os) i) k) (there o os c m).1 ∙ past (in_without_other os c k n)
+  | inl h ↦ ap (λ (i : ℕ). order_in (orders_without (o ∷ os) i) k) (here o os c h).1 ∙ sym (there o os k (λ e. n (sym e ∙ h))).0
+  | inr m ↦ ap (λ (i : ℕ). order_in (orders_without (o ∷ os) i) k) (there o os c m).1 ∙ past (in_without_other os c k n)
 ]
   where
-    past : order_in (without os (rank_in os c)) k ≡ order_in os k → order_in (o ∷ without os (rank_in os c)) k ≡ order_in (o ∷ os) k
+    past : order_in (orders_without os (rank_in os c)) k ≡ order_in os k → order_in (o ∷ orders_without os (rank_in os c)) k ≡ order_in (o ∷ os) k
     past e = elim (cases_eq o.cache k) [
-      | inl h ↦ (here o (without os (rank_in os c)) k h).0 ∙ sym (here o os k h).0
-      | inr l ↦ (there o (without os (rank_in os c)) k l).0 ∙ e ∙ sym (there o os k l).0
+      | inl h ↦ (here o (orders_without os (rank_in os c)) k h).0 ∙ sym (here o os k h).0
+      | inr l ↦ (there o (orders_without os (rank_in os c)) k l).0 ∙ e ∙ sym (there o os k l).0
     ]
 
 -- no other has the cache block of one that stands apart from all
@@ -83,18 +83,18 @@ none_beside : (o : LiveOrder) (os : List LiveOrder) (c : ℕ) → ApartAll o os 
 none_beside o [] c a e = refl
 none_beside o (p ∷ os) c a e = (there p os c (λ h. a.0.cache (e ∙ sym h))).0 ∙ none_beside o os c a.1 e
 
-pub in_without_same : (os : List LiveOrder) (c : ℕ) → Shareless os → order_in (without os (rank_in os c)) c ≡ None
+pub in_without_same : (os : List LiveOrder) (c : ℕ) → Shareless os → order_in (orders_without os (rank_in os c)) c ≡ None
 in_without_same [] c s = refl
 in_without_same (o ∷ os) c s = elim (cases_eq o.cache c) [
-  | inl h ↦ ap (λ (i : ℕ). order_in (without (o ∷ os) i) c) (here o os c h).1 ∙ none_beside o os c s.0 h
-  | inr n ↦ ap (λ (i : ℕ). order_in (without (o ∷ os) i) c) (there o os c n).1 ∙ (there o (without os (rank_in os c)) c n).0 ∙ in_without_same os c s.1
+  | inl h ↦ ap (λ (i : ℕ). order_in (orders_without (o ∷ os) i) c) (here o os c h).1 ∙ none_beside o os c s.0 h
+  | inr n ↦ ap (λ (i : ℕ). order_in (orders_without (o ∷ os) i) c) (there o os c n).1 ∙ (there o (orders_without os (rank_in os c)) c n).0 ∙ in_without_same os c s.1
 ]
 
-pub cost_without : (os : List LiveOrder) (c : ℕ) (p : LiveOrder) → order_in os c ≡ Some p → cost (without os (rank_in os c)) + p.sectors ≡ cost os
+pub cost_without : (os : List LiveOrder) (c : ℕ) (p : LiveOrder) → order_in os c ≡ Some p → cost (orders_without os (rank_in os c)) + p.sectors ≡ cost os
 cost_without [] c p e = absurd (no_some p e)
 cost_without (o ∷ os) c p e = elim (cases_eq o.cache c) [
-  | inl h ↦ omega (arith, ap (λ (i : ℕ). cost (without (o ∷ os) i)) (here o os c h).1, ap (λ (x : LiveOrder). x.sectors) (same_some o p (sym (here o os c h).0 ∙ e)))
-  | inr n ↦ omega (arith, ap (λ (i : ℕ). cost (without (o ∷ os) i)) (there o os c n).1, cost_without os c p (sym (there o os c n).0 ∙ e))
+  | inl h ↦ omega (arith, ap (λ (i : ℕ). cost (orders_without (o ∷ os) i)) (here o os c h).1, ap (λ (x : LiveOrder). x.sectors) (same_some o p (sym (here o os c h).0 ∙ e)))
+  | inr n ↦ omega (arith, ap (λ (i : ℕ). cost (orders_without (o ∷ os) i)) (there o os c n).1, cost_without os c p (sym (there o os c n).0 ∙ e))
 ]
 
 -- ---- all of them

@@ -24,14 +24,14 @@ use Rattle.wb_space.specs.declared.block.Block.TheVariants.{Free, Mapped, Reserv
 use Rattle.wb_space.specs.Blocks.{state, released as block_released, opened_block, commit_begun as block_begun, commit_ended as block_ended}
 use Rattle.wb_orders.specs.declared.live_order.LiveOrder.{LiveOrder}
 use Rattle.wb_orders.specs.Orders.{IsTaken, order_at}
-use Rattle.wb_desk.specs.Allocation.{Allocation, ImageSafe, StaysQuarantined, entry_in}
-use Rattle.wb_desk.specs.Desks.{DeskState, DeskInvariant, IsLawful, IsFreeFor, IsLive, MayReserve, holdings, is_mapped}
+use Rattle.wb_desk.specs.Allocation.{Allocation, ImageSafe, StaysQuarantined, origin_in}
+use Rattle.wb_desk.specs.Desks.{DeskState, DeskInvariant, IsGivenLawfully, IsFreeFor, IsLive, MayReserve, holdings, is_mapped}
 use Rattle.wb_desk.specs.Calls.{blocks_reserved, reserved, released, next_order_taken}
-use Rattle.wb_desk.specs.Messages.{IsTold}
+use Rattle.wb_desk.specs.Messages.{MessageIsTold}
 use Rattle.wb_desk.specs.Entries.{MayMap, MayUnmap, HasEntered, HasLeft, entry_of, mapped, unmapped, keeps}
 use Rattle.wb_desk.specs.Commits.{commit_begun, commit_ended}
 use Rattle.wb_desk.specs.Opening.{opened}
-use Rattle.wb_desk.specs.Safety.{HeldImages, AreSafe, Call, TakeOrder, Tell, GiveOrder, Release, Map, Unmap, BeginCommit, EndCommit, Does, AreCalls, IsBeginning, AreDecisions, IsDecided, images_after, images_since, desk_after}
+use Rattle.wb_desk.specs.Safety.{HeldImages, AreSafe, DeskCall, TakeOrder, Tell, GiveOrder, Release, Map, Unmap, BeginCommit, EndCommit, Does, AreCalls, IsBeginning, AreDecisions, ComesByCalls, images_after, images_since, desk_after}
 use Rattle.wb_desk.proofs.Index.{entry_for}
 use Rattle.wb_desk.proofs.Acts.{same_stays, stays_given_back, stays_begun, stays_ended, set_stays, from_block, block_sound, entry_sound, sound_given_back, sound_begun, sound_ended}
 
@@ -40,17 +40,17 @@ abbrev beside : List Block → Holdings → HeldImages → Allocation
 beside blocks mapping images = record { blocks = blocks; mapping = mapping; committed = images.committed; running = images.running; committing = false; orders = []; threshold = 0 }
 
 abbrev AllSafe : List Block → Holdings → HeldImages → Type 0
-AllSafe blocks mapping images = (c : ℕ) → ImageSafe (state blocks c) (entry_in mapping c) (entry_in images.committed c) (entry_in images.running c)
+AllSafe blocks mapping images = (c : ℕ) → ImageSafe (state blocks c) (origin_in mapping c) (origin_in images.committed c) (origin_in images.running c)
 
 block_safe : (blocks : List Block) (mapping : Holdings) (images : HeldImages) (c : ℕ) (b : Block)
-    → (c < length blocks → ImageSafe b (entry_in mapping c) (entry_in images.committed c) (entry_in images.running c)) → AllSafe blocks mapping images → AllSafe (set blocks c b) mapping images
+    → (c < length blocks → ImageSafe b (origin_in mapping c) (origin_in images.committed c) (origin_in images.running c)) → AllSafe blocks mapping images → AllSafe (set blocks c b) mapping images
 block_safe blocks mapping images c b here all = block_sound (beside blocks mapping images) c b here all
 
 reserved_safe : (blocks : List Block) (mapping : Holdings) (images : HeldImages) (c : ℕ) → slice_get blocks c ≡ Some Free → AllSafe blocks mapping images → AllSafe (set blocks c Reserved) mapping images
 reserved_safe blocks mapping images c free all = block_safe blocks mapping images c Reserved
-    (λ l. subst (λ (b : Block). ImageSafe b (entry_in mapping c) (entry_in images.committed c) (entry_in images.running c)) (get_or_from_slice_get blocks c Free Free free) (all c)) all
+    (λ l. subst (λ (b : Block). ImageSafe b (origin_in mapping c) (origin_in images.committed c) (origin_in images.running c)) (get_or_from_slice_get blocks c Free Free free) (all c)) all
 
-given_safe : {P : Type 0} (d : DeskState P) (images : HeldImages) (cache : CBlock) (order : Order) → IsLawful d cache order → AllSafe d.space.blocks (holdings d) images
+given_safe : {P : Type 0} (d : DeskState P) (images : HeldImages) (cache : CBlock) (order : Order) → IsGivenLawfully d cache order → AllSafe d.space.blocks (holdings d) images
     → AllSafe (blocks_reserved d.space.blocks order) (holdings d) images
 given_safe d images cache (Promote b c) lawful all = reserved_safe d.space.blocks (holdings d) images c.0 lawful.1 all
 given_safe d images cache (Replace v b c) lawful all = all
@@ -59,13 +59,13 @@ given_safe d images cache (Clean b) lawful all = all
 
 released_safe : (blocks : List Block) (mapping : Holdings) (images : HeldImages) (c : ℕ) → AllSafe blocks mapping images → AllSafe (set blocks c (block_released (state blocks c))) mapping images
 released_safe blocks mapping images c all = block_safe blocks mapping images c (block_released (state blocks c))
-    (λ l. sound_given_back (state blocks c) (entry_in mapping c) (entry_in images.committed c) (entry_in images.running c) (all c)) all
+    (λ l. sound_given_back (state blocks c) (origin_in mapping c) (origin_in images.committed c) (origin_in images.running c) (all c)) all
 
 mapped_safe : (blocks : List Block) (mapping : Holdings) (images : HeldImages) (c b : ℕ) → slice_get blocks c ≡ Some Reserved → c < length mapping → AllSafe blocks mapping images
     → AllSafe (set blocks c Mapped) (set mapping c (Some b)) images
 mapped_safe blocks mapping images c b is within all =
-    let free : ImageSafe Reserved (entry_in mapping c) (entry_in images.committed c) (entry_in images.running c) =
-    subst (λ (x : Block). ImageSafe x (entry_in mapping c) (entry_in images.committed c) (entry_in images.running c)) (get_or_from_slice_get blocks c Reserved Free is) (all c) in
+    let free : ImageSafe Reserved (origin_in mapping c) (origin_in images.committed c) (origin_in images.running c) =
+    subst (λ (x : Block). ImageSafe x (origin_in mapping c) (origin_in images.committed c) (origin_in images.running c)) (get_or_from_slice_get blocks c Reserved Free is) (all c) in
     entry_sound (beside blocks mapping images) c Mapped (Some b) (slice_get_within blocks c Reserved is) (b, get_or-set_same mapping c (Some b) None within, inl free.1, inl free.2) all
 
 unmapped_safe : (blocks : List Block) (mapping : Holdings) (images : HeldImages) (c : ℕ) (keep : Bool) → c < length blocks → c < length mapping → AllSafe blocks mapping images
@@ -74,13 +74,13 @@ unmapped_safe blocks mapping images c keep l within all = entry_sound (beside bl
 
 begun_safe : (blocks : List Block) (mapping : Holdings) (images : HeldImages) → AllSafe blocks mapping images → AllSafe (map block_begun blocks) mapping (record { committed = images.committed; running = mapping })
 begun_safe blocks mapping images all c =
-    subst (λ (b : Block). ImageSafe b (entry_in mapping c) (entry_in images.committed c) (entry_in mapping c)) (sym (get_or-map block_begun blocks c Free))
-    (sound_begun (state blocks c) (entry_in mapping c) (entry_in images.committed c) (entry_in images.running c) (all c))
+    subst (λ (b : Block). ImageSafe b (origin_in mapping c) (origin_in images.committed c) (origin_in mapping c)) (sym (get_or-map block_begun blocks c Free))
+    (sound_begun (state blocks c) (origin_in mapping c) (origin_in images.committed c) (origin_in images.running c) (all c))
 
 ended_safe : (blocks : List Block) (mapping : Holdings) (images : HeldImages) → AllSafe blocks mapping images → AllSafe (map block_ended blocks) mapping (record { committed = images.running; running = images.running })
 ended_safe blocks mapping images all c =
-    subst (λ (b : Block). ImageSafe b (entry_in mapping c) (entry_in images.running c) (entry_in images.running c)) (sym (get_or-map block_ended blocks c Free))
-    (sound_ended (state blocks c) (entry_in mapping c) (entry_in images.committed c) (entry_in images.running c) (all c))
+    subst (λ (b : Block). ImageSafe b (origin_in mapping c) (origin_in images.running c) (origin_in images.running c)) (sym (get_or-map block_ended blocks c Free))
+    (sound_ended (state blocks c) (origin_in mapping c) (origin_in images.committed c) (origin_in images.running c) (all c))
 
 differs : true ≡ false → ⊥
 differs e = absurd cc
@@ -105,7 +105,7 @@ module _ {P : Type 0} where
   still : (new old : DeskState P) (images : HeldImages) → new ≡ old → (old.space.committing ≡ false → images.running ≡ images.committed) → new.space.committing ≡ false → images.running ≡ images.committed
   still new old images e idle f = idle (sym (ap (λ (d : DeskState P). d.space.committing) e) ∙ f)
 
-  pub call_safe : (knows : P → Holdings → Type 0) (d new : DeskState P) (call : Call) (images : HeldImages) → DeskInvariant knows d → Does d call new → AreSafe d images → AreSafe new (images_after d images call)
+  pub call_safe : (knows : P → Holdings → Type 0) (d new : DeskState P) (call : DeskCall) (images : HeldImages) → DeskInvariant knows d → Does d call new → AreSafe d images → AreSafe new (images_after d images call)
   call_safe knows d new TakeOrder images i does safe = record {
     each = with_blocks new d.space.blocks (holdings d) images (blocks_of new (next_order_taken d) does) (holdings_of new (next_order_taken d) does) safe.each;
     idle = still new (next_order_taken d) images does safe.idle;
@@ -150,7 +150,7 @@ module _ {P : Type 0} where
     idle = λ f. refl;
   }
 
-  pub calls_safe : (knows : P → Holdings → Type 0) (d : DeskState P) (calls : List (Call × DeskState P)) (images : HeldImages) → AreCalls knows d calls → AreSafe d images
+  pub calls_safe : (knows : P → Holdings → Type 0) (d : DeskState P) (calls : List (DeskCall × DeskState P)) (images : HeldImages) → AreCalls knows d calls → AreSafe d images
       → AreSafe (desk_after d calls) (images_since d images calls)
   calls_safe knows d [] images are safe = safe
   calls_safe knows d (c ∷ calls) images are safe = calls_safe knows c.1 calls (images_after d images c.0) are.2 (call_safe knows d c.1 c.0 images are.0 are.1 safe)
@@ -166,7 +166,7 @@ opened_safe geometry generation tree used mode policy threshold mapped = record 
   idle = λ f. refl;
 }
   where
-    each : (entries : List (Option Entry)) (c : ℕ) → ImageSafe (state (map opened_block (map is_some entries)) c) (entry_in (origins entries) c) (entry_in (origins entries) c) (entry_in (origins entries) c)
+    each : (entries : List (Option Entry)) (c : ℕ) → ImageSafe (state (map opened_block (map is_some entries)) c) (origin_in (origins entries) c) (origin_in (origins entries) c) (origin_in (origins entries) c)
     each entries c =
         subst (λ (x : Option ℕ). ImageSafe (state (map opened_block (map is_some entries)) c) x x x) (sym (get_or-map (option_map (λ (e : Entry). e.origin.0)) entries c None))
         (subst (λ (b : Block). ImageSafe b (option_map (λ (e : Entry). e.origin.0) (get_or entries c None)) (option_map (λ (e : Entry). e.origin.0) (get_or entries c None)) (option_map (λ (e : Entry). e.origin.0) (get_or entries c None)))
@@ -180,7 +180,7 @@ reserved_stays B E blocks (Replace v b k) c free = same_stays B E (state blocks 
 reserved_stays B E blocks (Demote b) c free = same_stays B E (state blocks c)
 reserved_stays B E blocks (Clean b) c free = same_stays B E (state blocks c)
 
-abbrev ends : Call → Type 0
+abbrev ends : DeskCall → Type 0
 ends call = call ≡ EndCommit
 
 -- a mapped block may be quarantined
@@ -191,7 +191,7 @@ mapped_leaves B E Reserved keep e = tt
 mapped_leaves B E (Quarantined claimed early) keep e = absurd (differs (sym e))
 
 module _ {P : Type 0} where
-  free_for_order : (d : DeskState P) (cache : CBlock) (order : Order) → IsLawful d cache order → IsFreeFor d.space.blocks order
+  free_for_order : (d : DeskState P) (cache : CBlock) (order : Order) → IsGivenLawfully d cache order → IsFreeFor d.space.blocks order
   free_for_order d cache (Promote b k) lawful = lawful.1
   free_for_order d cache (Replace v b k) lawful = tt
   free_for_order d cache (Demote b) lawful = tt
@@ -200,7 +200,7 @@ module _ {P : Type 0} where
   stays_by : (B E : Type 0) (d new : DeskState P) (blocks : List Block) (c : ℕ) → new.space.blocks ≡ blocks → StaysQuarantined B E (state d.space.blocks c) (state blocks c) → StaysQuarantined B E (state d.space.blocks c) (state new.space.blocks c)
   stays_by B E d new blocks c e s = subst (λ (bs : List Block). StaysQuarantined B E (state d.space.blocks c) (state bs c)) (sym e) s
 
-  pub quarantine_stays : (knows : P → Holdings → Type 0) (d new : DeskState P) (call : Call) → DeskInvariant knows d → Does d call new → (c : ℕ)
+  pub quarantine_stays : (knows : P → Holdings → Type 0) (d new : DeskState P) (call : DeskCall) → DeskInvariant knows d → Does d call new → (c : ℕ)
       → StaysQuarantined (IsBeginning call) (call ≡ EndCommit) (state d.space.blocks c) (state new.space.blocks c)
   quarantine_stays knows d new TakeOrder i does c = stays_by _ _ d new d.space.blocks c (ap (λ (x : DeskState P). x.space.blocks) does) (same_stays _ _ (state d.space.blocks c))
   quarantine_stays knows d new Tell i does c = stays_by _ _ d new d.space.blocks c (ap (λ (x : DeskState P). x.space.blocks) does) (same_stays _ _ (state d.space.blocks c))
@@ -225,7 +225,7 @@ module _ {P : Type 0} where
 -- ---- contracts
 
 module _ {P : Type 0} where
-  pub told_does : (with_setting : P → Key → ℕ → Option P) (d new : DeskState P) (message : Message) → IsTold with_setting d message new → Does d Tell new
+  pub told_does : (with_setting : P → Key → ℕ → Option P) (d new : DeskState P) (message : Message) → MessageIsTold with_setting d message new → Does d Tell new
   told_does with_setting d new (Set MigrationThreshold value) told = told.1 ∙ ap (λ (x : DeskState P). record d { threshold = x.threshold; policy = x.policy }) (sym told.1)
   told_does with_setting d new (Set PromoteMin value) told = told.1 ∙ ap (λ (x : DeskState P). record d { threshold = x.threshold; policy = x.policy }) (sym told.1)
   told_does with_setting d new (InvalidateCblocks ranges) told = told.2 ∙ ap (λ (x : DeskState P). record d { threshold = x.threshold; policy = x.policy }) (sym told.2)
@@ -243,7 +243,7 @@ module _ {P : Type 0} where
 
 module _ {P : Type 0} (knows : P → Holdings → Type 0) where
   -- one list of calls after another
-  calls_then : (d m : DeskState P) (first second : List (Call × DeskState P)) → AreCalls knows d first → AreDecisions first → desk_after d first ≡ m
+  calls_then : (d m : DeskState P) (first second : List (DeskCall × DeskState P)) → AreCalls knows d first → AreDecisions first → desk_after d first ≡ m
       → AreCalls knows m second → AreDecisions second
       → AreCalls knows d (first ++ second) × AreDecisions (first ++ second) × (desk_after d (first ++ second) ≡ desk_after m second)
   calls_then d m [] second are decide e others rest =
@@ -251,20 +251,20 @@ module _ {P : Type 0} (knows : P → Holdings → Type 0) where
   calls_then d m (c ∷ first) second are decide e others rest = let h = calls_then c.1 m first second are.2 decide.1 e others rest in
       ((are.0, are.1, h.0), (decide.0, h.1), h.2)
 
-  pub decided_then : (d m new : DeskState P) → IsDecided knows d m → IsDecided knows m new → IsDecided knows d new
+  pub decided_then : (d m new : DeskState P) → ComesByCalls knows d m → ComesByCalls knows m new → ComesByCalls knows d new
   decided_then d m new a b = let h = calls_then d m a.0 b.0 a.1 a.2 a.3 b.1 b.2 in (a.0 ++ b.0, h.0, h.1, h.2 ∙ b.3)
 
-  pub none_decided : (d new : DeskState P) → new ≡ d → IsDecided knows d new
+  pub none_decided : (d new : DeskState P) → new ≡ d → ComesByCalls knows d new
   none_decided d new e = ([], tt, tt, sym e)
 
   -- the policy was asked
-  pub asked_decided : (d new : DeskState P) (p : P) → DeskInvariant knows d → new ≡ record d { policy = p } → IsDecided knows d new
+  pub asked_decided : (d new : DeskState P) (p : P) → DeskInvariant knows d → new ≡ record d { policy = p } → ComesByCalls knows d new
   asked_decided d new p i e = ((Tell, new) ∷ [], (i, told, tt), (tt, tt), refl)
     where
       told : new ≡ record d { threshold = new.threshold; policy = new.policy }
       told = e ∙ ap (λ (x : DeskState P). record d { threshold = x.threshold; policy = x.policy }) (sym e)
 
   pub given_decided : (d new : DeskState P) (r : Bool) (order : Order) → DeskInvariant knows d
-      → OnTrue r ((c : CBlock) × MayReserve d c order × (new ≡ reserved d c order true)) → OnFalse r (new ≡ d) → IsDecided knows d new
+      → OnTrue r ((c : CBlock) × MayReserve d c order × (new ≡ reserved d c order true)) → OnFalse r (new ≡ d) → ComesByCalls knows d new
   given_decided d new true order i given same = ((GiveOrder given.0 order true, new) ∷ [], (i, (given.1, given.2), tt), (refl, tt), refl)
   given_decided d new false order i given same = none_decided d new same

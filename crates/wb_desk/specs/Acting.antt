@@ -11,11 +11,11 @@ use Rattle.wb_policy.specs.Law.{Holdings, origins}
 use Rattle.wb_orders.specs.declared.live_order.LiveOrder.{LiveOrder as Living}
 use Rattle.wb_orders.specs.Named.{first_of, second_of}
 use Rattle.wb_orders.specs.Orders.{AreOrders, order_at, cost_of}
-use Rattle.wb_desk.specs.Allocation.{LiveOrder, Allocation, AllocationInvariant, Act, Give, Over, Map as MapBlock, Unmap as UnmapBlock, Begin, End, Threshold, IsActRun, after_acts, at_opening, cost}
+use Rattle.wb_desk.specs.Allocation.{LiveOrder, Allocation, AllocationInvariant, DeskAct, Give, Over, Map as MapBlock, Unmap as UnmapBlock, Begin, End, Threshold, IsActRun, after_acts, at_opening, cost}
 use Rattle.wb_desk.specs.Desks.{DeskState, holdings, sectors_asked}
 use Rattle.wb_desk.specs.Entries.{is_replacement}
 use Rattle.wb_desk.specs.Opening.{opened}
-use Rattle.wb_desk.specs.Safety.{HeldImages, Call, TakeOrder, Tell, GiveOrder, Release, Map, Unmap, BeginCommit, EndCommit, AreCalls, images_since, desk_after}
+use Rattle.wb_desk.specs.Safety.{HeldImages, DeskCall, TakeOrder, Tell, GiveOrder, Release, Map, Unmap, BeginCommit, EndCommit, AreCalls, images_since, desk_after}
 
 -- an order of a cache block, as the acts speak of it
 abbrev pub spoken_of : ℕ → Order → ℕ → ℕ → LiveOrder
@@ -54,12 +54,12 @@ reserves (Demote b) = false
 reserves (Clean b) = false
 
 -- An entry goes: a replacement keeps the cache block, another order of it is over.
-abbrev pub acts_removing : Option Living → ℕ → ℕ → List Act
+abbrev pub acts_removing : Option Living → ℕ → ℕ → List DeskAct
 acts_removing None c rank = UnmapBlock c false ∷ []
 acts_removing (Some o) c rank = if is_replacement o.order then UnmapBlock c true ∷ [] else UnmapBlock c false ∷ Over rank ∷ []
 
 -- what a call of a desk is, whose allocation is this, and which made this desk of it
-abbrev pub acts_of : {P : Type 0} → Allocation → DeskState P → Call → DeskState P → List Act
+abbrev pub acts_of : {P : Type 0} → Allocation → DeskState P → DeskCall → DeskState P → List DeskAct
 acts_of a d TakeOrder new = []
 acts_of a d Tell new = Threshold new.threshold ∷ []
 acts_of a d (GiveOrder c order waits) new = Give (spoken_of c.0 order (sectors_asked d.geometry order) d.threshold) (reserves order) ∷ []
@@ -70,15 +70,15 @@ acts_of a d BeginCommit new = Begin ∷ []
 acts_of a d EndCommit new = End ∷ []
 
 -- what these calls are, one after the other
-abbrev pub acts_since : {P : Type 0} → Allocation → DeskState P → List (Call × DeskState P) → List Act
+abbrev pub acts_since : {P : Type 0} → Allocation → DeskState P → List (DeskCall × DeskState P) → List DeskAct
 acts_since a d [] = []
 acts_since a d (c ∷ calls) = acts_of a d c.0 c.1 ++ acts_since (after_acts a (acts_of a d c.0 c.1)) c.1 calls
 
 -- ---- laws
 
 -- A desk that has just been opened is at the beginning of the acts.
-abbrev pub OpeningBegins : Type 0 → Type 0
-OpeningBegins P = (geometry : Geometry) (generation : ℕ) (tree : Mapping) (used : List Place) (mode : Mode) (policy : P) (threshold mapped : ℕ)
+abbrev pub OpenedDeskBegins : Type 0 → Type 0
+OpenedDeskBegins P = (geometry : Geometry) (generation : ℕ) (tree : Mapping) (used : List Place) (mode : Mode) (policy : P) (threshold mapped : ℕ)
     → IsMapping geometry.cache_blocks geometry.origin_blocks tree.entries
     → AllocationInvariant (at_opening (origins tree.entries) threshold)
     × AreOrders (opened geometry generation tree used mode policy threshold mapped).orders
@@ -86,7 +86,7 @@ OpeningBegins P = (geometry : Geometry) (generation : ℕ) (tree : Mapping) (use
 
 -- Whatever is called, each call is these acts, each of which may be then, and they make of the allocation that of the desk.
 abbrev pub CallsAreActs : (P : Type 0) → (P → Holdings → Type 0) → Type 0
-CallsAreActs P knows = (d : DeskState P) (calls : List (Call × DeskState P)) (images : HeldImages) (a : Allocation)
+CallsAreActs P knows = (d : DeskState P) (calls : List (DeskCall × DeskState P)) (images : HeldImages) (a : Allocation)
     → AreCalls knows d calls → AreOrders d.orders → IsAllocation d images a → AllocationInvariant a
     → IsActRun a (acts_since a d calls)
     × AllocationInvariant (after_acts a (acts_since a d calls))

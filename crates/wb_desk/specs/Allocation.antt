@@ -9,12 +9,12 @@ use Rattle.wb_space.specs.Blocks.{released, commit_begun, commit_ended, state, I
 abbrev pub BlockMap : Type 0
 BlockMap = List (Option ℕ)
 
-abbrev pub entry_in : BlockMap → ℕ → Option ℕ
-entry_in image c = get_or image c None
+abbrev pub origin_in : BlockMap → ℕ → Option ℕ
+origin_in image c = get_or image c None
 
 -- no origin block stands in it twice
 abbrev pub NoneTwice : BlockMap → Type 0
-NoneTwice image = (b c k : ℕ) → entry_in image c ≡ Some b → entry_in image k ≡ Some b → c ≡ k
+NoneTwice image = (b c k : ℕ) → origin_in image c ≡ Some b → origin_in image k ≡ Some b → c ≡ k
 
 -- what an order keeps: its origin blocks, its cache block, its sectors and the threshold in force when it was given
 pub record LiveOrder : Type 0 where
@@ -60,10 +60,10 @@ WithinFrom before [] = Unit {0}
 WithinFrom before (o ∷ os) = (before + o.sectors ≤ o.threshold) × WithinFrom (before + o.sectors) os
 
 -- orders without the one at this place
-abbrev pub without : List LiveOrder → ℕ → List LiveOrder
-without [] i = []
-without (o ∷ os) zero = os
-without (o ∷ os) (suc i) = o ∷ without os i
+abbrev pub orders_without : List LiveOrder → ℕ → List LiveOrder
+orders_without [] i = []
+orders_without (o ∷ os) zero = os
+orders_without (o ∷ os) (suc i) = o ∷ orders_without os i
 
 abbrev pub cache_at : List LiveOrder → ℕ → ℕ
 cache_at [] i = 0
@@ -76,19 +76,19 @@ HasOrder [] c = ⊥
 HasOrder (o ∷ os) c = (o.cache ≡ c) ⊎ HasOrder os c
 
 -- What happens: orders that are given with the block reserved or not, and their ends.
-pub data Act : Type 0 where
-  Give : (order : LiveOrder) (reserves : Bool) → Act
-  Over : (place : ℕ) → Act
-  Map : (block cache : ℕ) → Act
-  Unmap : (cache : ℕ) (keep : Bool) → Act
-  Begin : Act
-  End : Act
-  Threshold : ℕ → Act
+pub data DeskAct : Type 0 where
+  Give : (order : LiveOrder) (reserves : Bool) → DeskAct
+  Over : (place : ℕ) → DeskAct
+  Map : (block cache : ℕ) → DeskAct
+  Unmap : (cache : ℕ) (keep : Bool) → DeskAct
+  Begin : DeskAct
+  End : DeskAct
+  Threshold : ℕ → DeskAct
 
-abbrev pub after_act : Allocation → Act → Allocation
+abbrev pub after_act : Allocation → DeskAct → Allocation
 after_act d (Give o true) = record d { blocks = slice_set d.blocks o.cache Reserved; orders = d.orders ++ o ∷ [] }
 after_act d (Give o false) = record d { orders = d.orders ++ o ∷ [] }
-after_act d (Over i) = record d { blocks = slice_set d.blocks (cache_at d.orders i) (released (state d.blocks (cache_at d.orders i))); orders = without d.orders i }
+after_act d (Over i) = record d { blocks = slice_set d.blocks (cache_at d.orders i) (released (state d.blocks (cache_at d.orders i))); orders = orders_without d.orders i }
 after_act d (Map b c) = record d { blocks = slice_set d.blocks c Mapped; mapping = slice_set d.mapping c (Some b) }
 after_act d (Unmap c keep) = record d { blocks = slice_set d.blocks c (Quarantined keep false); mapping = slice_set d.mapping c None }
 after_act d Begin = record d { blocks = map commit_begun d.blocks; running = d.mapping; committing = true }
@@ -96,21 +96,21 @@ after_act d End = record d { blocks = map commit_ended d.blocks; committed = d.r
 after_act d (Threshold n) = record d { threshold = n }
 
 -- an order may be given: its blocks are in no live order, and there is room
-pub record MayGive (d : Allocation) (o : LiveOrder) : Type 0 where
+pub record MayGiveOrder (d : Allocation) (o : LiveOrder) : Type 0 where
   pub apart : ApartAll o d.orders
   pub room : cost d.orders + o.sectors ≤ d.threshold
   pub under : o.threshold ≡ d.threshold
 
-abbrev pub MayAct : Allocation → Act → Type 0
-MayAct d (Give o true) = MayGive d o × (slice_get d.blocks o.cache ≡ Some Free)
-MayAct d (Give o false) = MayGive d o
-MayAct d (Over i) = i < length d.orders
-MayAct d (Map b c) = (slice_get d.blocks c ≡ Some Reserved) × (c < length d.mapping) × ((k : ℕ) → entry_in d.mapping k ≢ Some b)
-MayAct d (Unmap c false) = slice_get d.blocks c ≡ Some Mapped
-MayAct d (Unmap c true) = (slice_get d.blocks c ≡ Some Mapped) × HasOrder d.orders c
-MayAct d Begin = d.committing ≡ false
-MayAct d End = d.committing ≡ true
-MayAct d (Threshold n) = Unit {0}
+abbrev pub DeskMayAct : Allocation → DeskAct → Type 0
+DeskMayAct d (Give o true) = MayGiveOrder d o × (slice_get d.blocks o.cache ≡ Some Free)
+DeskMayAct d (Give o false) = MayGiveOrder d o
+DeskMayAct d (Over i) = i < length d.orders
+DeskMayAct d (Map b c) = (slice_get d.blocks c ≡ Some Reserved) × (c < length d.mapping) × ((k : ℕ) → origin_in d.mapping k ≢ Some b)
+DeskMayAct d (Unmap c false) = slice_get d.blocks c ≡ Some Mapped
+DeskMayAct d (Unmap c true) = (slice_get d.blocks c ≡ Some Mapped) × HasOrder d.orders c
+DeskMayAct d Begin = d.committing ≡ false
+DeskMayAct d End = d.committing ≡ true
+DeskMayAct d (Threshold n) = Unit {0}
 
 -- What one cache block is, what it is mapped for, and what the two images have there
 abbrev pub ImageSafe : Block → Option ℕ → Option ℕ → Option ℕ → Type 0
@@ -122,7 +122,7 @@ ImageSafe (Quarantined claimed true) now committed running = (now ≡ None) × (
 
 -- The rule
 pub record AllocationInvariant (d : Allocation) : Type 0 where
-  pub sound : (c : ℕ) → ImageSafe (state d.blocks c) (entry_in d.mapping c) (entry_in d.committed c) (entry_in d.running c)
+  pub sound : (c : ℕ) → ImageSafe (state d.blocks c) (origin_in d.mapping c) (origin_in d.committed c) (origin_in d.running c)
   pub idle : d.committing ≡ false → d.running ≡ d.committed
   -- a reserved or claimed block is that of a live order
   pub held : (c : ℕ) → IsClaimed (state d.blocks c) → HasOrder d.orders c
@@ -133,11 +133,11 @@ pub record AllocationInvariant (d : Allocation) : Type 0 where
   pub committed_once : NoneTwice d.committed
   pub running_once : NoneTwice d.running
 
-abbrev pub IsActRun : Allocation → List Act → Type 0
+abbrev pub IsActRun : Allocation → List DeskAct → Type 0
 IsActRun d [] = Unit {0}
-IsActRun d (a ∷ rest) = MayAct d a × IsActRun (after_act d a) rest
+IsActRun d (a ∷ rest) = DeskMayAct d a × IsActRun (after_act d a) rest
 
-abbrev pub after_acts : Allocation → List Act → Allocation
+abbrev pub after_acts : Allocation → List DeskAct → Allocation
 after_acts d [] = d
 after_acts d (a ∷ rest) = after_acts (after_act d a) rest
 
@@ -152,13 +152,13 @@ StaysQuarantined begins ends (Quarantined k true) (Quarantined k' false) = ⊥
 StaysQuarantined begins ends (Quarantined k true) b = ends
 StaysQuarantined begins ends other b = Unit {0}
 
-abbrev pub StaysOrEnds : Block → Act → Block → Type 0
+abbrev pub StaysOrEnds : Block → DeskAct → Block → Type 0
 StaysOrEnds old a new = StaysQuarantined (a ≡ Begin) (a ≡ End) old new
 
 -- at an opening, each entry of the mapping is in the committed image too
-abbrev pub opened_entry : Option ℕ → Block
-opened_entry None = Free
-opened_entry (Some b) = Mapped
+abbrev pub block_as_opened : Option ℕ → Block
+block_as_opened None = Free
+block_as_opened (Some b) = Mapped
 
 abbrev pub at_opening : BlockMap → ℕ → Allocation
-at_opening m n = record { blocks = map opened_entry m; mapping = m; committed = m; running = m; committing = false; orders = []; threshold = n }
+at_opening m n = record { blocks = map block_as_opened m; mapping = m; committed = m; running = m; committing = false; orders = []; threshold = n }

@@ -10,7 +10,7 @@ use Rattle.wb_policy.specs.TinyLfu.{Knowledge, WasTold, after_access, ordered, c
 use Rattle.wb_policy.specs.Cleaner.{Progress, cleaned, ticked}
 use Rattle.wb_desk.specs.Desks.{DeskState, DeskInvariant, MayReserve, holdings}
 use Rattle.wb_desk.specs.Calls.{reserved}
-use Rattle.wb_desk.specs.Settling.{IsAccess, IsSettled, IsTick, TickEnds}
+use Rattle.wb_desk.specs.Settling.{IsAccess, AccessIsSettled, IsTick, TickEnds}
 
 -- A policy was made for the desk's geometry, and an order more can be counted.
 pub record IsInService {P : Type 0} (knows : P → Holdings → Type 0) (d : DeskState P) (block_sectors : ℕ) : Type 0 where
@@ -26,7 +26,7 @@ IsWaiting d (Some order) new = (c : CBlock) × MayReserve d c order × (new ≡ 
 -- TinyLfu: at an access of a block of the origin its order is given, if and only if it decides on one.
 abbrev pub DecisionsAreGiven : Type 0
 DecisionsAreGiven = (d new : DeskState Knowledge) (b : OBlock) → IsInService WasTold d d.policy.block_sectors → b.0 < d.geometry.origin_blocks
-    → IsSettled ordered (λ k a. after_access k a.block.0) d b new
+    → AccessIsSettled ordered (λ k a. after_access k a.block.0) d b new
     → (a : Settled) × IsAccess d b a × IsWaiting (record d { policy = after_access d.policy a.block.0 }) (ordered d.policy a) new
 
 -- Its tick ends only where it has no order more,

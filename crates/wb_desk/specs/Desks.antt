@@ -62,16 +62,16 @@ Takes mapping cache (Clean b) = IsMappedAt mapping b.0 cache.0
 
 -- What an order names when it is given, and the cache block that it takes: a promotion brings an unmapped block into a
 -- free one; a replacement one into that of the mapped block that it demotes; only a mapped block is demoted or cleaned.
-abbrev pub IsLawful : {P : Type 0} → DeskState P → CBlock → Order → Type 0
-IsLawful d cache (Promote b c) = (cache ≡ c) × (slice_get d.space.blocks c.0 ≡ Some Free) × IsUnmapped (holdings d) b.0
-IsLawful d cache (Replace v x c) = (cache ≡ c) × IsMappedAt (holdings d) v.0 c.0 × IsUnmapped (holdings d) x.0
-IsLawful d cache (Demote b) = IsMappedAt (holdings d) b.0 cache.0
-IsLawful d cache (Clean b) = IsMappedAt (holdings d) b.0 cache.0
+abbrev pub IsGivenLawfully : {P : Type 0} → DeskState P → CBlock → Order → Type 0
+IsGivenLawfully d cache (Promote b c) = (cache ≡ c) × (slice_get d.space.blocks c.0 ≡ Some Free) × IsUnmapped (holdings d) b.0
+IsGivenLawfully d cache (Replace v x c) = (cache ≡ c) × IsMappedAt (holdings d) v.0 c.0 × IsUnmapped (holdings d) x.0
+IsGivenLawfully d cache (Demote b) = IsMappedAt (holdings d) b.0 cache.0
+IsGivenLawfully d cache (Clean b) = IsMappedAt (holdings d) b.0 cache.0
 
 -- An order may be given, and takes this cache block.
 pub record MayReserve {P : Type 0} (d : DeskState P) (cache : CBlock) (order : Order) : Type 0 where
   pub mode : d.mode ≢ Passthrough
-  pub lawful : IsLawful d cache order
+  pub lawful : IsGivenLawfully d cache order
   pub give : MayGive d.orders cache order (sectors_asked d.geometry order) d.threshold
 
 -- What an order names is so as long as it lives, given the state of its cache block: a promotion's is reserved for a block

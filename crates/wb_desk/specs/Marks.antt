@@ -10,10 +10,10 @@ marked_entry hint dirty None = None
 marked_entry hint dirty (Some e) = Some (record { origin = e.origin; dirty = dirty; hint = hint e.origin.0 })
 
 -- each entry with the bit of its cache block
-abbrev pub marked : (ℕ → ℕ) → List Bool → List (Option Entry) → List (Option Entry)
-marked hint dirty [] = []
-marked hint [] (e ∷ es) = marked_entry hint false e ∷ marked hint [] es
-marked hint (bit ∷ dirty) (e ∷ es) = marked_entry hint bit e ∷ marked hint dirty es
+abbrev pub marked_entries : (ℕ → ℕ) → List Bool → List (Option Entry) → List (Option Entry)
+marked_entries hint dirty [] = []
+marked_entries hint [] (e ∷ es) = marked_entry hint false e ∷ marked_entries hint [] es
+marked_entries hint (bit ∷ dirty) (e ∷ es) = marked_entry hint bit e ∷ marked_entries hint dirty es
 
 -- Below a node no entry differs between the trees.
 abbrev pub AreSameBelow : (old new : Mapping) (level index : ℕ) → Type 0
@@ -22,7 +22,7 @@ AreSameBelow old new level index = (c : ℕ) → IsOnPath c level index → entr
 -- The entries were marked, by edits of the tree. A node below which no entry differs by that is known where it was, or unknown
 -- as it was: it is not written for the marks.
 pub record AreMarked (hint : ℕ → ℕ) (dirty : List Bool) (old new : Mapping) : Type 0 where
-  pub entries : new.entries ≡ marked hint dirty old.entries
+  pub entries : new.entries ≡ marked_entries hint dirty old.entries
   pub edited : IsEdited old new
   pub stays : (level index : ℕ) → AreSameBelow old new level index → place_of new level index ≡ place_of old level index
   pub sound : IsSound new

@@ -15,10 +15,10 @@ abbrev pub AreRanges : ℕ → List CBlockRange → Type 0
 AreRanges cache_blocks ranges = All (λ r. (r.begin.0 < r.end.0) × (r.end.0 ≤ cache_blocks)) ranges
 
 -- A threshold is set, the policy takes a setting, or the ranges may be invalidated, one block after the other.
-abbrev pub IsTold : {P : Type 0} → (P → Key → ℕ → Option P) → DeskState P → Message → DeskState P → Type 0
-IsTold with_setting d (Set MigrationThreshold value) new = (value < 2 ^ 32) × (new ≡ record d { threshold = value })
-IsTold with_setting d (Set PromoteMin value) new = (with_setting d.policy PromoteMin value ≡ Some new.policy) × (new ≡ record d { policy = new.policy })
-IsTold with_setting d (InvalidateCblocks ranges) new = AreRanges d.geometry.cache_blocks ranges × (d.mode ≡ Passthrough) × (new ≡ d)
+abbrev pub MessageIsTold : {P : Type 0} → (P → Key → ℕ → Option P) → DeskState P → Message → DeskState P → Type 0
+MessageIsTold with_setting d (Set MigrationThreshold value) new = (value < 2 ^ 32) × (new ≡ record d { threshold = value })
+MessageIsTold with_setting d (Set PromoteMin value) new = (with_setting d.policy PromoteMin value ≡ Some new.policy) × (new ≡ record d { policy = new.policy })
+MessageIsTold with_setting d (InvalidateCblocks ranges) new = AreRanges d.geometry.cache_blocks ranges × (d.mode ≡ Passthrough) × (new ≡ d)
 
 -- Ranges are tested before the mode.
 abbrev pub IsRefused : {P : Type 0} → (P → Key → ℕ → Option P) → DeskState P → Message → Refusal → Type 0

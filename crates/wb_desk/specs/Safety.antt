@@ -14,13 +14,13 @@ use Rattle.wb_policy.specs.declared.order.Order.{Order}
 use Rattle.wb_policy.specs.Law.{Holdings, IsMappedAt, origins}
 use Rattle.wb_space.specs.Blocks.{state}
 use Rattle.wb_orders.specs.Orders.{IsTaken, order_at}
-use Rattle.wb_desk.specs.Allocation.{ImageSafe, StaysQuarantined, entry_in}
+use Rattle.wb_desk.specs.Allocation.{ImageSafe, StaysQuarantined, origin_in}
 use Rattle.wb_desk.specs.Desks.{DeskState, DeskInvariant, MayReserve, IsLive, holdings}
 use Rattle.wb_desk.specs.Calls.{reserved, released, next_order_taken}
 use Rattle.wb_desk.specs.Entries.{MayMap, MayUnmap, HasEntered, HasLeft, IsRemoved, entry_of, mapped, unmapped}
 use Rattle.wb_desk.specs.Marks.{OfImaged}
 use Rattle.wb_desk.specs.Commits.{MayBegin, next_plan, commit_begun, commit_ended}
-use Rattle.wb_desk.specs.Messages.{IsTold}
+use Rattle.wb_desk.specs.Messages.{MessageIsTold}
 use Rattle.wb_desk.specs.Opening.{opened}
 
 -- which origin block each cache block has in the committed image, and in the one that a commit writes
@@ -31,22 +31,22 @@ pub record HeldImages : Type 0 where
 -- No free or reserved cache block is in an image. A mapped one stands in each for the origin block that it has now, or not at
 -- all. One that was removed before the running commit began is not in its image. Where no commit runs there is one image.
 pub record AreSafe {P : Type 0} (d : DeskState P) (images : HeldImages) : Type 0 where
-  pub each : (c : ℕ) → ImageSafe (state d.space.blocks c) (entry_in (holdings d) c) (entry_in images.committed c) (entry_in images.running c)
+  pub each : (c : ℕ) → ImageSafe (state d.space.blocks c) (origin_in (holdings d) c) (origin_in images.committed c) (origin_in images.running c)
   pub idle : d.space.committing ≡ false → images.running ≡ images.committed
 
 -- what is called, where it changes the desk
-pub data Call : Type 0 where
-  TakeOrder : Call
-  Tell : Call
-  GiveOrder : (cache : CBlock) (order : Order) (waits : Bool) → Call
-  Release : (cache : CBlock) → Call
-  Map : (block : OBlock) (cache : CBlock) → Call
-  Unmap : (block : OBlock) (cache : CBlock) → Call
-  BeginCommit : Call
-  EndCommit : Call
+pub data DeskCall : Type 0 where
+  TakeOrder : DeskCall
+  Tell : DeskCall
+  GiveOrder : (cache : CBlock) (order : Order) (waits : Bool) → DeskCall
+  Release : (cache : CBlock) → DeskCall
+  Map : (block : OBlock) (cache : CBlock) → DeskCall
+  Unmap : (block : OBlock) (cache : CBlock) → DeskCall
+  BeginCommit : DeskCall
+  EndCommit : DeskCall
 
 -- A call may be made of a desk, and makes this one of it: as the contracts of the calls say.
-abbrev pub Does : {P : Type 0} → DeskState P → Call → DeskState P → Type 0
+abbrev pub Does : {P : Type 0} → DeskState P → DeskCall → DeskState P → Type 0
 Does d TakeOrder new = new ≡ next_order_taken d
 Does d Tell new = new ≡ record d { threshold = new.threshold; policy = new.policy }
 Does d (GiveOrder cache order waits) new = MayReserve d cache order × (new ≡ reserved d cache order waits)
@@ -57,7 +57,7 @@ Does d BeginCommit new = MayBegin d × (holdings new ≡ holdings d) × (new ≡
 Does d EndCommit new = (d.space.committing ≡ true) × (new ≡ commit_ended d)
 
 -- A commit that begins has the entries of now in its image; one that ends leaves its image alone.
-abbrev pub images_after : {P : Type 0} → DeskState P → HeldImages → Call → HeldImages
+abbrev pub images_after : {P : Type 0} → DeskState P → HeldImages → DeskCall → HeldImages
 images_after d images TakeOrder = images
 images_after d images Tell = images
 images_after d images (GiveOrder cache order waits) = images
@@ -68,22 +68,22 @@ images_after d images BeginCommit = record { committed = images.committed; runni
 images_after d images EndCommit = record { committed = images.running; running = images.running }
 
 -- calls, each with the desk that it made, one after the other
-abbrev pub AreCalls : {P : Type 0} → (P → Holdings → Type 0) → DeskState P → List (Call × DeskState P) → Type 0
+abbrev pub AreCalls : {P : Type 0} → (P → Holdings → Type 0) → DeskState P → List (DeskCall × DeskState P) → Type 0
 AreCalls knows d [] = Unit {0}
 AreCalls knows d (c ∷ calls) = DeskInvariant knows d × Does d c.0 c.1 × AreCalls knows c.1 calls
 
 -- the desk after them
-abbrev pub desk_after : {P : Type 0} → DeskState P → List (Call × DeskState P) → DeskState P
+abbrev pub desk_after : {P : Type 0} → DeskState P → List (DeskCall × DeskState P) → DeskState P
 desk_after d [] = d
 desk_after d (c ∷ calls) = desk_after c.1 calls
 
 -- and the images
-abbrev pub images_since : {P : Type 0} → DeskState P → HeldImages → List (Call × DeskState P) → HeldImages
+abbrev pub images_since : {P : Type 0} → DeskState P → HeldImages → List (DeskCall × DeskState P) → HeldImages
 images_since d images [] = images
 images_since d images (c ∷ calls) = images_since c.1 (images_after d images c.0) calls
 
 -- What follows from an access or a tick: the policy changes, and orders are given, which wait.
-abbrev pub IsDecision : Call → Type 0
+abbrev pub IsDecision : DeskCall → Type 0
 IsDecision TakeOrder = ⊥
 IsDecision Tell = Unit {0}
 IsDecision (GiveOrder cache order waits) = waits ≡ true
@@ -93,13 +93,13 @@ IsDecision (Unmap b cache) = ⊥
 IsDecision BeginCommit = ⊥
 IsDecision EndCommit = ⊥
 
-abbrev pub AreDecisions : {P : Type 0} → List (Call × DeskState P) → Type 0
+abbrev pub AreDecisions : {P : Type 0} → List (DeskCall × DeskState P) → Type 0
 AreDecisions [] = Unit {0}
 AreDecisions (c ∷ calls) = IsDecision c.0 × AreDecisions calls
 
 -- One desk comes from the other by such calls alone.
-abbrev pub IsDecided : {P : Type 0} → (P → Holdings → Type 0) → DeskState P → DeskState P → Type 0
-IsDecided {P} knows d new = (calls : List (Call × DeskState P)) × AreCalls knows d calls × AreDecisions calls × (desk_after d calls ≡ new)
+abbrev pub ComesByCalls : {P : Type 0} → (P → Holdings → Type 0) → DeskState P → DeskState P → Type 0
+ComesByCalls {P} knows d new = (calls : List (DeskCall × DeskState P)) × AreCalls knows d calls × AreDecisions calls × (desk_after d calls ≡ new)
 
 -- ---- laws
 
@@ -110,11 +110,11 @@ OpenedIsSafe P = (geometry : Geometry) (generation : ℕ) (tree : Mapping) (used
 
 -- and stay safe whatever is called
 abbrev pub CallsAreSafe : (P : Type 0) → (P → Holdings → Type 0) → Type 0
-CallsAreSafe P knows = (d : DeskState P) (calls : List (Call × DeskState P)) (images : HeldImages) → AreCalls knows d calls → AreSafe d images
+CallsAreSafe P knows = (d : DeskState P) (calls : List (DeskCall × DeskState P)) (images : HeldImages) → AreCalls knows d calls → AreSafe d images
     → AreSafe (desk_after d calls) (images_since d images calls)
 
 -- A quarantined block leaves its quarantine only at the end of a commit that began after its removal.
-abbrev pub IsBeginning : Call → Type 0
+abbrev pub IsBeginning : DeskCall → Type 0
 IsBeginning TakeOrder = ⊥
 IsBeginning Tell = ⊥
 IsBeginning (GiveOrder cache order waits) = ⊥
@@ -125,7 +125,7 @@ IsBeginning BeginCommit = Unit {0}
 IsBeginning EndCommit = ⊥
 
 abbrev pub QuarantineStays : (P : Type 0) → (P → Holdings → Type 0) → Type 0
-QuarantineStays P knows = (d new : DeskState P) (call : Call) → DeskInvariant knows d → Does d call new → (c : ℕ)
+QuarantineStays P knows = (d new : DeskState P) (call : DeskCall) → DeskInvariant knows d → Does d call new → (c : ℕ)
     → StaysQuarantined (IsBeginning call) (call ≡ EndCommit) (state d.space.blocks c) (state new.space.blocks c)
 
 -- What the contracts of the calls say is that they do so.
@@ -141,7 +141,7 @@ abbrev pub UnmappingDoes : (P : Type 0) → (P → ℕ → P) → Type 0
 UnmappingDoes P without_entry = (d new : DeskState P) (b : OBlock) (may : MayUnmap d b) → HasLeft without_entry d b may.cache new → Does d (Unmap b may.cache) new
 
 abbrev pub TellingDoes : (P : Type 0) → (P → Key → ℕ → Option P) → Type 0
-TellingDoes P with_setting = (d new : DeskState P) (message : Message) → IsTold with_setting d message new → Does d Tell new
+TellingDoes P with_setting = (d new : DeskState P) (message : Message) → MessageIsTold with_setting d message new → Does d Tell new
 
 abbrev pub TakingDoes : Type 0 → Type 0
 TakingDoes P = (d new : DeskState P) → new ≡ next_order_taken d → Does d TakeOrder new

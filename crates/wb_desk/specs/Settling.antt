@@ -22,9 +22,9 @@ pub record Fits {P : Type 0} (d : DeskState P) (order : Order) : Type 0 where
   pub countable : d.orders.given + 1 < 2 ^ 64
 
 -- An order that was decided is given, and waits to be taken; only one that does not fit is not.
-abbrev pub IsGiven : {P : Type 0} → DeskState P → Option Order → DeskState P → Type 0
-IsGiven d None new = new ≡ d
-IsGiven d (Some order) new =
+abbrev pub OrderIsGiven : {P : Type 0} → DeskState P → Option Order → DeskState P → Type 0
+OrderIsGiven d None new = new ≡ d
+OrderIsGiven d (Some order) new =
     ((c : CBlock) × MayReserve d c order × (new ≡ reserved d c order true)) ⊎ ((Fits d order → ⊥) × (new ≡ d))
 
 -- ---- accesses
@@ -38,14 +38,14 @@ pub record IsAccess {P : Type 0} (d : DeskState P) (b : OBlock) (a : Settled) : 
   pub busy : a.busy.now ≡ d.orders.busy
 
 -- The policy is told of one access, and its order is given.
-abbrev pub IsSettled : {P : Type 0} → (P → Settled → Option Order) → (P → Settled → P) → DeskState P → OBlock → DeskState P → Type 0
-IsSettled ordered settled d b new =
-    (a : Settled) × IsAccess d b a × IsGiven (record d { policy = settled d.policy a }) (ordered d.policy a) new
+abbrev pub AccessIsSettled : {P : Type 0} → (P → Settled → Option Order) → (P → Settled → P) → DeskState P → OBlock → DeskState P → Type 0
+AccessIsSettled ordered settled d b new =
+    (a : Settled) × IsAccess d b a × OrderIsGiven (record d { policy = settled d.policy a }) (ordered d.policy a) new
 
 -- and of these, one after the other
 abbrev pub AreSettled : {P : Type 0} → (P → Settled → Option Order) → (P → Settled → P) → DeskState P → List OBlock → DeskState P → Type 0
 AreSettled {P} ordered settled d [] new = new ≡ d
-AreSettled {P} ordered settled d (b ∷ bs) new = (next : DeskState P) × IsSettled ordered settled d b next × AreSettled ordered settled next bs new
+AreSettled {P} ordered settled d (b ∷ bs) new = (next : DeskState P) × AccessIsSettled ordered settled d b next × AreSettled ordered settled next bs new
 
 -- ---- ticks
 

@@ -4,14 +4,14 @@ ghost use Rattle.std.specs.Prelude.{◌≡◌, ◌≢◌, ◌≤◌, ◌<◌, �
 ghost use Rattle.std.specs.Bool.{OnTrue, OnFalse};
 ghost use Rattle.std.specs.Option.{option_map, IfSome, IfNone};
 ghost use Rattle.wb_space.specs.declared.block.Block.TheVariants as block;
-ghost use Rattle.wb_space.specs.Blocks.{shown as holding_of, state, released as block_released};
+ghost use Rattle.wb_space.specs.Blocks.{shown_holding as holding_of, state, released as block_released};
 ghost use Rattle.wb_policy.specs.Law.{origins, IsMappedAt, IsUnmapped};
 ghost use Rattle.wb_tree.specs.Mapping.{entry_at};
 ghost use Rattle.wb_meta.specs.Reads.{FitsDevice};
 ghost use Rattle.wb_orders.specs.Orders.{next_of, cost_of, AreOrders};
-ghost use Rattle.wb_desk.specs.Desks.{DeskInvariant, MayReserve, IsLive, IsLawful, IsFreeFor, Takes, holdings, mapped_now, sectors_asked};
+ghost use Rattle.wb_desk.specs.Desks.{DeskInvariant, MayReserve, IsLive, IsGivenLawfully, IsFreeFor, Takes, holdings, mapped_now, sectors_asked};
 ghost use Rattle.wb_desk.specs.Opening.{opened, threshold_of, last_value as value_of, IsSet, IsBad};
-ghost use Rattle.wb_desk.specs.Messages.{AreRanges, IsTold, IsRefused};
+ghost use Rattle.wb_desk.specs.Messages.{AreRanges, MessageIsTold, IsRefused};
 ghost use Rattle.wb_desk.specs.Calls.{blocks_reserved, reserved, released, next_order_taken};
 
 mod commit;
@@ -260,7 +260,7 @@ impl<P: Policy> Desk<P> {
     /// `BadMessage` for a threshold above 4,294,967,295, a setting that the policy does not take, and a range that is empty or
     /// goes past the last cache block; else `WrongMode` for ranges outside passthrough. Then nothing changed.
     pub fn message(&mut self, message: &Message) -> Result<(), Refusal>
-        ensures ok { OnOk result (IsTold P.with_setting self.old message.now self.new) }
+        ensures ok { OnOk result (MessageIsTold P.with_setting self.old message.now self.new) }
         ensures err { OnErr result (self.new ≡ self.old) }
         ensures refused { IfErr result (IsRefused P.with_setting self.old message.now) }
     {
@@ -421,8 +421,8 @@ impl<P: Policy> Desk<P> {
     /// Whether an order that takes this cache block names what it may.
     fn is_lawful(&self, c: CBlock, order: Order) -> bool
         requires { Takes (holdings self.now) c order }
-        ensures lawful { OnTrue result (IsLawful self.now c order) }
-        ensures other { OnFalse result (¬ IsLawful self.now c order) }
+        ensures lawful { OnTrue result (IsGivenLawfully self.now c order) }
+        ensures other { OnFalse result (¬ IsGivenLawfully self.now c order) }
     {
         match order {
             Order::Promote(b, _) => self.is_free(c) && self.is_unmapped(b),

@@ -1,11 +1,11 @@
 //! The rule that cache blocks, mapping, images and orders keep over every run.
 
 ghost use Rattle.std.specs.Prelude.{◌≡◌, ◌≢◌, ◌⊎◌, ℕ, List, Some};
-ghost use Rattle.wb_desk.specs.Allocation.{Allocation, Act, AllocationInvariant, IsActRun, after_acts, after_act, MayAct, StaysOrEnds, NoneTwice, BlockMap, at_opening, entry_in};
+ghost use Rattle.wb_desk.specs.Allocation.{Allocation, DeskAct, AllocationInvariant, IsActRun, after_acts, after_act, DeskMayAct, StaysOrEnds, NoneTwice, BlockMap, at_opening, origin_in};
 ghost use Rattle.wb_space.specs.Blocks.{state};
 ghost use Rattle.wb_desk.specs.Safety.{OpenedIsSafe, CallsAreSafe, QuarantineStays, BeginningDoes, MappingDoes, UnmappingDoes, TellingDoes, TakingDoes, ReservingDoes, ReleasingDoes, EndingDoes};
 ghost use Rattle.wb_desk.specs.Marks.{SameMarksChangeNoNode};
-ghost use Rattle.wb_desk.specs.Acting.{OpeningBegins, CallsAreActs};
+ghost use Rattle.wb_desk.specs.Acting.{OpenedDeskBegins, CallsAreActs};
 
 use wb_policy::Policy;
 use wb_space::Block;
@@ -17,14 +17,14 @@ use wb_space::Block;
 /// leaves its quarantine only at the end of a commit that began after its removal. `opening`: what an opening
 /// makes keeps the rule. `unnamed`: no image entry_in a free or reserved block.
 pub fn allocation_keeps_its_invariant()
-    ensures rule { (d : Allocation) → AllocationInvariant d → (acts : List Act) → IsActRun d acts →
+    ensures rule { (d : Allocation) → AllocationInvariant d → (acts : List DeskAct) → IsActRun d acts →
         AllocationInvariant (after_acts d acts) }
-    ensures quarantine { (d : Allocation) (a : Act) → MayAct d a → (c : ℕ) →
+    ensures quarantine { (d : Allocation) (a : DeskAct) → DeskMayAct d a → (c : ℕ) →
         StaysOrEnds (state d.blocks c) a (state (after_act d a).blocks c) }
     ensures opening { (m : BlockMap) (threshold : ℕ) → NoneTwice m → AllocationInvariant (at_opening m threshold) }
     ensures unnamed { (d : Allocation) → AllocationInvariant d → (c : ℕ) →
         (state d.blocks c ≡ Block.Free) ⊎ (state d.blocks c ≡ Block.Reserved) → (b : ℕ) →
-        (entry_in d.mapping c ≢ Some b) × (entry_in d.committed c ≢ Some b) × (entry_in d.running c ≢ Some b) }
+        (origin_in d.mapping c ≢ Some b) × (origin_in d.committed c ≢ Some b) × (origin_in d.running c ≢ Some b) }
 {}
 
 /// What holds of the images of a desk after every list of calls, though no field holds them: no free or reserved cache block
@@ -55,7 +55,7 @@ pub fn images_stay_safe<P: Policy>()
 /// `opening`: a desk that has just been opened is what the acts begin with. `calls`: each call is a list of acts, each of which may
 /// be then, and what they make is what the call made. And what holds of all live orders, by cache block, holds after each call.
 pub fn calls_are_acts<P: Policy>()
-    ensures opening { OpeningBegins P }
+    ensures opening { OpenedDeskBegins P }
     ensures calls { CallsAreActs P P.knows }
 {}
 

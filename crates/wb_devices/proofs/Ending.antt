@@ -38,7 +38,7 @@ use Rattle.wb_devices.specs.Stepping.{Goes, DidPut}
 use Rattle.wb_devices.specs.Opened.{DidRead, DidOpen, IsUnfit, got_of_refusal}
 use Rattle.wb_devices.specs.Openings.{HasNotBegun}
 use Rattle.wb_devices.specs.OpeningLed.{LedOpening}
-use Rattle.wb_devices.specs.Outcomes.{IsOpen, DataIsDurable, IsRefused, HasEnded}
+use Rattle.wb_devices.specs.Outcomes.{IsOpen, DataIsDurable, IsRefused, OpeningHasEnded}
 use Rattle.wb_devices.specs.declared.opening.Opening.{Opening}
 use Rattle.wb_devices.specs.declared.opening_stage.OpeningStage.{OpeningStage}
 use Rattle.wb_devices.specs.declared.running.RunningCommit.{RunningCommit}
@@ -80,7 +80,7 @@ module _ {D : Type 0} (tells : Type 0) (size : D → ℕ) (contents : D → List
   Settled = synced (contents first.devices.metadata)
 
   abbrev HasSo : Answer → OpeningStage D → Type 0
-  HasSo answer new = HasEnded tells size contents first answer new
+  HasSo answer new = OpeningHasEnded tells size contents first answer new
 
   -- with no step left the stage stays, and the answer is the plan's
   ended : (job : TaskJob) (a : Answer) (mid : OpeningStage D) (steps : List (Want × Got)) (answer : Answer) (new : OpeningStage D) →
@@ -406,7 +406,7 @@ module _ {D : Type 0} (tells : Type 0) (size : D → ℕ) (contents : D → List
       }) led.0.0 led.0.1 next.got next.mid next.rest answer new next.fits next.led next.run next.leads
   metadata_by left h got mid steps answer new f led r l = absurd f
 
-  pub has_ended : (s : Plan) (left : ℕ) (steps : List (Want × Got)) (answer : Answer) (new : OpeningStage D) → s ≡ table (OpeningJob left) → HasNotBegun first.opening → IsRunOf s steps answer → Leads Led first steps new → HasEnded tells size contents first answer new
+  pub has_ended : (s : Plan) (left : ℕ) (steps : List (Want × Got)) (answer : Answer) (new : OpeningStage D) → s ≡ table (OpeningJob left) → HasNotBegun first.opening → IsRunOf s steps answer → Leads Led first steps new → OpeningHasEnded tells size contents first answer new
   has_ended s left steps answer new is h r l =
       let next = taken (table (OpeningJob left)) first steps answer new tt (subst (λ (t : Plan). IsRunOf t steps answer) is r) l in
       metadata_by left h next.got next.mid next.rest answer new next.fits next.led next.run next.leads

@@ -5,11 +5,11 @@ use Rattle.wb_format.specs.declared.root.Root.{Root}
 use Rattle.wb_meta.specs.Openings.{reopened}
 use Rattle.wb_meta.specs.Reads.{FitsDevice}
 use Rattle.wb_meta.specs.declared.read_steps.State.{State}
-use Rattle.wb_devices.specs.Outcomes.{IsOpen, state_of}
+use Rattle.wb_devices.specs.Outcomes.{IsOpen, opened_state}
 use Rattle.wb_devices.specs.declared.opening.Opening.{Opening}
 
 -- it has the geometry of the root that was read
-pub fits_on : {sectors : ℕ} {opening : Opening} (opened : IsOpen sectors opening) (state : Option (State Global)) → state ≡ Some (state_of opened) → IfSome state (λ s. FitsDevice sectors s.root s.tree s.used.items)
+pub fits_on : {sectors : ℕ} {opening : Opening} (opened : IsOpen sectors opening) (state : Option (State Global)) → state ≡ Some (opened_state opened) → IfSome state (λ s. FitsDevice sectors s.root s.tree s.used.items)
 fits_on {sectors} {opening} opened state is =
     let fits = opened.fits in
     let again : FitsDevice sectors (reopened opened.state.root) opened.state.tree opened.state.used.items = record {

@@ -16,7 +16,7 @@ use Rattle.wb_meta.specs.declared.read_steps.ReadSteps.TheVariants.{Begun, First
 use Rattle.wb_tasks.specs.declared.step.Got.TheVariants.{More}
 use Rattle.wb_meta.specs.declared.read_steps.ReadSteps.{ReadSteps}
 use Rattle.wb_devices.specs.declared.running.RunningCommit.{RunningCommit}
-use Rattle.wb_devices.specs.Opened.{DidOpen, DidTell, HasCome, HasGeneration, IsOf, got_of_refusal}
+use Rattle.wb_devices.specs.Opened.{DidOpen, DidTell, HasCome, HasGeneration, ReadsOf, got_of_refusal}
 
 pub fits_reading : (refusal : Refusal) (left : ℕ) → IsOfReading refusal → Fits (Device (ReadMetadata left)) (got_of_refusal refusal)
 fits_reading (Io Metadata) left h = tt
@@ -29,13 +29,13 @@ fits_reading (Damaged place) left h = tt
 fits_reading refusal left h = absurd h
 
 -- a reading without a root is of every geometry, and one with a root of its root's
-pub no_root : {A : Type 0} (geometry : Geometry) (now : ReadSteps A) → None ≡ known_root now → IsOf geometry now
+pub no_root : {A : Type 0} (geometry : Geometry) (now : ReadSteps A) → None ≡ known_root now → ReadsOf geometry now
 no_root geometry now none root known = absurd (nothing (none ∙ known))
   where
     nothing : None ≡ Some root → ⊥
     nothing e = cc
 
-pub of_root : {A : Type 0} (geometry : Geometry) (now : ReadSteps A) (root : Root) → known_root now ≡ Some root → root.geometry ≡ geometry → IsOf geometry now
+pub of_root : {A : Type 0} (geometry : Geometry) (now : ReadSteps A) (root : Root) → known_root now ≡ Some root → root.geometry ≡ geometry → ReadsOf geometry now
 of_root geometry now root known fits other also =
     let same : root ≡ other = cc in
     subst (λ (r : Root). r.geometry ≡ geometry) same fits

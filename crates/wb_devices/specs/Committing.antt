@@ -36,9 +36,9 @@ DidCommit image steps Fault old faults new faults' = FailsStep image steps old n
 DidCommit image steps got old faults new faults' = ⊥
 
 -- a step that comes next of a commit failed as its device may
-abbrev pub CommitFails : Ways → Image → CommitSteps → Got → List History → List History → Type 0
-CommitFails may image steps Fault old new = FailsStepSo may image steps old new
-CommitFails may image steps got old new = Unit {0}
+abbrev pub CommitStepFails : Ways → Image → CommitSteps → Got → List History → List History → Type 0
+CommitStepFails may image steps Fault old new = FailsStepSo may image steps old new
+CommitStepFails may image steps got old new = Unit {0}
 
 -- all of the commit was done
 abbrev pub is_committed : CommitSteps → Bool

@@ -31,8 +31,8 @@ pub record HasNextRoot {A : Type 0} (now : ReadSteps A) (commit : Option Running
   pub steps : next.steps ≡ NodesSynced
 
 -- the root, once it is known, is of this geometry
-abbrev pub IsOf : {A : Type 0} → Geometry → ReadSteps A → Type 0
-IsOf geometry now = (root : Root) → known_root now ≡ Some root → root.geometry ≡ geometry
+abbrev pub ReadsOf : {A : Type 0} → Geometry → ReadSteps A → Type 0
+ReadsOf geometry now = (root : Root) → known_root now ≡ Some root → root.geometry ≡ geometry
 
 -- why a reading that has come so far is refused here: its root is of another geometry, or is of the last generation
 abbrev pub IsUnfit : {A : Type 0} → Geometry → ReadSteps A → Refusal → Type 0
@@ -40,8 +40,8 @@ IsUnfit geometry now refusal = ((refusal ≡ Mismatch) × ((root : Root) × (kno
 
 -- What becomes of an opening whose reading has come so far, where so many sectors more may be read.
 abbrev pub HasCome : {A : Type 0} → Geometry → ℕ → ReadSteps A → Option RunningCommit → Got → Option (ReadSteps A) → Option RunningCommit → Type 0
-HasCome geometry left now commit More after commit' = (1 ≤ left) × (after ≡ Some now) × IsOf geometry now × (commit' ≡ commit)
-HasCome geometry left now commit Done after commit' = (after ≡ Some now) × IsOf geometry now × HasNextRoot now commit'
+HasCome geometry left now commit More after commit' = (1 ≤ left) × (after ≡ Some now) × ReadsOf geometry now × (commit' ≡ commit)
+HasCome geometry left now commit Done after commit' = (after ≡ Some now) × ReadsOf geometry now × HasNextRoot now commit'
 HasCome geometry left now commit (Refused refusal) after commit' = (after ≡ None) × (commit' ≡ commit) × IsUnfit geometry now refusal
 HasCome geometry left now commit Fault after commit' = (after ≡ None) × (commit' ≡ commit) × (left ≡ 0)
 HasCome geometry left now commit got after commit' = ⊥

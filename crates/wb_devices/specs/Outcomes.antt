@@ -36,8 +36,8 @@ pub record IsOpen (sectors : ℕ) (opening : Opening) : Type 0 where
   pub is_done : next.steps ≡ Committed
 
 -- the state for who works on it: what was read, by the root that was written
-abbrev pub state_of : {sectors : ℕ} {opening : Opening} → IsOpen sectors opening → State Global
-state_of opened = record opened.state { root = opened.next.image.root }
+abbrev pub opened_state : {sectors : ℕ} {opening : Opening} → IsOpen sectors opening → State Global
+opened_state opened = record opened.state { root = opened.next.image.root }
 
 -- What was read is what the metadata device represented when it was made durable, and since then nothing but that root was
 -- written there; it is durable.
@@ -64,8 +64,8 @@ pub record IsRefused {D : Type 0} (tells : Type 0) (contents : D → List Histor
   pub cause : tells → IsRefusedFor (map newest (synced (contents old.devices.metadata))) old.opening.geometry refusal
 
 -- How an opening that had not begun has ended: all of it was done, a device failed, or what was read is refused.
-abbrev pub HasEnded : {D : Type 0} → Type 0 → (D → ℕ) → (D → List History) → OpeningStage D → Answer → OpeningStage D → Type 0
-HasEnded tells size contents old Finished new = (opened : IsOpen (size new.devices.metadata) new.opening)
+abbrev pub OpeningHasEnded : {D : Type 0} → Type 0 → (D → ℕ) → (D → List History) → OpeningStage D → Answer → OpeningStage D → Type 0
+OpeningHasEnded tells size contents old Finished new = (opened : IsOpen (size new.devices.metadata) new.opening)
     × (tells → IsOpenOver opened (contents old.devices.metadata) (contents new.devices.metadata))
     × (tells → DataIsDurable contents old.devices new.devices)
-HasEnded tells size contents old (Refuses refusal) new = ((device : Dev) → refusal ≢ Io device) → IsRefused tells contents old new refusal
+OpeningHasEnded tells size contents old (Refuses refusal) new = ((device : Dev) → refusal ≢ Io device) → IsRefused tells contents old new refusal

@@ -8,7 +8,7 @@ use Rattle.wb_tasks.specs.declared.step.Got.{Got}
 use Rattle.wb_tasks.specs.declared.step.Got.TheVariants.{Fault}
 use Rattle.wb_devices.specs.declared.running.RunningCommit.{RunningCommit}
 use Rattle.wb_devices.specs.Moving.{DidRead, DidWrite, DidSync, Ways, ReadFails, WriteFails, SyncFails}
-use Rattle.wb_devices.specs.Committing.{DidCommit, CommitFails, goes_on, steps_then}
+use Rattle.wb_devices.specs.Committing.{DidCommit, CommitStepFails, goes_on, steps_then}
 
 -- the running commit after a step on the metadata device: its image stays, and where the step is its next one, it goes on
 abbrev pub Goes : ℕ → Option RunningCommit → DeviceStep → Got → Option RunningCommit → Type 0
@@ -49,7 +49,7 @@ BufferStays step buffer buffer' = buffer' ≡ buffer
 -- a node or root that comes next of the running commit was written as the device may fail
 abbrev pub PutFails : Ways → ℕ → Option RunningCommit → DeviceStep → Got → List History → List History → Type 0
 PutFails may size None step got old new = Unit {0}
-PutFails may size (Some commit) step got old new = goes_on size commit.image commit.steps step ≡ true → CommitFails may commit.image commit.steps got old new
+PutFails may size (Some commit) step got old new = goes_on size commit.image commit.steps step ≡ true → CommitStepFails may commit.image commit.steps got old new
 
 -- What a step that fails leaves of its device.
 abbrev pub StepFails : Ways → Option RunningCommit → DeviceStep → Got → ℕ → List History → List Bytes → List History → Type 0

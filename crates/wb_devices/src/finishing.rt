@@ -1,7 +1,7 @@
 //! What is left of an opening for who works on.
 
 ghost use Rattle.std.specs.Prelude.{◌≡◌, ℕ, Some};
-ghost use Rattle.wb_devices.specs.Outcomes.{IsOpen, state_of};
+ghost use Rattle.wb_devices.specs.Outcomes.{IsOpen, opened_state};
 
 use crate::opening::Opening;
 use std::alloc::Global;
@@ -10,7 +10,7 @@ use wb_meta::{ReadSteps, State};
 impl Opening {
     /// Once all of an opening was done, what was read, by the root that was written.
     pub fn finish(self) -> Option<State<Global>>
-        ensures { (sectors : ℕ) (opened : IsOpen sectors self) → result ≡ Some (state_of opened) }
+        ensures { (sectors : ℕ) (opened : IsOpen sectors self) → result ≡ Some (opened_state opened) }
     {
         let (Some(reading), Some(commit)) = (self.reading, self.commit) else {
             return None;

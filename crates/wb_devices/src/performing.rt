@@ -11,7 +11,7 @@ ghost use Rattle.wb_tasks.specs.declared.step.Want.TheVariants.{Device as OnDevi
 ghost use Rattle.wb_tasks.specs.declared.step.Got.{Got as GotTerm};
 ghost use Rattle.wb_devices.specs.Moving.{OthersStay, device_in};
 ghost use Rattle.wb_devices.specs.Openings.{MayGoOn, HasNotBegun};
-ghost use Rattle.wb_devices.specs.Outcomes.{IsOpen, HasEnded, state_of};
+ghost use Rattle.wb_devices.specs.Outcomes.{IsOpen, OpeningHasEnded, opened_state};
 ghost use Rattle.wb_devices.specs.OpeningLed.{IsReadyToOpen, DidForOpening, LedOpening};
 
 use crate::committing::{put, sync_metadata};
@@ -71,7 +71,7 @@ impl<D: Disk> OpeningStage<D> {
         requires goes_on { MayGoOn (D.size self.old.devices.metadata) self.old.opening }
         ensures run { (steps : List (WantTerm × GotTerm)) × IsRunOf (T.plan task.old) steps result × Leads (LedOpening D.tells D.size D.contents D.faults) self.old steps self.new }
         ensures goes_on { MayGoOn (D.size self.new.devices.metadata) self.new.opening }
-        ensures ended { HasNotBegun self.old.opening → HasEnded D.tells D.size D.contents self.old result self.new }
+        ensures ended { HasNotBegun self.old.opening → OpeningHasEnded D.tells D.size D.contents self.old result self.new }
     {
         drive(task, self)
     }
@@ -79,7 +79,7 @@ impl<D: Disk> OpeningStage<D> {
     /// The devices, and once an opening is answered done the state of its metadata: what was read, by the root that was written.
     pub fn finish(self) -> (Devices<D>, Option<State<Global>>)
         ensures devices { result.0 ≡ self.devices }
-        ensures state { (opened : IsOpen (D.size self.devices.metadata) self.opening) → result.1 ≡ Some (state_of opened) }
+        ensures state { (opened : IsOpen (D.size self.devices.metadata) self.opening) → result.1 ≡ Some (opened_state opened) }
         ensures fits { IsOpen (D.size self.devices.metadata) self.opening → IfSome result.1 (λ state. FitsDevice (D.size result.0.metadata) state.root state.tree state.used.items) }
     {
         let OpeningStage { devices, opening } = self;

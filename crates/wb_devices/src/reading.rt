@@ -12,7 +12,7 @@ ghost use Rattle.wb_meta.specs.Reads.{AreStepsOn, IsDone, known_root};
 ghost use Rattle.wb_meta.specs.declared.read_steps.ReadSteps.{ReadSteps as Steps};
 ghost use Rattle.wb_meta.specs.States.{IsOfReading};
 ghost use Rattle.wb_devices.specs.Openings.{MayGoOn};
-ghost use Rattle.wb_devices.specs.Opened.{DidOpen, DidTell, HasCome, HasGeneration, IsOf, got_of_refusal};
+ghost use Rattle.wb_devices.specs.Opened.{DidOpen, DidTell, HasCome, HasGeneration, ReadsOf, got_of_refusal};
 
 use crate::opening::Opening;
 use crate::running::RunningCommit;
@@ -94,7 +94,7 @@ impl Opening {
     /// What becomes of a reading that is not done, as far as is known.
     fn goes_on(&mut self, steps: ReadSteps<Global>, left: u32) -> Got
         requires none { self.old.reading ≡ None }
-        requires fits { IsOf self.old.geometry steps }
+        requires fits { ReadsOf self.old.geometry steps }
         requires more { ¬ IsDone steps }
         ensures kind { Fits (Device (ReadMetadata left)) result }
         ensures geometry { self.new.geometry ≡ self.old.geometry }

@@ -8,7 +8,7 @@ ghost use Rattle.wb_meta.specs.Steps.{coming_step};
 ghost use Rattle.wb_meta.specs.declared.commit_steps.CommitSteps.TheVariants.{NodesWritten, NodesSynced};
 ghost use Rattle.wb_tasks.specs.declared.step.Got.TheVariants.{Fault};
 ghost use Rattle.wb_devices.specs.Moving.{IsOutcome};
-ghost use Rattle.wb_devices.specs.Committing.{DidCommit, CommitFails, is_coming, goes_on, steps_then, is_committed};
+ghost use Rattle.wb_devices.specs.Committing.{DidCommit, CommitStepFails, is_coming, goes_on, steps_then, is_committed};
 
 use std::alloc::Global;
 use wb_disk::Disk;
@@ -124,7 +124,7 @@ impl RunningCommit {
         ensures steps { self.new.steps ≡ steps_then result self.old.image self.old.steps }
         ensures did { D.tells → DidCommit self.old.image self.old.steps result (D.contents disk.old) (D.faults disk.old) (D.contents disk.new) (D.faults disk.new) }
         ensures fails { D.fails disk.old → result ≡ Fault }
-        ensures how { D.tells → CommitFails (D.falters disk.old) self.old.image self.old.steps result (D.contents disk.old) (D.contents disk.new) }
+        ensures how { D.tells → CommitStepFails (D.falters disk.old) self.old.image self.old.steps result (D.contents disk.old) (D.contents disk.new) }
     {
         let _ = step;
         match self.steps.next(disk, &self.image) {

@@ -4,18 +4,18 @@ use Rattle.std.specs.List.{slice_get, slice_set}
 use Rattle.std.proofs.Math.Seq.{take-nil}
 use Rattle.std.proofs.lemmas.Bool.{cases_lt}
 use Rattle.std.proofs.lemmas.List.{map-set}
-use Rattle.wb_disk.specs.Device.{Content, History, Gives, added, grown, written}
+use Rattle.wb_disk.specs.Device.{Content, History, ReadGives, added, grown, written}
 use Rattle.wb_disk.specs.Extents.{GivesEach, written_where, written_each, PartlyWritten}
 use Rattle.wb_disk.specs.Memory.{Memory, HasRoom, FrontWritten, later_count}
 
 -- one read more
-pub gives_more : (device : List History) (first k : ℕ) (cs : List Content) (c : Content) → k < length cs → GivesEach device first (take k cs) → Gives device (first + k) c → GivesEach device first (take (suc k) (slice_set cs k c))
+pub gives_more : (device : List History) (first k : ℕ) (cs : List Content) (c : Content) → k < length cs → GivesEach device first (take k cs) → ReadGives device (first + k) c → GivesEach device first (take (suc k) (slice_set cs k c))
 gives_more device first k [] c l g h = absurd (omega (arith, l))
-gives_more device first zero (d ∷ ds) c l g h = let same : first + zero ≡ first = omega arith in (subst (λ (v : ℕ). Gives device v c) same h, tt)
+gives_more device first zero (d ∷ ds) c l g h = let same : first + zero ≡ first = omega arith in (subst (λ (v : ℕ). ReadGives device v c) same h, tt)
 gives_more device first (suc k) (d ∷ ds) c l g h =
     let same : first + suc k ≡ suc first + k = omega arith in
     let less : k < length ds = omega (arith, l) in
-    (g.0, gives_more device (suc first) k ds c less g.1 (subst (λ (v : ℕ). Gives device v c) same h))
+    (g.0, gives_more device (suc first) k ds c less g.1 (subst (λ (v : ℕ). ReadGives device v c) same h))
 
 -- one write more
 pub each_more : (device : List History) (first k : ℕ) (cs : List Content) (c : Content) → slice_get cs k ≡ Some c → written_each device first (take (suc k) cs) ≡ written (written_each device first (take k cs)) (first + k) c

@@ -5,7 +5,7 @@ use Rattle.std.proofs.lemmas.List.{map-set, length-map, drop-set-lt, drop-drop}
 use Rattle.std.proofs.lemmas.Option.{slice_get-map, slice_get-get_or}
 use Rattle.std.specs.Option.{option_map}
 use Rattle.std.specs.List.{slice_get}
-use Rattle.wb_disk.specs.Device.{Content, History, newest, added, written, grown, Gives}
+use Rattle.wb_disk.specs.Device.{Content, History, newest, added, written, grown, ReadGives}
 use Rattle.wb_disk.specs.Memory.{Memory, HasRoom, DiffersOnlyAt, later_count}
 use Rattle.wb_disk.specs.Stored.{history, histories, capacity_of, capacities}
 use Rattle.wb_disk.specs.declared.pending.Pending.{Pending}
@@ -25,7 +25,7 @@ histories-written ps i p q c e h =
     ∙ sym (ap (λ found. grown found c (histories ps) i) (slice_get-map history ps i ∙ ap (option_map history) e))
 
 -- what a read gives
-pub Gives-newest : (ps : List Pending) (device : List History) (i : ℕ) (p : Pending) → histories ps ≡ device → slice_get ps i ≡ Some p → Gives device i (newest (history p))
+pub Gives-newest : (ps : List Pending) (device : List History) (i : ℕ) (p : Pending) → histories ps ≡ device → slice_get ps i ≡ Some p → ReadGives device i (newest (history p))
 Gives-newest ps device i p v e = (history p, ap (λ d. slice_get d i) (sym v) ∙ slice_get-map history ps i ∙ ap (option_map history) e, refl)
 
 -- a number of one stored sector, as the list of all shows it

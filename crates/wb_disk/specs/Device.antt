@@ -36,8 +36,8 @@ abbrev pub only : Content → History
 only c = record { first = c; later = [] }
 
 -- a read of this sector gives this content
-abbrev pub Gives : List History → ℕ → Content → Type 0
-Gives device at content = (h : History) × (slice_get device at ≡ Some h) × (newest h ≡ content)
+abbrev pub ReadGives : List History → ℕ → Content → Type 0
+ReadGives device at content = (h : History) × (slice_get device at ≡ Some h) × (newest h ≡ content)
 
 -- the device with one content more at a sector, where there is such a sector
 abbrev pub grown : Option History → Content → List History → ℕ → List History

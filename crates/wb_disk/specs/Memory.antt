@@ -14,8 +14,8 @@ abbrev pub blank : History
 blank = record { first = replicate 512 0; later = [] }
 
 -- a new disk of so many sectors
-abbrev pub zeros : ℕ → Memory
-zeros sectors = record { contents = replicate sectors blank; faults = 0; capacity = replicate sectors 0 }
+abbrev pub zero_disk : ℕ → Memory
+zero_disk sectors = record { contents = replicate sectors blank; faults = 0; capacity = replicate sectors 0 }
 
 -- how many writes since the last sync are kept of a sector
 abbrev pub later_count : History → ℕ

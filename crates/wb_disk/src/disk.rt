@@ -1,7 +1,7 @@
 //! What a disk is.
 
 ghost use Rattle.std.specs.Prelude.{◌≡◌, ◌<◌, ◌≤◌, ◌+◌, ℕ, Bool, [], ◌∷◌, List, OnOk, OnErr, IsErr, length};
-ghost use Rattle.wb_disk.specs.Device.{History, Gives, written, synced, OneMore};
+ghost use Rattle.wb_disk.specs.Device.{History, ReadGives, written, synced, OneMore};
 ghost use Rattle.wb_disk.specs.Extents.{Call, Reading, Writing, Syncing, MayLand, GivesEach, written_each, WrittenSo};
 ghost use Rattle.wb_disk.specs.Failing.{SyncedSo};
 
@@ -43,7 +43,7 @@ pub trait Disk {
     fn read(&mut self, at: u64, out: &mut Content) -> Result<(), DiskFault>
         requires { at < size self.old }
         ensures size { size self.new ≡ size self.old }
-        ensures given { tells → OnOk result (Gives (contents self.old) at out.new) }
+        ensures given { tells → OnOk result (ReadGives (contents self.old) at out.new) }
         ensures kept { tells → contents self.new ≡ contents self.old }
         ensures no_fault { tells → OnOk result (faults self.new ≡ faults self.old) }
         ensures cause { tells → OnErr result (OneMore (faults self.old) (faults self.new)) }

@@ -3,9 +3,9 @@
 ghost use Rattle.std.specs.Prelude.{◌≡◌, ◌<◌, ◌≤◌, ◌+◌, ◌↔◌, [], ◌∷◌, ◌++◌, IsOk, IsTrue, IfOk, OnOk, OnErr, IfErr, length, map};
 ghost use Rattle.std.specs.Bool.{OnTrue, OnFalse};
 ghost use Rattle.wb_types.specs.declared.refusal.Refusal.TheVariants.{Memory as OutOfMemory};
-ghost use Rattle.wb_disk.specs.Device.{Gives, written, synced, OneMore, Crashed};
+ghost use Rattle.wb_disk.specs.Device.{ReadGives, written, synced, OneMore, Crashed};
 ghost use Rattle.wb_disk.specs.Extents.{GivesEach, written_each};
-ghost use Rattle.wb_disk.specs.Memory.{blank, zeros, HasRoom, HasRoomFor, DiffersOnlyAt, FrontWritten};
+ghost use Rattle.wb_disk.specs.Memory.{blank, zero_disk, HasRoom, HasRoomFor, DiffersOnlyAt, FrontWritten};
 ghost use Rattle.wb_disk.specs.Crash.{Applies, crashed};
 ghost use Rattle.wb_disk.specs.Failing.{lands, synced_where};
 ghost use Rattle.wb_disk.specs.Stored.{histories, capacities, cut_at_mark, IsNoted, lands_at};
@@ -64,7 +64,7 @@ impl Model for MemDisk {
 impl MemDisk {
     /// A disk of zeros. `Memory` where there is none for so many sectors; 2^40 of them are more than any machine can name.
     pub fn new(alloc: Global, sectors: u64) -> Result<MemDisk, Refusal>
-        ensures ok { IfOk result (λ disk. disk ≡ zeros sectors) }
+        ensures ok { IfOk result (λ disk. disk ≡ zero_disk sectors) }
         ensures err { IfErr result (λ refusal. refusal ≡ OutOfMemory) }
     {
         let mut all = Vec::with_capacity(alloc, sectors as usize)?;
@@ -184,7 +184,7 @@ impl Disk for MemDisk {
     fn read(&mut self, at: u64, out: &mut Content) -> Result<(), DiskFault>
         requires { at < length self.old.contents }
         ensures ok { IsOk result }
-        ensures given { Gives self.old.contents at out.new }
+        ensures given { ReadGives self.old.contents at out.new }
         ensures kept { self.new ≡ self.old }
     {
         let pending = &self.sectors[at as usize];

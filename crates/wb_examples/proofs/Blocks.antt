@@ -6,7 +6,7 @@ use Rattle.std.proofs.lemmas.List.{length-map}
 use Rattle.std.specs.Int.Bits.{bit_or}
 use Rattle.wb_types.specs.declared.mode.Dev.TheVariants.{Origin}
 use Rattle.wb_types.specs.declared.refusal.Refusal.TheVariants.{Memory}
-use Rattle.wb_disk.specs.Device.{Content as Bytes, History, Gives, grown, only, newest, written, synced}
+use Rattle.wb_disk.specs.Device.{Content as Bytes, History, ReadGives, grown, only, newest, written, synced}
 use Rattle.wb_disk.specs.Extents.{written_each, written_where}
 use Rattle.wb_disk.specs.Failing.{lands}
 use Rattle.wb_words.specs.SharedWords.{Words, fresh_words}
@@ -52,16 +52,16 @@ first_stays (c ∷ cs) device at = first_stays cs (written device (suc at) c) (s
     one (Some h) [] = refl
     one (Some h) (g ∷ device) = refl
 
-first_written : (device : List History) (c : Bytes) → 1 ≤ length device → Gives (written device 0 c) 0 c
+first_written : (device : List History) (c : Bytes) → 1 ≤ length device → ReadGives (written device 0 c) 0 c
 first_written [] c l = absurd (omega (arith, l))
 first_written (h ∷ device) c l = (_, refl, newest-added h c)
 
-sync_gives : (device : List History) (c : Bytes) → Gives device 0 c → Gives (synced device) 0 c
+sync_gives : (device : List History) (c : Bytes) → ReadGives device 0 c → ReadGives (synced device) 0 c
 sync_gives [] c g = absurd (let e = g.1 in cc)
 sync_gives (h ∷ device) c g = (only (newest h), refl, (let e = g.1 in let same : h ≡ g.0 = cc in ap newest same) ∙ g.2)
 
 -- what was read of it and of later ones, and is written elsewhere, stands there
-carried_gives : (from to : List History) (c : Bytes) (count : ℕ) → Gives from 0 c → 1 ≤ length to → Gives (written_each to 0 (contents_at from (record { first = 0; count = suc count }))) 0 c
+carried_gives : (from to : List History) (c : Bytes) (count : ℕ) → ReadGives from 0 c → 1 ≤ length to → ReadGives (written_each to 0 (contents_at from (record { first = 0; count = suc count }))) 0 c
 carried_gives [] to c count g l = absurd (let e = g.1 in cc)
 carried_gives (h ∷ from) to c count g l =
     let later = contents_at from (record { first = 0; count = count }) in
@@ -291,10 +291,10 @@ module _ (P A : Type 0) (f : Formatted P A 1) (room : 128 ≤ f.sizes.threshold)
   origin4 : 128 ≤ length d4.origin
   origin4 = omega (arith, length-map d3.origin (λ (h : History). only (newest h)), origin3)
 
-  has_content : Gives d2.cache 0 content
+  has_content : ReadGives d2.cache 0 content
   has_content = first_written d1.cache content (omega (arith, cache1))
 
-  goes_home : Gives d3.origin 0 content
+  goes_home : ReadGives d3.origin 0 content
   goes_home = carried_gives d2.cache d2.origin content 63 has_content (omega (arith, origin0))
 
   -- the block comes, and is written to

@@ -7,7 +7,7 @@ use Rattle.wb_types.proofs.Lists.{Contains-first, Contains-one}
 use Rattle.wb_types.specs.declared.mode.Dev.TheVariants.{Cache, Origin}
 use Rattle.wb_disk.specs.Device.{Content as Bytes}
 use Rattle.wb_promise.specs.Clerk.{Doing}
-use Rattle.wb_examples.specs.Excluded.{ExcludesWrongAnswers, older, newer, foreign, given, with_floor, opening}
+use Rattle.wb_examples.specs.Excluded.{ExcludesWrongAnswers, older, newer, foreign, given_reading, with_floor, opening}
 use Rattle.wb_promise.specs.Headline.{IsAllowedAt, IsLatest, ShowsAllowed}
 
 -- one place, or another
@@ -37,8 +37,8 @@ nowhere (suc (suc position)) e = cc
 
 pub excludes : (P A : Type 0) → ExcludesWrongAnswers P A
 excludes P A = record {
-  read = (IsPermutation-refl (0 ∷ []), All-cons IsLatest (given newer) [] refl (All-nil IsLatest));
-  stale = λ wrong. let last : Some newer ≡ Some older = All-head IsLatest (given older) [] wrong.1 in cc;
+  read = (IsPermutation-refl (0 ∷ []), All-cons IsLatest (given_reading newer) [] refl (All-nil IsLatest));
+  stale = λ wrong. let last : Some newer ≡ Some older = All-head IsLatest (given_reading older) [] wrong.1 in cc;
   unread = λ wrong. let many = length_permutation (0 ∷ []) [] wrong.0 in omega (arith, many);
   read_twice = λ wrong. let many = length_permutation (0 ∷ []) (0 ∷ 0 ∷ []) wrong.0 in omega (arith, many);
   wrote = IsPermutation-refl (0 ∷ []);

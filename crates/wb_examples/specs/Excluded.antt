@@ -39,11 +39,11 @@ abbrev pub at_job : Job → Doing
 at_job job = record { job = job; readings = []; entered = []; then_finished = 0 ∷ []; failed = [] }
 
 -- it has read so, each time the one sector
-abbrev pub given : Bytes → Reading
-given content = record { sector = 0; content = content; latest = Some newer }
+abbrev pub given_reading : Bytes → Reading
+given_reading content = record { sector = 0; content = content; latest = Some newer }
 
 abbrev pub having_read : List Bytes → Doing
-having_read contents = record (at_job (Read first_sector)) { readings = map given contents }
+having_read contents = record (at_job (Read first_sector)) { readings = map given_reading contents }
 
 abbrev pub having_entered : List Position → Doing
 having_entered positions = record (at_job (Write first_sector newer)) { entered = positions }
@@ -52,8 +52,8 @@ abbrev pub opening : List Dev → Doing
 opening failed = record (at_job (Open Writeback)) { failed = failed }
 
 -- its answer is right, where this is shown after it
-abbrev pub IsRight : ℕ → Doing → Answer → List Bytes → Type 0
-IsRight floor doing answer shown = AnswersRightly shown (with_floor floor doing) (Step 0) (Stepped (End answer) Done)
+abbrev pub IsAnsweredRightly : ℕ → Doing → Answer → List Bytes → Type 0
+IsAnsweredRightly floor doing answer shown = AnswersRightly shown (with_floor floor doing) (Step 0) (Stepped (End answer) Done)
 
 -- the floors once a flush is answered that began when so much was finished
 abbrev pub floors_after : Shape → ℕ → Answer → List ℕ
@@ -61,29 +61,29 @@ floors_after shape finished answer = (noted_what shape [] (with_floor 0 (record 
 
 pub record ExcludesWrongAnswers (P A : Type 0) : Type 0 where
   -- a finished read was given the last entry, once
-  pub read : IsRight 0 (having_read (newer ∷ [])) Finished []
-  pub stale : ¬ IsRight 0 (having_read (older ∷ [])) Finished []
-  pub unread : ¬ IsRight 0 (having_read []) Finished []
-  pub read_twice : ¬ IsRight 0 (having_read (newer ∷ newer ∷ [])) Finished []
+  pub read : IsAnsweredRightly 0 (having_read (newer ∷ [])) Finished []
+  pub stale : ¬ IsAnsweredRightly 0 (having_read (older ∷ [])) Finished []
+  pub unread : ¬ IsAnsweredRightly 0 (having_read []) Finished []
+  pub read_twice : ¬ IsAnsweredRightly 0 (having_read (newer ∷ newer ∷ [])) Finished []
   -- a finished write has entered its sector
-  pub wrote : IsRight 0 (having_entered (record { sector = 0; position = 1 } ∷ [])) Finished []
-  pub unwritten : ¬ IsRight 0 (having_entered []) Finished []
-  pub elsewhere : ¬ IsRight 0 (having_entered (record { sector = 1; position = 1 } ∷ [])) Finished []
+  pub wrote : IsAnsweredRightly 0 (having_entered (record { sector = 0; position = 1 } ∷ [])) Finished []
+  pub unwritten : ¬ IsAnsweredRightly 0 (having_entered []) Finished []
+  pub elsewhere : ¬ IsAnsweredRightly 0 (having_entered (record { sector = 1; position = 1 } ∷ [])) Finished []
   -- what an opening shows is an entry at the floor or later, of each sector
-  pub unflushed : IsRight 0 (opening []) Finished (older ∷ [])
-  pub kept : IsRight 1 (opening []) Finished (newer ∷ [])
-  pub lost : ¬ IsRight 1 (opening []) Finished (older ∷ [])
-  pub invented : ¬ IsRight 0 (opening []) Finished (foreign ∷ [])
-  pub hidden : ¬ IsRight 0 (opening []) Finished []
+  pub unflushed : IsAnsweredRightly 0 (opening []) Finished (older ∷ [])
+  pub kept : IsAnsweredRightly 1 (opening []) Finished (newer ∷ [])
+  pub lost : ¬ IsAnsweredRightly 1 (opening []) Finished (older ∷ [])
+  pub invented : ¬ IsAnsweredRightly 0 (opening []) Finished (foreign ∷ [])
+  pub hidden : ¬ IsAnsweredRightly 0 (opening []) Finished []
   -- an opening is refused for a device of which a step failed, for memory or for generations, and for nothing that the metadata hold
-  pub failed : IsRight 0 (opening (Cache ∷ [])) (Refuses (Io Cache)) []
-  pub unfailed : ¬ IsRight 0 (opening (Cache ∷ [])) (Refuses (Io Origin)) []
-  pub no_memory : IsRight 0 (opening []) (Refuses Memory) []
-  pub no_generation : IsRight 0 (opening []) (Refuses GenerationEnd) []
-  pub damaged : (place : Place) → ¬ IsRight 0 (opening []) (Refuses (Damaged place)) []
-  pub unformatted : ¬ IsRight 0 (opening []) (Refuses NotFormatted) []
-  pub mismatched : ¬ IsRight 0 (opening []) (Refuses Mismatch) []
-  pub misfit : ¬ IsRight 0 (opening []) (Refuses Geometry) []
+  pub failed : IsAnsweredRightly 0 (opening (Cache ∷ [])) (Refuses (Io Cache)) []
+  pub unfailed : ¬ IsAnsweredRightly 0 (opening (Cache ∷ [])) (Refuses (Io Origin)) []
+  pub no_memory : IsAnsweredRightly 0 (opening []) (Refuses Memory) []
+  pub no_generation : IsAnsweredRightly 0 (opening []) (Refuses GenerationEnd) []
+  pub damaged : (place : Place) → ¬ IsAnsweredRightly 0 (opening []) (Refuses (Damaged place)) []
+  pub unformatted : ¬ IsAnsweredRightly 0 (opening []) (Refuses NotFormatted) []
+  pub mismatched : ¬ IsAnsweredRightly 0 (opening []) (Refuses Mismatch) []
+  pub misfit : ¬ IsAnsweredRightly 0 (opening []) (Refuses Geometry) []
   -- who is at nothing does not answer
   pub nobody : ¬ AnswersRightly [] (record (with_floor 0 (at_job Flush)) { doings = None ∷ [] }) (Step 0) (Stepped (End Finished) Done)
   -- a flush that is done raises the floor to what was finished when it began, and to nothing that was finished since; a refused one does not

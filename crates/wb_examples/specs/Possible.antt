@@ -13,7 +13,7 @@ use Rattle.wb_space.specs.declared.block.Block.TheVariants.{Reserved, Quarantine
 use Rattle.wb_orders.specs.Orders.{order_at}
 use Rattle.wb_desk.specs.Desks.{IsLive}
 use Rattle.wb_tasks.specs.declared.step.Migration.TheVariants.{Promote, Demote, Clean}
-use Rattle.wb_disk.specs.Device.{Content as Bytes, History, Gives}
+use Rattle.wb_disk.specs.Device.{Content as Bytes, History, ReadGives}
 use Rattle.wb_meta.specs.Formats.{IsFormatted}
 use Rattle.wb_meta.specs.Reads.{sectors_read}
 use Rattle.wb_meta.specs.declared.read_steps.ReadSteps.{ReadSteps}
@@ -162,7 +162,7 @@ CanDemote P A = CanPass P A (IsSmall 1 64) (λ shape. to_demote)
 
 -- a write to it, where it stands cached, comes to its answer
 abbrev pub IsWrittenTo : {P A : Type 0} → Bytes → State P A → Type 0
-IsWrittenTo content w = AboutToAnswer (Write first_sector content) w × Gives w.devices.cache 0 content
+IsWrittenTo content w = AboutToAnswer (Write first_sector content) w × ReadGives w.devices.cache 0 content
 
 -- The first block comes, is written to, and is written back: what was written is on the origin then too, the block stands where it was, its
 -- seal says that it is clean, and no order lives there.
@@ -170,7 +170,7 @@ abbrev pub to_write_back : {P A : Type 0} → Bytes → List (State P A → Note
 to_write_back content =
     (λ w n. IsPromoted w)
     ∷ (λ w n. IsWrittenTo content w)
-    ∷ (λ w n. AboutToAnswer (Migrate Clean first_block) w × FirstHas [] [] w × Gives w.devices.origin 0 content × StandsCached first_block w × NoOrderLives w
+    ∷ (λ w n. AboutToAnswer (Migrate Clean first_block) w × FirstHas [] [] w × ReadGives w.devices.origin 0 content × StandsCached first_block w × NoOrderLives w
     × TargetHas w (λ target. word_at target.words.seals first_block ≡ seal_word (Some first_cache_block) false))
     ∷ []
 
@@ -191,7 +191,7 @@ to_replace content =
     ∷ (λ w n. AboutToAnswer (Migrate Demote first_block) w × IsHalfReplaced w)
     ∷ (λ w n. AboutToAnswer Flush w × FirstHas [] (replacement ∷ []) w × FirstCacheBlockIs Reserved w)
     ∷ (λ w n. FirstIsAt (Migrate (Promote first_cache_block) second_block) w × FirstHas (replacement ∷ []) [] w)
-    ∷ (λ w n. AboutToAnswer (Migrate (Promote first_cache_block) second_block) w × FirstHas [] [] w × Gives w.devices.origin 0 content × StandsCached second_block w × StandsNowhere first_block w × NoOrderLives w)
+    ∷ (λ w n. AboutToAnswer (Migrate (Promote first_cache_block) second_block) w × FirstHas [] [] w × ReadGives w.devices.origin 0 content × StandsCached second_block w × StandsNowhere first_block w × NoOrderLives w)
     ∷ []
 
 abbrev pub CanReplace : (P A : Type 0) → Type 0

@@ -8,7 +8,7 @@ use Rattle.wb_types.specs.declared.geometry.Geometry.{Geometry}
 use Rattle.wb_types.specs.declared.number.Place.{Place}
 use Rattle.wb_format.specs.Bytes.{HasWords}
 use Rattle.wb_format.specs.Sizes.{IsTop, SpellsGeometry, top_number}
-use Rattle.wb_format.specs.NodeWords.{IsWord}
+use Rattle.wb_format.specs.NodeWords.{IsNodeWord}
 use Rattle.wb_types.specs.Versions.{version_number}
 use Rattle.wb_format.specs.Layout.{SpellsRoot, SpellsNode}
 use Rattle.wb_format.specs.declared.root.Root.{Root}
@@ -121,7 +121,7 @@ record NodeFields : Type 0 where
 record Spelled (d : NodeFields) : Type 0 where
   level_from : 1 ≤ d.level
   level_to : d.level ≤ 4
-  spelled : (j : ℕ) → IsWord d.level (slice_index d.words j)
+  spelled : (j : ℕ) → IsNodeWord d.level (slice_index d.words j)
 
 spelled_prop : (d : NodeFields) → IsProp (Spelled d)
 spelled_prop d = hlevel (le_prop, ℕ_set)

@@ -2,7 +2,7 @@
 use Rattle.std.proofs.Common.{◌≡◌, ◌<◌, ◌+◌, ℕ, List, length, set, slice_index, refl, sym, subst, arith, inl, inr}
 use Rattle.std.proofs.lemmas.Bool.{cases_lt}
 use Rattle.std.proofs.lemmas.List.{get_or-set_other, get_or-set_same, get_or_past}
-use Rattle.wb_format.specs.NodeWords.{IsWord}
+use Rattle.wb_format.specs.NodeWords.{IsNodeWord}
 
 -- one word more
 pub set_more : (P : ℕ → ℕ → Type 0) (words : List ℕ) (i word : ℕ) → i < length words → ((k : ℕ) → k < i → P k (slice_index words k)) → P i word
@@ -15,14 +15,14 @@ set_more P words i word inside before here k below = elim (cases_lt k i) [
 ]
 
 -- every level may have the word 0
-pub IsWord-zero : (level : ℕ) → IsWord level 0
+pub IsWord-zero : (level : ℕ) → IsNodeWord level 0
 IsWord-zero level = record {
   leaf = λ e. record { present = λ some. absurd (some refl); bits_2_and_3 = refl; hint = omega arith; bits_9_to_15 = refl; bits_from_36 = refl };
   inner = λ e. record { no_slot = λ same. absurd (omega arith); place = omega arith };
 }
 
 -- past the last word there is none
-pub IsWord-everywhere : (level : ℕ) (words : List ℕ) → ((k : ℕ) → k < length words → IsWord level (slice_index words k)) → (k : ℕ) → IsWord level (slice_index words k)
+pub IsWord-everywhere : (level : ℕ) (words : List ℕ) → ((k : ℕ) → k < length words → IsNodeWord level (slice_index words k)) → (k : ℕ) → IsNodeWord level (slice_index words k)
 IsWord-everywhere level words each k = elim (cases_lt k (length words)) [
   | inl inside ↦ each k inside
   | inr past ↦ rw (get_or_past words k 0 past) (IsWord-zero level)

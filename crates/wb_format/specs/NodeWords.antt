@@ -32,6 +32,6 @@ pub record IsInnerWord (word : ℕ) : Type 0 where
   pub place : word ≤ 4294967295
 
 -- the words that a node of a level may have; 1 is the level of the leaves
-pub record IsWord (level word : ℕ) : Type 0 where
+pub record IsNodeWord (level word : ℕ) : Type 0 where
   pub leaf : level ≡ 1 → IsLeafWord word
   pub inner : level ≢ 1 → IsInnerWord word

@@ -2,7 +2,7 @@
 
 ghost use Rattle.std.specs.Prelude.{◌≡◌, ◌≤◌, ◌<◌, ◌↔◌, ℕ, List, IfSome, IfNone, IsTrue, slice_index};
 ghost use Rattle.wb_format.specs.Bytes.{HasWords, SameBytes, IsSector};
-ghost use Rattle.wb_format.specs.NodeWords.{IsWord};
+ghost use Rattle.wb_format.specs.NodeWords.{IsNodeWord};
 
 use crate::bytes::{is_zero, put_u32, put_u64, u32_at, u64_at};
 use crate::word::entry_of;
@@ -24,7 +24,7 @@ pub struct Node {
     pub words: [u64; 32],
     pub ghost level_from: { 1 ≤ level },
     pub ghost level_to: { level ≤ 4 },
-    pub ghost spelled: { (j : ℕ) → IsWord level (slice_index words j) },
+    pub ghost spelled: { (j : ℕ) → IsNodeWord level (slice_index words j) },
 }
 
 impl Node {
@@ -68,7 +68,7 @@ impl Node {
 
 /// Whether a node of a level may have a word.
 fn is_word(level: u32, word: u64, version: Version) -> bool
-    ensures { IsTrue result ↔ IsWord level word }
+    ensures { IsTrue result ↔ IsNodeWord level word }
 {
     if level == 1 {
         entry_of(word, version).is_some()
@@ -80,9 +80,9 @@ fn is_word(level: u32, word: u64, version: Version) -> bool
 /// The words of a node in a sector, where a node of its level may have each of them.
 fn words_at(content: &Content, level: u32, version: Version) -> Option<[u64; 32]>
     ensures found { IfSome result (HasWords content.now) }
-    ensures spelled { IfSome result (λ words. (j : ℕ) → IsWord level (slice_index words j)) }
+    ensures spelled { IfSome result (λ words. (j : ℕ) → IsNodeWord level (slice_index words j)) }
     ensures none { IfNone result ((words : List ℕ) → HasWords content.now words
-        → ((j : ℕ) → IsWord level (slice_index words j)) → ⊥) }
+        → ((j : ℕ) → IsNodeWord level (slice_index words j)) → ⊥) }
 {
     let mut words = [0; 32];
     for j in 0..32 {

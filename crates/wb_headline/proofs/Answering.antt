@@ -24,11 +24,11 @@ use Rattle.wb_link.specs.Openings.{Site, AbstractPhase as PhaseThere, Stands as 
 use Rattle.wb_simulation.specs.Opened.{located}
 use Rattle.wb_simulation.specs.Worlds.{zeros}
 use Rattle.wb_simulation.proofs.Opened.{found_at}
-use Rattle.wb_headline.specs.Desks.{block_there, orders_of}
+use Rattle.wb_headline.specs.Desks.{block_there, orders_living}
 use Rattle.wb_contents.proofs.Lists.{there_is as there}
 
 -- no order lives at a desk that was just opened
-pub no_orders_live : (count : ℕ) → orders_of (replicate count None) ≡ replicate count None
+pub no_orders_live : (count : ℕ) → orders_living (replicate count None) ≡ replicate count None
 no_orders_live zero = refl
 no_orders_live (suc count) = ap (λ (os : List (Option Order)). None ∷ os) (no_orders_live count)
 

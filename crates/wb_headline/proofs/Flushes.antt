@@ -71,7 +71,7 @@ use Rattle.wb_simulation.specs.Noted.{told}
 use Rattle.wb_simulation.specs.Sites.{ImagesAgree, IsRunning, locations}
 use Rattle.wb_simulation.specs.Telling.{Quietly, Releases, Answers}
 use Rattle.wb_simulation.specs.Worlds.{Situation, TurnedTo, DeskTurnedTo, Turn, Stays, Begins, Puts, Ends, GivesUp, WorldFollowsBy, WorldFollows}
-use Rattle.wb_simulation.specs.Laws.{WantsNext, went, after_step, turn_of}
+use Rattle.wb_simulation.specs.Laws.{WantsNext, stepped_actor, after_step, turn_of}
 use Rattle.wb_simulation.proofs.Flushes.{flush_steps_followed}
 use Rattle.wb_simulation.proofs.Noted.{notes_followed}
 use Rattle.wb_simulation.proofs.Opening.{images_followed}
@@ -341,10 +341,10 @@ module _ (P A : Type 0) (shape : Shape) (images : Images) (t : Target P) (commit
 
   -- ---- the shared words, and the answer
 
-  told_so : (step : CellStep) → Cell step ≡ want plan → WorldFollows Quietly a f.site.world (record now { words = words_after t.words step }) (went t.words Flush plan step x) →
+  told_so : (step : CellStep) → Cell step ≡ want plan → WorldFollows Quietly a f.site.world (record now { words = words_after t.words step }) (stepped_actor t.words Flush plan step x) →
       Goes P A shape (then_is (record { words = words_after t.words step; desk = t.desk }) commit devices (Cell step) (got_of (result_of t.words step))) n
   told_so step next g =
-      let y = went t.words Flush plan step x in
+      let y = stepped_actor t.words Flush plan step x in
       subst (λ (y : Actor). Goes P A shape (record { devices = devices; commit = commit; phase = Stands (record { words = words_after t.words step; desk = t.desk }); actors = slice_set actors a y }) n) (sym (actor_is P A shape (Stands t) devices x Flush plan (Cell step) (got_of (result_of t.words step)) xt))
       (stays_on P A shape images t commit devices actors n known f a x ex Quietly (words_after t.words step) devices y n g tt
       (quiet_notes g) refl refl refl)

@@ -40,7 +40,7 @@ use Rattle.wb_simulation.specs.Noting.{NotesAgree}
 use Rattle.wb_simulation.specs.Noted.{told}
 use Rattle.wb_simulation.specs.Telling.{Carries, Rests}
 use Rattle.wb_simulation.specs.Worlds.{Situation, Turn, Stays, WorldFollowsBy, WorldFollows, Maps, Unmaps, GivesUp, TurnedTo}
-use Rattle.wb_simulation.specs.Laws.{WantsNext, went, after_step}
+use Rattle.wb_simulation.specs.Laws.{WantsNext, stepped_actor, after_step}
 use Rattle.wb_simulation.specs.Migrating.{SeesWhere, EndsOrder}
 use Rattle.wb_simulation.proofs.Noted.{notes_followed}
 use Rattle.wb_simulation.proofs.Migrations.{migrations_followed}
@@ -81,7 +81,7 @@ use Rattle.wb_policy.specs.Law.{IsMappedAt}
 use Rattle.wb_runs.proofs.Owning.{Owned}
 use Rattle.wb_simulation.specs.Carried.{IsOrderFor}
 use Rattle.wb_runs.proofs.Located.{stands_alone, unmapped_there}
-use Rattle.wb_headline.specs.Desks.{live_orders, orders_of, DeskAgrees, block_there}
+use Rattle.wb_headline.specs.Desks.{live_orders, orders_living, DeskAgrees, block_there}
 use Rattle.wb_headline.proofs.Following.{situation, size, Followed, Goes}
 use Rattle.wb_headline.proofs.Targets.{standing, actor_is, beside, failing_same, noted_within, stays_on, leads_on}
 use Rattle.wb_headline.proofs.Orders.{keeps_so, leaves_from, left, none_waits, of_order, past, stands_so, at_there, live_at, for_block, only_held, only_of}
@@ -124,7 +124,7 @@ module _ (P A : Type 0) (shape : Shape) (images : Images) (t : Target P) (commit
     pub cells : LockRule shape.geometry.origin_blocks t.words (cards_of actors) → (step : CellStep) → Cell step ≡ want plan → SeesWhere t.words (live_orders t.desk) f.site.world.shared.mapping migration block step →
         Goes P A shape (record { devices = devices; commit = commit; phase = Stands (record { words = words_after t.words step; desk = t.desk }); actors = slice_set actors a (actor_then {P = P} {A = A} shape (Stands t) devices x (Cell step) (got_of (result_of t.words step))) }) n
     cells rule step next sees =
-        let y = went t.words migrating_job plan step x in
+        let y = stepped_actor t.words migrating_job plan step x in
         let g = migrations_followed.cells now shape.geometry.origin_blocks a x migration block plan step f.site.world rule (wants next) suits sees in
         subst (λ (y : Actor). Goes P A shape (record { devices = devices; commit = commit; phase = Stands (record { words = words_after t.words step; desk = t.desk }); actors = slice_set actors a y }) n) (sym (actor_is P A shape (Stands t) devices x migrating_job plan (Cell step) (got_of (result_of t.words step)) xt))
         (stays_on P A shape images t commit devices actors n known f a x ex Carries (words_after t.words step) devices y n g tt
@@ -295,7 +295,7 @@ module _ (P A : Type 0) (shape : Shape) (t : Target P) (commit : Option RunningC
     away = then_actor bl (replacing bl x.orders ++ x.awaiting)
 
     module _ (c : ℕ) (o : Order) (live : slice_get slots c ≡ Some (Some o)) (mine : Contains x.orders o) (removes : Removes o) (at : IsMappedAt (holdings t.desk) bl.0 c) (of : is_of bl o ≡ true) where
-      leaves_to : (v : Bool) → is_replacement o ≡ v → (after_it : Option ℕ) → block_there (Quarantined v false) ≡ removed after_it → (orders' : List (Option Order)) → orders' ≡ orders_of (if v then t.desk.orders else without_order t.desk.orders (record { 0 = c })).slots →
+      leaves_to : (v : Bool) → is_replacement o ≡ v → (after_it : Option ℕ) → block_there (Quarantined v false) ≡ removed after_it → (orders' : List (Option Order)) → orders' ≡ orders_living (if v then t.desk.orders else without_order t.desk.orders (record { 0 = c })).slots →
           WorldFollowsBy (Unmaps block.0 c after_it) Carries a f.site.world (record now_at_desk { orders = orders' }) (then_actor bl (replacing bl x.orders ++ x.awaiting)) → To (Desk (Unmap bl)) Done read (Asks new)
       leaves_to v r after_it there orders' orders_are follows =
           let parted = b.keeping.parted a x ex in
@@ -307,7 +307,7 @@ module _ (P A : Type 0) (shape : Shape) (t : Target P) (commit : Option RunningC
           subst (λ (k : DeskState P). To (Desk (Unmap bl)) Done read (Asks k)) (sym gone.1)
           (goes_to (Unmaps bl.0 c after_it) desk' away (Desk (Unmap bl)) orders' (actor_is P A shape (Stands t) devices x job plan (Desk (Unmap bl)) Done xt) g (λ d. d)
           (subst (λ (k : DeskState P). AtDesk shape.geometry b.goes.images k commit devices.metadata) gone.1 (unmapped_stands P shape.geometry b.goes.images t.desk commit devices.metadata bl new b.goes.known did))
-          (orders_are ∙ ap (λ (os : Orders). orders_of os.slots) (sym (past P t.desk kept actors are owned a x ex parted bl c o live mine removes at of v r)))
+          (orders_are ∙ ap (λ (os : Orders). orders_living os.slots) (sym (past P t.desk kept actors are owned a x ex parted bl c o live mine removes at of v r)))
           (desk_unmaps P t.desk s (abstract_after_all f.site.world g.records).shared f.phase.desk bl.0 (record { 0 = c }) alone.0 new.tree new.policy after_it
           (ap (λ (k : Bool). block_there (Quarantined k false)) (keeps_so P t.desk kept actors are owned a x ex parted bl c o live mine removes at of v r) ∙ there) room alone.1 gone.0 g.desk.0 g.desk.1))
 

@@ -47,7 +47,7 @@ use Rattle.wb_simulation.specs.Actors.{IsRequestAt}
 use Rattle.wb_simulation.specs.Steps.{AreOfBlock}
 use Rattle.wb_simulation.specs.Telling.{Quietly, Reads, Writes, Answers}
 use Rattle.wb_simulation.specs.Worlds.{Stays, WorldFollows, zeros}
-use Rattle.wb_simulation.specs.Laws.{IsRequestJob, went, after_step, content_of}
+use Rattle.wb_simulation.specs.Laws.{IsRequestJob, stepped_actor, after_step, job_content}
 use Rattle.wb_simulation.proofs.Followed.{begins_by, cell_steps_followed, doing_of}
 use Rattle.wb_simulation.proofs.Moving.{extent_steps_followed, same_device}
 use Rattle.wb_simulation.proofs.Ending.{answers_followed}
@@ -85,7 +85,7 @@ module _ (P A : Type 0) (shape : Shape) (images : Images) (t : Target P) (commit
   -- a step on the shared words
   pub on_words : (step : CellStep) → IsRequestJob job → Cell step ≡ want plan → Goes P A shape (after_it (words_after t.words step) devices (actor_then {P = P} {A = A} shape (Stands t) devices x (Cell step) (got_of (result_of t.words step)))) n
   on_words step q e = subst (λ (y : Actor). Goes P A shape (after_it (words_after t.words step) devices y) n) (sym (actor_is P A shape (Stands t) devices x job plan (Cell step) (got_of (result_of t.words step)) xt))
-      (quietly (words_after t.words step) devices (went t.words job plan step x)
+      (quietly (words_after t.words step) devices (stepped_actor t.words job plan step x)
       (cell_steps_followed (situation shape t devices actors) shape.geometry.origin_blocks a x job plan step f.site.world q rule (record { here = ex; task = xt; asks = sym e; agrees = f.phase.agrees }) suits) refl)
 
 -- a read or write that is answered leaves its actor the orders that it has
@@ -221,7 +221,7 @@ module _ (P A : Type 0) (shape : Shape) (images : Images) (t : Target P) (commit
   -- ---- answers
 
   module _ (job : Job) (request : IsRequestJob job) (plan : Plan) (xt : x.task ≡ Some (job, plan)) (suits : Suits shape.geometry.origin_blocks plan x.card) (answer : Answer) (next : End answer ≡ want plan) where
-    answer_follows : WorldFollows (Answers (job_for (size P A shape) (content_of job) plan.job) answer) a f.site.world (situation shape t devices actors) (record x { task = None })
+    answer_follows : WorldFollows (Answers (job_for (size P A shape) (job_content job) plan.job) answer) a f.site.world (situation shape t devices actors) (record x { task = None })
     answer_follows = answers_followed (situation shape t devices actors) shape.geometry.origin_blocks a x job plan answer f.site.world request (record { here = ex; task = xt; asks = sym next; agrees = f.phase.agrees }) suits
 
     -- the state and notes then
@@ -241,7 +241,7 @@ module _ (P A : Type 0) (shape : Shape) (images : Images) (t : Target P) (commit
       let g = answer_follows job q plan xt suits (Refuses refusal) next in
       let b = beside P A shape images t commit devices actors n known f a x ex in
       answered_with job q plan xt suits (Refuses refusal) next (Refuses refusal) _ (put n a None) (length-set n.doings a None) refl g
-      (notes_followed.refused (job_for (size P A shape) (content_of job) plan.job) refusal Stays a f.site.world _ _ g b.0 n f.notes b.1 (noted_within P A shape images t commit devices actors n known f a x ex) f.notes_agree)
+      (notes_followed.refused (job_for (size P A shape) (job_content job) plan.job) refusal Stays a f.site.world _ _ g b.0 n f.notes b.1 (noted_within P A shape images t commit devices actors n known f a x ex) f.notes_agree)
   answers (Read extent) q plan xt suits job_is claim Finished next contents =
       let part = block_range shape extent claim.cut in
       let of = job_for (size P A shape) [] (OnBlock (ReadingPart part)) in

@@ -25,7 +25,7 @@ use Rattle.wb_simulation.proofs.Opened.{found_at}
 use Rattle.wb_types.specs.declared.geometry.Geometry.{Geometry}
 use Rattle.wb_tree.proofs.Reading.MappingRead.{mapping_read}
 use Rattle.wb_meta.specs.Representing.{Represents, Stored}
-use Rattle.wb_meta.specs.Roots.{AreOneOf, IsOf}
+use Rattle.wb_meta.specs.Roots.{AreOneOf, StoredIsOf}
 use Rattle.wb_runs.proofs.Images.{Images}
 use Rattle.wb_runs.proofs.Metadata.{MetadataKept}
 use Rattle.wb_link.specs.Openings.{Site}
@@ -161,7 +161,7 @@ module _ (P A : Type 0) (shape : Shape) (images : Images) (w : State P A) (n : N
             (state_allowed (size P A shape) (many P A shape) shape.geometry f.site f.notes images.committed later w.devices state f.reached agree one) cache origin left_cache left_origin;
       }
 
-      by_state : (later : Option Stored) → DevicesAgree shape.geometry (size P A shape) images.committed later w.devices f.site.world.shared → AreOneOf images.committed later metadata → IsOf shape.geometry later → ShowsOpened shape n metadata cache origin
+      by_state : (later : Option Stored) → DevicesAgree shape.geometry (size P A shape) images.committed later w.devices f.site.world.shared → AreOneOf images.committed later metadata → StoredIsOf shape.geometry later → ShowsOpened shape n metadata cache origin
       by_state None agree r g = shows images.committed None agree (inl refl) agree.images.read.same_geometry r
       by_state (Some state) agree (inl r) g = shows images.committed (Some state) agree (inl refl) agree.images.read.same_geometry r
       by_state (Some state) agree (inr r) g = shows state (Some state) agree (inr refl) g r

@@ -64,7 +64,7 @@ use Rattle.wb_runs.proofs.Desks.{reserved_stands}
 use Rattle.wb_contents.specs.Volume.{Locations}
 use Rattle.std.proofs.lemmas.Bool.{eq-eqb}
 use Rattle.wb_simulation.specs.Carried.{is_at, order_there, replacement_there, IsOrderFor}
-use Rattle.wb_simulation.specs.Migrating.{order_of, IsUngiven, MayBeGiven, MayBeKept, given_by, migrates}
+use Rattle.wb_simulation.specs.Migrating.{order_of_block, IsUngiven, MayBeGiven, MayBeKept, given_by, migrates}
 use Rattle.wb_simulation.specs.Noted.{told}
 use Rattle.wb_simulation.specs.Noting.{NotesAgree}
 use Rattle.wb_simulation.proofs.Migrations.{migrations_followed}
@@ -193,13 +193,13 @@ named_there m k o v (inl e) = inl e
 named_there m k o v (inr e) = absurd (let bad : None ≡ Some v = e in cc)
 
 -- a migration's own order is of its block alone
-plain_named : (m : Migration) (block : OBlock) (c : CBlock) (v : ℕ) → NamesThere (order_of block c None) v → IsNamed (order_for m block) v
+plain_named : (m : Migration) (block : OBlock) (c : CBlock) (v : ℕ) → NamesThere (order_of_block block c None) v → IsNamed (order_for m block) v
 plain_named (Promote k) block c v (inl e) = inl e
 plain_named Demote block c v (inl e) = inl e
 plain_named Clean block c v (inl e) = inl e
 plain_named m block c v (inr e) = absurd (let bad : None ≡ Some v = e in cc)
 
-plain_there : (l : Locations) (m : Migration) (block : OBlock) (c : CBlock) → order_there l c.0 (order_for m block) ≡ order_of block c None
+plain_there : (l : Locations) (m : Migration) (block : OBlock) (c : CBlock) → order_there l c.0 (order_for m block) ≡ order_of_block block c None
 plain_there l (Promote k) block c = refl
 plain_there l Demote block c = refl
 plain_there l Clean block c = refl
@@ -224,7 +224,7 @@ module _ (P A : Type 0) (shape : Shape) (t : Target P) (commit : Option RunningC
   names = named P t.desk kept
 
   -- no live order shares a block with one that may be given
-  ungiven : (o : Order) (block : OBlock) (c : CBlock) (next : Option ℕ) → MayReserve t.desk c o → ((v : ℕ) → NamesThere (order_of block c next) v → IsNamed o v) → IsUngiven g.site.world.shared.mapping slots_now (order_of block c next)
+  ungiven : (o : Order) (block : OBlock) (c : CBlock) (next : Option ℕ) → MayReserve t.desk c o → ((v : ℕ) → NamesThere (order_of_block block c next) v → IsNamed o v) → IsUngiven g.site.world.shared.mapping slots_now (order_of_block block c next)
   ungiven o block c next may named_by k p there = (let l = live_here t.desk.orders.slots k p there in (
     λ v i j. (let busy = are_orders.marks k v l.0 l.1 (subst (λ (u : Order). IsNamed u v) (sym l.2) (named_there g.site.world.shared.mapping k p v i)) in let bad : true ≡ false = sym busy ∙ idle v (named_by v j) in absurd (cc)),
     λ s. (let none = get_or_from_slice_get t.desk.orders.slots c.0 None None may.give.vacant in let same : k ≡ c.0 = sym (cache_there g.site.world.shared.mapping k p) ∙ s in let bad : Some l.0 ≡ None = sym l.1 ∙ ap (order_at t.desk.orders.slots) same ∙ none in absurd (cc)),
@@ -290,7 +290,7 @@ module _ (P A : Type 0) (shape : Shape) (t : Target P) (commit : Option RunningC
         notes_followed.resumes begun_job turn a g.site.world _ _ h at_it.0 n g.notes at_it.1 (noted_within P A shape b.goes.images t commit devices actors n b.goes.known g a x ex) g.notes_agree was.0 was.1
 
     -- a migration under an order that is given with it
-    under_given : (o : Order) (c : CBlock) (next : Option ℕ) → MayReserve t.desk c o → IsOrderFor migration block next o → order_there g.site.world.shared.mapping c.0 o ≡ order_of block c next → ((v : ℕ) → NamesThere (order_of block c next) v → IsNamed o v) → ((b : ℕ) → next ≡ Some b → g.site.world.shared.mapping b ≡ None) →
+    under_given : (o : Order) (c : CBlock) (next : Option ℕ) → MayReserve t.desk c o → IsOrderFor migration block next o → order_there g.site.world.shared.mapping c.0 o ≡ order_of_block block c next → ((v : ℕ) → NamesThere (order_of_block block c next) v → IsNamed o v) → ((b : ℕ) → next ≡ Some b → g.site.world.shared.mapping b ≡ None) →
         MayBeGiven migration block.0 c.0 g.site.world.shared → ((s' : Shared) → DeskTurnedTo (given_by migration c.0) g.site.world.shared s' → DeskAgrees (reserved t.desk c o false) s') →
         Goes P A shape (record { devices = devices; commit = commit; phase = Stands (record { words = t.words; desk = reserved t.desk c o false }); actors = slice_set actors a (record x { task = Some (begun_job, begun_plan); orders = o ∷ x.orders }) }) n'
     under_given o c next may of there named_by waits given_there desk_then =
@@ -310,7 +310,7 @@ module _ (P A : Type 0) (shape : Shape) (t : Target P) (commit : Option RunningC
         (λ state e. turned.1 ∙ g.phase.running state e)
 
     -- one under an order that its actor has kept
-    again : (o : Order) (next : Option ℕ) → Contains x.orders o → IsOrderFor migration block next o → ((c : CBlock) → slice_get slots_now c.0 ≡ Some (Some o) → (order_there g.site.world.shared.mapping c.0 o ≡ order_of block c next) × MayBeKept migration c.0 g.site.world.shared) →
+    again : (o : Order) (next : Option ℕ) → Contains x.orders o → IsOrderFor migration block next o → ((c : CBlock) → slice_get slots_now c.0 ≡ Some (Some o) → (order_there g.site.world.shared.mapping c.0 o ≡ order_of_block block c next) × MayBeKept migration c.0 g.site.world.shared) →
         Goes P A shape (record { devices = devices; commit = commit; phase = Stands t; actors = slice_set actors a (record x { task = Some (begun_job, begun_plan) }) }) n'
     again o next has of kept_there =
         let had = Contains-append_left x.orders x.awaiting o has in
@@ -341,7 +341,7 @@ module _ (P A : Type 0) (shape : Shape) (t : Target P) (commit : Option RunningC
 
   -- where the block that was to leave has left, its replacement is the order of the one that follows
   follows_there : (old block : OBlock) (cache : CBlock) → slice_get t.desk.space.blocks cache.0 ≡ Some Reserved → (c : CBlock) → slice_get slots_now c.0 ≡ Some (Some (ReplaceOrder old block cache)) →
-      (order_there g.site.world.shared.mapping c.0 (ReplaceOrder old block cache) ≡ order_of block c None) × MayBeKept (Promote cache) c.0 g.site.world.shared
+      (order_there g.site.world.shared.mapping c.0 (ReplaceOrder old block cache) ≡ order_of_block block c None) × MayBeKept (Promote cache) c.0 g.site.world.shared
   follows_there old block cache at c here =
       let v = names c.0 (ReplaceOrder old block cache) here in
       let is : state t.desk.space.blocks c.0 ≡ Reserved = ap (state t.desk.space.blocks) v.0 ∙ get_or_from_slice_get t.desk.space.blocks cache.0 Reserved Free at in (
@@ -375,7 +375,7 @@ module _ (P A : Type 0) (shape : Shape) (t : Target P) (commit : Option RunningC
       (λ b e. let both : Some new.0 ≡ Some b = e in let same : new.0 ≡ b = cc in subst (λ (k : ℕ). g.site.world.shared.mapping k ≡ None) same (ap (λ (m : ℕ → Option ℕ). m new.0) g.phase.desk.mapping ∙ unmapped_there P t.desk kept new.0 h.1.lawful.2)) (mapped_here old c.0 h.1.lawful.1)
       (λ s' d. desk_stays P t.desk g.site.world.shared s' g.phase.desk (reserved t.desk c (ReplaceOrder old new c) false) refl refl d.0 d.1)
     where
-      named_by : (v : ℕ) → NamesThere (order_of old c (Some new.0)) v → IsNamed (ReplaceOrder old new c) v
+      named_by : (v : ℕ) → NamesThere (order_of_block old c (Some new.0)) v → IsNamed (ReplaceOrder old new c) v
       named_by v (inl e) = inl e
       named_by v (inr e) = inr (let both : Some new.0 ≡ Some v = e in cc)
   any_replacement old new chosen h = absurd h

@@ -23,14 +23,14 @@ pub record DeskAgrees {P : Type 0} (desk : DeskState P) (s : Shared) : Type 0 wh
   pub blocks : (c : ℕ) → s.blocks c ≡ block_there (state desk.space.blocks c)
 
 -- the order that lives on a cache block, if one does
-abbrev pub order_of : Option LiveOrder → Option Order
-order_of None = None
-order_of (Some live) = Some live.order
+abbrev pub live_order : Option LiveOrder → Option Order
+live_order None = None
+live_order (Some live) = Some live.order
 
-abbrev pub orders_of : List (Option LiveOrder) → List (Option Order)
-orders_of [] = []
-orders_of (slot ∷ slots) = order_of slot ∷ orders_of slots
+abbrev pub orders_living : List (Option LiveOrder) → List (Option Order)
+orders_living [] = []
+orders_living (slot ∷ slots) = live_order slot ∷ orders_living slots
 
 -- the orders that live at a desk, by cache block
 abbrev pub live_orders : {P : Type 0} → DeskState P → List (Option Order)
-live_orders desk = orders_of desk.orders.slots
+live_orders desk = orders_living desk.orders.slots

@@ -34,18 +34,18 @@ abbrev pub parts_of : List ℕ → List (List ℕ)
 parts_of word = slice_split (λ byte. byte == 58) word
 
 -- the last part, a number
-abbrev pub IsLast : List (List ℕ) → ℕ → Type 0
-IsLast (part ∷ []) number = SpellsNumber part number
-IsLast parts number = ⊥
+abbrev pub IsLastPart : List (List ℕ) → ℕ → Type 0
+IsLastPart (part ∷ []) number = SpellsNumber part number
+IsLastPart parts number = ⊥
 
 -- a sector and the position of a content of it
-abbrev pub IsAt : List (List ℕ) → ℕ → ℕ → Type 0
-IsAt (part ∷ parts) sector position = SpellsNumber part sector × IsLast parts position
-IsAt [] sector position = ⊥
+abbrev pub IsPosition : List (List ℕ) → ℕ → ℕ → Type 0
+IsPosition (part ∷ parts) sector position = SpellsNumber part sector × IsLastPart parts position
+IsPosition [] sector position = ⊥
 
 -- a device, a sector of it, and a position
 abbrev pub NamesContent : List (List ℕ) → NamedContent → Type 0
-NamesContent (part ∷ parts) named = SpellsDevice part named.device × IsAt parts named.sector named.position
+NamesContent (part ∷ parts) named = SpellsDevice part named.device × IsPosition parts named.sector named.position
 NamesContent [] named = ⊥
 
 -- A content of a sector: `<device>:<sector>:<position>`.

@@ -6,7 +6,7 @@ ghost use Rattle.wb_types.specs.declared.refusal.Refusal.TheVariants.{Memory};
 ghost use Rattle.wb_disk.specs.declared.crash_choice.Base.{Base as Kept};
 ghost use Rattle.wb_disk.specs.declared.crash_choice.NamedContent.{NamedContent as Named};
 ghost use Rattle.wb_table.specs.Words.{words_of};
-ghost use Rattle.wb_lines.specs.Lines.{parts_of, IsAt, IsLast, SpellsBase, SpellsDevice, SpellsNamed, SpellsAllNamed};
+ghost use Rattle.wb_lines.specs.Lines.{parts_of, IsPosition, IsLastPart, SpellsBase, SpellsDevice, SpellsNamed, SpellsAllNamed};
 
 use std::alloc::Global;
 use wb_disk::{Base, NamedContent};
@@ -55,8 +55,8 @@ fn read_named(word: &str) -> Option<NamedContent>
 
 /// Reads `<sector>:<position>`.
 fn read_place(word: &str) -> Option<(u64, u64)>
-    ensures found { IfSome result (λ read. IsAt (parts_of word.now) read.0 read.1) }
-    ensures none { IfNone result ((sector position : ℕ) → ¬ IsAt (parts_of word.now) sector position) }
+    ensures found { IfSome result (λ read. IsPosition (parts_of word.now) read.0 read.1) }
+    ensures none { IfNone result ((sector position : ℕ) → ¬ IsPosition (parts_of word.now) sector position) }
 {
     let (sector, position) = split_colon(word)?;
     Some((read_number(sector)?, read_last(position)?))
@@ -64,8 +64,8 @@ fn read_place(word: &str) -> Option<(u64, u64)>
 
 /// Reads a number with no colon behind it.
 fn read_last(word: &str) -> Option<u64>
-    ensures found { IfSome result (IsLast (parts_of word.now)) }
-    ensures none { IfNone result ((number : ℕ) → ¬ IsLast (parts_of word.now) number) }
+    ensures found { IfSome result (IsLastPart (parts_of word.now)) }
+    ensures none { IfNone result ((number : ℕ) → ¬ IsLastPart (parts_of word.now) number) }
 {
     match split_colon(word) {
         Some(_) => None,

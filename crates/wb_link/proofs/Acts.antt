@@ -4,7 +4,7 @@ use Rattle.std.proofs.Common.{◌≡◌, ◌≢◌, ◌≤◌, ◌<◌, ◌+◌,
 use Rattle.std.proofs.lemmas.Bool.{cases_eq}
 use Rattle.wb_disk.specs.Device.{Content, History, newest, added}
 use Rattle.wb_contents.specs.Volume.{Volume, Standing, Whole, Half, Torn, location, at_location, changed, changed_at}
-use Rattle.wb_contents.specs.Acts.{Act, Write, Write_origin, Write_cache, Fail_write, Finish, Fill_cache, Copy_back, Map, Unmap, Make_dirty, Make_clean, Begin_commit, Begin_suspend, Sync_cache, Sync_origin, Fail_cache_sync, Fail_origin_sync, Write_root, End_commit, Begin_flush, End_flush, after as after_act, sector_written, written_through, all_synced, partly_synced}
+use Rattle.wb_contents.specs.Acts.{Act, Write, Write_origin, Write_cache, Fail_write, Finish, Fill_cache, Copy_back, Map, Unmap, Make_dirty, Make_clean, Begin_commit, Begin_suspend, Sync_cache, Sync_origin, Fail_cache_sync, Fail_origin_sync, Write_root, End_commit, Begin_flush, End_flush, volume_after as after_act, sector_written, written_through, all_synced, partly_synced}
 use Rattle.wb_contents.specs.Conditions.{MayAct, IsUnnamed}
 use Rattle.wb_contents.proofs.Positions.{changed_same, changed_other}
 use Rattle.wb_contents.proofs.Floors.{shorter_synced, shorter_partly, finished_bound}

@@ -3,7 +3,7 @@
 use Rattle.std.proofs.Common.{◌≡◌, ◌+◌, ℕ, Bool, true, false, cond, Option, Some, None, refl, sym, ap, subst, ◌∙◌}
 use Rattle.wb_disk.specs.Device.{Content, added, newest}
 use Rattle.wb_contents.specs.Volume.{Volume, changed, changed_at, location}
-use Rattle.wb_contents.specs.Acts.{all_synced, partly_synced, sector_written, after as after_act, written_through, Write_origin, Fail_write, Finish, Fill_cache, Copy_back, Map, Unmap, Begin_commit, Begin_suspend, Sync_cache, Sync_origin, Fail_cache_sync, Fail_origin_sync, Write_root, End_commit, Begin_flush, End_flush}
+use Rattle.wb_contents.specs.Acts.{all_synced, partly_synced, sector_written, volume_after as after_act, written_through, Write_origin, Fail_write, Finish, Fill_cache, Copy_back, Map, Unmap, Begin_commit, Begin_suspend, Sync_cache, Sync_origin, Fail_cache_sync, Fail_origin_sync, Write_root, End_commit, Begin_flush, End_flush}
 use Rattle.wb_link.specs.Tables.{Seal}
 use Rattle.wb_link.specs.World.{Shared, Block, put_sector}
 use Rattle.wb_link.proofs.Link.{Agrees, Rests}

@@ -2,7 +2,7 @@
 use Rattle.std.proofs.Common.{◌≡◌, inl, inr, ℕ, zero, suc, Bool, true, false, List, [], ◌∷◌, Option, Some, None, refl, sym, subst, ◌∙◌}
 use Rattle.wb_disk.specs.Device.{Content}
 use Rattle.wb_contents.specs.Volume.{Volume, Locations, changed}
-use Rattle.wb_contents.specs.Acts.{Act, after_all as after_acts}
+use Rattle.wb_contents.specs.Acts.{Act, volume_after_all as after_acts}
 use Rattle.wb_link.specs.Tables.{Order, Job, Reading, Writing, Writing_through, Flushing, Suspending, Promoting, Returning, Invalidating, Seal, Answer, Finished, Busy, Failed, Io, Want, Look_fail, Share, Own, Look_seal, Set_seal, Leave, Disown, Set_failed, Read_all, Write_all, Map_to, Unmap_from, Unmap_plain, Give_up, End, Got, Done, Lost, Flag, Seen, Script, abstract_work, breaking}
 use Rattle.wb_link.specs.World.{block_given_back, Shared, Held, Nothing, Owns, AbstractActor, actor_after, job_alone}
 use Rattle.wb_link.proofs.Views.{BlockView, block_view, Holds}

@@ -2,11 +2,11 @@
 use Rattle.std.proofs.Common.{◌≡◌, ◌≢◌, ◌≤◌, ℕ, zero, suc, Bool, true, false, List, [], ◌∷◌, Option, refl, sym, ap, subst, ◌∙◌, arith}
 use Rattle.wb_disk.specs.Device.{Content}
 use Rattle.wb_contents.specs.Volume.{Volume, Locations}
-use Rattle.wb_contents.specs.Acts.{Act, after as after_act, End_flush, Sync_cache, Sync_origin, Fail_cache_sync, Fail_origin_sync, Write_root, End_commit, after_all as after_acts}
+use Rattle.wb_contents.specs.Acts.{Act, volume_after as after_act, End_flush, Sync_cache, Sync_origin, Fail_cache_sync, Fail_origin_sync, Write_root, End_commit, volume_after_all as after_acts}
 use Rattle.wb_link.specs.Tables.{Order, Job, Flushing, Suspending, Answer, Finished, Io, Want, Set_failed, Break_commits, Sync_cache_device, Sync_origin_device, Put_root, Sync_metadata, End_running, End, Got, Done, Fault, breaking}
 use Rattle.wb_link.specs.World.{Shared, Nothing, AbstractActor, actor_after}
 use Rattle.wb_link.proofs.Views.{CommitView, commit_view}
-use Rattle.wb_contents.specs.Conditions.{IsRun as IsActs}
+use Rattle.wb_contents.specs.Conditions.{IsRunOfActs as IsActs}
 use Rattle.wb_link.proofs.Link.{Agrees, Ready, Owes, Others, Right, AllMine, Goes, Safe, acts_of, flush_acts}
 use Rattle.wb_link.proofs.Agreeing.{cached_agrees, based_agrees, cached_partly_agrees, based_partly_agrees, root_agrees, end_agrees, flush_agrees, failed_agrees, broken_agrees}
 use Rattle.wb_link.proofs.Calm.{calmly}

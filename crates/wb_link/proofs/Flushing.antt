@@ -2,7 +2,7 @@
 use Rattle.std.proofs.Common.{◌≡◌, ◌≢◌, ◌≤◌, ◌+◌, ℕ, zero, suc, Bool, true, false, List, [], ◌∷◌, Option, Some, None, refl, sym, ◌∙◌, arith}
 use Rattle.wb_disk.specs.Device.{Content}
 use Rattle.wb_contents.specs.Volume.{Volume}
-use Rattle.wb_contents.specs.Acts.{after as after_act, Begin_commit}
+use Rattle.wb_contents.specs.Acts.{volume_after as after_act, Begin_commit}
 use Rattle.wb_link.specs.Tables.{Order, Flushing, let_go, Answer, Finished, Busy, Failed, Io, Want, Look_fail, Begin, Sync_cache_device, Sync_origin_device, Put_root, Sync_metadata, End_running, Give_up, Got, Done, Lost, Flag, Ticket, Served, Broken, Short}
 use Rattle.wb_link.specs.World.{Shared, Nothing, AbstractActor, actor_after}
 use Rattle.wb_link.proofs.Link.{Good, Receives, Safe}

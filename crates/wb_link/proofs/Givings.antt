@@ -3,7 +3,7 @@ use Rattle.std.proofs.Common.{◌≡◌, ◌+◌, inl, inr, ◌∙◌, ℕ, zero
 use Rattle.wb_disk.specs.Device.{Content}
 use Rattle.wb_contents.specs.Volume.{Volume}
 use Rattle.wb_types.specs.declared.mode.Mode.{Mode}
-use Rattle.wb_contents.specs.Acts.{after_all as after_acts}
+use Rattle.wb_contents.specs.Acts.{volume_after_all as after_acts}
 use Rattle.wb_link.specs.Tables.{Order, Job, Seal, Answer, Finished, Want, Look_fail, Look_seal, Read_all, Begin, Begin_clean, Got, Done, Lost, Flag, Seen, Gave, Ticket, Served, Broken, Short, Fault, Script, first_of_steps}
 use Rattle.wb_link.specs.World.{Serves, Shared, Held, Nothing, AbstractActor, actor_after, newest_at, AreAlike, IsDoneStep, MayBeFault, MayLose, MayLack, AbstractGives, effect}
 use Rattle.wb_link.proofs.Link.{Good, Others, MayEnd, Ready, Owes, Right, Goes, Safe, acts_of}

@@ -5,8 +5,8 @@ use Rattle.wb_disk.specs.Device.{Content, newest, only}
 use Rattle.wb_contents.specs.Volume.{Locations, Volume, Whole}
 use Rattle.wb_types.specs.declared.mode.Mode.{Mode}
 use Rattle.wb_types.specs.declared.mode.Mode.TheVariants.{Passthrough}
-use Rattle.wb_contents.specs.Acts.{Act, Write, Write_origin, Write_cache, Fail_write, Finish, Fill_cache, Copy_back, Map, Unmap, Make_dirty, Make_clean, Begin_commit, Begin_suspend, Sync_cache, Sync_origin, Fail_cache_sync, Fail_origin_sync, Write_root, End_commit, Begin_flush, End_flush, after_all as after_acts}
-use Rattle.wb_contents.specs.Conditions.{IsUnnamed, IsRun as IsActs}
+use Rattle.wb_contents.specs.Acts.{Act, Write, Write_origin, Write_cache, Fail_write, Finish, Fill_cache, Copy_back, Map, Unmap, Make_dirty, Make_clean, Begin_commit, Begin_suspend, Sync_cache, Sync_origin, Fail_cache_sync, Fail_origin_sync, Write_root, End_commit, Begin_flush, End_flush, volume_after_all as after_acts}
+use Rattle.wb_contents.specs.Conditions.{IsUnnamed, IsRunOfActs as IsActs}
 use Rattle.wb_contents.proofs.Run.{KeepsAll}
 use Rattle.wb_link.specs.Tables.{Order, Job, Reading, Writing, Writing_through, Flushing, Suspending, Promoting, Returning, Invalidating, Seal, Answer, Finished, Want, Look_fail, Share, Own, Set_seal, Leave, Disown, Read_all, Write_all, Begin, Begin_clean, Sync_cache_device, Sync_origin_device, Put_root, End_running, Map_to, Unmap_from, Unmap_plain, Give_up, End, Got, Done, Flag, Gave, Fault, Script, abstract_want}
 use Rattle.wb_link.specs.World.{AreAlike, Block, Free, Mapped, Reserved, Quarantined, Retained, Shared, Held, Nothing, Shares, Owns, AbstractActor, World, effect, actor_after, AbstractGives, ShareNoBlock, NextIsUnmapped, is_alone, job_alone, drops}

@@ -5,8 +5,8 @@ use Rattle.wb_disk.specs.Device.{Content, History, entries, only}
 use Rattle.wb_contents.specs.Volume.{Volume, Locations, at_location}
 use Rattle.wb_types.specs.declared.mode.Mode.{Mode}
 use Rattle.wb_types.specs.declared.mode.Mode.TheVariants.{Writeback}
-use Rattle.wb_contents.specs.Acts.{Act, Crash, after_all as after_acts}
-use Rattle.wb_contents.specs.Conditions.{IsUnnamed, IsRun as IsActs}
+use Rattle.wb_contents.specs.Acts.{Act, Crash, volume_after_all as after_acts}
+use Rattle.wb_contents.specs.Conditions.{IsUnnamed, IsRunOfActs as IsActs}
 use Rattle.wb_contents.specs.Promises.{IsEntryFrom, first_volume}
 use Rattle.wb_contents.proofs.Positions.{at_lower}
 use Rattle.wb_contents.proofs.Run.{first_kept, holds}

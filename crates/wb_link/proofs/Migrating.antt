@@ -2,7 +2,7 @@
 use Rattle.std.proofs.Common.{◌≡◌, ◌≢◌, ◌<◌, ℕ, zero, suc, Bool, true, false, List, [], ◌∷◌, Option, Some, refl, sym, subst, ◌∙◌}
 use Rattle.wb_disk.specs.Device.{Content, History}
 use Rattle.wb_contents.specs.Volume.{Volume, Locations}
-use Rattle.wb_contents.specs.Acts.{Act, after as after_act}
+use Rattle.wb_contents.specs.Acts.{Act, volume_after as after_act}
 use Rattle.wb_contents.specs.Conditions.{MayAct}
 use Rattle.wb_link.specs.Tables.{Order, Job, Finished, Io, Want, Disown, Read_all, Write_all, Give_up, Got, Done, Gave, Fault, copy_each, abstract_release}
 use Rattle.wb_link.specs.World.{Shared, Owns, AbstractActor, Within, AllWithin, AreAlike, newest_at, abstract_contents_for, put_sector, if_landed}

@@ -3,7 +3,7 @@ use Rattle.std.proofs.Common.{◌≡◌, inr, ℕ, zero, suc, true, false, List,
 use Rattle.wb_disk.specs.Device.{Content}
 use Rattle.wb_contents.specs.Volume.{Volume, Whole, Locations, changed}
 use Rattle.wb_types.specs.declared.mode.Mode.TheVariants.{Passthrough}
-use Rattle.wb_contents.specs.Acts.{Act, after as after_act, after_all as after_acts, Unmap}
+use Rattle.wb_contents.specs.Acts.{Act, volume_after as after_act, volume_after_all as after_acts, Unmap}
 use Rattle.wb_contents.proofs.Positions.{changed_same}
 use Rattle.wb_link.specs.Tables.{Order, Job, Seal, Finished, Want, Set_seal, Unmap_plain, Done, dropping}
 use Rattle.wb_link.specs.World.{Shared, Owns, Quarantined, job_drops}

@@ -5,8 +5,8 @@ use Rattle.wb_disk.specs.Device.{Content, History, entries, newest, only}
 use Rattle.wb_contents.specs.Volume.{Volume, Locations, location, at_location}
 use Rattle.wb_types.specs.declared.mode.Mode.{Mode}
 use Rattle.wb_types.specs.declared.mode.Mode.TheVariants.{Writeback, Writethrough, Passthrough}
-use Rattle.wb_contents.specs.Acts.{Act, Crash, Find_image, Sync_cache, Sync_origin, Fail_cache_sync, Fail_origin_sync, Write_opening_root, Open, image_found, all_synced, partly_synced, after as after_act, after_all as after_acts}
-use Rattle.wb_contents.specs.Conditions.{Admits, IsUnnamed, MayAct, IsRun as IsActs}
+use Rattle.wb_contents.specs.Acts.{Act, Crash, Find_image, Sync_cache, Sync_origin, Fail_cache_sync, Fail_origin_sync, Write_opening_root, Open, image_found, all_synced, partly_synced, volume_after as after_act, volume_after_all as after_acts}
+use Rattle.wb_contents.specs.Conditions.{Admits, IsUnnamed, MayAct, IsRunOfActs as IsActs}
 use Rattle.wb_contents.specs.Promises.{IsEntryFrom}
 use Rattle.wb_contents.proofs.Positions.{only_one}
 use Rattle.wb_contents.proofs.Run.{KeepsAll, all_kept, holds}

@@ -2,7 +2,7 @@
 use Rattle.std.proofs.Common.{◌≡◌, inl, inr, ℕ, zero, suc, true, false, List, [], ◌∷◌, Some, None, refl, sym, ap, subst, ◌∙◌}
 use Rattle.wb_disk.specs.Device.{Content, added, newest}
 use Rattle.wb_contents.specs.Volume.{Volume, Locations}
-use Rattle.wb_contents.specs.Acts.{after as after_act, Fill_cache, Map}
+use Rattle.wb_contents.specs.Acts.{volume_after as after_act, Fill_cache, Map}
 use Rattle.wb_contents.specs.Conditions.{IsUnused, IsUnnamed}
 use Rattle.wb_contents.proofs.Positions.{changed_same, last_of-append}
 use Rattle.wb_contents.proofs.Sectors.{here_is, elsewhere_is}

@@ -2,7 +2,7 @@
 use Rattle.std.proofs.Common.{◌≡◌, ◌⊎◌, inl, inr, ℕ, zero, suc, Bool, true, false, List, [], ◌∷◌, Some, None, refl, sym, ap, subst, ◌∙◌}
 use Rattle.wb_disk.specs.Device.{Content, added, newest}
 use Rattle.wb_contents.specs.Volume.{Volume, location, at_location, changed}
-use Rattle.wb_contents.specs.Acts.{after as after_act, Unmap, Make_clean, Copy_back}
+use Rattle.wb_contents.specs.Acts.{volume_after as after_act, Unmap, Make_clean, Copy_back}
 use Rattle.wb_contents.specs.Conditions.{IsCopied, IsAllWhole}
 use Rattle.wb_contents.proofs.Positions.{changed_same, last_of-append}
 use Rattle.wb_contents.proofs.Sectors.{here_is, elsewhere_is}

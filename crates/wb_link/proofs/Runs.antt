@@ -2,8 +2,8 @@
 use Rattle.std.proofs.Common.{◌≡◌, ◌≤◌, inl, inr, ℕ, true, List, [], Option, Some, None, refl, sym, ap, subst, ◌∙◌, arith, replicate, slice_get, slice_set}
 use Rattle.wb_disk.specs.Device.{Content, History, newest, only}
 use Rattle.wb_contents.specs.Volume.{Volume, changed}
-use Rattle.wb_contents.specs.Acts.{Act, after_all as after_acts}
-use Rattle.wb_contents.specs.Conditions.{IsRun as IsActs}
+use Rattle.wb_contents.specs.Acts.{Act, volume_after_all as after_acts}
+use Rattle.wb_contents.specs.Conditions.{IsRunOfActs as IsActs}
 use Rattle.wb_contents.proofs.Positions.{changed_same, changed_other}
 use Rattle.wb_link.specs.Tables.{Want, End, Got, Gave, Job, Flushing, Suspending, Script, abstract_want, abstract_after, abstract_table, Reading, Read_all}
 use Rattle.wb_link.specs.World.{Release, Held, effect, AbstractActor, World, Record, Start, Step, actor_after, task_after, abstract_given, abstract_resting, after_record, AbstractMay, MayStep, Again}

@@ -5,8 +5,8 @@ use Rattle.std.proofs.lemmas.Bool.{cases_eq}
 use Rattle.wb_disk.specs.Device.{Content}
 use Rattle.wb_contents.specs.Volume.{Volume, Locations, changed}
 use Rattle.wb_types.specs.declared.mode.Mode.TheVariants.{Writethrough, Passthrough}
-use Rattle.wb_contents.specs.Acts.{after_all as after_acts}
-use Rattle.wb_contents.specs.Conditions.{IsRun as IsActs}
+use Rattle.wb_contents.specs.Acts.{volume_after_all as after_acts}
+use Rattle.wb_contents.specs.Conditions.{IsRunOfActs as IsActs}
 use Rattle.wb_contents.proofs.Positions.{changed_same, changed_other}
 use Rattle.wb_link.specs.Tables.{Order, Job, Reading, Writing, Writing_through, Flushing, Suspending, Promoting, Returning, Invalidating, Seal, Finished, Look_fail, abstract_acquire, Script}
 use Rattle.wb_link.specs.World.{HoldsNothing, job_alone, AllWithin, AllDistinct, Covers, Block, Free, Mapped, Reserved, Retained, Shared, Nothing, Owns, AbstractActor, World, Start, abstract_reserved, abstract_order_of, abstract_given, start_actor, ShareNoBlock, MayStart, MayGiveJob, after_record, drops, job_drops, Again, again_actor, aside, abstract_taken, MayAgain, MayRepeat}

@@ -2,8 +2,8 @@
 use Rattle.std.proofs.Common.{◌≡◌, ◌≤◌, ◌<◌, inr, ℕ, Bool, true, false, cond, Option, Some, None, List, [], ◌∷◌, refl, ap, ◌∙◌, arith}
 use Rattle.wb_disk.specs.Device.{Content, History, newest, only}
 use Rattle.wb_contents.specs.Volume.{Volume, changed_at}
-use Rattle.wb_contents.specs.Acts.{Act, Write, Write_origin, Write_cache, Fail_write, Finish, Fill_cache, Copy_back, Map, Unmap, Make_dirty, Make_clean, Begin_commit, Begin_suspend, Sync_cache, Sync_origin, Fail_cache_sync, Fail_origin_sync, Write_root, End_commit, Begin_flush, End_flush, after as after_act, sector_written, written_through, after_all as after_acts}
-use Rattle.wb_contents.specs.Conditions.{IsRun as IsActs}
+use Rattle.wb_contents.specs.Acts.{Act, Write, Write_origin, Write_cache, Fail_write, Finish, Fill_cache, Copy_back, Map, Unmap, Make_dirty, Make_clean, Begin_commit, Begin_suspend, Sync_cache, Sync_origin, Fail_cache_sync, Fail_origin_sync, Write_root, End_commit, Begin_flush, End_flush, volume_after as after_act, sector_written, written_through, volume_after_all as after_acts}
+use Rattle.wb_contents.specs.Conditions.{IsRunOfActs as IsActs}
 use Rattle.wb_contents.proofs.Sectors.{elsewhere_is}
 use Rattle.wb_contents.proofs.Run.{KeepsAll, act_kept}
 use Rattle.wb_link.specs.World.{AbstractActor}

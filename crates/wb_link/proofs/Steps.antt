@@ -3,8 +3,8 @@ use Rattle.std.proofs.Common.{◌≡◌, ◌≢◌, ◌⊎◌, inl, inr, ℕ, ze
 use Rattle.std.proofs.lemmas.Bool.{cases_eq}
 use Rattle.wb_contents.specs.Volume.{Volume}
 use Rattle.wb_types.specs.declared.mode.Mode.TheVariants.{Passthrough}
-use Rattle.wb_contents.specs.Acts.{Act, after_all as after_acts}
-use Rattle.wb_contents.specs.Conditions.{IsRun as IsActs}
+use Rattle.wb_contents.specs.Acts.{Act, volume_after_all as after_acts}
+use Rattle.wb_contents.specs.Conditions.{IsRunOfActs as IsActs}
 use Rattle.wb_link.specs.Tables.{Order, Answer, Want, Look_fail, Share, Own, Begin_clean, End, Got, Done, Flag, Script, abstract_want}
 use Rattle.wb_link.specs.World.{ShareNoBlock, is_alone, job_alone, task_after, Nothing, Shared, Owns, AbstractActor, World, Step, effect, actor_after, held_after, AbstractGives, Wins, MayStep, step_task, step_actor, after_record, drops}
 use Rattle.wb_link.proofs.Views.{block_view}

@@ -2,7 +2,7 @@
 use Rattle.std.proofs.Common.{◌≡◌, ◌≢◌, ◌≤◌, ◌+◌, ◌⊎◌, inl, inr, ℕ, zero, suc, Bool, true, false, List, [], ◌∷◌, None, refl, sym, ap, ◌∙◌, arith}
 use Rattle.wb_disk.specs.Device.{Content}
 use Rattle.wb_contents.specs.Volume.{Volume}
-use Rattle.wb_contents.specs.Acts.{after as after_act, Begin_suspend}
+use Rattle.wb_contents.specs.Acts.{volume_after as after_act, Begin_suspend}
 use Rattle.wb_link.specs.Tables.{Suspending, Answer, Finished, Busy, Failed, Io, Want, Look_fail, Set_suspended, Begin_clean, Sync_cache_device, Sync_origin_device, Put_root, Sync_metadata, End_running, Got, Lost, Flag, Short}
 use Rattle.wb_link.specs.World.{Shared, Nothing, AbstractActor, actor_after}
 use Rattle.wb_link.proofs.Link.{Others, Receives, Safe}

@@ -2,8 +2,8 @@
 use Rattle.std.proofs.Common.{◌≡◌, ◌<◌, ◌++◌, ℕ, Bool, List, [], ◌∷◌, Option, sym, subst}
 use Rattle.wb_disk.specs.Device.{Content, History}
 use Rattle.wb_contents.specs.Volume.{Volume}
-use Rattle.wb_contents.specs.Acts.{Act, after as after_act, after_all as after_acts}
-use Rattle.wb_contents.specs.Conditions.{IsRun as IsActs}
+use Rattle.wb_contents.specs.Acts.{Act, volume_after as after_act, volume_after_all as after_acts}
+use Rattle.wb_contents.specs.Conditions.{IsRunOfActs as IsActs}
 use Rattle.wb_link.specs.Tables.{Want, Got, Script}
 use Rattle.wb_link.specs.World.{Shared, AbstractActor, Within, actor_after, put_sector, put_where, if_landed}
 use Rattle.wb_link.proofs.Link.{Agrees, Ready, Owes, Right, AllMine, Goes, each_act}

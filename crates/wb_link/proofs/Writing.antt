@@ -4,7 +4,7 @@ use Rattle.wb_disk.specs.Device.{Content, History, added}
 use Rattle.wb_contents.specs.Volume.{Volume, Standing, Whole, Locations, changed, changed_at}
 use Rattle.wb_types.specs.declared.mode.Mode.{Mode}
 use Rattle.wb_types.specs.declared.mode.Mode.TheVariants.{Writeback, Passthrough}
-use Rattle.wb_contents.specs.Acts.{sector_written, after as after_act, Write, Finish}
+use Rattle.wb_contents.specs.Acts.{sector_written, volume_after as after_act, Write, Finish}
 use Rattle.std.proofs.lemmas.Bool.{cases_eq}
 use Rattle.wb_contents.proofs.Positions.{changed_same}
 use Rattle.wb_contents.proofs.Sectors.{here_is, elsewhere_is}

@@ -4,7 +4,7 @@ use Rattle.std.proofs.lemmas.Bool.{cases_eq}
 use Rattle.wb_disk.specs.Device.{Content, History, added, newest}
 use Rattle.wb_contents.specs.Volume.{Volume, Whole, Half, changed_at}
 use Rattle.wb_types.specs.declared.mode.Mode.TheVariants.{Writethrough}
-use Rattle.wb_contents.specs.Acts.{written_through, after as after_act, Write_origin, Write_cache, Finish}
+use Rattle.wb_contents.specs.Acts.{written_through, volume_after as after_act, Write_origin, Write_cache, Finish}
 use Rattle.wb_contents.proofs.Positions.{last_of-append}
 use Rattle.wb_contents.proofs.Sectors.{here_is, elsewhere_is}
 use Rattle.wb_link.specs.Tables.{Writing_through, Finished, Want, Look_fail, Own, Look_seal, Disown, Write_all, Done, Fault, Seal, write_through_each}

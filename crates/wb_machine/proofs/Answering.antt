@@ -34,7 +34,7 @@ use Rattle.wb_machine.specs.declared.phase.Phase.{Phase}
 use Rattle.wb_machine.specs.declared.phase.Phase.TheVariants.{Closed, Underway, Standing}
 use Rattle.wb_machine.specs.Life.{Happens, IsThere, Now, actors_of, answered, contents_of, device_step_of, opening_actor, shape_of, stands_by, state_of}
 use Rattle.wb_machine.specs.Making.{HasMade, IsMade, read_of, reading_by, reading_of}
-use Rattle.wb_machine.specs.Members.{Member, free, seated}
+use Rattle.wb_machine.specs.Members.{Member, free, with_cards}
 use Rattle.wb_desk.specs.Desks.{DeskState}
 use Rattle.wb_machine.specs.Standing.{AllRoomy, Point, AtEnd, AtRefusal, HasMadeThere, HasReadAll, HasComeTo, StandsAt, StandsSo, plan_from}
 use Rattle.wb_machine.proofs.Members.{all_free}
@@ -66,8 +66,8 @@ module _ (g : Geometry) (n : ℕ) (devices : Devices Memory) (o : Opener) (made 
   abbrev rested : Actor
   rested = record { task = None; card = card; orders = []; awaiting = []; buffer = [] }
 
-  actors : IsMade g n o.actor made → seated made.members.items made.target.crew.cards ≡ slice_set (actors_of n (Underway o)) o.actor rested
-  actors is = ap (λ (ms : List Member). seated ms made.target.crew.cards) is.members_are ∙ ap (λ (cs : List Card). seated (replicate n free) cs) is.cards_are
+  actors : IsMade g n o.actor made → with_cards made.members.items made.target.crew.cards ≡ slice_set (actors_of n (Underway o)) o.actor rested
+  actors is = ap (λ (ms : List Member). with_cards ms made.target.crew.cards) is.members_are ∙ ap (λ (cs : List Card). with_cards (replicate n free) cs) is.cards_are
       ∙ all_free n o.actor card ∙ sym (set_twice (replicate n resting) o.actor (opening_actor o.task) rested)
 
   -- its answer, which is done
@@ -76,7 +76,7 @@ module _ (g : Geometry) (n : ℕ) (devices : Devices Memory) (o : Opener) (made 
   opened h next made_is is done = subst (λ (m : Option Made). Happens shape (over m) (Step o.actor) (Stepped (End Finished) Done) [] (state_of n devices (Standing made.target made.members))) (sym made_is) (record {
     chosen = Opened made.target.desk.policy;
     may = busy n o _ h (sym next, (refl, refl, (tt, done)));
-    leads = ap (λ (commit : Option RunningCommit). standing commit (record { words = made.target.crew.words; desk = made.target.desk }) (seated made.members.items made.target.crew.cards)) is.commit_is
+    leads = ap (λ (commit : Option RunningCommit). standing commit (record { words = made.target.crew.words; desk = made.target.desk }) (with_cards made.members.items made.target.crew.cards)) is.commit_is
         ∙ ap (λ (xs : List Actor). standing None (record { words = made.target.crew.words; desk = made.target.desk }) xs) (actors is)
         ∙ ap (λ (t : Target Quiet). standing None t (slice_set (actors_of n (Underway o)) o.actor rested)) (target_is g n o.actor made is)
         ∙ sym (ap (λ (x : Option Actor). with_actor (over (Some made)) x (λ y. stepped shape (over (Some made)) o.actor y (End Finished) Done (Opened made.target.desk.policy) (λ step. device_done {P = Quiet} {A = Global} (job_of y.task) y.buffer step (Opened made.target.desk.policy)))) (there n o h));

@@ -46,7 +46,7 @@ use Rattle.wb_promise.specs.States.{Shape, Actor, Stands, Target as RunTarget, w
 use Rattle.wb_promise.specs.Happenings.{Plain, Commits, Asks, AreWhole, DoesSync, FailsSync, Gives}
 use Rattle.wb_promise.specs.Effects.{contents_for, led}
 use Rattle.wb_machine.specs.declared.target.Target.{Target}
-use Rattle.wb_machine.specs.Serving.{Allows, IsAskable, ComesNext, DoesOn, FailsAt, IsDoable, IsPossible, IsPut, MayBePut, Performs, PutsSector, WasAsked, WasPut, IsCopy, Migrates, chosen_at, commit_by, noted_read, over, stood, told, GivesUp}
+use Rattle.wb_machine.specs.Serving.{Allows, IsAskable, ComesNext, DoesOn, FailsAt, IsDoable, IsPossible, IsPut, MayBePut, Performs, PutsSector, DeskWasAsked, WasPut, IsCopy, Migrates, chosen_at, commit_by, noted_read, over, stood, target_told, GivesUp}
 use Rattle.wb_policy.specs.declared.order.Order.{Order}
 
 -- ---- devices
@@ -205,7 +205,7 @@ puts_sector image steps step b p e = absurd p
 
 module _ (desk : DeskState Quiet) (commit : Option RunningCommit) (desk' : DeskState Quiet) (commit' : Option RunningCommit) where
   pub did_begin : (held : List Order) (job : Job) (clean : Bool) (most nodes : ℕ) (running : RunningCommit) → clean ≡ false → nodes ≤ most → nodes ≡ length running.image.nodes.items → running.steps ≡ NodesWritten 0 → HasBegun desk running.image desk' → AreWhole running.image → commit' ≡ Some running →
-      WasAsked desk commit job held (BeginCommit clean most) (Began nodes) desk' commit'
+      DeskWasAsked desk commit job held (BeginCommit clean most) (Began nodes) desk' commit'
   did_begin held job clean most nodes running n few many steps begun whole c =
       let same : HasBegun desk running.image (commit_begun desk desk'.tree) = subst (λ (d : DeskState Quiet). HasBegun desk running.image d) begun.state begun in
       record { chosen = Commits running desk'.tree; gives = λ shape devices words actors x own. by_job same shape devices words actors x job; desk_is = begun.state; commit_is = c }
@@ -218,7 +218,7 @@ module _ (desk : DeskState Quiet) (commit : Option RunningCommit) (desk' : DeskS
       by_job h shape devices words actors x (Migrate migration block) = (refl, n, (few, many, steps, h, whole))
       by_job h shape devices words actors x (Replace old new) = (refl, n, (few, many, steps, h, whole))
 
-  pub did_refuse : (held : List Order) (job : Job) (clean : Bool) (most : ℕ) (refusal : Refusal) → clean ≡ false → IsBeginRefused desk refusal → desk' ≡ desk → commit' ≡ commit → WasAsked desk commit job held (BeginCommit clean most) (GotRefused refusal) desk' commit'
+  pub did_refuse : (held : List Order) (job : Job) (clean : Bool) (most : ℕ) (refusal : Refusal) → clean ≡ false → IsBeginRefused desk refusal → desk' ≡ desk → commit' ≡ commit → DeskWasAsked desk commit job held (BeginCommit clean most) (GotRefused refusal) desk' commit'
   did_refuse held job clean most refusal n refused d c = record { chosen = Plain; gives = λ shape devices words actors x own. by_job shape devices words actors x job; desk_is = d; commit_is = c }
     where
       by_job : (shape : Shape) (devices : Devices (List History)) (words : Words) (actors : List Actor) (x : Actor) (job : Job) → Gives shape (stood devices commit (record { words = words; desk = desk }) actors) x job (Desk (BeginCommit clean most)) (GotRefused refusal) [] Plain
@@ -229,7 +229,7 @@ module _ (desk : DeskState Quiet) (commit : Option RunningCommit) (desk' : DeskS
       by_job shape devices words actors x (Migrate migration block) = (refl, n, refused)
       by_job shape devices words actors x (Replace old new) = (refl, n, refused)
 
-  pub did_end : (held : List Order) (job : Job) → is_all_done commit ≡ true → desk' ≡ ended desk → commit' ≡ None → WasAsked desk commit job held EndCommit Done desk' commit'
+  pub did_end : (held : List Order) (job : Job) → is_all_done commit ≡ true → desk' ≡ ended desk → commit' ≡ None → DeskWasAsked desk commit job held EndCommit Done desk' commit'
   did_end held job done d c = record { chosen = Plain; gives = λ shape devices words actors x own. by_job shape devices words actors x job; desk_is = d; commit_is = c }
     where
       by_job : (shape : Shape) (devices : Devices (List History)) (words : Words) (actors : List Actor) (x : Actor) (job : Job) → Gives shape (stood devices commit (record { words = words; desk = desk }) actors) x job (Desk EndCommit) Done [] Plain
@@ -241,7 +241,7 @@ module _ (desk : DeskState Quiet) (commit : Option RunningCommit) (desk' : DeskS
       by_job shape devices words actors x (Replace old new) = ((refl, refl), refl, done)
 
   -- a migration's block is mapped, or there is no memory for that
-  pub did_map : (held : List Order) (with_entry : Quiet → ℕ → ℕ → Quiet) (job : Job) (b : OBlock) (c : CBlock) (got : Got) → Migrates job → Fits (Desk (Map b c)) got → DidMap with_entry b c got desk desk' → commit' ≡ commit → WasAsked desk commit job held (Map b c) got desk' commit'
+  pub did_map : (held : List Order) (with_entry : Quiet → ℕ → ℕ → Quiet) (job : Job) (b : OBlock) (c : CBlock) (got : Got) → Migrates job → Fits (Desk (Map b c)) got → DidMap with_entry b c got desk desk' → commit' ≡ commit → DeskWasAsked desk commit job held (Map b c) got desk' commit'
   did_map held with_entry (Migrate migration block) b c Done m f did k = record {
     chosen = Asks desk';
     gives = λ shape devices words actors x own. (refl, (did.0, did.1.0, did.1.1 ∙ ap (λ (p : Quiet). mapped desk c desk'.tree p) (sym (ap (λ (d : DeskState Quiet). d.policy) did.1.1))));
@@ -254,7 +254,7 @@ module _ (desk : DeskState Quiet) (commit : Option RunningCommit) (desk' : DeskS
   did_map held with_entry job b c got m f did k = absurd m
 
   -- or it is unmapped, where the desk has it and its order lets it go
-  pub did_unmap : (held : List Order) (without_entry : Quiet → ℕ → Quiet) (job : Job) (b : OBlock) → Migrates job → DidUnmap without_entry b desk desk' → commit' ≡ commit → WasAsked desk commit job held (Unmap b) Done desk' commit'
+  pub did_unmap : (held : List Order) (without_entry : Quiet → ℕ → Quiet) (job : Job) (b : OBlock) → Migrates job → DidUnmap without_entry b desk desk' → commit' ≡ commit → DeskWasAsked desk commit job held (Unmap b) Done desk' commit'
   did_unmap held without_entry (Migrate migration block) b m did k = record { chosen = Asks desk'; gives = λ shape devices words actors x own. (refl, refl, (λ may. left may (did.0 may), did.1)); desk_is = refl; commit_is = k }
     where
       left : (may : MayUnmap desk b) → HasLeft without_entry desk b may.cache desk' → HasLeft (λ policy block. desk'.policy) desk b may.cache desk'
@@ -262,14 +262,14 @@ module _ (desk : DeskState Quiet) (commit : Option RunningCommit) (desk' : DeskS
   did_unmap held without_entry job b m did k = absurd m
 
   -- or an order of those that the job may give up is
-  pub did_release : (held : List Order) (job : Job) (b : OBlock) → GivesUp job → DidRelease held b desk desk' → commit' ≡ commit → WasAsked desk commit job held (ReleaseOrder b) Done desk' commit'
+  pub did_release : (held : List Order) (job : Job) (b : OBlock) → GivesUp job → DidRelease held b desk desk' → commit' ≡ commit → DeskWasAsked desk commit job held (ReleaseOrder b) Done desk' commit'
   did_release held (Migrate migration block) b m up k = record { chosen = Asks desk'; gives = λ shape devices words actors x own. (refl, refl, subst (λ (os : List Order). DidRelease os b desk desk') (sym own) up); desk_is = refl; commit_is = k }
   did_release held Flush b m up k = record { chosen = Asks desk'; gives = λ shape devices words actors x own. (refl, refl, subst (λ (os : List Order). DidRelease os b desk desk') (sym own) up); desk_is = refl; commit_is = k }
   did_release held job b m up k = absurd m
 
   -- so it is with whatever the desk was asked
   pub did_ask : (with_entry : Quiet → ℕ → ℕ → Quiet) (without_entry : Quiet → ℕ → Quiet) (held : List Order) (job : Job) (step : DeskStep) (got : Got) → IsAskable commit job step → Allows (node_count desk.geometry.cache_blocks) (Desk step) → Fits (Desk step) got →
-      ((nodes : ℕ) (running : RunningCommit) → got ≡ Began nodes → commit' ≡ Some running → AreWhole running.image) → DidAsk with_entry without_entry held step got desk commit desk' commit' → WasAsked desk commit job held step got desk' commit'
+      ((nodes : ℕ) (running : RunningCommit) → got ≡ Began nodes → commit' ≡ Some running → AreWhole running.image) → DidAsk with_entry without_entry held step got desk commit desk' commit' → DeskWasAsked desk commit job held step got desk' commit'
   did_ask enters leaves held job (Map b c) got askable enough fits whole did = did_map held enters job b c got askable fits did.0 did.1
   did_ask enters leaves held job (Unmap b) Done askable enough fits whole did = did_unmap held leaves job b askable did.0 did.1
   did_ask enters leaves held job (ReleaseOrder b) Done askable enough fits whole did = did_release held job b askable did.0 did.1
@@ -326,12 +326,12 @@ module _ (devices : Devices (List History)) (old : Target) (a : ℕ) (held : Lis
   pub performs_device : (job : Job) (step : DeviceStep) (read : List Bytes) (commit' : Option RunningCommit) → DoesOn devices old.commit job buffer step read devices' commit' → new ≡ record old { commit = commit' } → old.failed ≡ flag old.crew.words.fail → Performs devices old a job held buffer (Device step) Done read devices' new
   performs_device job step read commit' does n f = rw n (record {
     chosen = chosen_at step devices';
-    gives = λ shape actors x own. does.gives shape (told old) actors x;
+    gives = λ shape actors x own. does.gives shape (target_told old) actors x;
     copies = does.copies;
     leads = record { devices_are = does.devices_are; crew_is = refl; desk_is = refl; commit_is = does.commit_is; failed_is = f };
   })
 
-  pub performs_desk : (job : Job) (step : DeskStep) (got : Got) (read : List Bytes) (desk' : DeskState Quiet) (commit' : Option RunningCommit) → WasAsked old.desk old.commit job held step got desk' commit' → read ≡ [] → devices' ≡ devices →
+  pub performs_desk : (job : Job) (step : DeskStep) (got : Got) (read : List Bytes) (desk' : DeskState Quiet) (commit' : Option RunningCommit) → DeskWasAsked old.desk old.commit job held step got desk' commit' → read ≡ [] → devices' ≡ devices →
       new.crew ≡ old.crew → new.failed ≡ old.failed → new.desk ≡ desk' → new.commit ≡ commit' → old.failed ≡ flag old.crew.words.fail → Performs devices old a job held buffer (Desk step) got read devices' new
   performs_desk job step got read desk' commit' asked r d w b k c f = rw r (record {
     chosen = asked.chosen;

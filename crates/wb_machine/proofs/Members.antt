@@ -6,7 +6,7 @@ use Rattle.wb_tasks.specs.Plan.{Plan}
 use Rattle.wb_promise.specs.declared.job.Job.{Job}
 use Rattle.wb_promise.specs.States.{Actor, resting}
 use Rattle.wb_promise.specs.Happenings.{OfSome}
-use Rattle.wb_machine.specs.Members.{Member, free, seat, seated, works_there}
+use Rattle.wb_machine.specs.Members.{Member, free, seat, with_cards as seated, works_there}
 use Rattle.wb_contents.proofs.Lists.{set_same}
 
 -- what was lent out and comes back as it was

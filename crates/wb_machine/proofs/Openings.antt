@@ -41,7 +41,7 @@ use Rattle.wb_promise.specs.Effects.{after_what, all_crashed, all_resting, job_o
 use Rattle.wb_machine.specs.declared.opener.Opener.{Opener}
 use Rattle.wb_machine.specs.declared.phase.Phase.{Phase}
 use Rattle.wb_machine.specs.declared.phase.Phase.TheVariants.{Closed, Underway, Standing}
-use Rattle.wb_machine.specs.Life.{Now, Happens, FailsOn, IsThere, device_step_of, actors_of, contents_of, is_busy, is_opening, is_sound, opening_actor, phase_of, reading_synced, reading_failed, stands, state_of, wants_target}
+use Rattle.wb_machine.specs.Life.{Now, Happens, FailsOn, IsThere, device_step_of, actors_of, contents_of, has_task, is_opening, is_sound, opening_actor, phase_of, reading_synced, reading_failed, stands, state_of, wants_target}
 use Rattle.wb_machine.specs.Making.{reading_of}
 use Rattle.wb_machine.specs.Standing.{StandsSo}
 use Rattle.wb_machine.proofs.Members.{busy_there, idle_there, length_seated}
@@ -85,13 +85,13 @@ pub idle_beside : (n : ℕ) (o : Opener) (a : ℕ) (P : Job × Plan → Type 0) 
 idle_beside n o a P e h = rests n a P (subst (λ (x : Option Actor). OfSome x (λ (y : Actor). OfSome y.task P)) (set_other (replicate n resting) o.actor a (opening_actor o.task) (λ q. e (sym q))) h)
 
 -- who has no task is at nothing
-pub idle : (n : ℕ) (o : Phase) (a : ℕ) (P : Job × Plan → Type 0) → is_busy a o ≡ false → OfSome (slice_get (actors_of n o) a) (λ (x : Actor). OfSome x.task P) → ⊥
+pub idle : (n : ℕ) (o : Phase) (a : ℕ) (P : Job × Plan → Type 0) → has_task a o ≡ false → OfSome (slice_get (actors_of n o) a) (λ (x : Actor). OfSome x.task P) → ⊥
 idle n Closed a P e h = rests n a P h
 idle n (Underway o) a P e h = idle_beside n o a P (eqb-false o.actor a e) h
 idle n (Standing t members) a P e h = idle_there members.items t.crew.cards a P e h
 
 -- where neither an opening is at work nor a target stands, nobody has one
-pub nobody_opens : (o : Phase) (a : ℕ) → stands o ≡ false → ((x : Opener) → o ≡ Underway x → ⊥) → is_busy a o ≡ false
+pub nobody_opens : (o : Phase) (a : ℕ) → stands o ≡ false → ((x : Opener) → o ≡ Underway x → ⊥) → has_task a o ≡ false
 nobody_opens Closed a e h = refl
 nobody_opens (Underway x) a e h = absurd (h x refl)
 nobody_opens (Standing t members) a e h = absurd (cc)
@@ -124,7 +124,7 @@ has_not true e f = cc
 pub nobody_starts : (devices : Devices Memory) (n : ℕ) (o : Phase) → IsThere n o → (a : ℕ) (job : Job) → n ≤ a → DoesNotApply (state_of n devices o) (Start a job)
 nobody_starts devices n o t a job h = inl (slice_get_past (actors_of n o) a (let l = many n o t in omega (arith, l)))
 
-pub busy_starts : (devices : Devices Memory) (n : ℕ) (o : Phase) (a : ℕ) (job : Job) → IsThere n o → is_busy a o ≡ true → DoesNotApply (state_of n devices o) (Start a job)
+pub busy_starts : (devices : Devices Memory) (n : ℕ) (o : Phase) (a : ℕ) (job : Job) → IsThere n o → has_task a o ≡ true → DoesNotApply (state_of n devices o) (Start a job)
 busy_starts devices n Closed a job h e = absurd (cc)
 busy_starts devices n (Underway o) a job h e =
     let same : o.actor ≡ a = eqb-true o.actor a e in
@@ -148,7 +148,7 @@ no_standing g n Closed s f (inl t) = t
 no_standing g n (Underway o) s f (inl t) = t
 no_standing g n (Standing x members) s f (inl t) = has_not x.failed f (s.failed ∙ ap flag t)
 
-pub starts : (shape : Shape) (devices : Devices Memory) (n : ℕ) (o : Phase) → IsThere n o → StandsSo shape.geometry n o → (a : ℕ) (job : Job) (what : What) (new : Opener) → is_opening job ≡ true → a < n → is_busy a o ≡ false → is_sound o ≡ false →
+pub starts : (shape : Shape) (devices : Devices Memory) (n : ℕ) (o : Phase) → IsThere n o → StandsSo shape.geometry n o → (a : ℕ) (job : Job) (what : What) (new : Opener) → is_opening job ≡ true → a < n → has_task a o ≡ false → is_sound o ≡ false →
     new.actor ≡ a → new.task ≡ table (Opening shape.geometry.meta_sectors) → reading_of new ≡ None → new.opening.commit ≡ None → what ≡ Started →
     Happens shape (state_of n devices o) (Start a job) what [] (state_of n devices (Underway new))
 starts shape devices n o is_there so a (Open Writeback) what new j h i calm e f g k s = rw s (record {

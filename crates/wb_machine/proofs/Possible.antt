@@ -29,8 +29,8 @@ use Rattle.wb_runs.specs.Progress.{IsFree}
 use Rattle.wb_machine.specs.declared.phase.Phase.{Phase}
 use Rattle.wb_machine.specs.declared.phase.Phase.TheVariants.{Closed, Underway, Standing}
 use Rattle.wb_machine.specs.Life.{contents_of, state_of}
-use Rattle.wb_machine.specs.Members.{seated}
-use Rattle.wb_machine.specs.Serving.{AllCan, CanStep, ComesNext, IsAskable, IsDoable, IsPossible, IsServed, Opens, stood, told}
+use Rattle.wb_machine.specs.Members.{with_cards}
+use Rattle.wb_machine.specs.Serving.{AllCan, CanStep, ComesNext, IsAskable, IsDoable, IsPossible, IsPhaseServed, Opens, stood, target_told}
 
 third : {A B C : Type 0} → A × B × C → C
 third p = p.2
@@ -180,7 +180,7 @@ module _ (shape : Shape) (devices : Devices (List History)) (commit : Option Run
   pub all_can : AllCan devices commit actors
   all_can = λ a x at. can_step a x at x.task refl
 
-pub served : (shape : Shape) (n : ℕ) (devices : Devices Memory) (o : Phase) → IsFree shape (state_of n devices o) → AreUsedRightly shape (state_of n devices o) → IsServed shape.geometry devices o
+pub served : (shape : Shape) (n : ℕ) (devices : Devices Memory) (o : Phase) → IsFree shape (state_of n devices o) → AreUsedRightly shape (state_of n devices o) → IsPhaseServed shape.geometry devices o
 served shape n devices Closed is_free used = tt
 served shape n devices (Underway opener) is_free used = tt
-served shape n devices (Standing t members) is_free used = record { suited = used.suited; can = all_can shape (contents_of devices) t.commit (told t) (seated members.items t.crew.cards) is_free }
+served shape n devices (Standing t members) is_free used = record { suited = used.suited; can = all_can shape (contents_of devices) t.commit (target_told t) (with_cards members.items t.crew.cards) is_free }

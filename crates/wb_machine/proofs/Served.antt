@@ -39,8 +39,8 @@ use Rattle.wb_promise.specs.Effects.{after_what, asked_desk, begun_desk, card_th
 use Rattle.wb_runs.proofs.Desks.{is_live, is_unmappable}
 use Rattle.wb_machine.specs.declared.target.Target.{Target}
 use Rattle.wb_machine.specs.Life.{Now, Happens, wants_target}
-use Rattle.wb_machine.specs.Members.{Member, free, seat, seated}
-use Rattle.wb_machine.specs.Serving.{FailsBy, FailsOrRests, GetsJob, IsPassed, Leads, LeavesStarted, NothingFails, Starts, StartsIf, Steps, StepsBy, chosen_at, commit_by, crew_then, desk_given, done_by, failed_by, member_then, noted_read, over, stood, told}
+use Rattle.wb_machine.specs.Members.{Member, free, seat, with_cards}
+use Rattle.wb_machine.specs.Serving.{MemberFails, FailsOrRests, GetsJob, IsPassed, Leads, LeavesStarted, NothingFails, Starts, StartsIf, Steps, MemberSteps, chosen_at, commit_by, crew_then, desk_given, done_by, failed_by, member_then, noted_read, over, stood, target_told}
 use Rattle.wb_machine.specs.Standing.{AllRoomy, AllowsImages, IsRoomy}
 use Rattle.wb_machine.proofs.Members.{seat_at, set_both, set_task, somebody}
 use Rattle.wb_machine.proofs.Openings.{passes}
@@ -107,7 +107,7 @@ given_so shape devices t actors a x (Replace old new) chosen w at = rw at (ap (�
 
 module _ (shape : Shape) (devices : Devices (List History)) (t : Target) (members : List Member) (a : ℕ) (m new : Member) (here : slice_get members a ≡ Some m) (many : length members ≤ length t.crew.cards) where
   abbrev actors : List Actor
-  actors = seated members t.crew.cards
+  actors = with_cards members t.crew.cards
 
   abbrev before : Now
   before = over devices t actors
@@ -119,7 +119,7 @@ module _ (shape : Shape) (devices : Devices (List History)) (t : Target) (member
   at = somebody members t.crew.cards a m here many
 
   -- nothing changed
-  stays : new ≡ m → over devices t (seated (slice_set members a new) t.crew.cards) ≡ before
+  stays : new ≡ m → over devices t (with_cards (slice_set members a new) t.crew.cards) ≡ before
   stays e = ap (λ xs. over devices t xs) (set_task members t.crew.cards a new ∙ ap (λ (v : Member). slice_set actors a (seat_at v t.crew.cards a)) e ∙ set_same actors a x at)
 
   works : (doing : Job × Plan) → m.task ≡ Some doing → (P : Actor → Job × Plan → Type 0) → P x doing → OfSome (slice_get actors a) (λ (y : Actor). OfSome y.task (P y))
@@ -135,40 +135,40 @@ module _ (shape : Shape) (devices : Devices (List History)) (t : Target) (member
 
   -- a start that is not skipped
   job_starts : (job : Job) (what : What) (desk' : DeskState Quiet) → wants_target job ≡ true → m.task ≡ None → GetsJob shape t.desk m job what desk' new →
-      Happens shape before (Start a job) what [] (over devices (record t { desk = desk' }) (seated (slice_set members a new) t.crew.cards))
+      Happens shape before (Start a job) what [] (over devices (record t { desk = desk' }) (with_cards (slice_set members a new) t.crew.cards))
   job_starts job what desk' w e g = by_what what g.gives g.leaves
     where
       applies : DoesNotApply before (Start a job) → ⊥
       applies = in_place devices t actors a job x w at e
 
       by_what : (what : What) → ((words : Words) (card : Card) → StartGives shape (Stands (record { words = words; desk = t.desk })) (Some (seat m card)) job what g.chosen) → LeavesStarted shape t.desk m job what g.chosen desk' new →
-          Happens shape before (Start a job) what [] (over devices (record t { desk = desk' }) (seated (slice_set members a new) t.crew.cards))
+          Happens shape before (Start a job) what [] (over devices (record t { desk = desk' }) (with_cards (slice_set members a new) t.crew.cards))
       by_what Started gives leaves = record {
         chosen = g.chosen;
         may = (refl, applies, subst (λ (o : Option Actor). StartGives shape before.phase o job Started g.chosen) (sym at) (gives t.crew.words x.card));
-        leads = ap (λ (d : DeskState Quiet). over devices (record t { desk = d }) (seated (slice_set members a new) t.crew.cards)) leaves.0
+        leads = ap (λ (d : DeskState Quiet). over devices (record t { desk = d }) (with_cards (slice_set members a new) t.crew.cards)) leaves.0
             ∙ ap (λ xs. over devices (record t { desk = desk_given t.desk job g.chosen }) xs) (set_task members t.crew.cards a new ∙ ap (λ (v : Member). slice_set actors a (seat_at v t.crew.cards a)) leaves.1)
             ∙ given_so shape devices t actors a x job g.chosen w at;
       }
       by_what (Refused refusal) gives leaves = record {
         chosen = g.chosen;
         may = (refl, applies, subst (λ (o : Option Actor). StartGives shape before.phase o job (Refused refusal) g.chosen) (sym at) (gives t.crew.words x.card));
-        leads = ap (λ (d : DeskState Quiet). over devices (record t { desk = d }) (seated (slice_set members a new) t.crew.cards)) leaves.0 ∙ stays leaves.1;
+        leads = ap (λ (d : DeskState Quiet). over devices (record t { desk = d }) (with_cards (slice_set members a new) t.crew.cards)) leaves.0 ∙ stays leaves.1;
       }
       by_what Skipped gives leaves = absurd leaves
       by_what (Stepped next got) gives leaves = absurd leaves
       by_what Stopped gives leaves = absurd leaves
 
   -- one that is
-  passed_so : (job : Job) (what : What) (desk' : DeskState Quiet) → DoesNotApply before (Start a job) → IsPassed t.desk m what desk' new → Happens shape before (Start a job) what [] (over devices (record t { desk = desk' }) (seated (slice_set members a new) t.crew.cards))
-  passed_so job what desk' d p = rw (ap (λ (k : DeskState Quiet). over devices (record t { desk = k }) (seated (slice_set members a new) t.crew.cards)) p.desk_is ∙ stays p.member_is) (passes shape before (Start a job) what d p.what_is)
+  passed_so : (job : Job) (what : What) (desk' : DeskState Quiet) → DoesNotApply before (Start a job) → IsPassed t.desk m what desk' new → Happens shape before (Start a job) what [] (over devices (record t { desk = desk' }) (with_cards (slice_set members a new) t.crew.cards))
+  passed_so job what desk' d p = rw (ap (λ (k : DeskState Quiet). over devices (record t { desk = k }) (with_cards (slice_set members a new) t.crew.cards)) p.desk_is ∙ stays p.member_is) (passes shape before (Start a job) what d p.what_is)
 
   pub start_happens : (job : Job) (what : What) (desk' : DeskState Quiet) → wants_target job ≡ true → Starts shape t.desk m job what desk' new →
-      Happens shape before (Start a job) what [] (over devices (record t { desk = desk' }) (seated (slice_set members a new) t.crew.cards))
+      Happens shape before (Start a job) what [] (over devices (record t { desk = desk' }) (with_cards (slice_set members a new) t.crew.cards))
   start_happens job what desk' w s = by_task m.task refl s
     where
       by_task : (o : Option (Job × Plan)) → m.task ≡ o → StartsIf (is_none o) shape t.desk m job what desk' new →
-          Happens shape before (Start a job) what [] (over devices (record t { desk = desk' }) (seated (slice_set members a new) t.crew.cards))
+          Happens shape before (Start a job) what [] (over devices (record t { desk = desk' }) (with_cards (slice_set members a new) t.crew.cards))
       by_task None e s = job_starts job what desk' w e s
       by_task (Some doing) e s = passed_so job what desk' (inr (inl (works doing e (λ y d. Unit {0}) tt))) s
 
@@ -199,7 +199,7 @@ module _ (shape : Shape) (devices : Devices (List History)) (t : Target) (member
   commit_on (End answer) got chosen = refl
 
   cards_on : (next : Want) (got : Got) → new ≡ member_then devices m next got →
-      seated (slice_set members a new) (crew_then t.crew a next).cards ≡ slice_set actors a (seat (member_then devices m next got) (card_then shape before.phase x.card next))
+      with_cards (slice_set members a new) (crew_then t.crew a next).cards ≡ slice_set actors a (seat (member_then devices m next got) (card_then shape before.phase x.card next))
   cards_on (Cell step) got e = set_both members t.crew.cards a new (card_after t.crew.words step x.card) ∙ ap (λ (v : Member). slice_set actors a (seat v (card_after t.crew.words step x.card))) e
   cards_on (Device step) got e = set_task members t.crew.cards a new ∙ ap (λ (v : Member). slice_set actors a (seat v x.card)) e
   cards_on (Desk step) got e = set_task members t.crew.cards a new ∙ ap (λ (v : Member). slice_set actors a (seat v x.card)) e
@@ -207,7 +207,7 @@ module _ (shape : Shape) (devices : Devices (List History)) (t : Target) (member
 
   -- where it leads, whatever it made of its device
   went_on : (doing : Job × Plan) (next : Want) (got : Got) (chosen : Chosen Quiet Global) (change : Job → List Bytes → DeviceStep → List History → List History) (devices' : Devices (List History)) (t' : Target) → m.task ≡ Some doing →
-      Leads (change doing.0 m.buffer) devices t a next got chosen devices' t' → new ≡ member_then devices m next got → over devices' t' (seated (slice_set members a new) t'.crew.cards) ≡ went shape before a next got chosen change
+      Leads (change doing.0 m.buffer) devices t a next got chosen devices' t' → new ≡ member_then devices m next got → over devices' t' (with_cards (slice_set members a new) t'.crew.cards) ≡ went shape before a next got chosen change
   went_on doing next got chosen change devices' t' e l is =
       let job : doing.0 ≡ job_of m.task = ap job_of (sym e) in
       rw (at, l.devices_are ∙ ap (λ (j : Job). devices_then (change j m.buffer) devices next) job, l.crew_is, l.desk_is, l.commit_is) (λ i. record {
@@ -218,10 +218,10 @@ module _ (shape : Shape) (devices : Devices (List History)) (t : Target) (member
       })
 
   pub step_happens : (what : What) (read : List Bytes) (devices' : Devices (List History)) (t' : Target) → Steps devices t a m what read devices' t' new →
-      Happens shape before (Step a) what read (over devices' t' (seated (slice_set members a new) t'.crew.cards))
+      Happens shape before (Step a) what read (over devices' t' (with_cards (slice_set members a new) t'.crew.cards))
   step_happens what read devices' t' s = by_task m.task refl s
     where
-      by_task : (o : Option (Job × Plan)) → m.task ≡ o → StepsBy devices t a m o what read devices' t' new → Happens shape before (Step a) what read (over devices' t' (seated (slice_set members a new) t'.crew.cards))
+      by_task : (o : Option (Job × Plan)) → m.task ≡ o → MemberSteps devices t a m o what read devices' t' new → Happens shape before (Step a) what read (over devices' t' (with_cards (slice_set members a new) t'.crew.cards))
       by_task None e s = rw (s.devices_are, s.target_is, s.read_is, stays s.member_is) (passes shape before (Step a) what (λ h. idles e (λ d. Unit {0}) h) s.what_is)
       by_task (Some doing) e s = rw (s.what_is, s.read_is) (record {
         chosen = s.performs.chosen;
@@ -232,20 +232,20 @@ module _ (shape : Shape) (devices : Devices (List History)) (t : Target) (member
   -- ---- a step that fails
 
   pub fault_happens : (choice : Choice) (what : What) (devices' : Devices (List History)) (commit' : Option RunningCommit) → t.failed ≡ flag t.crew.words.fail → FailsOrRests choice devices t.commit m what devices' commit' new →
-      Happens shape before (FaultStep a choice) what [] (over devices' (record t { commit = commit' }) (seated (slice_set members a new) t.crew.cards))
+      Happens shape before (FaultStep a choice) what [] (over devices' (record t { commit = commit' }) (with_cards (slice_set members a new) t.crew.cards))
   fault_happens choice what devices' commit' failed f = by_task m.task refl f
     where
       then_so : Now
-      then_so = over devices' (record t { commit = commit' }) (seated (slice_set members a new) t.crew.cards)
+      then_so = over devices' (record t { commit = commit' }) (with_cards (slice_set members a new) t.crew.cards)
 
       nothing : NothingFails choice devices t.commit m what devices' commit' new → DoesNotApply before (FaultStep a choice) → Happens shape before (FaultStep a choice) what [] then_so
       nothing f d = rw (f.devices_are, f.commit_is, stays f.member_is) (passes shape before (FaultStep a choice) what d f.what_is)
 
-      by_task : (o : Option (Job × Plan)) → m.task ≡ o → FailsBy choice devices t.commit m o what devices' commit' new → Happens shape before (FaultStep a choice) what [] then_so
+      by_task : (o : Option (Job × Plan)) → m.task ≡ o → MemberFails choice devices t.commit m o what devices' commit' new → Happens shape before (FaultStep a choice) what [] then_so
       by_task None e f = nothing f (λ h. idles e _ h)
       by_task (Some doing) e (inl f) = rw f.what_is (record {
         chosen = chosen_at f.step devices';
-        may = (refl, refl, works_at doing e (λ y job plan. (Device f.step ≡ want plan) × MayFailAt devices choice (Device f.step) × Falters before choice (Device f.step) (chosen_at f.step devices')) (sym f.step_is, f.may, f.fails.falters (told t) actors));
+        may = (refl, refl, works_at doing e (λ y job plan. (Device f.step ≡ want plan) × MayFailAt devices choice (Device f.step) × Falters before choice (Device f.step) (chosen_at f.step devices')) (sym f.step_is, f.may, f.fails.falters (target_told t) actors));
         leads = went_on doing (Device f.step) Fault (chosen_at f.step devices') (λ job buffer. failed_by choice job buffer (chosen_at f.step devices')) devices' (record t { commit = commit' }) e
             (record { devices_are = f.fails.devices_are; crew_is = refl; desk_is = refl; commit_is = f.fails.commit_is; failed_is = failed }) (f.member_is ∙ ap (λ next. member_then devices m next Fault) f.step_is);
       })
@@ -331,7 +331,7 @@ step_keeps devices t a m what read devices' t' m' f s = by_task m.task s
     some_shape : Shape
     some_shape = record { geometry = t.desk.geometry; threshold = 0; actors = 0 }
 
-    by_task : (o : Option (Job × Plan)) → StepsBy devices t a m o what read devices' t' m' → Keeps t t'
+    by_task : (o : Option (Job × Plan)) → MemberSteps devices t a m o what read devices' t' m' → Keeps t t'
     by_task None s = rw s.target_is (record { blocks = refl; cards = refl; failed = f; sizes = refl })
     by_task (Some doing) s =
         let leads = s.performs.leads in
@@ -341,7 +341,7 @@ step_keeps devices t a m what read devices' t' m' f s = by_task m.task s
           cards = ap (λ (c : CrewState). length c.cards) leads.crew_is ∙ like.1;
           failed = leads.failed_is;
           sizes = ap (λ (d : DeskState Quiet). d.geometry) leads.desk_is
-              ∙ desk_sizes some_shape devices t.commit (told t) [] (seat m blank_card) s.got (noted_read doing.0 (want doing.1) s.given) s.performs.chosen doing.0 (want doing.1) (s.performs.gives some_shape [] (seat m blank_card) refl);
+              ∙ desk_sizes some_shape devices t.commit (target_told t) [] (seat m blank_card) s.got (noted_read doing.0 (want doing.1) s.given) s.performs.chosen doing.0 (want doing.1) (s.performs.gives some_shape [] (seat m blank_card) refl);
         }
 
 -- a start keeps the desk's geometry
@@ -392,7 +392,7 @@ roomy_then nodes doing (End answer) got r = tt
 pub step_roomy : (nodes : ℕ) (devices : Devices (List History)) (t : Target) (a : ℕ) (m : Member) (what : What) (read : List Bytes) (devices' : Devices (List History)) (t' : Target) (m' : Member) → IsRoomy nodes m.task → Steps devices t a m what read devices' t' m' → IsRoomy nodes m'.task
 step_roomy nodes devices t a m what read devices' t' m' r s = by_task m.task refl s
   where
-    by_task : (o : Option (Job × Plan)) → m.task ≡ o → StepsBy devices t a m o what read devices' t' m' → IsRoomy nodes m'.task
+    by_task : (o : Option (Job × Plan)) → m.task ≡ o → MemberSteps devices t a m o what read devices' t' m' → IsRoomy nodes m'.task
     by_task None e s = subst (λ (v : Member). IsRoomy nodes v.task) (sym s.member_is) r
     by_task (Some doing) e s = subst (λ (v : Member). IsRoomy nodes v.task) (sym s.member_is)
         (subst (λ (k : Option (Job × Plan)). IsRoomy nodes (task_then k (want doing.1) s.got)) (sym e) (roomy_then nodes doing (want doing.1) s.got (subst (λ (k : Option (Job × Plan)). IsRoomy nodes k) e r)))
@@ -400,7 +400,7 @@ step_roomy nodes devices t a m what read devices' t' m' r s = by_task m.task ref
 pub fault_roomy : (nodes : ℕ) (choice : Choice) (devices : Devices (List History)) (commit : Option RunningCommit) (m : Member) (what : What) (devices' : Devices (List History)) (commit' : Option RunningCommit) (m' : Member) → IsRoomy nodes m.task → FailsOrRests choice devices commit m what devices' commit' m' → IsRoomy nodes m'.task
 fault_roomy nodes choice devices commit m what devices' commit' m' r f = by_task m.task refl f
   where
-    by_task : (o : Option (Job × Plan)) → m.task ≡ o → FailsBy choice devices commit m o what devices' commit' m' → IsRoomy nodes m'.task
+    by_task : (o : Option (Job × Plan)) → m.task ≡ o → MemberFails choice devices commit m o what devices' commit' m' → IsRoomy nodes m'.task
     by_task None e f = subst (λ (v : Member). IsRoomy nodes v.task) (sym f.member_is) r
     by_task (Some doing) e (inl f) = subst (λ (v : Member). IsRoomy nodes v.task) (sym f.member_is)
         (subst (λ (k : Option (Job × Plan)). IsRoomy nodes (task_then k (want doing.1) Fault)) (sym e) (roomy_then nodes doing (want doing.1) Fault (subst (λ (k : Option (Job × Plan)). IsRoomy nodes k) e r)))

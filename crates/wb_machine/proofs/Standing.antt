@@ -29,7 +29,7 @@ use Rattle.wb_tasks.specs.declared.step.DeviceStep.TheVariants.{Sync, ReadMetada
 use Rattle.wb_tasks.specs.declared.step.Want.TheVariants.{Device}
 use Rattle.wb_tasks.specs.declared.step.Got.{Got}
 use Rattle.wb_tasks.specs.declared.step.Got.TheVariants.{Done, Fault, Refused, More}
-use Rattle.wb_devices.specs.Opened.{DidTell, HasCome, HasNextRoot, IsOf, HasGeneration as DevicesGeneration, got_of_refusal}
+use Rattle.wb_devices.specs.Opened.{DidTell, HasCome, HasNextRoot, ReadsOf, HasGeneration as DevicesGeneration, got_of_refusal}
 use Rattle.wb_machine.specs.declared.making.Made.{Made}
 use Rattle.wb_machine.specs.declared.opener.Opener.{Opener}
 use Rattle.wb_machine.specs.Making.{MadeBy, reading_of}
@@ -251,7 +251,7 @@ module _ (g : Geometry) (left : ℕ) (was : ReadSteps Global) (device : List His
     made_is = none;
   }
 
-  all_read : (now : ReadSteps Global) → AreStepsOn g.meta_sectors now → after' ≡ Some now → IsOf g now → HasNextRoot now commit' → HasReadAll g NodesSynced after' commit'
+  all_read : (now : ReadSteps Global) → AreStepsOn g.meta_sectors now → after' ≡ Some now → ReadsOf g now → HasNextRoot now commit' → HasReadAll g NodesSynced after' commit'
   all_read (AllRead state) on is fits root = record {
     state = state;
     reading_is = is;

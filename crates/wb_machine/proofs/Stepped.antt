@@ -18,7 +18,7 @@ use Rattle.wb_machine.specs.declared.target.Target.{Target}
 use Rattle.wb_machine.specs.declared.machine.TheConstants.{ACTORS}
 use Rattle.wb_machine.specs.Life.{shape_of}
 use Rattle.wb_machine.specs.Members.{Member}
-use Rattle.wb_machine.specs.Serving.{Performs, Steps, StepsBy, is_copied, member_then, noted_read, held_for}
+use Rattle.wb_machine.specs.Serving.{Performs, Steps, MemberSteps, is_copied, member_then, noted_read, may_give_up}
 use Rattle.std.specs.declared.alloc.Global.{Global}
 use Rattle.wb_words.specs.Cards.{blank_card}
 use Rattle.wb_tasks.specs.declared.step.Answer.TheVariants.{Done as Finished}
@@ -64,10 +64,10 @@ module _ (m : Member) (orders awaiting : List Order) (seen : orders ≡ m.orders
       (subst (λ (x : List Order). IsLeftBy got x left new) b f)
 
   -- and it took its step with them, and with what was in its buffer
-  pub performs_so : (devices : Devices (List History)) (old : Target) (a : ℕ) (held : List Order) (buffer given : List Bytes) (devices' : Devices (List History)) (new : Target) → held ≡ held_for job orders awaiting → buffer ≡ m.buffer →
-      Performs devices old a job held buffer next got given devices' new → Performs devices old a job (held_for job m.orders m.awaiting) m.buffer next got given devices' new
+  pub performs_so : (devices : Devices (List History)) (old : Target) (a : ℕ) (held : List Order) (buffer given : List Bytes) (devices' : Devices (List History)) (new : Target) → held ≡ may_give_up job orders awaiting → buffer ≡ m.buffer →
+      Performs devices old a job held buffer next got given devices' new → Performs devices old a job (may_give_up job m.orders m.awaiting) m.buffer next got given devices' new
   performs_so devices old a held buffer given devices' new h b p =
-      subst (λ (x : List Order). Performs devices old a job x m.buffer next got given devices' new) (h ∙ ap (λ (x : List Order). held_for job x awaiting) seen ∙ ap (λ (x : List Order). held_for job m.orders x) waiting)
+      subst (λ (x : List Order). Performs devices old a job x m.buffer next got given devices' new) (h ∙ ap (λ (x : List Order). may_give_up job x awaiting) seen ∙ ap (λ (x : List Order). may_give_up job m.orders x) waiting)
       (subst (λ (x : List Bytes). Performs devices old a job held x next got given devices' new) b p)
 
 -- what it writes next where it read nothing
@@ -84,14 +84,14 @@ buffer_read devices old a (Migrate migration block) held buffer (Device (ReadExt
 buffer_read devices old a job held buffer next got given devices' new c p = absurd (cc)
 
 module _ (devices : Devices (List History)) (old : Target) (a : ℕ) (m : Member) (job : Job) (plan : Plan) (got : Got) (given : List Bytes) (devices' : Devices (List History)) (new : Target) (m' : Member) where
-  pub steps_at : (next : Want) → next ≡ want plan → m.task ≡ Some (job, plan) → Performs devices old a job (held_for job m.orders m.awaiting) m.buffer next got given devices' new → (read : List Bytes) → read ≡ noted_read job next given →
+  pub steps_at : (next : Want) → next ≡ want plan → m.task ≡ Some (job, plan) → Performs devices old a job (may_give_up job m.orders m.awaiting) m.buffer next got given devices' new → (read : List Bytes) → read ≡ noted_read job next given →
       m'.task ≡ task_then m.task next got → m'.orders ≡ orders_then m.orders m.awaiting job next got → m'.awaiting ≡ awaiting_then m.orders m.awaiting job next got → m'.buffer ≡ buffer_then devices m.buffer next got job → Steps devices old a m (Stepped next got) read devices' new m'
-  steps_at next n e p read r t o w b = subst (λ (d : Option (Job × Plan)). StepsBy devices old a m d (Stepped next got) read devices' new m') (sym e) (record {
+  steps_at next n e p read r t o w b = subst (λ (d : Option (Job × Plan)). MemberSteps devices old a m d (Stepped next got) read devices' new m') (sym e) (record {
     got = got;
     given = given;
     what_is = ap (λ (x : Want). Stepped x got) n;
     read_is = r ∙ ap (λ (x : Want). noted_read job x given) n;
-    performs = subst (λ (x : Want). Performs devices old a job (held_for job m.orders m.awaiting) m.buffer x got given devices' new) n p;
+    performs = subst (λ (x : Want). Performs devices old a job (may_give_up job m.orders m.awaiting) m.buffer x got given devices' new) n p;
     member_is = same_member ∙ ap (λ (x : Want). member_then devices m x got) n;
   })
     where

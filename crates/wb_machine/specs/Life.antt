@@ -40,7 +40,7 @@ use Rattle.wb_machine.specs.declared.making.Made.{Made}
 use Rattle.wb_machine.specs.declared.phase.Phase.{Phase}
 use Rattle.wb_machine.specs.declared.phase.Phase.TheVariants.{Closed, Underway, Standing}
 use Rattle.wb_machine.specs.Making.{reading_of}
-use Rattle.wb_machine.specs.Members.{seated, works_there}
+use Rattle.wb_machine.specs.Members.{with_cards, works_there}
 
 -- The policy of its targets orders nothing.
 abbrev pub Now : Type 0
@@ -72,7 +72,7 @@ opening_actor plan = record { task = Some (Open Writeback, plan); card = blank_c
 abbrev pub actors_of : ℕ → Phase → List Actor
 actors_of actors Closed = replicate actors resting
 actors_of actors (Underway opener) = slice_set (replicate actors resting) opener.actor (opening_actor opener.task)
-actors_of actors (Standing target members) = seated members.items target.crew.cards
+actors_of actors (Standing target members) = with_cards members.items target.crew.cards
 
 abbrev pub phase_of : Phase → RunPhase Quiet Global
 phase_of Closed = Gone
@@ -80,13 +80,13 @@ phase_of (Underway opener) = Opens Writeback (reading_of opener)
 phase_of (Standing target members) = Stands (record { words = target.crew.words; desk = target.desk })
 
 -- the commit of an opening's root, once all was read, or that of a flush
-abbrev pub commit_of : Phase → Option RunningCommit
-commit_of Closed = None
-commit_of (Underway opener) = opener.opening.commit
-commit_of (Standing target members) = target.commit
+abbrev pub running_commit : Phase → Option RunningCommit
+running_commit Closed = None
+running_commit (Underway opener) = opener.opening.commit
+running_commit (Standing target members) = target.commit
 
 abbrev pub state_of : ℕ → Devices Memory → Phase → Now
-state_of actors devices phase = record { devices = contents_of devices; commit = commit_of phase; phase = phase_of phase; actors = actors_of actors phase }
+state_of actors devices phase = record { devices = contents_of devices; commit = running_commit phase; phase = phase_of phase; actors = actors_of actors phase }
 
 -- who opens is one of so many, and a target has a card and a member for each
 abbrev pub IsThere : ℕ → Phase → Type 0
@@ -104,10 +104,10 @@ answered (Underway opener) = stands_by (want opener.task) opener.made
 answered phase = Closed
 
 -- this actor has a task: it opens, or its member is at something
-abbrev pub is_busy : ℕ → Phase → Bool
-is_busy a Closed = false
-is_busy a (Underway opener) = opener.actor == a
-is_busy a (Standing target members) = works_there members.items a
+abbrev pub has_task : ℕ → Phase → Bool
+has_task a Closed = false
+has_task a (Underway opener) = opener.actor == a
+has_task a (Standing target members) = works_there members.items a
 
 -- a target stands
 abbrev pub stands : Phase → Bool

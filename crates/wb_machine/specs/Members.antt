@@ -20,9 +20,9 @@ abbrev pub seat : Member → Card → Actor
 seat member card = record { task = member.task; card = card; orders = member.orders; awaiting = member.awaiting; buffer = member.buffer }
 
 -- each member with its card
-abbrev pub seated : List Member → List Card → List Actor
-seated (m ∷ ms) (c ∷ cs) = seat m c ∷ seated ms cs
-seated _ _ = []
+abbrev pub with_cards : List Member → List Card → List Actor
+with_cards (m ∷ ms) (c ∷ cs) = seat m c ∷ with_cards ms cs
+with_cards _ _ = []
 
 -- a member that is at nothing
 abbrev pub free : Member

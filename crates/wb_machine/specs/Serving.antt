@@ -54,7 +54,7 @@ use Rattle.wb_machine.specs.declared.phase.Phase.{Phase}
 use Rattle.wb_machine.specs.declared.phase.Phase.TheVariants.{Standing}
 use Rattle.wb_machine.specs.declared.target.Target.{Target}
 use Rattle.wb_machine.specs.Life.{Now, contents_of}
-use Rattle.wb_machine.specs.Members.{Member, seat, seated}
+use Rattle.wb_machine.specs.Members.{Member, seat, with_cards}
 
 -- ---- starts
 
@@ -130,13 +130,13 @@ TakesOrder desk m job true desk' m' = (KeepsFor desk m.orders job × (desk' ≡ 
 TakesOrder desk m job false desk' m' = (¬ KeepsFor desk m.orders job) × ((cache : CBlock) (order : Order) → order_by job cache ≡ Some order → ¬ MayReserve desk cache order) × (desk' ≡ desk) × (m' ≡ m)
 
 -- the orders of which a step of a job may give one up
-abbrev pub held_for : Job → (orders awaiting : List Order) → List Order
-held_for Flush orders awaiting = awaiting
-held_for job orders awaiting = orders
+abbrev pub may_give_up : Job → (orders awaiting : List Order) → List Order
+may_give_up Flush orders awaiting = awaiting
+may_give_up job orders awaiting = orders
 
 -- an actor at this job has these to give up
 abbrev pub HasToGiveUp : Job → Actor → List Order → Type 0
-HasToGiveUp job x held = held_for job x.orders x.awaiting ≡ held
+HasToGiveUp job x held = may_give_up job x.orders x.awaiting ≡ held
 
 -- ---- steps
 
@@ -248,11 +248,11 @@ abbrev pub stood : Devices (List History) → Option RunningCommit → RunTarget
 stood devices commit t actors = record { devices = devices; commit = commit; phase = Stands t; actors = actors }
 
 -- the words and the desk of a target
-abbrev pub told : Target → RunTarget Quiet
-told target = record { words = target.crew.words; desk = target.desk }
+abbrev pub target_told : Target → RunTarget Quiet
+target_told target = record { words = target.crew.words; desk = target.desk }
 
 abbrev pub over : Devices (List History) → Target → List Actor → Now
-over devices target actors = stood devices target.commit (told target) actors
+over devices target actors = stood devices target.commit (target_told target) actors
 
 -- a step that sets a bit of the fail word
 abbrev pub sets_bit : CellStep → Bool
@@ -330,7 +330,7 @@ pub record FailsAt (choice : Choice) (devices : Devices (List History)) (commit 
   pub commit_is : commit' ≡ commit_by commit (Device step) Fault (chosen_at step devices')
 
 -- What the desk gives that is asked for a job, which may give up one of these orders, and what that makes of it and of the commit.
-pub record WasAsked (desk : DeskState Quiet) (commit : Option RunningCommit) (job : Job) (held : List Order) (step : DeskStep) (got : Got) (desk' : DeskState Quiet) (commit' : Option RunningCommit) : Type 0 where
+pub record DeskWasAsked (desk : DeskState Quiet) (commit : Option RunningCommit) (job : Job) (held : List Order) (step : DeskStep) (got : Got) (desk' : DeskState Quiet) (commit' : Option RunningCommit) : Type 0 where
   pub chosen : Chosen Quiet Global
   pub gives : (shape : Shape) (devices : Devices (List History)) (words : Words) (actors : List Actor) (x : Actor) → HasToGiveUp job x held → Gives shape (stood devices commit (record { words = words; desk = desk }) actors) x job (Desk step) got [] chosen
   pub desk_is : desk' ≡ desk_then desk (Desk step) chosen
@@ -365,9 +365,9 @@ member_then devices m next got = record {
 }
 
 -- this may be the result of the next step of a task, if there is one
-abbrev pub Comes : Option (Job × Plan) → Want → Got → Type 0
-Comes None next got = Unit {0}
-Comes (Some doing) next got = (next ≡ want doing.1) × (IsStep next → Fits next got)
+abbrev pub ResultComes : Option (Job × Plan) → Want → Got → Type 0
+ResultComes None next got = Unit {0}
+ResultComes (Some doing) next got = (next ≡ want doing.1) × (IsStep next → Fits next got)
 
 -- nothing happened
 pub record Rests (devices : Devices (List History)) (old : Target) (m : Member) (what : What) (read : List Bytes) (devices' : Devices (List History)) (new : Target) (m' : Member) : Type 0 where
@@ -383,15 +383,15 @@ pub record StepsOn (devices : Devices (List History)) (old : Target) (a : ℕ) (
   pub given : List Bytes
   pub what_is : what ≡ Stepped (want plan) got
   pub read_is : read ≡ noted_read job (want plan) given
-  pub performs : Performs devices old a job (held_for job m.orders m.awaiting) m.buffer (want plan) got given devices' new
+  pub performs : Performs devices old a job (may_give_up job m.orders m.awaiting) m.buffer (want plan) got given devices' new
   pub member_is : m' ≡ member_then devices m (want plan) got
 
-abbrev pub StepsBy : Devices (List History) → Target → ℕ → Member → Option (Job × Plan) → What → List Bytes → Devices (List History) → Target → Member → Type 0
-StepsBy devices old a m None what read devices' new m' = Rests devices old m what read devices' new m'
-StepsBy devices old a m (Some doing) what read devices' new m' = StepsOn devices old a m doing.0 doing.1 what read devices' new m'
+abbrev pub MemberSteps : Devices (List History) → Target → ℕ → Member → Option (Job × Plan) → What → List Bytes → Devices (List History) → Target → Member → Type 0
+MemberSteps devices old a m None what read devices' new m' = Rests devices old m what read devices' new m'
+MemberSteps devices old a m (Some doing) what read devices' new m' = StepsOn devices old a m doing.0 doing.1 what read devices' new m'
 
 abbrev pub Steps : Devices (List History) → Target → ℕ → Member → What → List Bytes → Devices (List History) → Target → Member → Type 0
-Steps devices old a m what read devices' new m' = StepsBy devices old a m m.task what read devices' new m'
+Steps devices old a m what read devices' new m' = MemberSteps devices old a m m.task what read devices' new m'
 
 -- one that fails, on a device
 pub record StepFails (choice : Choice) (devices : Devices (List History)) (commit : Option RunningCommit) (m : Member) (job : Job) (plan : Plan) (what : What) (devices' : Devices (List History)) (commit' : Option RunningCommit) (m' : Member) : Type 0 where
@@ -409,13 +409,13 @@ pub record NothingFails (choice : Choice) (devices : Devices (List History)) (co
   pub commit_is : commit' ≡ commit
   pub member_is : m' ≡ m
 
-abbrev pub FailsBy : Choice → Devices (List History) → Option RunningCommit → Member → Option (Job × Plan) → What → Devices (List History) → Option RunningCommit → Member → Type 0
-FailsBy choice devices commit m None what devices' commit' m' = NothingFails choice devices commit m what devices' commit' m'
-FailsBy choice devices commit m (Some doing) what devices' commit' m' = StepFails choice devices commit m doing.0 doing.1 what devices' commit' m'
+abbrev pub MemberFails : Choice → Devices (List History) → Option RunningCommit → Member → Option (Job × Plan) → What → Devices (List History) → Option RunningCommit → Member → Type 0
+MemberFails choice devices commit m None what devices' commit' m' = NothingFails choice devices commit m what devices' commit' m'
+MemberFails choice devices commit m (Some doing) what devices' commit' m' = StepFails choice devices commit m doing.0 doing.1 what devices' commit' m'
     ⊎ (NothingFails choice devices commit m what devices' commit' m' × (¬ MayFailAt devices choice (want doing.1)))
 
 abbrev pub FailsOrRests : Choice → Devices (List History) → Option RunningCommit → Member → What → Devices (List History) → Option RunningCommit → Member → Type 0
-FailsOrRests choice devices commit m what devices' commit' m' = FailsBy choice devices commit m m.task what devices' commit' m'
+FailsOrRests choice devices commit m what devices' commit' m' = MemberFails choice devices commit m m.task what devices' commit' m'
 
 -- ---- what a step needs
 
@@ -432,6 +432,6 @@ pub record AreServed (g : Geometry) (devices : Devices (List History)) (commit :
   pub suited : AllSuited g.origin_blocks actors
   pub can : AllCan devices commit actors
 
-abbrev pub IsServed : Geometry → Devices Memory → Phase → Type 0
-IsServed g devices (Standing target members) = AreServed g (contents_of devices) target.commit (seated members.items target.crew.cards)
-IsServed g devices phase = Unit {0}
+abbrev pub IsPhaseServed : Geometry → Devices Memory → Phase → Type 0
+IsPhaseServed g devices (Standing target members) = AreServed g (contents_of devices) target.commit (with_cards members.items target.crew.cards)
+IsPhaseServed g devices phase = Unit {0}

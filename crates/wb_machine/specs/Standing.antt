@@ -44,22 +44,22 @@ pub data Point : Type 0 where
   AtRefusal : Refusal → Point
 
 -- the steps from there, where so many sectors may follow the first
-abbrev pub steps_from : ℕ → Point → List Want
-steps_from most AtMetadata = first_steps (OpeningJob most)
-steps_from most AtCache = Device (Sync Cache) ∷ Device (Sync Origin) ∷ Device (ReadMetadata most) ∷ Device WriteRoot ∷ Device (Sync Metadata) ∷ []
-steps_from most AtOrigin = Device (Sync Origin) ∷ Device (ReadMetadata most) ∷ Device WriteRoot ∷ Device (Sync Metadata) ∷ []
-steps_from most (AtRead left) = Device (ReadMetadata left) ∷ Device WriteRoot ∷ Device (Sync Metadata) ∷ []
-steps_from most AtRoot = Device WriteRoot ∷ Device (Sync Metadata) ∷ []
-steps_from most AtRootSync = Device (Sync Metadata) ∷ []
-steps_from most AtEnd = []
-steps_from most (AtRefusal refusal) = []
+abbrev pub steps_after_point : ℕ → Point → List Want
+steps_after_point most AtMetadata = first_steps (OpeningJob most)
+steps_after_point most AtCache = Device (Sync Cache) ∷ Device (Sync Origin) ∷ Device (ReadMetadata most) ∷ Device WriteRoot ∷ Device (Sync Metadata) ∷ []
+steps_after_point most AtOrigin = Device (Sync Origin) ∷ Device (ReadMetadata most) ∷ Device WriteRoot ∷ Device (Sync Metadata) ∷ []
+steps_after_point most (AtRead left) = Device (ReadMetadata left) ∷ Device WriteRoot ∷ Device (Sync Metadata) ∷ []
+steps_after_point most AtRoot = Device WriteRoot ∷ Device (Sync Metadata) ∷ []
+steps_after_point most AtRootSync = Device (Sync Metadata) ∷ []
+steps_after_point most AtEnd = []
+steps_after_point most (AtRefusal refusal) = []
 
 abbrev pub answer_from : Point → Answer
 answer_from (AtRefusal refusal) = Refuses refusal
 answer_from point = Finished
 
 abbrev pub plan_from : ℕ → Point → Plan
-plan_from most point = record { job = OpeningJob most; steps = steps_from most point; answer = answer_from point }
+plan_from most point = record { job = OpeningJob most; steps = steps_after_point most point; answer = answer_from point }
 
 -- No commit runs, not all was read, and as many sectors may follow as were not read.
 abbrev pub IsReading : Geometry → ℕ → Option (ReadSteps Global) → Option RunningCommit → Type 0
@@ -118,7 +118,7 @@ AllRoomy nodes members = (a : ℕ) (m : Member) → slice_get members a ≡ Some
 
 -- A target has as many words as the origin has blocks, knows whether it has failed, and its desk is of this geometry; whoever
 -- flushes over it allows as many nodes as an image may have.
-pub record IsWhole (g : Geometry) (target : Target) (members : List Member) : Type 0 where
+pub record IsWholeTarget (g : Geometry) (target : Target) (members : List Member) : Type 0 where
   pub blocks : target.crew.blocks ≡ g.origin_blocks
   pub failed : target.failed ≡ flag target.crew.words.fail
   pub sizes : target.desk.geometry ≡ g
@@ -127,9 +127,9 @@ pub record IsWhole (g : Geometry) (target : Target) (members : List Member) : Ty
 abbrev pub StandsSo : Geometry → ℕ → Phase → Type 0
 StandsSo g actors Closed = Unit {0}
 StandsSo g actors (Underway opener) = StandsAt g actors opener
-StandsSo g actors (Standing target members) = IsWhole g target members.items
+StandsSo g actors (Standing target members) = IsWholeTarget g target members.items
 
 -- The metadata device is of this geometry, and what is there is sound.
-pub record IsSound (g : Geometry) (actors : ℕ) (devices : Devices Memory) (phase : Phase) : Type 0 where
+pub record IsSoundPhase (g : Geometry) (actors : ℕ) (devices : Devices Memory) (phase : Phase) : Type 0 where
   pub whole : length devices.metadata.contents ≡ g.meta_sectors
   pub stands : StandsSo g actors phase

@@ -4,6 +4,6 @@ use Rattle.wb_machine.specs.declared.work.Kind.{Kind}
 use Rattle.wb_machine.specs.declared.work.Kind.TheVariants.{OnBlock, Flushes}
 
 -- what is left of it
-abbrev pub plan_of : Kind → Plan
-plan_of (OnBlock plan) = plan
-plan_of (Flushes plan) = plan
+abbrev pub plan_left : Kind → Plan
+plan_left (OnBlock plan) = plan
+plan_left (Flushes plan) = plan

@@ -7,7 +7,7 @@ ghost use Rattle.wb_types.specs.Limits.{node_count};
 ghost use Rattle.wb_tasks.specs.Plan.{Fits};
 ghost use Rattle.wb_tasks.specs.declared.step.Want.TheVariants.{Desk as OnDesk};
 ghost use Rattle.wb_promise.specs.Happenings.{AreWhole};
-ghost use Rattle.wb_machine.specs.Serving.{Allows, IsAskable, WasAsked};
+ghost use Rattle.wb_machine.specs.Serving.{Allows, IsAskable, DeskWasAsked};
 
 use std::alloc::Global;
 use wb_desk::Desk;
@@ -30,7 +30,7 @@ pub(crate) fn ask(
 ) -> Got
     requires askable { IsAskable commit.old job.now step }
     requires enough { Allows (node_count desk.old.geometry.cache_blocks) (OnDesk step) }
-    ensures asked { WasAsked desk.old commit.old job.now held.now step result desk.new commit.new }
+    ensures asked { DeskWasAsked desk.old commit.old job.now held.now step result desk.new commit.new }
     ensures kind { Fits (OnDesk step) result }
 {
     let got = asking::ask(alloc, desk, commit, held, step);

@@ -11,7 +11,7 @@ ghost use Rattle.wb_machine.specs.Life.{contents_of, shape_of, wants_target};
 ghost use Rattle.wb_machine.specs.Members.{free};
 ghost use Rattle.wb_promise.specs.Effects.{task_then};
 ghost use Rattle.wb_machine.specs.Keeping.{IsLeftBy};
-ghost use Rattle.wb_machine.specs.Serving.{CanStep, Comes, FailsOrRests, GetsOrder, Starts, Steps, TakesOrder, held_for, is_copied, is_ordered};
+ghost use Rattle.wb_machine.specs.Serving.{CanStep, ResultComes, FailsOrRests, GetsOrder, Starts, Steps, TakesOrder, may_give_up, is_copied, is_ordered};
 ghost use Rattle.wb_machine.specs.Standing.{IsRoomy};
 
 use crate::keeping::{
@@ -204,7 +204,7 @@ impl Member {
 
     /// Its task goes on after a step with this result, or has ended.
     fn go_on(&mut self, want: Want, got: Got)
-        requires { Comes self.old.task want got }
+        requires { ResultComes self.old.task want got }
         ensures task { self.new.task ≡ task_then self.old.task want got }
         ensures orders { self.new.orders ≡ self.old.orders }
         ensures awaiting { self.new.awaiting ≡ self.old.awaiting }
@@ -292,7 +292,7 @@ fn is_copied(job: &Job, want: Want) -> bool
 
 /// The orders of which a step of a job may give one up.
 fn held_for<'a>(job: &Job, orders: &'a [Order], awaiting: &'a [Order]) -> &'a [Order]
-    ensures { result.now ≡ held_for job.now orders.now awaiting.now }
+    ensures { result.now ≡ may_give_up job.now orders.now awaiting.now }
 {
     match job {
         Job::Flush => awaiting,

@@ -6,8 +6,8 @@ ghost use Rattle.wb_promise.specs.declared.event.Event.TheVariants.{Start, Step,
 ghost use Rattle.wb_machine.specs.declared.machine.TheConstants.{ACTORS};
 ghost use Rattle.wb_machine.specs.declared.phase.Phase.TheVariants.{Standing};
 ghost use Rattle.wb_machine.specs.Life.{Happens, IsThere, contents_of, shape_of, state_of, wants_target};
-ghost use Rattle.wb_machine.specs.Serving.{IsServed};
-ghost use Rattle.wb_machine.specs.Standing.{IsSound};
+ghost use Rattle.wb_machine.specs.Serving.{IsPhaseServed};
+ghost use Rattle.wb_machine.specs.Standing.{IsSoundPhase};
 
 use crate::member::Member;
 use crate::outcome::Outcome;
@@ -32,9 +32,9 @@ pub(crate) fn start(
     job: &Job,
 ) -> Result<What, Refusal>
     requires there { IsThere ACTORS phase.old }
-    requires sound { IsSound geometry.now ACTORS devices.now phase.old }
+    requires sound { IsSoundPhase geometry.now ACTORS devices.now phase.old }
     ensures there { IsThere ACTORS phase.new }
-    ensures sound { IsSound geometry.now ACTORS devices.now phase.new }
+    ensures sound { IsSoundPhase geometry.now ACTORS devices.now phase.new }
     ensures ok { IfOk result (λ what. Happens (shape_of geometry.now ACTORS) (state_of ACTORS devices.now phase.old) (Start actor job.now) what [] (state_of ACTORS devices.now phase.new)) }
     ensures err { OnErr result (state_of ACTORS devices.now phase.new ≡ state_of ACTORS devices.now phase.old) }
     ensures refusal { IfErr result (λ refusal. refusal ≡ Memory) }
@@ -55,10 +55,10 @@ fn start_there(
     job: &Job,
 ) -> Result<What, Refusal>
     requires there { IsThere ACTORS phase.old }
-    requires sound { IsSound geometry.now ACTORS devices.now phase.old }
+    requires sound { IsSoundPhase geometry.now ACTORS devices.now phase.old }
     requires over { wants_target job.now ≡ true }
     ensures there { IsThere ACTORS phase.new }
-    ensures sound { IsSound geometry.now ACTORS devices.now phase.new }
+    ensures sound { IsSoundPhase geometry.now ACTORS devices.now phase.new }
     ensures ok { IfOk result (λ what. Happens (shape_of geometry.now ACTORS) (state_of ACTORS devices.now phase.old) (Start actor job.now) what [] (state_of ACTORS devices.now phase.new)) }
     ensures err { OnErr result (state_of ACTORS devices.now phase.new ≡ state_of ACTORS devices.now phase.old) }
     ensures refusal { IfErr result (λ refusal. refusal ≡ Memory) }
@@ -80,10 +80,10 @@ fn start_over(
     job: &Job,
 ) -> Result<What, Refusal>
     requires there { IsThere ACTORS (Standing target.old members.old) }
-    requires sound { IsSound geometry.now ACTORS devices.now (Standing target.old members.old) }
+    requires sound { IsSoundPhase geometry.now ACTORS devices.now (Standing target.old members.old) }
     requires over { wants_target job.now ≡ true }
     ensures there { IsThere ACTORS (Standing target.new members.new) }
-    ensures sound { IsSound geometry.now ACTORS devices.now (Standing target.new members.new) }
+    ensures sound { IsSoundPhase geometry.now ACTORS devices.now (Standing target.new members.new) }
     ensures ok { IfOk result (λ what. Happens (shape_of geometry.now ACTORS) (state_of ACTORS devices.now (Standing target.old members.old)) (Start actor job.now) what [] (state_of ACTORS devices.now (Standing target.new members.new))) }
     ensures err { OnErr result ((target.new ≡ target.old) × (members.new.items ≡ members.old.items)) }
     ensures refusal { IfErr result (λ refusal. refusal ≡ Memory) }
@@ -113,10 +113,10 @@ pub(crate) fn step(
     actor: usize,
 ) -> Result<Outcome, Refusal>
     requires there { IsThere ACTORS phase.old }
-    requires sound { IsSound geometry.now ACTORS devices.old phase.old }
-    requires served { IsServed geometry.now devices.old phase.old }
+    requires sound { IsSoundPhase geometry.now ACTORS devices.old phase.old }
+    requires served { IsPhaseServed geometry.now devices.old phase.old }
     ensures there { IsThere ACTORS phase.new }
-    ensures sound { IsSound geometry.now ACTORS devices.new phase.new }
+    ensures sound { IsSoundPhase geometry.now ACTORS devices.new phase.new }
     ensures ok { IfOk result (λ done. Happens (shape_of geometry.now ACTORS) (state_of ACTORS devices.old phase.old) (Step actor) done.what done.read.items (state_of ACTORS devices.new phase.new)) }
     ensures err { OnErr result (state_of ACTORS devices.new phase.new ≡ state_of ACTORS devices.old phase.old) }
     ensures refusal { IfErr result (λ refusal. refusal ≡ Memory) }
@@ -138,10 +138,10 @@ fn step_over(
     actor: usize,
 ) -> Result<Outcome, Refusal>
     requires there { IsThere ACTORS (Standing target.old members.old) }
-    requires sound { IsSound geometry.now ACTORS devices.old (Standing target.old members.old) }
-    requires served { IsServed geometry.now devices.old (Standing target.old members.old) }
+    requires sound { IsSoundPhase geometry.now ACTORS devices.old (Standing target.old members.old) }
+    requires served { IsPhaseServed geometry.now devices.old (Standing target.old members.old) }
     ensures there { IsThere ACTORS (Standing target.new members.new) }
-    ensures sound { IsSound geometry.now ACTORS devices.new (Standing target.new members.new) }
+    ensures sound { IsSoundPhase geometry.now ACTORS devices.new (Standing target.new members.new) }
     ensures ok { IfOk result (λ done. Happens (shape_of geometry.now ACTORS) (state_of ACTORS devices.old (Standing target.old members.old)) (Step actor) done.what done.read.items (state_of ACTORS devices.new (Standing target.new members.new))) }
     ensures err { OnErr result ((contents_of devices.new ≡ contents_of devices.old) × (target.new ≡ target.old) × (members.new.items ≡ members.old.items)) }
     ensures refusal { IfErr result (λ refusal. refusal ≡ Memory) }
@@ -164,10 +164,10 @@ pub(crate) fn falter(
     choice: &CrashChoice,
 ) -> Result<What, Refusal>
     requires there { IsThere ACTORS phase.old }
-    requires sound { IsSound geometry.now ACTORS devices.old phase.old }
-    requires served { IsServed geometry.now devices.old phase.old }
+    requires sound { IsSoundPhase geometry.now ACTORS devices.old phase.old }
+    requires served { IsPhaseServed geometry.now devices.old phase.old }
     ensures there { IsThere ACTORS phase.new }
-    ensures sound { IsSound geometry.now ACTORS devices.new phase.new }
+    ensures sound { IsSoundPhase geometry.now ACTORS devices.new phase.new }
     ensures ok { IfOk result (λ what. Happens (shape_of geometry.now ACTORS) (state_of ACTORS devices.old phase.old) (FaultStep actor choice.now) what [] (state_of ACTORS devices.new phase.new)) }
     ensures err { OnErr result (state_of ACTORS devices.new phase.new ≡ state_of ACTORS devices.old phase.old) }
     ensures refusal { IfErr result (λ refusal. refusal ≡ Memory) }
@@ -189,10 +189,10 @@ fn fail_over(
     choice: &CrashChoice,
 ) -> Result<What, Refusal>
     requires there { IsThere ACTORS (Standing target.old members.old) }
-    requires sound { IsSound geometry.now ACTORS devices.old (Standing target.old members.old) }
-    requires served { IsServed geometry.now devices.old (Standing target.old members.old) }
+    requires sound { IsSoundPhase geometry.now ACTORS devices.old (Standing target.old members.old) }
+    requires served { IsPhaseServed geometry.now devices.old (Standing target.old members.old) }
     ensures there { IsThere ACTORS (Standing target.new members.new) }
-    ensures sound { IsSound geometry.now ACTORS devices.new (Standing target.new members.new) }
+    ensures sound { IsSoundPhase geometry.now ACTORS devices.new (Standing target.new members.new) }
     ensures ok { IfOk result (λ what. Happens (shape_of geometry.now ACTORS) (state_of ACTORS devices.old (Standing target.old members.old)) (FaultStep actor choice.now) what [] (state_of ACTORS devices.new (Standing target.new members.new))) }
     ensures err { OnErr result ((contents_of devices.new ≡ contents_of devices.old) × (target.new ≡ target.old) × (members.new.items ≡ members.old.items)) }
     ensures refusal { IfErr result (λ refusal. refusal ≡ Memory) }

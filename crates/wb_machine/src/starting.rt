@@ -3,9 +3,9 @@
 ghost use Rattle.std.specs.Prelude.{◌≡◌, ◌<◌, [], false, length};
 ghost use Rattle.wb_promise.specs.declared.event.Event.TheVariants.{Start};
 ghost use Rattle.wb_machine.specs.declared.machine.TheConstants.{ACTORS};
-ghost use Rattle.wb_machine.specs.Life.{Happens, IsThere, is_busy, is_opening, is_sound, shape_of, state_of, wants_target};
+ghost use Rattle.wb_machine.specs.Life.{Happens, IsThere, has_task, is_opening, is_sound, shape_of, state_of, wants_target};
 ghost use Rattle.wb_machine.specs.Members.{works_there};
-ghost use Rattle.wb_machine.specs.Standing.{IsSound};
+ghost use Rattle.wb_machine.specs.Standing.{IsSoundPhase};
 
 use crate::machine::ACTORS;
 use crate::member::Member;
@@ -29,10 +29,10 @@ pub(crate) fn open(
     job: &Job,
 ) -> What
     requires there { IsThere ACTORS phase.old }
-    requires sound { IsSound geometry.now ACTORS devices.now phase.old }
+    requires sound { IsSoundPhase geometry.now ACTORS devices.now phase.old }
     requires opening { wants_target job.now ≡ false }
     ensures there { IsThere ACTORS phase.new }
-    ensures sound { IsSound geometry.now ACTORS devices.now phase.new }
+    ensures sound { IsSoundPhase geometry.now ACTORS devices.now phase.new }
     ensures does { Happens (shape_of geometry.now ACTORS) (state_of ACTORS devices.now phase.old) (Start actor job.now) result [] (state_of ACTORS devices.now phase.new) }
 {
     if actor >= ACTORS || is_busy(phase, actor) {
@@ -67,7 +67,7 @@ fn is_opening(job: &Job) -> bool
 fn is_busy(phase: &Phase, actor: usize) -> bool
     requires there { IsThere ACTORS phase.now }
     requires inside { actor < ACTORS }
-    ensures { result ≡ is_busy actor phase.now }
+    ensures { result ≡ has_task actor phase.now }
 {
     match phase {
         Phase::Closed => false,

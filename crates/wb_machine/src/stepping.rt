@@ -5,7 +5,7 @@ ghost use Rattle.wb_types.specs.declared.refusal.Refusal.TheVariants.{Memory};
 ghost use Rattle.wb_promise.specs.declared.event.Event.TheVariants.{Step, FaultStep};
 ghost use Rattle.wb_machine.specs.declared.machine.TheConstants.{ACTORS};
 ghost use Rattle.wb_machine.specs.Life.{Happens, IsThere, answered, contents_of, device_step_of, shape_of, stands, stands_by, state_of};
-ghost use Rattle.wb_machine.specs.Standing.{IsSound};
+ghost use Rattle.wb_machine.specs.Standing.{IsSoundPhase};
 
 use crate::making::Made;
 use crate::opener::{Opener, fail_step};
@@ -26,10 +26,10 @@ pub(crate) fn step_opening(
     actor: usize,
 ) -> Result<What, Refusal>
     requires there { IsThere ACTORS phase.old }
-    requires sound { IsSound geometry.now ACTORS devices.old phase.old }
+    requires sound { IsSoundPhase geometry.now ACTORS devices.old phase.old }
     requires no_target { stands phase.old ≡ false }
     ensures there { IsThere ACTORS phase.new }
-    ensures sound { IsSound geometry.now ACTORS devices.new phase.new }
+    ensures sound { IsSoundPhase geometry.now ACTORS devices.new phase.new }
     ensures ok { IfOk result (λ what. Happens (shape_of geometry.now ACTORS) (state_of ACTORS devices.old phase.old) (Step actor) what [] (state_of ACTORS devices.new phase.new)) }
     ensures err { OnErr result ((contents_of devices.new ≡ contents_of devices.old) × (phase.new ≡ phase.old)) }
     ensures refusal { IfErr result (λ refusal. refusal ≡ Memory) }
@@ -90,10 +90,10 @@ pub(crate) fn fail_opening(
     choice: &CrashChoice,
 ) -> Result<What, Refusal>
     requires there { IsThere ACTORS phase.old }
-    requires sound { IsSound geometry.now ACTORS devices.old phase.old }
+    requires sound { IsSoundPhase geometry.now ACTORS devices.old phase.old }
     requires no_target { stands phase.old ≡ false }
     ensures there { IsThere ACTORS phase.new }
-    ensures sound { IsSound geometry.now ACTORS devices.new phase.new }
+    ensures sound { IsSoundPhase geometry.now ACTORS devices.new phase.new }
     ensures ok { IfOk result (λ what. Happens (shape_of geometry.now ACTORS) (state_of ACTORS devices.old phase.old) (FaultStep actor choice.now) what [] (state_of ACTORS devices.new phase.new)) }
     ensures err { OnErr result ((contents_of devices.new ≡ contents_of devices.old) × (phase.new ≡ phase.old)) }
     ensures refusal { IfErr result (λ refusal. refusal ≡ Memory) }

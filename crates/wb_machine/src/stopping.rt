@@ -5,7 +5,7 @@ ghost use Rattle.wb_promise.specs.declared.event.Event.TheVariants.{Stop};
 ghost use Rattle.wb_promise.specs.States.{Shape};
 ghost use Rattle.wb_machine.specs.declared.machine.TheConstants.{ACTORS};
 ghost use Rattle.wb_machine.specs.Life.{Happens, IsThere, state_of};
-ghost use Rattle.wb_machine.specs.Standing.{IsSound};
+ghost use Rattle.wb_machine.specs.Standing.{IsSoundPhase};
 ghost use Rattle.wb_types.specs.declared.geometry.Geometry.{Geometry};
 
 use crate::phase::{Phase, put};
@@ -19,7 +19,7 @@ use wb_types::Dev;
 pub(crate) fn stop(devices: &mut Devices<MemDisk>, phase: &mut Phase, choice: &CrashChoice) -> What
     requires { IsThere ACTORS phase.old }
     ensures there { IsThere ACTORS phase.new }
-    ensures sound { (geometry : Geometry) → IsSound geometry ACTORS devices.old phase.old → IsSound geometry ACTORS devices.new phase.new }
+    ensures sound { (geometry : Geometry) → IsSoundPhase geometry ACTORS devices.old phase.old → IsSoundPhase geometry ACTORS devices.new phase.new }
     ensures does { (shape : Shape) → Happens shape (state_of ACTORS devices.old phase.old) (Stop choice.now) result [] (state_of ACTORS devices.new phase.new) }
 {
     if !devices.metadata.applies(Dev::Metadata, choice)

@@ -7,7 +7,7 @@ ghost use Rattle.wb_promise.specs.Headline.{content_of, place_of, shown};
 ghost use Rattle.wb_machine.specs.declared.machine.TheConstants.{ACTORS};
 ghost use Rattle.wb_machine.specs.Life.{shape_of, state_of};
 ghost use Rattle.wb_machine.specs.Showing.{dirty_now};
-ghost use Rattle.wb_machine.specs.Standing.{IsSound};
+ghost use Rattle.wb_machine.specs.Standing.{IsSoundPhase};
 
 use crate::keeping::see_desk;
 use crate::known_crew::KnownCrew;
@@ -27,7 +27,7 @@ pub(crate) fn view_of(
     phase: &Phase,
     at: u64,
 ) -> Option<Content>
-    requires sound { IsSound geometry.now ACTORS devices.old phase.now }
+    requires sound { IsSoundPhase geometry.now ACTORS devices.old phase.now }
     requires cache { length devices.old.cache.contents ≡ geometry.now.block * geometry.now.cache_blocks }
     requires origin { length devices.old.origin.contents ≡ geometry.now.block * geometry.now.origin_blocks }
     ensures shown { result ≡ slice_get (shown (shape_of geometry.now ACTORS) (state_of ACTORS devices.old phase.now)) at }

@@ -24,9 +24,9 @@ impl Model for Work {
 
     ghost Value = { Plan };
 
-    ghost use Rattle.wb_machine.specs.Works.{plan_of};
+    ghost use Rattle.wb_machine.specs.Works.{plan_left};
 
-    ghost view = { λ w. plan_of w.kind };
+    ghost view = { λ w. plan_left w.kind };
 }
 
 impl Work {

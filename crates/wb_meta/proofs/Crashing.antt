@@ -11,7 +11,7 @@ use Rattle.wb_meta.specs.declared.commit_steps.CommitSteps.TheVariants.{NodesWri
 use Rattle.wb_disk.specs.Crashes.{MayLeave, AfterEveryCrash}
 use Rattle.wb_meta.specs.Representing.{Represents, RepresentsOr, Stored}
 use Rattle.wb_meta.specs.Placing.{HavePlaces, IsNodeHere, IsRootHere, IsOfImage, FitsNodes, FitsRoot, MayCommit}
-use Rattle.wb_meta.specs.Commits.{WasThere, Grew, MayHaveRoot, SyncedRoot, HasCome, HasFailed, IsBeforeRoot}
+use Rattle.wb_meta.specs.Commits.{WasThere, Grew, MayHaveRoot, SyncedRoot, CommitHasCome, HasFailed, IsBeforeRoot}
 use Rattle.wb_types.proofs.Lists.{element_beside, Contains-first}
 use Rattle.wb_meta.proofs.Lists.{Chosen, chosen}
 use Rattle.wb_meta.proofs.Histories.{Every-left}
@@ -184,7 +184,7 @@ done_crash image before now old New may done sectors left =
 
 -- at any moment
 pub come_crash : (image : Image) (sectors_of : ℕ) (before now : List History) (steps : CommitSteps) (old : Stored) (New : List Content → Type 0) → HavePlaces image.nodes.items sectors_of → MayCommit image before old New
-    → HasCome image before steps now → AfterEveryCrash (RepresentsOr old New) now
+    → CommitHasCome image before steps now → AfterEveryCrash (RepresentsOr old New) now
 come_crash image sectors_of before now (NodesWritten count) old New places may come sectors left = inl (nodes_crash image sectors_of before now old New places may come.grew sectors left)
 come_crash image sectors_of before now NodesSynced old New places may come sectors left = inl (nodes_crash image sectors_of before now old New places may come.grew sectors left)
 come_crash image sectors_of before now RootWritten old New places may come sectors left = root_crash image sectors_of before now old New places may come.safe sectors left
@@ -192,7 +192,7 @@ come_crash image sectors_of before now Done old New places may come sectors left
 
 -- at any moment before the root is written
 pub early_crash : (image : Image) (sectors_of : ℕ) (before now : List History) (steps : CommitSteps) (old : Stored) (New : List Content → Type 0) → HavePlaces image.nodes.items sectors_of → MayCommit image before old New
-    → IsBeforeRoot steps → HasCome image before steps now → AfterEveryCrash (λ sectors. Represents sectors old.root old.found) now
+    → IsBeforeRoot steps → CommitHasCome image before steps now → AfterEveryCrash (λ sectors. Represents sectors old.root old.found) now
 early_crash image sectors_of before now (NodesWritten count) old New places may early come = nodes_crash image sectors_of before now old New places may come.grew
 early_crash image sectors_of before now NodesSynced old New places may early come = nodes_crash image sectors_of before now old New places may come.grew
 early_crash image sectors_of before now RootWritten old New places may early come = absurd early

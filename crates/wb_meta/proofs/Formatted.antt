@@ -4,7 +4,7 @@ use Rattle.std.specs.List.{slice_get}
 use Rattle.std.proofs.lemmas.List.{length-map}
 use Rattle.std.proofs.lemmas.Option.{slice_get_cases}
 use Rattle.wb_types.specs.declared.geometry.Geometry.{Geometry}
-use Rattle.wb_disk.specs.Device.{Content, History, Gives, written, synced, only, newest}
+use Rattle.wb_disk.specs.Device.{Content, History, ReadGives, written, synced, only, newest}
 use Rattle.wb_format.specs.declared.root.Root.{Root}
 use Rattle.wb_format.specs.Bytes.{number_at}
 use Rattle.wb_format.specs.Layout.{SpellsRoot}
@@ -80,12 +80,12 @@ formatted_left geometry root d0 d1 d2 d3 d4 d5 new size w1 w2 s3 puts s5 = recor
 -- no sector behind the slots was written
 pub slots_alone : (root : Root) (d0 d1 d2 d3 d4 d5 : List History) → d1 ≡ written d0 0 zero_sector → d2 ≡ written d1 1 zero_sector → d3 ≡ synced d2 → Puts (λ content. SpellsRoot content root) 0 d3 d4 → d5 ≡ synced d4 → SlotsAlone d0 d5
 slots_alone root d0 d1 d2 d3 d4 d5 w1 w2 s3 puts s5 =
-    let Holds_still : List History → Type 0 = Newest (λ at content. 2 ≤ at → Gives d0 at content) in
-    let same = λ (d : List History) (at : ℕ) (content : Content) (slot : at < 2) (was : Newest (λ at content. 2 ≤ at → Gives d0 at content) d).
-    Newest-written (λ at content. 2 ≤ at → Gives d0 at content) (λ at content. 2 ≤ at → Gives d0 at content) d at content was (λ i c off before. before) (λ behind. absurd (omega (arith, behind, slot))) in
-    let after_sync = λ (d : List History) (was : Newest (λ at content. 2 ≤ at → Gives d0 at content) d).
-    Newest-every (λ at content. 2 ≤ at → Gives d0 at content) (synced d) (Every-synced (λ at content. 2 ≤ at → Gives d0 at content) d was) in
-    let n0 : Newest (λ at content. 2 ≤ at → Gives d0 at content) d0 = λ at h e behind. (h, e, refl) in
+    let Holds_still : List History → Type 0 = Newest (λ at content. 2 ≤ at → ReadGives d0 at content) in
+    let same = λ (d : List History) (at : ℕ) (content : Content) (slot : at < 2) (was : Newest (λ at content. 2 ≤ at → ReadGives d0 at content) d).
+    Newest-written (λ at content. 2 ≤ at → ReadGives d0 at content) (λ at content. 2 ≤ at → ReadGives d0 at content) d at content was (λ i c off before. before) (λ behind. absurd (omega (arith, behind, slot))) in
+    let after_sync = λ (d : List History) (was : Newest (λ at content. 2 ≤ at → ReadGives d0 at content) d).
+    Newest-every (λ at content. 2 ≤ at → ReadGives d0 at content) (synced d) (Every-synced (λ at content. 2 ≤ at → ReadGives d0 at content) d was) in
+    let n0 : Newest (λ at content. 2 ≤ at → ReadGives d0 at content) d0 = λ at h e behind. (h, e, refl) in
     let n1 = subst Holds_still (sym w1) (same d0 0 zero_sector (omega arith) n0) in
     let n2 = subst Holds_still (sym w2) (same d1 1 zero_sector (omega arith) n1) in
     let n3 = subst Holds_still (sym s3) (after_sync d2 n2) in

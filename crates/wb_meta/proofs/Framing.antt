@@ -8,7 +8,7 @@ use Rattle.wb_disk.specs.Device.{Content}
 use Rattle.wb_format.specs.declared.node.Node.{Node}
 use Rattle.wb_format.specs.declared.root.Root.{Root}
 use Rattle.wb_tree.specs.declared.placed.PlacedNode.{PlacedNode}
-use Rattle.wb_tree.specs.Reading.{Found, Reading, Nodes, ReadsAs, ◌then◌, each_step, entry_in, entry_read, may_map, child_read, names_child, is_node_of, reached_at, words_read, node_read, is_reached, nothing_found, top_read}
+use Rattle.wb_tree.specs.Reading.{Found, ReadOutcome, Nodes, ReadsAs, ◌then◌, each_step, entry_in, entry_read, may_map, child_read, names_child, is_node_of, reached_at, words_read, node_read, is_reached, nothing_found, top_read}
 use Rattle.wb_format.proofs.Values.{one_node}
 use Rattle.wb_tree.proofs.Reading.ReachedLemmas.{is_reached-push}
 use Rattle.wb_tree.proofs.Reading.Steps.{then_ok, test_ok}
@@ -17,15 +17,15 @@ use Rattle.wb_tree.specs.Loading.{AgreeAt}
 use Rattle.wb_types.proofs.Truth.{or_true}
 
 -- what was reached is still reached, and where the same is read there, another reading gives the same
-record Follows (a b : Nodes) (other : Reading) (found next : Found) : Type 0 where
+record Follows (a b : Nodes) (other : ReadOutcome) (found next : Found) : Type 0 where
   pub more : (place : ℕ) → is_reached place found.reached ≡ true → is_reached place next.reached ≡ true
   pub same : AgreeAt next.reached a b → other ≡ Ok next
 
-abbrev Following : Nodes → Nodes → (Found → Reading) → (Found → Reading) → Type 0
+abbrev Following : Nodes → Nodes → (Found → ReadOutcome) → (Found → ReadOutcome) → Type 0
 Following a b read other = (found next : Found) → read found ≡ Ok next → Follows a b (other found) found next
 
 -- a reading gives this
-abbrev Gives : Reading → Found → Type 0
+abbrev Gives : ReadOutcome → Found → Type 0
 Gives reading found = reading ≡ Ok found
 
 -- nothing was read
@@ -37,7 +37,7 @@ stored a b found next e =
       same = λ agree. e;
     }
 
-each_following : (a b : Nodes) (step other : ℕ → Found → Reading) → ((j : ℕ) → Following a b (step j) (other j)) → (count first : ℕ) → Following a b (each_step step count first) (each_step other count first)
+each_following : (a b : Nodes) (step other : ℕ → Found → ReadOutcome) → ((j : ℕ) → Following a b (step j) (other j)) → (count first : ℕ) → Following a b (each_step step count first) (each_step other count first)
 unfolding each_step
 each_following a b step other h zero first found next e = stored a b found next e
 each_following a b step other h (suc count) first found next e =
@@ -63,13 +63,13 @@ entry_following : (a b : Nodes) (root : Root) (here : Place) (block : ℕ) (entr
 entry_following a b root here block None found next e = stored a b found next e
 entry_following a b root here block (Some entry) found next e = entry_by a b (may_map root found.mapped block entry) here found _ next refl e
 
-child_by : (a b : Nodes) (none names : Bool) (here : Place) (read other : Found → Reading) → Following a b read other → (found next : Found)
+child_by : (a b : Nodes) (none names : Bool) (here : Place) (read other : Found → ReadOutcome) → Following a b read other → (found next : Found)
     → (if none then Ok found else (if names then read found else Err here)) ≡ Ok next → Follows a b (if none then Ok found else (if names then other found else Err here)) found next
 child_by a b true names here read other h found next e = stored a b found next e
 child_by a b false true here read other h found next e = h found next e
 child_by a b false false here read other h found next e = absurd (cc)
 
-child_following : (a b : Nodes) (root : Root) (here : Place) (level index : ℕ) (read other : ℕ → Place → Found → Reading) → ((i : ℕ) (place : Place) → Following a b (read i place) (other i place)) → (word : ℕ)
+child_following : (a b : Nodes) (root : Root) (here : Place) (level index : ℕ) (read other : ℕ → Place → Found → ReadOutcome) → ((i : ℕ) (place : Place) → Following a b (read i place) (other i place)) → (word : ℕ)
     → Following a b (child_read root here level index read word) (child_read root here level index other word)
 child_following a b root here level index read other h word found next e =
     child_by a b (word == 0) (names_child root found.reached level index word) here (read index (record { 0 = word })) (other index (record { 0 = word })) (h index (record { 0 = word })) found next e
@@ -80,7 +80,7 @@ reached_before place xs node r = is_reached-push place xs node ∙ or_true (nat_
 pub reached_last : (node : PlacedNode) (xs : List PlacedNode) → is_reached node.place.0 (xs ++ node ∷ []) ≡ true
 reached_last node xs = is_reached-push node.place.0 xs node ∙ ap (λ t. cond t true (is_reached node.place.0 xs)) (yes node.place.0)
 
-words_following : (a b : Nodes) (root : Root) (level index : ℕ) (here : Place) (read other : Node → Found → Reading) → ((node : Node) → Following a b (read node) (other node)) → (was : Option Node) → a here.0 ≡ was → (found next : Found)
+words_following : (a b : Nodes) (root : Root) (level index : ℕ) (here : Place) (read other : Node → Found → ReadOutcome) → ((node : Node) → Following a b (read node) (other node)) → (was : Option Node) → a here.0 ≡ was → (found next : Found)
     → words_read root level index here read was found ≡ Ok next → Follows a b (words_read root level index here other (b here.0) found) found next
 words_following a b root level index here read other h None is found next e = absurd (cc)
 words_following a b root level index here read other h (Some node) is found next e =

@@ -20,7 +20,7 @@ use Rattle.wb_tree.specs.Images.{AreFree, ImagePlan, IsImage, StoresNode, Stores
 use Rattle.wb_tree.proofs.Nodes.Names.{has, same_name}
 use Rattle.wb_tree.proofs.Nodes.Listed.{unknown_changed}
 use Rattle.wb_meta.specs.declared.commit_steps.CommitSteps.{CommitSteps}
-use Rattle.wb_meta.specs.Commits.{SyncedRoot, HasCome, HasFailed}
+use Rattle.wb_meta.specs.Commits.{SyncedRoot, CommitHasCome, HasFailed}
 use Rattle.wb_disk.specs.Crashes.{MayLeave, AfterEveryCrash}
 use Rattle.wb_meta.specs.Representing.{RepresentsTree, RepresentsOldOrTree, Stored}
 use Rattle.wb_meta.specs.Placing.{HavePlaces, IsPlaced, MayCommit}
@@ -263,7 +263,7 @@ module _ (m n : Mapping) (plan : ImagePlan) (image : Image) (device : List Histo
   }
 
   -- however far its commit has come
-  pub come_next : (now : List History) (steps : CommitSteps) → HasCome image device steps now → AfterEveryCrash (RepresentsOldOrTree old image.root n) now
+  pub come_next : (now : List History) (steps : CommitSteps) → CommitHasCome image device steps now → AfterEveryCrash (RepresentsOldOrTree old image.root n) now
   come_next now steps come = come_crash image (length device) device now steps old (λ sectors. RepresentsTree sectors image.root n) places may_commit come
 
   -- after a failure

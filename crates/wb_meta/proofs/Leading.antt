@@ -12,7 +12,7 @@ use Rattle.wb_meta.specs.declared.commit_steps.CommitSteps.{CommitSteps}
 use Rattle.wb_meta.specs.declared.commit_steps.CommitSteps.TheVariants.{NodesWritten, NodesSynced, RootWritten, Done}
 use Rattle.wb_meta.specs.Representing.{Represents, RepresentsOr, Stored}
 use Rattle.wb_meta.specs.Placing.{IsNodeHere, FitsNodes}
-use Rattle.wb_meta.specs.Commits.{Newest, HasCome, HasFailed, IsBeforeRoot}
+use Rattle.wb_meta.specs.Commits.{Newest, CommitHasCome, HasFailed, IsBeforeRoot}
 use Rattle.wb_meta.specs.Imaging.{DeviceStores, IsPlanned, Follows}
 use Rattle.wb_meta.specs.Laws.{Wanted}
 use Rattle.wb_meta.specs.Openings.{IsOpening}
@@ -28,7 +28,7 @@ none_wanted : (image : Image) (device : List History) → Newest (FitsNodes imag
 none_wanted image device at h e i node less listed here = absurd (omega (arith, less))
 
 pub commit_begins : (m n : Mapping) (plan : ImagePlan) (image : Image) (device : List History) (old : Stored) (used : List Place) → DeviceStores m device old used
-    → IsPlanned m n plan image used → Follows plan old → CanBeMade (commit_of image n old device) × HasCome image device (NodesWritten 0) device
+    → IsPlanned m n plan image used → Follows plan old → CanBeMade (commit_of image n old device) × CommitHasCome image device (NodesWritten 0) device
 commit_begins m n plan image device old used stores planned follows =
     let next = next_planned m n plan image device old used stores planned follows in
     let geometry : image.root.geometry ≡ old.root.geometry = planned.image_is.root_geometry ∙ sym follows.same_geometry in (
@@ -44,7 +44,7 @@ commit_begins m n plan image device old used stores planned follows =
     )
 
 pub opening_begins : (tree : Mapping) (image : Image) (device : List History) (old : Stored) (used : List Place) → DeviceStores tree device old used
-    → IsOpening image old.root → CanBeMade (opening_of image tree used old device) × HasCome image device NodesSynced device
+    → IsOpening image old.root → CanBeMade (opening_of image tree used old device) × CommitHasCome image device NodesSynced device
 opening_begins tree image device old used stores opening = (
   record {
     root_is = refl;
@@ -61,7 +61,7 @@ opening_begins tree image device old used stores opening = (
 )
 
 -- the device has its size
-come_size : (image : Image) (before now : List History) (steps : CommitSteps) → HasCome image before steps now → length now ≡ length before
+come_size : (image : Image) (before now : List History) (steps : CommitSteps) → CommitHasCome image before steps now → length now ≡ length before
 come_size image before now (NodesWritten count) come = come.grew.size
 come_size image before now NodesSynced come = come.grew.size
 come_size image before now RootWritten come = come.safe.grew.size
@@ -89,11 +89,11 @@ module _ (c : Commit) (can : CanBeMade c) where
   one : (now : List History) → length now ≡ length c.before → AfterEveryCrash (λ sectors. Represents sectors c.old.root c.old.found) now → MayBeReadAs c.old.root.geometry c.old None now
   one now size after = record { size = size ∙ can.size; same_geometry = refl; later_geometry = tt; represents = after }
 
-  pub during : (steps : CommitSteps) (now : List History) → HasCome c.image c.before steps now → MayBeReadAs c.old.root.geometry c.old (Some c.new) now
+  pub during : (steps : CommitSteps) (now : List History) → CommitHasCome c.image c.before steps now → MayBeReadAs c.old.root.geometry c.old (Some c.new) now
   during steps now come = two now (come_size c.image c.before now steps come)
       (come_crash c.image c.old.root.geometry.meta_sectors c.before now steps c.old (Wanted c.image c.new.found c.tree) can.places can.may come)
 
-  pub early : (steps : CommitSteps) (now : List History) → IsBeforeRoot steps → HasCome c.image c.before steps now → MayBeReadAs c.old.root.geometry c.old None now
+  pub early : (steps : CommitSteps) (now : List History) → IsBeforeRoot steps → CommitHasCome c.image c.before steps now → MayBeReadAs c.old.root.geometry c.old None now
   early steps now before come = one now (come_size c.image c.before now steps come)
       (early_crash c.image c.old.root.geometry.meta_sectors c.before now steps c.old (Wanted c.image c.new.found c.tree) can.places can.may before come)
 
@@ -105,6 +105,6 @@ module _ (c : Commit) (can : CanBeMade c) where
   after_failed_node count now failed = one now failed.size
       (nodes_crash c.image c.old.root.geometry.meta_sectors c.before now c.old (Wanted c.image c.new.found c.tree) can.places can.may failed)
 
-  pub when_done : (now : List History) → HasCome c.image c.before Done now → DeviceStores c.tree now c.new c.used
+  pub when_done : (now : List History) → CommitHasCome c.image c.before Done now → DeviceStores c.tree now c.new c.used
   when_done now come = can.stores now (come_size c.image c.before now Done come)
       (done_crash c.image c.before now c.old (Wanted c.image c.new.found c.tree) can.may come)

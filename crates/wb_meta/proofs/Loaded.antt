@@ -9,7 +9,7 @@ use Rattle.wb_disk.specs.Device.{Content}
 use Rattle.wb_format.specs.declared.node.Node.{Node}
 use Rattle.wb_format.specs.declared.root.Root.{Root}
 use Rattle.wb_tree.specs.declared.placed.PlacedNode.{PlacedNode}
-use Rattle.wb_tree.specs.Reading.{Reading, Nodes, ReadsAs, IsNewestRoot, is_reached, tree_read}
+use Rattle.wb_tree.specs.Reading.{ReadOutcome, Nodes, ReadsAs, IsNewestRoot, is_reached, tree_read}
 use Rattle.wb_tree.specs.Loading.{Loading, outcome, wanted_place, FailsBy}
 use Rattle.std.specs.Prelude.{Result, IfErr}
 use Rattle.std.specs.Result.{IsErrAnd}
@@ -20,13 +20,13 @@ use Rattle.wb_meta.specs.Reads.{HasLoaded}
 use Rattle.wb_meta.proofs.Framing.{reads_one, reached_before, reached_last}
 
 -- a refusal of damage names the place of the first fault
-pub record NamesFault (refusal : Refusal) (reading : Reading) : Type 0 where
+pub record NamesFault (refusal : Refusal) (reading : ReadOutcome) : Type 0 where
   pub place : Place
   pub damaged : refusal ≡ Damaged place
   pub fault : reading ≡ Err place
 
 -- the refusals that a tree gives
-pub fails_by : (refusal : Refusal) (reading : Reading) → FailsBy refusal reading → (refusal ≡ Memory) ⊎ NamesFault refusal reading
+pub fails_by : (refusal : Refusal) (reading : ReadOutcome) → FailsBy refusal reading → (refusal ≡ Memory) ⊎ NamesFault refusal reading
 fails_by Range reading fails = absurd fails
 fails_by Crosses reading fails = absurd fails
 fails_by Busy reading fails = absurd fails
@@ -155,19 +155,19 @@ loaded_refused sectors root l wanted node refusal size loaded here fails = elim 
 ]
 
 -- a refusal of a tree is one of reading, and of no failure of the device
-pub fails_kind : (refusal : Refusal) (reading : Reading) → FailsBy refusal reading → IsOfReading refusal
+pub fails_kind : (refusal : Refusal) (reading : ReadOutcome) → FailsBy refusal reading → IsOfReading refusal
 fails_kind refusal reading fails = elim (fails_by refusal reading fails) [
   | inl memory ↦ let P : Refusal → Type 0 = λ r. IsOfReading r in subst P (sym memory) tt
   | inr named ↦ let P : Refusal → Type 0 = λ r. IsOfReading r in subst P (sym named.damaged) tt
 ]
 
-pub fails_cause : (refusal : Refusal) (reading : Reading) (old new : ℕ) → FailsBy refusal reading → new ≡ old → CountsFault refusal old new
+pub fails_cause : (refusal : Refusal) (reading : ReadOutcome) (old new : ℕ) → FailsBy refusal reading → new ≡ old → CountsFault refusal old new
 fails_cause refusal reading old new fails same = elim (fails_by refusal reading fails) [
   | inl memory ↦ let P : Refusal → Type 0 = λ r. CountsFault r old new in subst P (sym memory) same
   | inr named ↦ let P : Refusal → Type 0 = λ r. CountsFault r old new in subst P (sym named.damaged) same
 ]
 
-pub fails_way : (refusal : Refusal) (reading : Reading) (May : Type 0) → FailsBy refusal reading → FailsIf refusal May
+pub fails_way : (refusal : Refusal) (reading : ReadOutcome) (May : Type 0) → FailsBy refusal reading → FailsIf refusal May
 fails_way refusal reading May fails = elim (fails_by refusal reading fails) [
   | inl memory ↦ let P : Refusal → Type 0 = λ r. FailsIf r May in subst P (sym memory) tt
   | inr named ↦ let P : Refusal → Type 0 = λ r. FailsIf r May in subst P (sym named.damaged) tt

@@ -11,7 +11,7 @@ use Rattle.wb_format.specs.Layout.{SpellsRoot}
 use Rattle.wb_format.proofs.Values.{one_root}
 use Rattle.wb_tree.specs.declared.placed.PlacedNode.{PlacedNode}
 use Rattle.wb_tree.specs.Mapping.{Mapping}
-use Rattle.wb_tree.specs.Reading.{Found, Reading, Nodes, ReadsAs, AreNodes, IsNewestRoot, is_reached, tree_read}
+use Rattle.wb_tree.specs.Reading.{Found, ReadOutcome, Nodes, ReadsAs, AreNodes, IsNewestRoot, is_reached, tree_read}
 use Rattle.wb_tree.specs.Whole.{found_of}
 use Rattle.wb_meta.specs.Representing.{Represents, RepresentsOldOrTree, RepresentsReading, Stored, ReadsThere, ReadThere}
 use Rattle.wb_meta.specs.States.{places_of, RepresentsState, HasNoRoot, HasOtherSize, HasFittingRoot, IsDamagedAt, IsRefusedBy, SpeaksOfSectors}
@@ -76,7 +76,7 @@ one_fault sectors a b x y =
     let root = one_newest sectors x.root y.root x.newest y.newest in
     let first : tree_read x.root nodes ≡ Err a = x.reads nodes (there_first sectors x.nodes y.nodes x.reached x.there) in
     let second : tree_read y.root nodes ≡ Err b = y.reads nodes (there_second sectors x.nodes y.nodes x.reached y.reached x.there y.there) in
-    let both : ◌≡◌ {A = Reading} (Err a) (Err b) = sym first ∙ (ap (λ (r : Root). tree_read r nodes) root ∙ second) in
+    let both : ◌≡◌ {A = ReadOutcome} (Err a) (Err b) = sym first ∙ (ap (λ (r : Root). tree_read r nodes) root ∙ second) in
     cc
 
 no_fault : (sectors : List Content) (root : Root) (found : Found) (place : Place) → Represents sectors root found → IsDamagedAt sectors place → ⊥
@@ -85,7 +85,7 @@ no_fault sectors root found place held damage =
     let same = one_newest sectors root damage.root held.newest damage.newest in
     let first : tree_read root nodes ≡ Ok found = held_read sectors root found nodes held (there_first sectors held.nodes damage.nodes found.reached held.reached) in
     let second : tree_read damage.root nodes ≡ Err place = damage.reads nodes (there_second sectors held.nodes damage.nodes found.reached damage.reached held.reached damage.there) in
-    let both : ◌≡◌ {A = Reading} (Ok found) (Err place) = sym first ∙ (ap (λ (r : Root). tree_read r nodes) same ∙ second) in
+    let both : ◌≡◌ {A = ReadOutcome} (Ok found) (Err place) = sym first ∙ (ap (λ (r : Root). tree_read r nodes) same ∙ second) in
     absurd cc
 
 pub no_root : (sectors : List Content) (root : Root) → IsNewestRoot sectors root → HasNoRoot sectors → ⊥
@@ -158,7 +158,7 @@ one_tree sectors a b f g x y =
     let same = one_newest sectors a b x.newest y.newest in
     let first : tree_read a nodes ≡ Ok f = held_read sectors a f nodes x (there_first sectors x.nodes y.nodes f.reached x.reached) in
     let second : tree_read b nodes ≡ Ok g = held_read sectors b g nodes y (there_second sectors x.nodes y.nodes f.reached g.reached x.reached y.reached) in
-    let both : ◌≡◌ {A = Reading} (Ok f) (Ok g) = sym first ∙ (ap (λ (t : Root). tree_read t nodes) same ∙ second) in
+    let both : ◌≡◌ {A = ReadOutcome} (Ok f) (Ok g) = sym first ∙ (ap (λ (t : Root). tree_read t nodes) same ∙ second) in
     (same, cc)
 
 pub one_state : (sectors : List Content) (a b : Root) (t u : Mapping) (used also : List Place) → RepresentsState sectors a t used → RepresentsState sectors b u also → (a ≡ b) × (t.entries ≡ u.entries) × (used ≡ also)
@@ -206,7 +206,7 @@ state_reading sectors root tree used state = tree_reading sectors root state.fou
 pub damage_reading : (sectors : List Content) (place : Place) (damage : IsDamagedAt sectors place) → RepresentsReading sectors damage.root (Err place)
 damage_reading sectors place damage = record { newest = damage.newest; nodes = damage.nodes; reached = damage.reached; there = damage.there; reads = damage.reads }
 
-pub one_reading : (sectors : List Content) (a b : Root) (r t : Reading) → RepresentsReading sectors a r → RepresentsReading sectors b t → (a ≡ b) × (r ≡ t)
+pub one_reading : (sectors : List Content) (a b : Root) (r t : ReadOutcome) → RepresentsReading sectors a r → RepresentsReading sectors b t → (a ≡ b) × (r ≡ t)
 one_reading sectors a b r t x y =
     let nodes = joined x.nodes y.nodes x.reached in
     let same = one_newest sectors a b x.newest y.newest in (
@@ -215,5 +215,5 @@ one_reading sectors a b r t x y =
           ∙ (ap (λ (q : Root). tree_read q nodes) same ∙ y.reads nodes (there_second sectors x.nodes y.nodes x.reached y.reached x.there y.there)),
     )
 
-pub whole_read : (sectors : List Content) (nodes : Nodes) (root : Root) (reading : Reading) → RepresentsReading sectors root reading → AreNodes sectors nodes → tree_read root nodes ≡ reading
+pub whole_read : (sectors : List Content) (nodes : Nodes) (root : Root) (reading : ReadOutcome) → RepresentsReading sectors root reading → AreNodes sectors nodes → tree_read root nodes ≡ reading
 whole_read sectors nodes root reading held are = held.reads nodes (λ here r. let w = held.there here r in record { sector = w.sector; there = w.there; reads = are here w.sector w.there })

@@ -9,7 +9,7 @@ use Rattle.wb_disk.specs.Device.{Content, History}
 use Rattle.wb_disk.specs.Crashes.{AfterEveryCrash}
 use Rattle.wb_format.specs.declared.node.Node.{Node}
 use Rattle.wb_format.specs.declared.root.Root.{Root}
-use Rattle.wb_tree.specs.Reading.{Found, Reading, Nodes, ◌then◌, each_step, child_read, is_node_of, reached_at, words_read, node_read, nothing_found, top_read, tree_read, names_child, is_reached, ReadsAs}
+use Rattle.wb_tree.specs.Reading.{Found, ReadOutcome, Nodes, ◌then◌, each_step, child_read, is_node_of, reached_at, words_read, node_read, nothing_found, top_read, tree_read, names_child, is_reached, ReadsAs}
 use Rattle.wb_format.specs.Layout.{SpellsRoot}
 use Rattle.wb_format.proofs.Values.{one_root}
 use Rattle.wb_tree.specs.declared.image.Image.{Image}
@@ -23,17 +23,17 @@ use Rattle.wb_meta.specs.Placing.{HavePlaces, IsPlaced, MayCommit}
 use Rattle.wb_tree.proofs.Reading.Steps.{then_ok, test_ok}
 
 -- what was read without a fault is read so
-abbrev Later : (Found → Reading) → (Found → Reading) → Type 0
+abbrev Later : (Found → ReadOutcome) → (Found → ReadOutcome) → Type 0
 Later read other = (found next : Found) → read found ≡ Ok next → other found ≡ Ok next
 
-each_later : (step other : ℕ → Found → Reading) → ((j : ℕ) → Later (step j) (other j)) → (count first : ℕ) → Later (each_step step count first) (each_step other count first)
+each_later : (step other : ℕ → Found → ReadOutcome) → ((j : ℕ) → Later (step j) (other j)) → (count first : ℕ) → Later (each_step step count first) (each_step other count first)
 unfolding each_step
 each_later step other h zero first found next e = e
 each_later step other h (suc count) first found next e =
     let w = then_ok (step first found) (each_step step count (suc first)) next e in
     ap (λ reading. reading then each_step other count (suc first)) (h first found w.0 w.1) ∙ each_later step other h count (suc first) w.0 next w.2
 
-child_by : (none names : Bool) (here : Place) (read other : Found → Reading) → Later read other → (found next : Found)
+child_by : (none names : Bool) (here : Place) (read other : Found → ReadOutcome) → Later read other → (found next : Found)
     → (if none then Ok found else (if names then read found else Err here)) ≡ Ok next → (if none then Ok found else (if names then other found else Err here)) ≡ Ok next
 child_by true names here read other h found next e = e
 child_by false true here read other h found next e = h found next e
@@ -73,7 +73,7 @@ module _ (old : Root) where
   node_is : (level index : ℕ) (node : Node) → is_node_of old level index node ≡ true → is_node_of (reopened old) level index node ≡ true
   node_is level index node e = both_le ((node.level == level) && (node.index == index)) node.generation old.generation (old.generation + 1) (omega arith) e
 
-  words_later : (level index : ℕ) (here : Place) (read other : Node → Found → Reading) → ((node : Node) → Later (read node) (other node)) → (is : Option Node) → Later (words_read old level index here read is) (words_read (reopened old) level index here other is)
+  words_later : (level index : ℕ) (here : Place) (read other : Node → Found → ReadOutcome) → ((node : Node) → Later (read node) (other node)) → (is : Option Node) → Later (words_read old level index here read is) (words_read (reopened old) level index here other is)
   words_later level index here read other h None found next e = absurd (cc)
   words_later level index here read other h (Some node) found next e =
       let w = test_ok (is_node_of old level index node) here (read node (reached_at level index here found)) next e in
@@ -88,7 +88,7 @@ module _ (old : Root) where
       words_later (suc (suc level)) index here _ _
       (λ node. each_later _ _ (λ j. child_later here (suc level) (32 * index + j) (node_read old nodes (suc level)) (node_read (reopened old) nodes (suc level)) (λ i place. node_later nodes (suc level) i place) (slice_index node.words j)) 32 0) (nodes here.0) found next e
     where
-      child_later : (here : Place) (level index : ℕ) (read other : ℕ → Place → Found → Reading) → ((i : ℕ) (place : Place) → Later (read i place) (other i place)) → (word : ℕ) → Later (child_read old here level index read word) (child_read (reopened old) here level index other word)
+      child_later : (here : Place) (level index : ℕ) (read other : ℕ → Place → Found → ReadOutcome) → ((i : ℕ) (place : Place) → Later (read i place) (other i place)) → (word : ℕ) → Later (child_read old here level index read word) (child_read (reopened old) here level index other word)
       child_later here level index read other h word found next e = child_by (word == 0) (names_child old found.reached level index word) here (read index (record { 0 = word })) (other index (record { 0 = word })) (h index (record { 0 = word })) found next e
 
   top_later : (nodes : Nodes) (top : Option Place) (next : Found) → top_read old nodes top ≡ Ok next → top_read (reopened old) nodes top ≡ Ok next

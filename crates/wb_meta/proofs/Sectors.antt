@@ -3,7 +3,7 @@ use Rattle.std.proofs.Common.{◌≡◌, ℕ, List, Option, Some, None, Result, 
 use Rattle.std.specs.List.{slice_get}
 use Rattle.std.specs.Prelude.{IfSome, OnOk, is_err, option_map}
 use Rattle.std.proofs.lemmas.Option.{slice_get-map}
-use Rattle.wb_disk.specs.Device.{Content, History, Gives, newest}
+use Rattle.wb_disk.specs.Device.{Content, History, ReadGives, newest}
 use Rattle.wb_format.specs.declared.node.Node.{Node}
 use Rattle.wb_format.specs.Layout.{SpellsNode}
 use Rattle.wb_tree.specs.Reading.{ReadsAs}
@@ -15,7 +15,7 @@ on_ok (Ok x) e p = p
 on_ok (Err x) e p = absurd cc
 
 -- what a read gives is the newest content
-pub given_there : (device : List History) (at : ℕ) (content : Content) → Gives device at content → slice_get (map newest device) at ≡ Some content
+pub given_there : (device : List History) (at : ℕ) (content : Content) → ReadGives device at content → slice_get (map newest device) at ≡ Some content
 given_there device at content gives = slice_get-map newest device at ∙ (ap (λ (o : Option History). option_map newest o) gives.1 ∙ ap (λ (c : Content). Some c) gives.2)
 
 -- a sector reads as the node that is read of it
@@ -23,6 +23,6 @@ pub reads_as : (content : Content) (node : Option Node) → IfSome node (SpellsN
 reads_as content None found only = λ other spelled. absurd (let e : None ≡ Some other = only other spelled in cc)
 reads_as content (Some node) found only = found
 
-pub node_there : (device : List History) (at : ℕ) (content : Content) (node : Option Node) → Gives device at content → IfSome node (SpellsNode content)
+pub node_there : (device : List History) (at : ℕ) (content : Content) (node : Option Node) → ReadGives device at content → IfSome node (SpellsNode content)
     → ((other : Node) → SpellsNode content other → node ≡ Some other) → ReadsThere (map newest device) (λ _. node) at
 node_there device at content node gives found only = record { sector = content; there = given_there device at content gives; reads = reads_as content node found only }

@@ -11,7 +11,7 @@ use Rattle.wb_meta.specs.declared.commit_steps.CommitSteps.{CommitSteps}
 use Rattle.wb_meta.specs.declared.commit_steps.CommitSteps.TheVariants.{NodesWritten, NodesSynced, RootWritten, Done}
 use Rattle.wb_meta.specs.Steps.{Puts, MayPut, DoesStep, FailsStep, NodeOrSync, MayNodeOrSync, after_node, slot_of, steps_after}
 use Rattle.wb_meta.specs.Placing.{HavePlaces, IsNodeHere, IsOfImage, FitsNodes, FitsRoot}
-use Rattle.wb_meta.specs.Commits.{Newest, Grew, WroteNodes, SyncedNodes, MayHaveRoot, WroteRoot, SyncedRoot, HasCome, HasFailed}
+use Rattle.wb_meta.specs.Commits.{Newest, Grew, WroteNodes, SyncedNodes, MayHaveRoot, WroteRoot, SyncedRoot, CommitHasCome, HasFailed}
 use Rattle.wb_meta.proofs.Histories.{Newest-every, Every-written, Newest-written, Every-synced, Every-partly, Grew-wider, Grew-written, Grew-synced, Grew-partly}
 
 none_listed : (nodes : List (Place × Node)) (count : ℕ) → slice_get nodes count ≡ None → length nodes ≤ count
@@ -132,11 +132,11 @@ root_unsynced image before now new so_far partly =
 -- ---- any step
 
 node_goes_on : (image : Image) (sectors : ℕ) (before now new : List History) (count : ℕ) (o : Option (Place × Node)) → slice_get image.nodes.items count ≡ o → HavePlaces image.nodes.items sectors → WroteNodes image before count now
-    → NodeOrSync o now new → HasCome image before (after_node o count) new
+    → NodeOrSync o now new → CommitHasCome image before (after_node o count) new
 node_goes_on image sectors before now new count (Some node) listed places come does = node_written image sectors before now new count node places listed come does
 node_goes_on image sectors before now new count None listed places come does = nodes_synced image before now new count (none_listed image.nodes.items count listed) come does
 
-pub goes_on : (image : Image) (sectors : ℕ) (before now new : List History) (steps : CommitSteps) → HavePlaces image.nodes.items sectors → HasCome image before steps now → DoesStep image steps now new → HasCome image before (steps_after image steps) new
+pub goes_on : (image : Image) (sectors : ℕ) (before now new : List History) (steps : CommitSteps) → HavePlaces image.nodes.items sectors → CommitHasCome image before steps now → DoesStep image steps now new → CommitHasCome image before (steps_after image steps) new
 goes_on image sectors before now new (NodesWritten count) places come does = node_goes_on image sectors before now new count (slice_get image.nodes.items count) refl places come does
 goes_on image sectors before now new NodesSynced places come does = root_written image sectors before now new (slot_of image.root).0 places refl come does
 goes_on image sectors before now new RootWritten places come does = root_synced image before now new come does
@@ -146,7 +146,7 @@ node_fails : (image : Image) (before now new : List History) (count : ℕ) (o : 
 node_fails image before now new count (Some node) listed come fails = node_failed image before now new count node listed come fails
 node_fails image before now new count None listed come fails = nodes_unsynced image before now new count come fails
 
-pub fails : (image : Image) (sectors : ℕ) (before now new : List History) (steps : CommitSteps) → HavePlaces image.nodes.items sectors → HasCome image before steps now → FailsStep image steps now new → HasFailed image before steps new
+pub fails : (image : Image) (sectors : ℕ) (before now new : List History) (steps : CommitSteps) → HavePlaces image.nodes.items sectors → CommitHasCome image before steps now → FailsStep image steps now new → HasFailed image before steps new
 fails image sectors before now new (NodesWritten count) places come failed = node_fails image before now new count (slice_get image.nodes.items count) refl come failed
 fails image sectors before now new NodesSynced places come failed = root_failed image sectors before now new (slot_of image.root).0 places refl come failed
 fails image sectors before now new RootWritten places come failed = root_unsynced image before now new come failed

@@ -49,11 +49,11 @@ pub record SyncedRoot (image : Image) (before now : List History) : Type 0 where
   pub root : Every (FitsRoot image.root) now
 
 -- a commit that began over this device has come so far
-abbrev pub HasCome : Image → List History → CommitSteps → List History → Type 0
-HasCome image before (NodesWritten count) now = WroteNodes image before count now
-HasCome image before NodesSynced now = SyncedNodes image before now
-HasCome image before RootWritten now = WroteRoot image before now
-HasCome image before Done now = SyncedRoot image before now
+abbrev pub CommitHasCome : Image → List History → CommitSteps → List History → Type 0
+CommitHasCome image before (NodesWritten count) now = WroteNodes image before count now
+CommitHasCome image before NodesSynced now = SyncedNodes image before now
+CommitHasCome image before RootWritten now = WroteRoot image before now
+CommitHasCome image before Done now = SyncedRoot image before now
 
 -- the root was not written yet
 abbrev pub IsBeforeRoot : CommitSteps → Type 0
@@ -84,8 +84,8 @@ IsOneStepLess image old new = steps_left (length image.nodes.items) new ≡ step
 
 -- whatever device the commit began over, it came from where it had come to where it has come now
 abbrev pub Comes : Image → CommitSteps → List History → CommitSteps → List History → Type 0
-Comes image old was new now = (before : List History) → HasCome image before old was → HasCome image before new now
+Comes image old was new now = (before : List History) → CommitHasCome image before old was → CommitHasCome image before new now
 
 -- or it failed there
 abbrev pub FailsWhere : Image → CommitSteps → List History → List History → Type 0
-FailsWhere image old was now = (before : List History) → HasCome image before old was → HasFailed image before old now
+FailsWhere image old was now = (before : List History) → CommitHasCome image before old was → HasFailed image before old now

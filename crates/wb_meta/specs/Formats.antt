@@ -1,7 +1,7 @@
 -- What formatting leaves.
 use Rattle.std.specs.Prelude.{◌≡◌, ◌≤◌, true, None, List}
 use Rattle.wb_types.specs.declared.geometry.Geometry.{Geometry}
-use Rattle.wb_disk.specs.Device.{History, Gives}
+use Rattle.wb_disk.specs.Device.{History, ReadGives}
 use Rattle.wb_format.specs.declared.root.Root.{Root}
 use Rattle.wb_tree.specs.Reading.{nothing_found}
 use Rattle.wb_disk.specs.Crashes.{AfterEveryCrash}
@@ -23,4 +23,4 @@ pub record IsFormatted (geometry : Geometry) (device : List History) : Type 0 wh
 
 -- behind the slots a read gives what it gave before
 abbrev pub SlotsAlone : List History → List History → Type 0
-SlotsAlone old new = Newest (λ at content. 2 ≤ at → Gives old at content) new
+SlotsAlone old new = Newest (λ at content. 2 ≤ at → ReadGives old at content) new

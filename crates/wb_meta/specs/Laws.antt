@@ -10,14 +10,14 @@ use Rattle.wb_tree.specs.declared.image.Image.{Image}
 use Rattle.wb_tree.specs.Mapping.{Mapping, IsSound, empty_mapping, used_places}
 use Rattle.wb_tree.specs.Edits.{IsEdited}
 use Rattle.wb_tree.specs.Images.{AreFree, ImagePlan, IsImage}
-use Rattle.wb_tree.specs.Reading.{Found, Reading, Nodes, AreNodes, IsNewestRoot, nothing_found, tree_read}
+use Rattle.wb_tree.specs.Reading.{Found, ReadOutcome, Nodes, AreNodes, IsNewestRoot, nothing_found, tree_read}
 use Rattle.wb_tree.specs.Whole.{found_of}
 use Rattle.wb_meta.specs.declared.commit_steps.CommitSteps.{CommitSteps}
 use Rattle.wb_meta.specs.declared.commit_steps.CommitSteps.TheVariants.{NodesWritten, Done}
 use Rattle.wb_meta.specs.Representing.{Represents, RepresentsAndStores, RepresentsTree, RepresentsOr, RepresentsOldOrTree, RepresentsReading, Stored}
 use Rattle.wb_meta.specs.Steps.{DoesStep, FailsStep, steps_after}
 use Rattle.wb_meta.specs.Placing.{HavePlaces, MayCommit}
-use Rattle.wb_meta.specs.Commits.{HasCome, HasFailed, IsBeforeRoot}
+use Rattle.wb_meta.specs.Commits.{CommitHasCome, HasFailed, IsBeforeRoot}
 use Rattle.wb_meta.specs.Formats.{IsFirstRoot, IsFormatted}
 use Rattle.wb_meta.specs.Imaging.{DeviceStores, AreUnusedFor, IsNextImage, IsPlanned, Follows}
 use Rattle.wb_meta.specs.Openings.{IsOpening}
@@ -33,19 +33,19 @@ Wanted image found m sectors = RepresentsAndStores sectors image.root found m
 -- a step leads a commit from where it has come to where it comes next
 abbrev pub CommitGoesOn : Type 0
 CommitGoesOn = (image : Image) (sectors : ℕ) (before now new : List History) (steps : CommitSteps)
-    → HavePlaces image.nodes.items sectors → HasCome image before steps now → DoesStep image steps now new
-    → HasCome image before (steps_after image steps) new
+    → HavePlaces image.nodes.items sectors → CommitHasCome image before steps now → DoesStep image steps now new
+    → CommitHasCome image before (steps_after image steps) new
 
 -- and one that fails, to a failure there
 abbrev pub CommitFails : Type 0
 CommitFails = (image : Image) (sectors : ℕ) (before now new : List History) (steps : CommitSteps)
-    → HavePlaces image.nodes.items sectors → HasCome image before steps now → FailsStep image steps now new
+    → HavePlaces image.nodes.items sectors → CommitHasCome image before steps now → FailsStep image steps now new
     → HasFailed image before steps new
 
 -- however far a commit has come, every crash leaves what was stored before, or what is wanted
 abbrev pub OldOrWantedDuring : Type 0
 OldOrWantedDuring = (image : Image) (sectors : ℕ) (before now : List History) (steps : CommitSteps) (old : Stored) (found : Found) (m : Mapping)
-    → HavePlaces image.nodes.items sectors → MayCommit image before old (Wanted image found m) → HasCome image before steps now
+    → HavePlaces image.nodes.items sectors → MayCommit image before old (Wanted image found m) → CommitHasCome image before steps now
     → AfterEveryCrash (RepresentsOr old (Wanted image found m)) now
 
 -- and so it does after a failure
@@ -57,7 +57,7 @@ OldOrWantedAfterFailure = (image : Image) (sectors : ℕ) (before now : List His
 -- until the root is written, it leaves what was stored before
 abbrev pub OldBeforeRoot : Type 0
 OldBeforeRoot = (image : Image) (sectors : ℕ) (before now : List History) (steps : CommitSteps) (old : Stored) (found : Found) (m : Mapping)
-    → HavePlaces image.nodes.items sectors → MayCommit image before old (Wanted image found m) → IsBeforeRoot steps → HasCome image before steps now
+    → HavePlaces image.nodes.items sectors → MayCommit image before old (Wanted image found m) → IsBeforeRoot steps → CommitHasCome image before steps now
     → AfterEveryCrash (λ sectors. Represents sectors old.root old.found) now
 
 -- and so it does where a node, or the sync behind the nodes, failed
@@ -69,7 +69,7 @@ OldAfterFailedNode = (image : Image) (sectors count : ℕ) (before now : List Hi
 -- once the commit is done, it leaves what is wanted alone
 abbrev pub WantedWhenDone : Type 0
 WantedWhenDone = (image : Image) (before now : List History) (old : Stored) (found : Found) (m : Mapping)
-    → MayCommit image before old (Wanted image found m) → HasCome image before Done now → AfterEveryCrash (Wanted image found m) now
+    → MayCommit image before old (Wanted image found m) → CommitHasCome image before Done now → AfterEveryCrash (Wanted image found m) now
 
 -- ---- the next image of a tree
 
@@ -85,7 +85,7 @@ ImageMayCommit = (m n : Mapping) (plan : ImagePlan) (image : Image) (device : Li
 
 abbrev pub OldOrTreeDuring : Type 0
 OldOrTreeDuring = (m n : Mapping) (plan : ImagePlan) (image : Image) (device now : List History) (steps : CommitSteps) (old : Stored)
-    → IsNextImage m n plan image device old → HasCome image device steps now → AfterEveryCrash (RepresentsOldOrTree old image.root n) now
+    → IsNextImage m n plan image device old → CommitHasCome image device steps now → AfterEveryCrash (RepresentsOldOrTree old image.root n) now
 
 abbrev pub OldOrTreeAfterFailure : Type 0
 OldOrTreeAfterFailure = (m n : Mapping) (plan : ImagePlan) (image : Image) (device now : List History) (steps : CommitSteps) (old : Stored)
@@ -93,7 +93,7 @@ OldOrTreeAfterFailure = (m n : Mapping) (plan : ImagePlan) (image : Image) (devi
 
 abbrev pub TreeWhenDone : Type 0
 TreeWhenDone = (m n : Mapping) (plan : ImagePlan) (image : Image) (device now : List History) (old : Stored)
-    → IsNextImage m n plan image device old → HasCome image device Done now → AfterEveryCrash (λ sectors. RepresentsTree sectors image.root n) now
+    → IsNextImage m n plan image device old → CommitHasCome image device Done now → AfterEveryCrash (λ sectors. RepresentsTree sectors image.root n) now
 
 -- ---- whole commits
 
@@ -233,9 +233,9 @@ abbrev pub TreeIsRepresented : Type 0
 TreeIsRepresented = (sectors : List Content) (root : Root) (found : Found) → Represents sectors root found → RepresentsReading sectors root (Ok found)
 
 abbrev pub OneReading : Type 0
-OneReading = (sectors : List Content) (a b : Root) (x y : Reading) → RepresentsReading sectors a x → RepresentsReading sectors b y → (a ≡ b) × (x ≡ y)
+OneReading = (sectors : List Content) (a b : Root) (x y : ReadOutcome) → RepresentsReading sectors a x → RepresentsReading sectors b y → (a ≡ b) × (x ≡ y)
 
 -- it is what is read of all that the sectors spell
 abbrev pub WholeIsRead : Type 0
-WholeIsRead = (sectors : List Content) (nodes : Nodes) (root : Root) (reading : Reading) → RepresentsReading sectors root reading → AreNodes sectors nodes
+WholeIsRead = (sectors : List Content) (nodes : Nodes) (root : Root) (reading : ReadOutcome) → RepresentsReading sectors root reading → AreNodes sectors nodes
     → tree_read root nodes ≡ reading

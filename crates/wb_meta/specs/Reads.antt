@@ -77,15 +77,15 @@ IsDone (Done state) = Unit {0}
 
 -- ---- one sector a step
 
-abbrev pub place_number : Option Place → Option ℕ
-place_number (Some place) = Some place.0
-place_number None = None
+abbrev pub number_of_place : Option Place → Option ℕ
+number_of_place (Some place) = Some place.0
+number_of_place None = None
 
 -- the sector that the next step reads; none where the reading is done
 abbrev pub coming_sector : {A : Type 0} → ReadSteps A → Option ℕ
 coming_sector (Begun alloc global) = Some 0
 coming_sector (FirstSlotRead alloc global first) = Some 1
-coming_sector (RootFound global root loader) = place_number (wanted_place loader.wanted)
+coming_sector (RootFound global root loader) = number_of_place (wanted_place loader.wanted)
 coming_sector (Done state) = None
 
 -- how many sectors were read, each by a step

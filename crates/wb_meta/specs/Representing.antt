@@ -6,7 +6,7 @@ use Rattle.wb_tree.specs.declared.placed.PlacedNode.{PlacedNode}
 use Rattle.wb_tree.specs.Mapping.{Mapping}
 use Rattle.wb_tree.specs.Images.{Stores}
 use Rattle.wb_tree.specs.Whole.{found_of}
-use Rattle.wb_tree.specs.Reading.{Found, Reading, Nodes, ReadsAs, IsNewestRoot, is_reached, tree_read}
+use Rattle.wb_tree.specs.Reading.{Found, ReadOutcome, Nodes, ReadsAs, IsNewestRoot, is_reached, tree_read}
 
 -- a sector that reads as this place is said to read
 pub record ReadsThere (sectors : List Content) (nodes : Nodes) (place : ℕ) : Type 0 where
@@ -20,7 +20,7 @@ ReadThere sectors nodes reached = (place : ℕ) → is_reached place reached ≡
 
 -- What sectors represent: the valid root of higher generation, and what is read of its tree or the place that its first
 -- fault names, whatever other sectors than those of the nodes that are reached read as. No other root counts.
-pub record RepresentsReading (sectors : List Content) (root : Root) (reading : Reading) : Type 0 where
+pub record RepresentsReading (sectors : List Content) (root : Root) (reading : ReadOutcome) : Type 0 where
   pub newest : IsNewestRoot sectors root
   pub nodes : Nodes
   pub reached : List PlacedNode

@@ -12,7 +12,7 @@ use Rattle.wb_meta.specs.declared.commit_steps.CommitSteps.{CommitSteps}
 use Rattle.wb_meta.specs.declared.commit_steps.CommitSteps.TheVariants.{NodesWritten, NodesSynced, Done}
 use Rattle.wb_meta.specs.Representing.{Stored}
 use Rattle.wb_meta.specs.Steps.{DoesStep, FailsStep, steps_after}
-use Rattle.wb_meta.specs.Commits.{HasCome, HasFailed, IsBeforeRoot}
+use Rattle.wb_meta.specs.Commits.{CommitHasCome, HasFailed, IsBeforeRoot}
 use Rattle.wb_meta.specs.Imaging.{DeviceStores, IsPlanned, Follows}
 use Rattle.wb_meta.specs.Openings.{IsOpening}
 use Rattle.wb_meta.specs.Reads.{FitsDevice}
@@ -24,31 +24,31 @@ use Rattle.wb_meta.specs.Roots.{MayBeReadAs, IsSettled, Commit, CanBeMade, commi
 -- a commit of the next image begins
 abbrev pub CommitBegins : Type 0
 CommitBegins = (m n : Mapping) (plan : ImagePlan) (image : Image) (device : List History) (old : Stored) (used : List Place) → DeviceStores m device old used
-    → IsPlanned m n plan image used → Follows plan old → CanBeMade (commit_of image n old device) × HasCome image device (NodesWritten 0) device
+    → IsPlanned m n plan image used → Follows plan old → CanBeMade (commit_of image n old device) × CommitHasCome image device (NodesWritten 0) device
 
 -- so does that of an opening's root
 abbrev pub OpeningBegins : Type 0
 OpeningBegins = (tree : Mapping) (image : Image) (device : List History) (old : Stored) (used : List Place) → DeviceStores tree device old used
-    → IsOpening image old.root → CanBeMade (opening_of image tree used old device) × HasCome image device NodesSynced device
+    → IsOpening image old.root → CanBeMade (opening_of image tree used old device) × CommitHasCome image device NodesSynced device
 
 -- a step leads it on
 abbrev pub CommitGoesOn : Type 0
-CommitGoesOn = (c : Commit) (steps : CommitSteps) (now new : List History) → CanBeMade c → HasCome c.image c.before steps now
-    → DoesStep c.image steps now new → HasCome c.image c.before (steps_after c.image steps) new
+CommitGoesOn = (c : Commit) (steps : CommitSteps) (now new : List History) → CanBeMade c → CommitHasCome c.image c.before steps now
+    → DoesStep c.image steps now new → CommitHasCome c.image c.before (steps_after c.image steps) new
 
 -- or fails
 abbrev pub CommitFails : Type 0
-CommitFails = (c : Commit) (steps : CommitSteps) (now new : List History) → CanBeMade c → HasCome c.image c.before steps now
+CommitFails = (c : Commit) (steps : CommitSteps) (now new : List History) → CanBeMade c → CommitHasCome c.image c.before steps now
     → FailsStep c.image steps now new → HasFailed c.image c.before steps new
 
 -- however far it has come, the device is read as the old state or the new one
 abbrev pub OneOfTwoDuring : Type 0
-OneOfTwoDuring = (c : Commit) (steps : CommitSteps) (now : List History) → CanBeMade c → HasCome c.image c.before steps now
+OneOfTwoDuring = (c : Commit) (steps : CommitSteps) (now : List History) → CanBeMade c → CommitHasCome c.image c.before steps now
     → MayBeReadAs c.old.root.geometry c.old (Some c.new) now
 
 -- until the root is written, as the old one
 abbrev pub OldBeforeRoot : Type 0
-OldBeforeRoot = (c : Commit) (steps : CommitSteps) (now : List History) → CanBeMade c → IsBeforeRoot steps → HasCome c.image c.before steps now
+OldBeforeRoot = (c : Commit) (steps : CommitSteps) (now : List History) → CanBeMade c → IsBeforeRoot steps → CommitHasCome c.image c.before steps now
     → MayBeReadAs c.old.root.geometry c.old None now
 
 -- the same after a failure
@@ -62,7 +62,7 @@ OldAfterFailedNode = (c : Commit) (count : ℕ) (now : List History) → CanBeMa
 
 -- once it is done, the device stores the tree by the new state
 abbrev pub StoresWhenDone : Type 0
-StoresWhenDone = (c : Commit) (now : List History) → CanBeMade c → HasCome c.image c.before Done now → DeviceStores c.tree now c.new c.used
+StoresWhenDone = (c : Commit) (now : List History) → CanBeMade c → CommitHasCome c.image c.before Done now → DeviceStores c.tree now c.new c.used
 
 -- ---- no commit
 

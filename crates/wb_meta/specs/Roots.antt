@@ -23,15 +23,15 @@ AreOneOf committed None sectors = Are committed sectors
 AreOneOf committed (Some later) sectors = Are committed sectors ⊎ Are later sectors
 
 -- the state, if there is one, is of this geometry
-abbrev pub IsOf : Geometry → Option Stored → Type 0
-IsOf geometry None = Unit {0}
-IsOf geometry (Some state) = state.root.geometry ≡ geometry
+abbrev pub StoredIsOf : Geometry → Option Stored → Type 0
+StoredIsOf geometry None = Unit {0}
+StoredIsOf geometry (Some state) = state.root.geometry ≡ geometry
 
 -- A device of this geometry represents one of them, whatever a crash leaves of it.
 pub record MayBeReadAs (geometry : Geometry) (committed : Stored) (later : Option Stored) (device : List History) : Type 0 where
   pub size : length device ≡ geometry.meta_sectors
   pub same_geometry : committed.root.geometry ≡ geometry
-  pub later_geometry : IsOf geometry later
+  pub later_geometry : StoredIsOf geometry later
   pub represents : AfterEveryCrash (AreOneOf committed later) device
 
 -- a crash leaves what reads give, and nothing else

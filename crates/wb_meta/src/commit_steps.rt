@@ -6,7 +6,7 @@ ghost use Rattle.wb_types.specs.declared.mode.Dev.TheVariants.{Metadata};
 ghost use Rattle.wb_disk.specs.Device.{History, OneMore};
 ghost use Rattle.wb_meta.specs.Placing.{HavePlaces};
 ghost use Rattle.wb_meta.specs.Steps.{DoesStep, FailsStepSo, coming_step, steps_after};
-ghost use Rattle.wb_meta.specs.Commits.{HasCome, Comes, FailsWhere, IsOneStepLess, steps_left};
+ghost use Rattle.wb_meta.specs.Commits.{CommitHasCome, Comes, FailsWhere, IsOneStepLess, steps_left};
 ghost use Rattle.wb_meta.specs.Laws.{TreeCommitted, TreeOrOld, WantedCommitted, WantedOrOld};
 
 use crate::Image;
@@ -46,7 +46,7 @@ impl CommitSteps {
     /// A commit that has done nothing.
     pub fn new() -> CommitSteps
         ensures is { result ≡ NodesWritten 0 }
-        ensures begins { (image : ImageValue) (before : List History) → HasCome image before result before }
+        ensures begins { (image : ImageValue) (before : List History) → CommitHasCome image before result before }
         ensures left { (nodes : ℕ) → steps_left nodes result ≡ nodes + 3 }
     {
         CommitSteps::NodesWritten(0)
@@ -56,7 +56,7 @@ impl CommitSteps {
     pub fn root_alone() -> CommitSteps
         ensures is { result ≡ NodesSynced }
         ensures begins { (image : ImageValue) (before : List History) → image.nodes.items ≡ []
-            → HasCome image before result before }
+            → CommitHasCome image before result before }
         ensures left { (nodes : ℕ) → steps_left nodes result ≡ 2 }
     {
         CommitSteps::NodesSynced

@@ -10,7 +10,7 @@ use Rattle.wb_nbd.specs.declared.job.Task.{Task}
 use Rattle.wb_nbd.specs.declared.job.Task.TheVariants.{Read as ReadTask, Write as WriteTask, Flush as FlushTask, Refuse}
 use Rattle.wb_nbd.specs.declared.job.Job.{Job}
 use Rattle.wb_nbd.specs.Requests.{SpellsRequest}
-use Rattle.wb_nbd.specs.Replies.{joined}
+use Rattle.wb_nbd.specs.Replies.{joined_sectors}
 
 -- so many bytes from an offset on are these sectors of an export of so many: whole ones, at least one, 32 MiB at most
 pub record AreSectors (size offset bytes at count : ℕ) : Type 0 where
@@ -21,8 +21,8 @@ pub record AreSectors (size offset bytes at count : ℕ) : Type 0 where
   pub most : bytes ≤ 33554432
 
 -- a request that no sectors of the export are
-abbrev pub IsOutside : ℕ → Request → Type 0
-IsOutside size request = (at count : ℕ) → AreSectors size request.offset request.length at count → ⊥
+abbrev pub IsOutsideExport : ℕ → Request → Type 0
+IsOutsideExport size request = (at count : ℕ) → AreSectors size request.offset request.length at count → ⊥
 
 -- a request for bytes past the end of the export
 abbrev pub IsPastEnd : ℕ → Request → Type 0
@@ -37,8 +37,8 @@ IsPartial request = (request.offset ≢ 0) ⊎ (request.length ≢ 0)
 pub data IsUnserved (size : ℕ) (request : Request) : Type 0 where
   Unknown_command : request.command ≡ Other → IsUnserved size request
   Unknown_flags : request.flags ≡ OtherFlags → IsUnserved size request
-  Read_outside : request.command ≡ Read → IsOutside size request → IsUnserved size request
-  Write_outside : request.command ≡ Write → IsOutside size request → request.offset + request.length ≤ size * 512 → IsUnserved size request
+  Read_outside : request.command ≡ Read → IsOutsideExport size request → IsUnserved size request
+  Write_outside : request.command ≡ Write → IsOutsideExport size request → request.offset + request.length ≤ size * 512 → IsUnserved size request
   Flush_of_a_part : request.command ≡ Flush → IsPartial request → IsUnserved size request
 
 -- a flag that the protocol has, and whether what is written has to be durable
@@ -59,7 +59,7 @@ abbrev pub IsTask : ℕ → Request → List ℕ → Task → Type 0
 IsTask size request payload (ReadTask at count) =
     (request.command ≡ Read) × (payload ≡ []) × AreSectors size request.offset request.length at.0 count × (request.flags ≢ OtherFlags)
 IsTask size request payload (WriteTask at content durable) =
-    (request.command ≡ Write) × (payload ≡ joined content.items) × IsDurable request.flags durable
+    (request.command ≡ Write) × (payload ≡ joined_sectors content.items) × IsDurable request.flags durable
     × AreSectors size request.offset request.length at.0 (length content.items)
 IsTask size request payload FlushTask = (request.command ≡ Flush) × (request.offset ≡ 0) × (request.length ≡ 0) × (payload ≡ []) × (request.flags ≢ OtherFlags)
 IsTask size request payload (Refuse Invalid) = IsUnserved size request × (length payload ≡ payload_size request)
@@ -85,6 +85,6 @@ pub record AsksForEnd (bytes : List ℕ) : Type 0 where
   pub command : request.command ≡ Disconnect
 
 -- the bytes ask for a job, or, where there is none, for the end
-abbrev pub Asks : ℕ → List ℕ → Option Job → Type 0
-Asks size bytes (Some job) = AsksFor size bytes job
-Asks size bytes None = AsksForEnd bytes
+abbrev pub BytesAsk : ℕ → List ℕ → Option Job → Type 0
+BytesAsk size bytes (Some job) = AsksFor size bytes job
+BytesAsk size bytes None = AsksForEnd bytes

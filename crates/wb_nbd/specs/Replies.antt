@@ -16,8 +16,8 @@ error_number Space = 28
 error_number Shutdown = 108
 
 -- sectors, one after the other
-abbrev pub joined : List (List ℕ) → List ℕ
-joined sectors = flat_map (λ sector. sector) sectors
+abbrev pub joined_sectors : List (List ℕ) → List ℕ
+joined_sectors sectors = flat_map (λ sector. sector) sectors
 
 -- the first bytes of a reply: its first word, an error's number or 0, and the cookie
 abbrev pub reply_header : ℕ → ℕ → List ℕ

@@ -3,7 +3,7 @@ use Rattle.std.specs.Prelude.{◌≡◌, ℕ, List, Option}
 use Rattle.std.specs.Io.KnownBytes.{Consumes, Appends}
 use Rattle.wb_nbd.specs.declared.job.Job.{Job}
 use Rattle.wb_nbd.specs.declared.answer.Answer.{Answer}
-use Rattle.wb_nbd.specs.Acts.{Act}
+use Rattle.wb_nbd.specs.Acts.{ExportCall}
 use Rattle.wb_nbd.specs.Answers.{spelling}
 use Rattle.wb_nbd.specs.Jobs.{AsksFor, AsksForEnd}
 use Rattle.wb_nbd.specs.Performing.{Performs}
@@ -24,7 +24,7 @@ stand export input output = record { export = export; input = input; output = ou
 
 -- One request and its one reply: the request is read, its job is done on the export, and what was told of it is written, under the
 -- request's cookie.
-pub record Turn {E : Type 0} (size : E → ℕ) (acts : E → Act → E → Type 0) (old new : Stand E) : Type 0 where
+pub record Turn {E : Type 0} (size : E → ℕ) (acts : E → ExportCall → E → Type 0) (old new : Stand E) : Type 0 where
   pub asked : List ℕ
   pub job : Job
   pub answer : Answer
@@ -48,5 +48,5 @@ pub record IsLeft {E : Type 0} (old new : Stand E) : Type 0 where
   pub output : new.output ≡ old.output
 
 -- requests, each with its reply, and then an end of this kind
-abbrev pub TalksUntil : {E : Type 0} → (E → ℕ) → (E → Act → E → Type 0) → (Stand E → Stand E → Type 0) → Stand E → Stand E → Type 0
+abbrev pub TalksUntil : {E : Type 0} → (E → ℕ) → (E → ExportCall → E → Type 0) → (Stand E → Stand E → Type 0) → Stand E → Stand E → Type 0
 TalksUntil {E = E} size acts End old new = (last : Stand E) × Chain (Turn size acts) old last × End last new

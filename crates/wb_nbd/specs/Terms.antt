@@ -49,13 +49,13 @@ error_kind Invalid = 2147483651
 error_kind TooBig = 2147483657
 
 -- 124 zeros, unless they are to be left out
-abbrev pub zeros : Bool → List ℕ
-zeros true = []
-zeros false = replicate 124 0
+abbrev pub padding_zeros : Bool → List ℕ
+padding_zeros true = []
+padding_zeros false = replicate 124 0
 
 -- what an option is answered; the flag says that zeros are left out
 abbrev pub answer_to : Terms → Bool → ℕ → Wish → List ℕ
-answer_to terms brief number Start = export_terms terms ++ zeros brief
+answer_to terms brief number Start = export_terms terms ++ padding_zeros brief
 answer_to terms brief number StartLong = []
 answer_to terms brief number Abort = plain_reply number 1
 answer_to terms brief number ListWish = export_entry number ++ plain_reply number 1

@@ -3,7 +3,7 @@
 ghost use Rattle.std.specs.Prelude.{◌≡◌, ◌++◌, OnOk, IfErr};
 ghost use Rattle.std.specs.Io.KnownBytes.{Appends};
 ghost use Rattle.wb_nbd.specs.Answers.{spelling};
-ghost use Rattle.wb_nbd.specs.Replies.{reply_header, error_number, joined};
+ghost use Rattle.wb_nbd.specs.Replies.{reply_header, error_number, joined_sectors};
 
 use crate::broken::Broken;
 use crate::errno::Errno;
@@ -44,7 +44,7 @@ impl Answer {
 
 /// Writes a reply without an error, and sees that it is out.
 fn write_content<W: Write>(writer: &mut W, cookie: Cookie, content: &[Content]) -> io::Result<()>
-    ensures sent { OnOk result (Appends (W.contents writer.old) (W.contents writer.new) (reply_header 0 cookie.0 ++ joined content.now)) }
+    ensures sent { OnOk result (Appends (W.contents writer.old) (W.contents writer.new) (reply_header 0 cookie.0 ++ joined_sectors content.now)) }
 {
     write_header(writer, 0, cookie)?;
     writer.write_all(content.as_flattened())?;

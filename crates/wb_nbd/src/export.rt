@@ -1,7 +1,7 @@
 //! What is served.
 
 ghost use Rattle.std.specs.Prelude.{◌≡◌, ◌≤◌, ◌+◌, ℕ, OnOk, IfErr, length};
-ghost use Rattle.wb_nbd.specs.Acts.{Act, Read as ReadAct, Wrote, Flushed, Refused};
+ghost use Rattle.wb_nbd.specs.Acts.{ExportCall, Read as ReadAct, Wrote, Flushed, Refused};
 
 use crate::errno::Errno;
 use wb_types::{Content, Sector};
@@ -12,7 +12,7 @@ pub trait Export {
     ghost size: { Self → ℕ };
 
     /// Whether a call that was this may lead from one export to another.
-    ghost acts: { Self → Act → Self → Type 0 };
+    ghost acts: { Self → ExportCall → Self → Type 0 };
 
     /// How many sectors it has, always as many.
     fn sectors(&self) -> u64

@@ -6,8 +6,8 @@ ghost use Rattle.wb_nbd.specs.declared.request.Command.TheVariants.{Write as Wri
 ghost use Rattle.wb_nbd.specs.declared.request.Flags.TheVariants.{Other as OtherFlags};
 ghost use Rattle.wb_nbd.specs.declared.job.Task.TheVariants.{Refuse};
 ghost use Rattle.wb_nbd.specs.Requests.{SpellsRequest};
-ghost use Rattle.wb_nbd.specs.Replies.{joined};
-ghost use Rattle.wb_nbd.specs.Jobs.{Asks, IsTask, AreSectors, IsOutside, payload_size};
+ghost use Rattle.wb_nbd.specs.Replies.{joined_sectors};
+ghost use Rattle.wb_nbd.specs.Jobs.{BytesAsk, IsTask, AreSectors, IsOutsideExport, payload_size};
 
 use crate::broken::Broken;
 use crate::errno::Errno;
@@ -43,7 +43,7 @@ pub struct Job {
 /// A request is to be refused as `Invalid` where it is none that is served, as `Space` where it writes past the end, and as `Memory` where
 /// there is none for what it writes. `Gone` where nothing more is there, `Reader` where no more can be read, `Magic` where the bytes spell no request.
 pub fn take_job<R: Read>(alloc: Global, size: u64, reader: &mut R) -> Result<Option<Job>, Broken>
-    ensures { IfOk result (λ asked. (bytes : List ℕ) × Consumes (R.remaining reader.old) (R.remaining reader.new) bytes × Asks size bytes asked) }
+    ensures { IfOk result (λ asked. (bytes : List ℕ) × Consumes (R.remaining reader.old) (R.remaining reader.new) bytes × BytesAsk size bytes asked) }
 {
     let request = read_request(reader)?;
     if request.command == Command::Disconnect {
@@ -129,7 +129,7 @@ fn take_write<R: Read>(
 /// Why a write is not served whose flags are not, or whose bytes are no sectors of the export.
 fn reason_of(size: u64, request: &Request) -> Errno
     requires write { request.now.command ≡ WriteCommand }
-    requires unserved { (request.now.flags ≡ OtherFlags) ⊎ IsOutside size request.now }
+    requires unserved { (request.now.flags ≡ OtherFlags) ⊎ IsOutsideExport size request.now }
     ensures { (payload : List ℕ) → length payload ≡ request.now.length → IsTask size request.now payload (Refuse result) }
 {
     if request.flags == Flags::Other {
@@ -147,7 +147,7 @@ fn reason_of(size: u64, request: &Request) -> Errno
 /// request may have, or not of the export.
 fn find_sectors(size: u64, request: &Request) -> Option<(Sector, u64)>
     ensures found { IfSome result (λ found. AreSectors size request.now.offset request.now.length found.0.0 found.1) }
-    ensures none { IfNone result (IsOutside size request.now) }
+    ensures none { IfNone result (IsOutsideExport size request.now) }
 {
     let sector = SECTOR_BYTES as u64;
     let bytes = u64::from(request.length);
@@ -168,7 +168,7 @@ fn take_content<R: Read>(
 ) -> Result<Vec<Content>, Broken>
     requires empty { room.items ≡ [] }
     ensures many { IfOk result (λ content. length content.items ≡ count) }
-    ensures taken { IfOk result (λ content. Consumes (R.remaining reader.old) (R.remaining reader.new) (joined content.items)) }
+    ensures taken { IfOk result (λ content. Consumes (R.remaining reader.old) (R.remaining reader.new) (joined_sectors content.items)) }
 {
     let mut content = room;
     for _ in 0..count {

@@ -2,7 +2,7 @@
 
 ghost use Rattle.std.specs.Prelude.{◌↔◌, IsTrue, Err, ◌≡◌, ◌≤◌, ◌+◌, ◌⊎◌, true, false, OnOk, IfOk, IfErr, length};
 ghost use Rattle.wb_nbd.specs.Acts.{Read as ReadAct, Wrote, Flushed, Refused};
-ghost use Rattle.wb_nbd.specs.Performing.{Fits, Performs, Both};
+ghost use Rattle.wb_nbd.specs.Performing.{TaskFits, Performs, Both};
 
 use crate::answer::Answer;
 use crate::errno::Errno;
@@ -15,8 +15,8 @@ use wb_types::{Content, SECTOR_BYTES, Sector};
 /// refused. `Invalid` where its sectors are not all the export's, and then nothing is done.
 pub fn perform<E: Export>(alloc: Global, export: &mut E, job: Job) -> Answer
     ensures cookie { result.cookie ≡ job.cookie }
-    ensures told { Fits (E.size export.old) job.task → Performs E.acts export.old job.task result.told export.new }
-    ensures outside { (Fits (E.size export.old) job.task → ⊥) → (result.told ≡ Err Errno.Invalid) × (export.new ≡ export.old) }
+    ensures told { TaskFits (E.size export.old) job.task → Performs E.acts export.old job.task result.told export.new }
+    ensures outside { (TaskFits (E.size export.old) job.task → ⊥) → (result.told ≡ Err Errno.Invalid) × (export.new ≡ export.old) }
     ensures size { E.size export.new ≡ E.size export.old }
 {
     let Job { cookie, task } = job;
@@ -30,7 +30,7 @@ pub fn perform<E: Export>(alloc: Global, export: &mut E, job: Job) -> Answer
 
 /// Whether the sectors of a task are some of so many.
 fn fits(size: u64, task: &Task) -> bool
-    ensures { IsTrue result ↔ Fits size task.now }
+    ensures { IsTrue result ↔ TaskFits size task.now }
 {
     let (first, count) = match task {
         Task::Read(Sector(first), count) => (*first, *count),
@@ -41,7 +41,7 @@ fn fits(size: u64, task: &Task) -> bool
 }
 
 fn perform_task<E: Export>(alloc: Global, export: &mut E, task: Task) -> Result<Vec<Content>, Errno>
-    requires { Fits (E.size export.old) task }
+    requires { TaskFits (E.size export.old) task }
     ensures told { Performs E.acts export.old task result export.new }
     ensures size { E.size export.new ≡ E.size export.old }
 {

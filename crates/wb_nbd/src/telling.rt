@@ -2,7 +2,7 @@
 
 ghost use Rattle.std.specs.Prelude.{◌≡◌, ◌++◌, true, false, OnOk, IfErr};
 ghost use Rattle.std.specs.Io.KnownBytes.{Appends};
-ghost use Rattle.wb_nbd.specs.Terms.{greeting, reply_start, plain_reply, export_entry, export_terms, export_info, block_info, zeros, answer_to, error_kind};
+ghost use Rattle.wb_nbd.specs.Terms.{greeting, reply_start, plain_reply, export_entry, export_terms, export_info, block_info, padding_zeros, answer_to, error_kind};
 
 use crate::broken::Broken;
 use crate::option::{Asked, OptionError, Wish};
@@ -152,7 +152,7 @@ fn write_terms<W: Write>(writer: &mut W, terms: &Terms) -> io::Result<()>
 
 /// Writes the answer after which requests come, and sees that it is out.
 fn write_start<W: Write>(writer: &mut W, terms: &Terms, brief: bool) -> io::Result<()>
-    ensures { OnOk result (Appends (W.contents writer.old) (W.contents writer.new) (export_terms terms.now ++ zeros brief)) }
+    ensures { OnOk result (Appends (W.contents writer.old) (W.contents writer.new) (export_terms terms.now ++ padding_zeros brief)) }
 {
     write_terms(writer, terms)?;
     write_zeros(writer, brief)?;
@@ -162,7 +162,7 @@ fn write_start<W: Write>(writer: &mut W, terms: &Terms, brief: bool) -> io::Resu
 
 /// Writes 124 zeros, unless they are to be left out.
 fn write_zeros<W: Write>(writer: &mut W, brief: bool) -> io::Result<()>
-    ensures { OnOk result (Appends (W.contents writer.old) (W.contents writer.new) (zeros brief)) }
+    ensures { OnOk result (Appends (W.contents writer.old) (W.contents writer.new) (padding_zeros brief)) }
 {
     if brief {
         return Ok(());

@@ -12,7 +12,7 @@ use Rattle.wb_tasks.specs.Tables.{TaskJob}
 use Rattle.wb_tasks.specs.declared.step.Answer.{Answer}
 use Rattle.wb_port.specs.Requests.{WasRead, WasWritten}
 use Rattle.wb_port.specs.Ports.{block_at}
-use Rattle.wb_target.specs.Carried.{state_of, looked_at_fail, HasBegun, Runs, WasDone, WereDone, flush_of, jobs_of, AreSynced}
+use Rattle.wb_target.specs.Carried.{client_state, looked_at_fail, HasBegun, Runs, WasDone, WereDone, flush_of, jobs_of, AreSynced}
 
 -- Sectors from a place on were read or written, as a whole or of one block without waiting; accesses were settled; all that was finished before was
 -- made durable, alone or after a tick of the policy; the order that waits longest was carried out, or none waits.
@@ -40,7 +40,7 @@ ClientDid tells size contents faults asked settled ticked next old (Read at cont
 ClientDid tells size contents faults asked settled ticked next old (Wrote at content) new =
     (parts : ℕ) × InParts (WriteCame tells size contents faults old.port.geometry) old.port.geometry.block None parts at old.port.hand content new.port.hand content
 ClientDid tells size contents faults asked settled ticked next old Flushed new =
-    WasDone (Runs tells size contents faults asked old.port.geometry.origin_blocks []) (flush_of old.port.geometry None) (state_of old.port) (state_of new.port)
+    WasDone (Runs tells size contents faults asked old.port.geometry.origin_blocks []) (flush_of old.port.geometry None) (client_state old.port) (client_state new.port)
     × (tells → AreSynced contents new.port.hand.devices)
 ClientDid tells size contents faults asked settled ticked next old (TriedRead at content) new =
     WasRead tells size contents faults old.port.geometry.block (block_at old.port.geometry at) (record { first = at; count = length content }) content old.port.hand new.port.hand
@@ -51,7 +51,7 @@ ClientDid tells size contents faults asked settled ticked next old (TriedWrite a
 ClientDid tells size contents faults asked settled ticked next old Settled new =
     (0 < length old.port.accesses.items → settled old.port.accesses.items) × (new.port.accesses.items ≡ []) × (new.port.hand ≡ old.port.hand)
 ClientDid tells size contents faults asked settled ticked next old Ticked new =
-    ticked × WasDone (Runs tells size contents faults asked old.port.geometry.origin_blocks []) (flush_of old.port.geometry None) (looked_at_fail 0 (state_of old.port)) (state_of new.port)
+    ticked × WasDone (Runs tells size contents faults asked old.port.geometry.origin_blocks []) (flush_of old.port.geometry None) (looked_at_fail 0 (client_state old.port)) (client_state new.port)
     × (tells → AreSynced contents new.port.hand.devices)
 ClientDid tells size contents faults asked settled ticked next old (Worked order) new =
-    next order × DidWork (Runs tells size contents faults asked old.port.geometry.origin_blocks) old.port.geometry (state_of old.port) order (state_of new.port)
+    next order × DidWork (Runs tells size contents faults asked old.port.geometry.origin_blocks) old.port.geometry (client_state old.port) order (client_state new.port)

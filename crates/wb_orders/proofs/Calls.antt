@@ -8,7 +8,7 @@ use Rattle.std.proofs.lemmas.Option.{get_or_from_slice_get, slice_get_within}
 use Rattle.wb_types.specs.declared.number.CBlock.{CBlock}
 use Rattle.wb_orders.specs.declared.live_order.LiveOrder.{LiveOrder}
 use Rattle.wb_orders.specs.Named.{first_of, second_of, IsNamed}
-use Rattle.wb_orders.specs.Orders.{Orders, order_at, sectors_of, cost_of, sectors_until, cost_until, marked, IsIdle, queued, with_order, taken, HasOrder, IsQueue, waits_in, AreOrders}
+use Rattle.wb_orders.specs.Orders.{Orders, order_at, sectors_kept, cost_of, sectors_until, cost_until, marked, IsIdle, queued, with_order, order_taken, HasOrder, IsQueue, waits_in, AreOrders}
 use Rattle.wb_orders.proofs.Kept.{Slots, slot_after, same_order, until-later, cost_until-le, until-le, waits-le, queue_other, queue_push, marks_named, marks_stay, marks_other, cases_named, unmarks_named, within_of}
 
 -- ---- one is given
@@ -144,7 +144,7 @@ pub given_room : (orders : Orders) (c : CBlock) (o : LiveOrder) → AreOrders or
 given_room orders c o a g = omega (arith, a.all_wait, more orders c (record o { waits = true }) (record { vacant = g.vacant; idle = g.idle; room = g.room; number = g.number }) waits_in refl, waits-le (set orders.slots c.0 (Some (record o { waits = true }))), length-set orders.slots c.0 (Some (record o { waits = true })))
 
 pub given_cost : (orders : Orders) (c : CBlock) (o : LiveOrder) → IsGiven orders c o → cost_of (set orders.slots c.0 (Some o)) ≡ cost_of orders.slots + o.sectors
-given_cost orders c o g = more orders c o g sectors_of refl
+given_cost orders c o g = more orders c o g sectors_kept refl
 
 -- ---- one is taken
 
@@ -158,32 +158,32 @@ pub record Came (slots : Slots) (k : ℕ) (p : LiveOrder) : Type 0 where
   pub there : order_at slots k ≡ Some order
   pub same : p ≡ record order { waits = p.waits }
 
-came : (slots : Slots) (c k : ℕ) (o p : LiveOrder) → order_at slots c ≡ Some o → order_at (set slots c (Some (taken o))) k ≡ Some p → Came slots k p
-came slots c k o p here e = elim (slot_after slots c k (Some (taken o)) p e) [
-  | inl h ↦ record { order = o; there = ap (λ (x : ℕ). order_at slots x) h.0 ∙ here; same = was (same_order (taken o) p h.1) }
+came : (slots : Slots) (c k : ℕ) (o p : LiveOrder) → order_at slots c ≡ Some o → order_at (set slots c (Some (order_taken o))) k ≡ Some p → Came slots k p
+came slots c k o p here e = elim (slot_after slots c k (Some (order_taken o)) p e) [
+  | inl h ↦ record { order = o; there = ap (λ (x : ℕ). order_at slots x) h.0 ∙ here; same = was (same_order (order_taken o) p h.1) }
   | inr h ↦ record { order = p; there = h.1; same = refl }
 ]
   where
-    was : taken o ≡ p → p ≡ record o { waits = p.waits }
+    was : order_taken o ≡ p → p ≡ record o { waits = p.waits }
     was q = subst (λ (x : LiveOrder). x ≡ record o { waits = x.waits }) q refl
 
-goes : (slots : Slots) (c k : ℕ) (o p : LiveOrder) → order_at slots c ≡ Some o → order_at slots k ≡ Some p → (q : LiveOrder) × (order_at (set slots c (Some (taken o))) k ≡ Some q) × (q.order ≡ p.order)
+goes : (slots : Slots) (c k : ℕ) (o p : LiveOrder) → order_at slots c ≡ Some o → order_at slots k ≡ Some p → (q : LiveOrder) × (order_at (set slots c (Some (order_taken o))) k ≡ Some q) × (q.order ≡ p.order)
 goes slots c k o p here e = elim (cases_eq k c) [
   | inl h ↦ (
-    taken o,
-    ap (λ (x : ℕ). order_at (set slots c (Some (taken o))) x) h ∙ get_or-set_same slots c (Some (taken o)) None (within_of slots c o here),
+    order_taken o,
+    ap (λ (x : ℕ). order_at (set slots c (Some (order_taken o))) x) h ∙ get_or-set_same slots c (Some (order_taken o)) None (within_of slots c o here),
     ap (λ (x : LiveOrder). x.order) (same_order o p (sym here ∙ ap (λ (x : ℕ). order_at slots x) (sym h) ∙ e)),
   )
-  | inr n ↦ (p, get_or-set_other slots c k (Some (taken o)) None n ∙ e, refl)
+  | inr n ↦ (p, get_or-set_other slots c k (Some (order_taken o)) None n ∙ e, refl)
 ]
 
-same_sum : (slots : Slots) (c : ℕ) (o : LiveOrder) → order_at slots c ≡ Some o → (f : Option LiveOrder → ℕ) → f (Some (taken o)) ≡ f (Some o)
-    → sum_by f (set slots c (Some (taken o))) ≡ sum_by f slots
-same_sum slots c o here f same = omega (arith, sum_by-set f slots c (Some (taken o)) None (within_of slots c o here), ap f here, same)
+same_sum : (slots : Slots) (c : ℕ) (o : LiveOrder) → order_at slots c ≡ Some o → (f : Option LiveOrder → ℕ) → f (Some (order_taken o)) ≡ f (Some o)
+    → sum_by f (set slots c (Some (order_taken o))) ≡ sum_by f slots
+same_sum slots c o here f same = omega (arith, sum_by-set f slots c (Some (order_taken o)) None (within_of slots c o here), ap f here, same)
 
 pub taken_kept : (slots : Slots) (busy : List Bool) (c : CBlock) (cs : List CBlock) (given : ℕ) (o : LiveOrder)
     → AreOrders (record { slots = slots; busy = busy; waiting = c ∷ cs; given = given }) → order_at slots c.0 ≡ Some o
-    → AreOrders (record { slots = set slots c.0 (Some (taken o)); busy = busy; waiting = cs; given = given })
+    → AreOrders (record { slots = set slots c.0 (Some (order_taken o)); busy = busy; waiting = cs; given = given })
 taken_kept slots busy c cs given o a here = record {
   numbered = λ k p e. let f = came slots c.0 k o p here e in
       omega (arith, a.numbered k f.order f.there, ap (λ (x : LiveOrder). x.number) f.same);
@@ -203,8 +203,8 @@ taken_kept slots busy c cs given o a here = record {
         ap (λ (x : LiveOrder). cost_until x.number slots) f.same,
         ap (λ (x : LiveOrder). x.threshold) f.same,
       );
-  queue = from_any (set slots c.0 (Some (taken o))) (first.number + 1) cs (queue_other slots c.0 (Some (taken o)) (first.number + 1) cs early a.queue.4);
-  all_wait = omega (arith, a.all_wait, sum_by-set waits_in slots c.0 (Some (taken o)) None (within_of slots c.0 o here), ap waits_in here, ap one waits);
+  queue = from_any (set slots c.0 (Some (order_taken o))) (first.number + 1) cs (queue_other slots c.0 (Some (order_taken o)) (first.number + 1) cs early a.queue.4);
+  all_wait = omega (arith, a.all_wait, sum_by-set waits_in slots c.0 (Some (order_taken o)) None (within_of slots c.0 o here), ap waits_in here, ap one waits);
 }
   where
     named : (b : ℕ) (p q : LiveOrder) → q.order ≡ p.order → IsNamed p.order b → IsNamed q.order b
@@ -222,8 +222,8 @@ taken_kept slots busy c cs given o a here = record {
     early : (p : LiveOrder) → order_at slots c.0 ≡ Some p → p.waits ≡ true → p.number < first.number + 1
     early p e w = omega (arith, ap (λ (x : LiveOrder). x.number) (is_first p e))
 
-pub taken_cost : (slots : Slots) (c : ℕ) (o : LiveOrder) → order_at slots c ≡ Some o → cost_of (set slots c (Some (taken o))) ≡ cost_of slots
-taken_cost slots c o here = same_sum slots c o here sectors_of refl
+pub taken_cost : (slots : Slots) (c : ℕ) (o : LiveOrder) → order_at slots c ≡ Some o → cost_of (set slots c (Some (order_taken o))) ≡ cost_of slots
+taken_cost slots c o here = same_sum slots c o here sectors_kept refl
 
 -- ---- one is over
 
@@ -271,7 +271,7 @@ over_kept orders c o a here rests = record {
     }
 
 pub over_cost : (slots : Slots) (c : ℕ) (o : LiveOrder) → order_at slots c ≡ Some o → cost_of (set slots c None) + o.sectors ≡ cost_of slots
-over_cost slots c o here = less slots c o here sectors_of refl
+over_cost slots c o here = less slots c o here sectors_kept refl
 
 -- the blocks of a live order are among the origin's
 pub busy_in : (orders : Orders) (c b : ℕ) (o : LiveOrder) → AreOrders orders → order_at orders.slots c ≡ Some o → IsNamed o.order b → b < length orders.busy

@@ -9,7 +9,7 @@ use Rattle.wb_types.specs.declared.number.CBlock.{CBlock}
 use Rattle.wb_policy.specs.declared.order.Order.{Order}
 use Rattle.wb_orders.specs.declared.live_order.LiveOrder.{LiveOrder}
 use Rattle.wb_orders.specs.Named.{first_of, second_of, IsNamed}
-use Rattle.wb_orders.specs.Orders.{no_orders, order_at, sectors_of, cost_of, sectors_until, cost_until, marked, IsQueue, waits_in, AreOrders}
+use Rattle.wb_orders.specs.Orders.{no_orders, order_at, sectors_kept, cost_of, sectors_until, cost_until, marked, IsQueue, waits_in, AreOrders}
 
 abbrev pub Slots : Type 0
 Slots = List (Option LiveOrder)
@@ -40,7 +40,7 @@ same_order o p e = cc
 
 -- ---- sums
 
-pub until-le : (n : ℕ) (s : Option LiveOrder) → sectors_until n s ≤ sectors_of s
+pub until-le : (n : ℕ) (s : Option LiveOrder) → sectors_until n s ≤ sectors_kept s
 until-le n None = omega arith
 until-le n (Some o) = by (nat_le o.number n)
   where
@@ -49,7 +49,7 @@ until-le n (Some o) = by (nat_le o.number n)
     by false = omega arith
 
 pub cost_until-le : (n : ℕ) (slots : Slots) → cost_until n slots ≤ cost_of slots
-cost_until-le n slots = sum_by-le-sum_by (sectors_until n) sectors_of slots (until-le n)
+cost_until-le n slots = sum_by-le-sum_by (sectors_until n) sectors_kept slots (until-le n)
 
 pub until-later : (n : ℕ) (o : LiveOrder) → n < o.number → sectors_until n (Some o) ≡ 0
 until-later n o l = by (nat_le o.number n) refl
@@ -106,7 +106,7 @@ none_kept n m = record {
 }
 
 pub none_cost : (n : ℕ) → 0 ≡ cost_of (replicate n None)
-none_cost n = sym (zeros sectors_of n refl)
+none_cost n = sym (zeros sectors_kept n refl)
 
 -- ---- the queue
 

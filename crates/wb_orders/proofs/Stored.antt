@@ -6,7 +6,7 @@ use Rattle.circular_buffer.specs.Buffer.{Buffer, buffer}
 use Rattle.wb_types.specs.declared.number.CBlock.{CBlock}
 use Rattle.wb_orders.specs.declared.live_order.LiveOrder.{LiveOrder}
 use Rattle.wb_orders.specs.Named.{first_of, second_of}
-use Rattle.wb_orders.specs.Orders.{Orders, MayGive, IsTaken, order_at, cost_of, marked, queued, taken, AreOrders}
+use Rattle.wb_orders.specs.Orders.{Orders, MayGive, IsTaken, order_at, cost_of, marked, queued, order_taken, AreOrders}
 use Rattle.wb_orders.specs.Fields.{orders_of, AreStored}
 use Rattle.wb_orders.proofs.Kept.{Slots, none_kept, none_cost}
 use Rattle.wb_orders.proofs.Calls.{IsGiven, given_kept, given_room, given_cost, taken_kept, taken_cost, over_kept, over_cost, busy_in}
@@ -48,15 +48,15 @@ front_there slots busy queue cost given c s e = by queue.items s.orders.queue e
 pub stored_front : (slots : Slots) (busy : List Bool) (queue after : Buffer CBlock) (cost given : ℕ) (c : CBlock) (o : LiveOrder)
     → AreStored slots busy queue cost given → slice_get queue.items 0 ≡ Some c → order_at slots c.0 ≡ Some o
     → after ≡ buffer (drop 1 queue.items) queue.capacity
-    → AreStored (set slots c.0 (Some (taken o))) busy after cost given
+    → AreStored (set slots c.0 (Some (order_taken o))) busy after cost given
 stored_front slots busy queue after cost given c o s front here e = rw e (record {
-  room = s.room ∙ sym (length-set slots c.0 (Some (taken o)));
+  room = s.room ∙ sym (length-set slots c.0 (Some (order_taken o)));
   cost = s.cost ∙ sym (taken_cost slots c.0 o here);
   orders = by queue.items s.orders front;
 })
   where
     by : (cs : List CBlock) → AreOrders (record { slots = slots; busy = busy; waiting = cs; given = given }) → slice_get cs 0 ≡ Some c
-        → AreOrders (record { slots = set slots c.0 (Some (taken o)); busy = busy; waiting = drop 1 cs; given = given })
+        → AreOrders (record { slots = set slots c.0 (Some (order_taken o)); busy = busy; waiting = drop 1 cs; given = given })
     by [] a h = absurd (cc)
     by (k ∷ cs) a h = taken_kept slots busy c cs given o (subst (λ (x : CBlock). AreOrders (record { slots = slots; busy = busy; waiting = x ∷ cs; given = given })) same a) here
       where

@@ -9,8 +9,8 @@ use Rattle.wb_orders.specs.declared.live_orders.LiveOrders.TheInside.{Inside}
 abbrev pub orders_of : List (Option LiveOrder) → List Bool → Buffer CBlock → ℕ → Orders
 orders_of slots busy queue given = record { slots = slots; busy = busy; waiting = queue.items; given = given }
 
-abbrev pub orders_in : Inside → Orders
-orders_in f = orders_of f.slots.items f.busy.items f.waiting f.given
+abbrev pub orders_inside : Inside → Orders
+orders_inside f = orders_of f.slots.items f.busy.items f.waiting f.given
 
 pub record AreStored (slots : List (Option LiveOrder)) (busy : List Bool) (queue : Buffer CBlock) (sectors given : ℕ) : Type 0 where
   -- the queue has room for an order of each cache block

@@ -24,13 +24,13 @@ no_orders cache_blocks origin_blocks = record { slots = replicate cache_blocks N
 abbrev pub order_at : List (Option LiveOrder) → ℕ → Option LiveOrder
 order_at slots c = get_or slots c None
 
-abbrev pub sectors_of : Option LiveOrder → ℕ
-sectors_of None = 0
-sectors_of (Some o) = o.sectors
+abbrev pub sectors_kept : Option LiveOrder → ℕ
+sectors_kept None = 0
+sectors_kept (Some o) = o.sectors
 
 -- the sectors of all live orders
 abbrev pub cost_of : List (Option LiveOrder) → ℕ
-cost_of slots = sum_by sectors_of slots
+cost_of slots = sum_by sectors_kept slots
 
 abbrev pub sectors_until : ℕ → Option LiveOrder → ℕ
 sectors_until number None = 0
@@ -74,12 +74,12 @@ abbrev pub next_of : List (Option LiveOrder) → List CBlock → Option LiveOrde
 next_of slots [] = None
 next_of slots (c ∷ cs) = order_at slots c.0
 
-abbrev pub taken : LiveOrder → LiveOrder
-taken o = record o { waits = false }
+abbrev pub order_taken : LiveOrder → LiveOrder
+order_taken o = record o { waits = false }
 
 abbrev pub slots_taken : List (Option LiveOrder) → List CBlock → List (Option LiveOrder)
 slots_taken slots [] = slots
-slots_taken slots (c ∷ cs) = slice_set slots c.0 (option_map taken (order_at slots c.0))
+slots_taken slots (c ∷ cs) = slice_set slots c.0 (option_map order_taken (order_at slots c.0))
 
 abbrev pub queue_taken : List CBlock → List CBlock
 queue_taken [] = []

@@ -43,11 +43,11 @@ impl Drop for LiveOrders {
 
 impl Model for LiveOrders {
     ghost use Rattle.wb_orders.specs.Orders.{Orders};
-    ghost use Rattle.wb_orders.specs.Fields.{orders_in, AreFields};
+    ghost use Rattle.wb_orders.specs.Fields.{orders_inside, AreFields};
 
     ghost Value = { Orders };
 
-    ghost view = { orders_in };
+    ghost view = { orders_inside };
 
     ghost invariant = { AreFields };
 }

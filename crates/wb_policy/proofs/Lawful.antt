@@ -11,7 +11,7 @@ use Rattle.wb_policy.specs.declared.situation.Tick.{Tick}
 use Rattle.wb_policy.specs.Law.{Holdings, IsUnmapped, IsLawful}
 use Rattle.wb_policy.specs.Situations.{is_busy, is_passthrough}
 use Rattle.wb_policy.specs.Recency.{least_recent, is_idle, is_dirty_and_idle}
-use Rattle.wb_policy.specs.TinyLfu.{Knowledge, WasTold, may_come_in, replacement, way_in, decided, write_back, cleaned}
+use Rattle.wb_policy.specs.TinyLfu.{Knowledge, WasTold, may_come_in, replacing_order, way_in, decided, write_back, cleaned}
 use Rattle.wb_policy.proofs.Laws.{least_recent-mapped}
 use Rattle.wb_types.proofs.Truth.{and_true}
 
@@ -29,7 +29,7 @@ if_true m a true o h = h refl
 if_true m a false o h = tt
 
 lawful-replacement : (m : Holdings) (k : Knowledge) (a : Settled) → WasTold k m → IsUnmapped m a.block.0 → a.mode ≢ Passthrough → is_busy a.busy.now a.block.0 ≡ false
-    → (o : Option (ℕ × ℕ)) → least_recent (is_idle a.busy.now) k.recency ≡ o → IfSome (replacement k a o) (IsLawful a.mode m a.least_free a.busy.now)
+    → (o : Option (ℕ × ℕ)) → least_recent (is_idle a.busy.now) k.recency ≡ o → IfSome (replacing_order k a o) (IsLawful a.mode m a.least_free a.busy.now)
 lawful-replacement m k a knows new allowed idle None found = tt
 lawful-replacement m k a knows new allowed idle (Some victim) found =
     let at = least_recent-mapped m k.recency (is_idle a.busy.now) victim knows found in

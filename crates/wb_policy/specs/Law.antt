@@ -31,24 +31,24 @@ IsMapping mapping = (block at other : ℕ) → IsMappedAt mapping block at → I
 -- the blocks that an order names, and what they are to be: a promotion brings an unmapped block into the free
 -- cache block that was told; a replacement brings one into the cache block of the mapped block that it demotes;
 -- only a mapped block is demoted or cleaned
-abbrev pub Names : Holdings → Option CBlock → Order → Type 0
-Names mapping free (Promote b c) = IsUnmapped mapping b.0 × (free ≡ Some c)
-Names mapping free (Replace v x c) = IsUnmapped mapping x.0 × IsMappedAt mapping v.0 c.0
-Names mapping free (Demote b) = (at : ℕ) × IsMappedAt mapping b.0 at
-Names mapping free (Clean b) = (at : ℕ) × IsMappedAt mapping b.0 at
+abbrev pub NamesLawfully : Holdings → Option CBlock → Order → Type 0
+NamesLawfully mapping free (Promote b c) = IsUnmapped mapping b.0 × (free ≡ Some c)
+NamesLawfully mapping free (Replace v x c) = IsUnmapped mapping x.0 × IsMappedAt mapping v.0 c.0
+NamesLawfully mapping free (Demote b) = (at : ℕ) × IsMappedAt mapping b.0 at
+NamesLawfully mapping free (Clean b) = (at : ℕ) × IsMappedAt mapping b.0 at
 
 -- no block of an order has a live order
-abbrev pub IsIdle : List Bool → Order → Type 0
-IsIdle busy (Promote b c) = is_busy busy b.0 ≡ false
-IsIdle busy (Replace v x c) = (is_busy busy v.0 ≡ false) × (is_busy busy x.0 ≡ false)
-IsIdle busy (Demote b) = is_busy busy b.0 ≡ false
-IsIdle busy (Clean b) = is_busy busy b.0 ≡ false
+abbrev pub HasNoLiveOrder : List Bool → Order → Type 0
+HasNoLiveOrder busy (Promote b c) = is_busy busy b.0 ≡ false
+HasNoLiveOrder busy (Replace v x c) = (is_busy busy v.0 ≡ false) × (is_busy busy x.0 ≡ false)
+HasNoLiveOrder busy (Demote b) = is_busy busy b.0 ≡ false
+HasNoLiveOrder busy (Clean b) = is_busy busy b.0 ≡ false
 
 -- The law of every policy: what an order may name, by mode, mapping, free cache block and live orders.
 pub record IsLawful (mode : Mode) (mapping : Holdings) (free : Option CBlock) (busy : List Bool) (order : Order) : Type 0 where
   pub allowed : mode ≢ Passthrough
-  pub names : Names mapping free order
-  pub idle : IsIdle busy order
+  pub names : NamesLawfully mapping free order
+  pub idle : HasNoLiveOrder busy order
 
 -- each block seen dirty stands in its cache block
 abbrev pub AreMapped : Holdings → List (CBlock × OBlock) → Type 0

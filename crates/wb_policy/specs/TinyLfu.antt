@@ -26,12 +26,12 @@ abbrev pub after_access : Knowledge → ℕ → Knowledge
 after_access k block = record k { frequencies = accessed k.frequencies block; recency = used block k.recency }
 
 -- after these accesses, in their order
-abbrev pub after_all : Knowledge → List ℕ → Knowledge
-after_all k [] = k
-after_all k (block ∷ blocks) = after_all (after_access k block) blocks
+abbrev pub known_after_all : Knowledge → List ℕ → Knowledge
+known_after_all k [] = k
+known_after_all k (block ∷ blocks) = known_after_all (after_access k block) blocks
 
-abbrev pub is_mapped : Knowledge → ℕ → Bool
-is_mapped k block = is_some (lookup (nat_eq block) k.recency)
+abbrev pub knows_mapped : Knowledge → ℕ → Bool
+knows_mapped k block = is_some (lookup (nat_eq block) k.recency)
 
 abbrev pub estimate : Knowledge → ℕ → ℕ
 estimate k block = estimate_of k.frequencies block
@@ -46,23 +46,23 @@ abbrev pub promotion : Knowledge → Settled → CBlock → Option Order
 promotion k a free = if nat_le k.block_sectors a.room then Some (Promote a.block free) else None
 
 -- in place of the victim, where the estimate is greater than the victim's and there is room for two
-abbrev pub replacement : Knowledge → Settled → Option (ℕ × ℕ) → Option Order
-replacement k a None = None
-replacement k a (Some victim) =
+abbrev pub replacing_order : Knowledge → Settled → Option (ℕ × ℕ) → Option Order
+replacing_order k a None = None
+replacing_order k a (Some victim) =
     if nat_lt (estimate k victim.0) (estimate k a.block.0) && nat_le (2 * k.block_sectors) a.room
     then Some (Replace (record { 0 = victim.0 }) a.block (record { 0 = victim.1 })) else None
 
 -- a promotion where a cache block is free; else a replacement of the least recently used block without a live order
 abbrev pub way_in : Knowledge → Settled → Option CBlock → Option Order
 way_in k a (Some free) = promotion k a free
-way_in k a None = replacement k a (least_recent (is_idle a.busy.now) k.recency)
+way_in k a None = replacing_order k a (least_recent (is_idle a.busy.now) k.recency)
 
 abbrev pub decided : Knowledge → Settled → Option Order
 decided k a = if may_come_in k a then way_in k a a.least_free else None
 
 -- The order at an access: none for a mapped block; else as is decided once the access has counted.
 abbrev pub ordered : Knowledge → Settled → Option Order
-ordered k a = if is_mapped k a.block.0 then None else decided (after_access k a.block.0) a
+ordered k a = if knows_mapped k a.block.0 then None else decided (after_access k a.block.0) a
 
 -- write-back of a block that was found, where there is room for one
 abbrev pub write_back : Knowledge → Tick → Option (ℕ × ℕ) → Option Order

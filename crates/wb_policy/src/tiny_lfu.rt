@@ -4,7 +4,7 @@ ghost use Rattle.std.specs.Prelude.{◌≡◌, ◌≤◌, ◌<◌, ◌^◌, ℕ,
 ghost use Rattle.wb_policy.specs.Law.{Holdings, origins, IsMapping, AreMapped, IsLawful};
 ghost use Rattle.wb_policy.specs.Recency.{AgreesWith, least_recent, is_idle};
 ghost use Rattle.wb_policy.specs.Placing.{IsPlacedByHint, mapped_from};
-ghost use Rattle.wb_policy.specs.TinyLfu.{decided, may_come_in, replacement, cleaned, WasTold};
+ghost use Rattle.wb_policy.specs.TinyLfu.{decided, may_come_in, replacing_order, cleaned, WasTold};
 ghost use Rattle.wb_sketch.specs.Frequencies.{empty, estimate_of};
 
 use crate::recency::Recency;
@@ -83,7 +83,7 @@ impl TinyLfu {
     /// The replacement of the least recently used block without a live order, where the accessed one is estimated
     /// higher and there is room.
     fn replace(&self, access: &Settled<'_>) -> Option<Order>
-        ensures { result ≡ replacement self.now access.now (least_recent (is_idle access.now.busy.now) self.now.recency) }
+        ensures { result ≡ replacing_order self.now access.now (least_recent (is_idle access.now.busy.now) self.now.recency) }
     {
         match self.recency.least_idle(access.busy) {
             Some((victim, at)) => {

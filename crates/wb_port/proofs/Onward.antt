@@ -25,7 +25,7 @@ use Rattle.wb_tasks.specs.declared.step.Got.TheVariants.{Word, Fault}
 use Rattle.wb_tasks.proofs.Pieces.{first_piece}
 use Rattle.wb_port.specs.declared.moving.TheConstants.{LONGEST}
 use Rattle.wb_port.specs.Requests.{part_of}
-use Rattle.wb_port.specs.Straight.{ComesTo, access_by, giving_back, job_by, left, range_in, written}
+use Rattle.wb_port.specs.Straight.{ComesTo, access_by, giving_back, job_by, left, range_in, straight_written}
 use Rattle.wb_port.specs.declared.straight.Part.{Part}
 use Rattle.wb_port.specs.declared.straight.Way.{Way}
 use Rattle.wb_port.specs.declared.straight.Way.TheVariants.{Reads, Writes}
@@ -90,7 +90,7 @@ after_last Writes part place dirty number e l = rw l refl
 
 -- a clean copy in the cache is sealed first
 pub clean_first : (part : Part) (place : Option CBlock) (c : CBlock) (dirty : Bool) → place ≡ Some c → dirty ≡ false
-    → left (Writing (range_in part)) (work (Writing (range_in part)) place dirty) Finished ≡ left (Writing (range_in part)) (Cell (Seal part.block (Some c) true) ∷ write_step (range_in part) (Some c) part.sectors ∷ written part (Some c)) Finished
+    → left (Writing (range_in part)) (work (Writing (range_in part)) place dirty) Finished ≡ left (Writing (range_in part)) (Cell (Seal part.block (Some c) true) ∷ write_step (range_in part) (Some c) part.sectors ∷ straight_written part (Some c)) Finished
 clean_first part place c dirty p d = rw (p, d) refl
 
 -- a read that failed, and a write

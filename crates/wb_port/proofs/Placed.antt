@@ -25,7 +25,7 @@ use Rattle.wb_tasks.proofs.Seals.{dirty_told}
 use Rattle.wb_tasks.proofs.Working.{Works}
 use Rattle.wb_port.specs.declared.moving.TheConstants.{LONGEST}
 use Rattle.wb_port.specs.Requests.{part_of}
-use Rattle.wb_port.specs.Moves.{LiesIn, IsAt, IsCopyAt, IfCache, IfOrigin, copied_to, MayMove}
+use Rattle.wb_port.specs.Moves.{LiesIn, LiesAt, IsCopyAt, IfCache, IfOrigin, copied_to, MayMove}
 
 -- ---- extents
 
@@ -89,8 +89,8 @@ cache_in size block c first count some l = (begins (c * size) (first % size), en
 
 -- an extent that a job moves is its block's, which stands at this place, where its copy may be dirty
 abbrev pub MovesAt : BlockJob → Option CBlock → Bool → Want → Type 0
-MovesAt (Reading part) place dirty (Device (Read device e)) = IsAt part.block_sectors part.block place device e
-MovesAt (Writing part) place dirty (Device (Write device e)) = IsAt part.block_sectors part.block place device e × IfCache device dirty
+MovesAt (Reading part) place dirty (Device (Read device e)) = LiesAt part.block_sectors part.block place device e
+MovesAt (Writing part) place dirty (Device (Write device e)) = LiesAt part.block_sectors part.block place device e × IfCache device dirty
 MovesAt (Migrating migration part) place dirty (Device (Read device e)) = IsCopyAt part.block_sectors part.block device place e × IfCache device dirty
 MovesAt (Migrating migration part) place dirty (Device (Write device e)) = IsCopyAt part.block_sectors part.block device (copied_to migration) e × IfOrigin device dirty
 MovesAt job place dirty (Device step) = ⊥

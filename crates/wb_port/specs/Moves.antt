@@ -26,10 +26,10 @@ LiesIn start size e = (start ≤ e.first) × (e.first + e.count ≤ start + size
 
 -- It lies in the block, and on the device on which the block stands: an unmapped one on the origin, a mapped one in its
 -- cache block.
-abbrev pub IsAt : ℕ → OBlock → Option CBlock → Dev → Extent → Type 0
-IsAt size block None Origin e = LiesIn (block.0 * size) size e
-IsAt size block (Some c) Cache e = LiesIn (c.0 * size) size e
-IsAt size block place device e = ⊥
+abbrev pub LiesAt : ℕ → OBlock → Option CBlock → Dev → Extent → Type 0
+LiesAt size block None Origin e = LiesIn (block.0 * size) size e
+LiesAt size block (Some c) Cache e = LiesIn (c.0 * size) size e
+LiesAt size block place device e = ⊥
 
 -- The pass shares or owns a block, of so many sectors, and has seen its seal since; the extent is in that block, where the
 -- seal tells.
@@ -39,7 +39,7 @@ pub record MayRead (size : ℕ) (card : Card) (device : Dev) (e : Extent) : Type
   pub seal : ℕ
   pub held : card.hold ≡ Held access block
   pub seen : card.seal ≡ Some seal
-  pub at : IsAt size block (place_in seal) device e
+  pub at : LiesAt size block (place_in seal) device e
 
 -- a copy on this device is sealed dirty
 abbrev pub IfCache : Dev → Bool → Type 0
@@ -57,7 +57,7 @@ pub record MayWrite (size : ℕ) (card : Card) (device : Dev) (e : Extent) : Typ
   pub owned : card.hold ≡ Held Owned block
   pub seen : card.seal ≡ Some seal
   pub dirty : IfCache device (dirty_in seal)
-  pub at : IsAt size block (place_in seal) device e
+  pub at : LiesAt size block (place_in seal) device e
 
 -- ---- copies
 

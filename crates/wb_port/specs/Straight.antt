@@ -36,8 +36,8 @@ abbrev pub giving_back : Way → Part → List Want
 giving_back way part = Cell (Release (access_by way) part.block) ∷ []
 
 -- the sectors are written, and the block stands at this place
-abbrev pub written : Part → Option CBlock → List Want
-written part place = Cell (Finish part.block) ∷ write_count place ∷ giving_back Writes part
+abbrev pub straight_written : Part → Option CBlock → List Want
+straight_written part place = Cell (Finish part.block) ∷ write_count place ∷ giving_back Writes part
 
 -- From such a state on, a run of what is left ends with this answer.
 abbrev pub ComesTo : {S : Type 0} → (S → Want → Got → S → Type 0) → Plan → S → Answer → S → Type 0

@@ -15,7 +15,7 @@ ghost use Rattle.wb_tasks.specs.Plan.{table};
 ghost use Rattle.wb_tasks.specs.declared.step.Answer.TheVariants.{Done as Finished, Refused as Refuses};
 ghost use Rattle.wb_tasks.specs.declared.step.Want.TheVariants.{Cell, Device};
 ghost use Rattle.wb_tasks.specs.declared.step.DeviceStep.TheVariants.{Read, Write};
-ghost use Rattle.wb_port.specs.Straight.{ComesTo, access_by, giving_back, job_by, left, range_in, written};
+ghost use Rattle.wb_port.specs.Straight.{ComesTo, access_by, giving_back, job_by, left, range_in, straight_written};
 
 use crate::stepping::{change, look, take, transfer};
 use wb_tasks::{Answer, CellStep, DeviceStep, Stage};
@@ -151,8 +151,8 @@ fn dirty<S: Stage>(stage: &mut S, part: Part, place: Option<CBlock>, dirty: bool
 #[inline(always)]
 fn write<S: Stage>(stage: &mut S, part: Part, place: Option<CBlock>) -> Answer
     requires some { 0 < part.block_sectors }
-    requires stays { StaysReady S.ready S.led (left (Writing (range_in part)) (write_step (range_in part) place part.sectors ∷ written part place) Finished) stage.old }
-    ensures { ComesTo S.led (left (Writing (range_in part)) (write_step (range_in part) place part.sectors ∷ written part place) Finished) stage.old result stage.new }
+    requires stays { StaysReady S.ready S.led (left (Writing (range_in part)) (write_step (range_in part) place part.sectors ∷ straight_written part place) Finished) stage.old }
+    ensures { ComesTo S.led (left (Writing (range_in part)) (write_step (range_in part) place part.sectors ∷ straight_written part place) Finished) stage.old result stage.new }
 {
     let (device, extent) = route(part, place);
     if !transfer(stage, DeviceStep::Write(device, extent)) {
@@ -175,8 +175,8 @@ fn fail<S: Stage>(stage: &mut S, part: Part, answer: Answer) -> Answer
 /// From the end of a write on.
 #[inline(always)]
 fn finish<S: Stage>(stage: &mut S, part: Part, place: Option<CBlock>) -> Answer
-    requires stays { StaysReady S.ready S.led (left (Writing (range_in part)) (written part place) Finished) stage.old }
-    ensures { ComesTo S.led (left (Writing (range_in part)) (written part place) Finished) stage.old result stage.new }
+    requires stays { StaysReady S.ready S.led (left (Writing (range_in part)) (straight_written part place) Finished) stage.old }
+    ensures { ComesTo S.led (left (Writing (range_in part)) (straight_written part place) Finished) stage.old result stage.new }
 {
     change(stage, CellStep::Finish(part.block));
     let kind = write_kind(place);

@@ -50,7 +50,7 @@ abbrev pub write_fault : ℕ → Option ℕ → ℕ → (ℕ → Bool) → Got
 write_fault size to block lands = Fault (λ b offset. lands (row to block * size + offset))
 
 -- An actor with this task can go on with this result: the device is this list then, and it is this actor.
-pub record Moves (size : ℕ) (blank : Content) (actors : List AbstractActor) (a : ℕ) (s : Shared) (y : AbstractActor) (task : Option Script) (to : Option ℕ) (got : Got) (device : List History) (z : AbstractActor) : Type 0 where
+pub record DeviceMoves (size : ℕ) (blank : Content) (actors : List AbstractActor) (a : ℕ) (s : Shared) (y : AbstractActor) (task : Option Script) (to : Option ℕ) (got : Got) (device : List History) (z : AbstractActor) : Type 0 where
   pub may : MayGo actors a s y task (got ∷ [])
   pub side_is : IsSide size blank to device (shared_after s y task (got ∷ []))
   pub beside : SameBeside to s (shared_after s y task (got ∷ []))
@@ -63,16 +63,16 @@ left_with y job steps answer = record y { task = Some (record { job = job; steps
 -- A step of any task on an extent of a device, done or failing, is one step there; of a write that fails each sector has landed or not.
 pub record ExtentsFollowed : Type 0 where
   pub read_done : (size : ℕ) (blank : Content) (actors : List AbstractActor) (a : ℕ) (s : Shared) (y : AbstractActor) (job : Job) (to : Option ℕ) (block : ℕ) (os : List ℕ) (rest : List AbstractWant) (answer : AbstractAnswer) (list : List History) →
-      IsSide size blank to list s → Moves size blank actors a s y (Some (record { job = job; steps = Read_all to block os ∷ rest; answer = answer })) to (Gave (newest_at s to block)) list (record (left_with y job rest answer) { buffer = newest_at s to block })
+      IsSide size blank to list s → DeviceMoves size blank actors a s y (Some (record { job = job; steps = Read_all to block os ∷ rest; answer = answer })) to (Gave (newest_at s to block)) list (record (left_with y job rest answer) { buffer = newest_at s to block })
   pub read_fails : (size : ℕ) (blank : Content) (actors : List AbstractActor) (a : ℕ) (s : Shared) (y : AbstractActor) (job : Job) (to : Option ℕ) (block : ℕ) (os : List ℕ) (rest : List AbstractWant) (answer : AbstractAnswer) (list : List History) →
-      IsSide size blank to list s → Moves size blank actors a s y (Some (record { job = job; steps = Read_all to block os ∷ rest; answer = answer })) to read_fault list (left_with y job (abstract_release job) AnsweredIo)
+      IsSide size blank to list s → DeviceMoves size blank actors a s y (Some (record { job = job; steps = Read_all to block os ∷ rest; answer = answer })) to read_fault list (left_with y job (abstract_release job) AnsweredIo)
   pub write_done : (size : ℕ) (blank : Content) (actors : List AbstractActor) (a : ℕ) (s : Shared) (y : AbstractActor) (job : Job) (block : ℕ) (device : Dev) (e : Extent) (rest : List AbstractWant) (answer : AbstractAnswer) (list : List History) →
       IsInBlock size block device e → IsSide size blank (location_at size device e) list s → e.first + e.count ≤ length list →
-      Moves size blank actors a s y (Some (record { job = job; steps = Write_all (location_at size device e) block (offsets_in size e) ∷ rest; answer = answer })) (location_at size device e) Done
+      DeviceMoves size blank actors a s y (Some (record { job = job; steps = Write_all (location_at size device e) block (offsets_in size e) ∷ rest; answer = answer })) (location_at size device e) Done
       (written_each list e.first (map (abstract_contents_for job y.buffer) (offsets_in size e))) (left_with y job rest answer)
   pub write_fails : (size : ℕ) (blank : Content) (actors : List AbstractActor) (a : ℕ) (s : Shared) (y : AbstractActor) (job : Job) (block : ℕ) (device : Dev) (e : Extent) (rest : List AbstractWant) (answer : AbstractAnswer) (list : List History) (lands : ℕ → Bool) →
       IsInBlock size block device e → IsSide size blank (location_at size device e) list s → e.first + e.count ≤ length list →
-      Moves size blank actors a s y (Some (record { job = job; steps = Write_all (location_at size device e) block (offsets_in size e) ∷ rest; answer = answer })) (location_at size device e) (write_fault size (location_at size device e) block lands)
+      DeviceMoves size blank actors a s y (Some (record { job = job; steps = Write_all (location_at size device e) block (offsets_in size e) ∷ rest; answer = answer })) (location_at size device e) (write_fault size (location_at size device e) block lands)
       (written_where lands list e.first (map (abstract_contents_for job y.buffer) (offsets_in size e))) (left_with y job (breaking job) AnsweredIo)
   -- what such a read gives is what the list has there
   pub reads : (size : ℕ) (blank : Content) (s : Shared) (block : ℕ) (device : Dev) (e : Extent) (list : List History) (contents : List Content) →

@@ -34,7 +34,7 @@ pub record IsFlushing (size : ℕ) (content : Content) (plan : Plan) (leads : Bo
   pub is : y ≡ record { task = Some (script_for size content plan); held = Nothing; order = None; leads = leads; buffer = buffer }
 
 -- An abstract actor can go on so that this is shared then, and is at what is left.
-pub record Leads (size : ℕ) (content : Content) (actors : List AbstractActor) (a : ℕ) (s : Shared) (y : AbstractActor) (t : Shared) (plan : Plan) (leads : Bool) : Type 0 where
+pub record CanGoOn (size : ℕ) (content : Content) (actors : List AbstractActor) (a : ℕ) (s : Shared) (y : AbstractActor) (t : Shared) (plan : Plan) (leads : Bool) : Type 0 where
   pub results : List Got
   pub may : MayGo actors a s y y.task results
   pub quiet : AreQuiet y.task results
@@ -64,16 +64,16 @@ IsWrittenAfter step before after = before ≡ true → after ≡ true
 -- A flush that has these steps to come goes on there by this result, so that this is shared then; it leads a commit or doesn't, before it and after it.
 abbrev pub GoesBy : Bool → List Want → GotHere → (Shared → Shared) → Bool → Type 0
 GoesBy leads steps got then_shared then_leads = (size : ℕ) (serves : List OBlock) (most : ℕ) (content : Content) (actors : List AbstractActor) (a : ℕ) (s : Shared) (y : AbstractActor) (answer : Answer) → IsFlushing size content (flushing serves most steps answer) leads y →
-    Leads size content actors a s y (then_shared s) (after (flushing serves most steps answer) got) then_leads
+    CanGoOn size content actors a s y (then_shared s) (after (flushing serves most steps answer) got) then_leads
 
 -- Each step of a flush, with each result that it may have.
-pub record FlushStepsFollowed : Type 0 where
+pub record FlushStepsRefined : Type 0 where
   pub looks : (size : ℕ) (serves : List OBlock) (most word : ℕ) (content : Content) (actors : List AbstractActor) (a : ℕ) (s : Shared) (y : AbstractActor) (answer : Answer) → s.fail ≡ flag word → IsFlushing size content (flushing serves most (Cell (Look Fail) ∷ Desk (BeginCommit false most) ∷ []) answer) false y →
-      Leads size content actors a s y s (after (flushing serves most (Cell (Look Fail) ∷ Desk (BeginCommit false most) ∷ []) answer) (Word word)) false
+      CanGoOn size content actors a s y s (after (flushing serves most (Cell (Look Fail) ∷ Desk (BeginCommit false most) ∷ []) answer) (Word word)) false
   pub begins : (size : ℕ) (serves : List OBlock) (most nodes : ℕ) (content : Content) (actors : List AbstractActor) (a : ℕ) (s : Shared) (y : AbstractActor) (later : List Want) (answer : Answer) → s.committing ≡ false → s.broken ≡ false → IsFlushing size content (flushing serves most (Desk (BeginCommit false most) ∷ later) answer) false y →
-      Leads size content actors a s y (effect s (FlushingFor None) (λ o. []) (Begin None) DoneThere) (after (flushing serves most (Desk (BeginCommit false most) ∷ later) answer) (Began nodes)) true
+      CanGoOn size content actors a s y (effect s (FlushingFor None) (λ o. []) (Begin None) DoneThere) (after (flushing serves most (Desk (BeginCommit false most) ∷ later) answer) (Began nodes)) true
   pub is_refused : (size : ℕ) (serves : List OBlock) (most : ℕ) (refusal : Refusal) (content : Content) (actors : List AbstractActor) (a : ℕ) (s : Shared) (y : AbstractActor) (later : List Want) (answer : Answer) → IsNoBegin refusal → IsFlushing size content (flushing serves most (Desk (BeginCommit false most) ∷ later) answer) false y →
-      Leads size content actors a s y s (after (flushing serves most (Desk (BeginCommit false most) ∷ later) answer) (Refused refusal)) false
+      CanGoOn size content actors a s y s (after (flushing serves most (Desk (BeginCommit false most) ∷ later) answer) (Refused refusal)) false
   pub syncs_cache : (later : List Want) → GoesBy true (Device (Sync Cache) ∷ later) Done (λ s. record s { cache = all_synced s.cache }) true
   pub syncs_origin : (later : List Want) → GoesBy true (Device (Sync Origin) ∷ later) Done (λ s. record s { origin = all_synced s.origin }) true
   -- nodes and syncs of the metadata are nothing there
@@ -86,6 +86,6 @@ pub record FlushStepsFollowed : Type 0 where
   pub fails_origin : (settled : ℕ → ℕ → Bool) (later : List Want) → GoesBy true (Device (Sync Origin) ∷ later) Fault (λ s. record s { origin = partly_synced settled s.origin }) true
   -- a step on the metadata that fails may be the root's there
   pub fails_metadata : (size : ℕ) (serves : List OBlock) (most : ℕ) (step : DeviceStep) (content : Content) (actors : List AbstractActor) (a : ℕ) (s : Shared) (y : AbstractActor) (later : List Want) (answer : Answer) → IsOnMetadata (Device step ∷ later) → IsFlushing size content (flushing serves most (Device step ∷ later) answer) true y →
-      (written : Bool) × IsWrittenAfter step s.root_written written × Leads size content actors a s y (record s { root_written = written }) (after (flushing serves most (Device step ∷ later) answer) Fault) true
+      (written : Bool) × IsWrittenAfter step s.root_written written × CanGoOn size content actors a s y (record s { root_written = written }) (after (flushing serves most (Device step ∷ later) answer) Fault) true
   -- the failed bit breaks the commit for those who wait for it
   pub fails : GoesBy true (Cell SetFailed ∷ []) Done (λ s. record s { fail = true; broken = true }) true

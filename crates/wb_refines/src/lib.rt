@@ -7,7 +7,7 @@ ghost use Rattle.wb_refines.specs.Migrations.{MigrationTablesAgree};
 ghost use Rattle.wb_refines.specs.Carrying.{CarryingFollowed};
 ghost use Rattle.wb_refines.specs.Carried.{MigrationCellsFollowed};
 ghost use Rattle.wb_refines.specs.Data.{ExtentsFollowed};
-ghost use Rattle.wb_refines.specs.Flushes.{FlushStepsFollowed};
+ghost use Rattle.wb_refines.specs.Flushes.{FlushStepsRefined};
 
 /// A read, a write or a flush begins in the abstract world as its table does here.
 pub fn tables_agree()
@@ -32,7 +32,7 @@ pub fn extents_are_followed()
 
 /// So is each step of a flush, done, refused or failing, by one that serves nobody there; but not that an order is given up.
 pub fn flush_steps_are_followed()
-    ensures { FlushStepsFollowed }
+    ensures { FlushStepsRefined }
 {}
 
 /// The table of a migration goes on as the abstract one: from its start, from where it has seen its block where its order says, and where it gives everything back or has failed.

@@ -23,7 +23,7 @@ use Rattle.wb_space.specs.declared.block.Block.TheVariants.{Free, Mapped, Reserv
 use Rattle.wb_orders.specs.declared.live_order.LiveOrder.{LiveOrder}
 use Rattle.wb_orders.specs.Named.{first_of, second_of}
 use Rattle.wb_orders.specs.Orders.{cost_of, MayGive}
-use Rattle.wb_desk.specs.Desks.{DeskState, holdings, sectors_asked, IsLawful}
+use Rattle.wb_desk.specs.Desks.{DeskState, holdings, sectors_asked, IsGivenLawfully}
 use Rattle.wb_tasks.specs.declared.step.Migration.TheVariants.{Promote, Demote, Clean}
 use Rattle.wb_tasks.specs.Plan.{device_of}
 use Rattle.wb_tasks.specs.declared.step.Want.{Want}
@@ -247,8 +247,8 @@ may_promote desk block c = elim (two_of (two_of (not_passthrough desk.mode) (two
 ]
 
 -- whether one of a block's order may be given that takes the cache block where it stands
-may_where : {P : Type 0} (desk : DeskState P) (block : OBlock) (order : CBlock → Order) → ((cache : CBlock) → IsMappedAt (holdings desk) block.0 cache.0 → IsLawful desk cache (order cache)) →
-    ((cache : CBlock) → IsLawful desk cache (order cache) → IsMappedAt (holdings desk) block.0 cache.0) → Decided (MayOrder desk order)
+may_where : {P : Type 0} (desk : DeskState P) (block : OBlock) (order : CBlock → Order) → ((cache : CBlock) → IsMappedAt (holdings desk) block.0 cache.0 → IsGivenLawfully desk cache (order cache)) →
+    ((cache : CBlock) → IsGivenLawfully desk cache (order cache) → IsMappedAt (holdings desk) block.0 cache.0) → Decided (MayOrder desk order)
 may_where desk block order to from = elim (two_of (not_passthrough desk.mode)
     (found_where (holdings desk) block.0 (λ c. MayGive desk.orders (record { 0 = c }) (order (record { 0 = c })) (sectors_asked desk.geometry (order (record { 0 = c }))) desk.threshold) (λ c. may_give desk (record { 0 = c }) (order (record { 0 = c }))))) [
       | inl d ↦ inl (record { 0 = d.1.0 }, record { mode = d.0; lawful = to (record { 0 = d.1.0 }) d.1.1; give = d.1.2 })

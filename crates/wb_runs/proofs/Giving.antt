@@ -20,7 +20,7 @@ use Rattle.wb_disk.specs.Failing.{lands}
 use Rattle.wb_disk.proofs.Leaving.{read-left}
 use Rattle.wb_format.specs.declared.node.Node.{Node}
 use Rattle.wb_tree.specs.declared.image.Image.{Image}
-use Rattle.wb_meta.specs.Commits.{HasCome}
+use Rattle.wb_meta.specs.Commits.{CommitHasCome}
 use Rattle.wb_meta.specs.Reads.{IsDone, sectors_read}
 use Rattle.wb_meta.specs.Steps.{DoesStep, NodeOrSync, coming_step}
 use Rattle.wb_meta.specs.declared.read_steps.ReadSteps.{ReadSteps}
@@ -76,7 +76,7 @@ contents_from device (suc count) first l =
 
 -- ---- a commit that runs
 
-come_size : (image : Image) (before : List History) (steps : CommitSteps) (now : List History) → HasCome image before steps now → length now ≡ length before
+come_size : (image : Image) (before : List History) (steps : CommitSteps) (now : List History) → CommitHasCome image before steps now → length now ≡ length before
 come_size image before (NodesWritten count) now come = come.grew.size
 come_size image before NodesSynced now come = come.grew.size
 come_size image before RootWritten now come = come.safe.grew.size

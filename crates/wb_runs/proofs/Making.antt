@@ -13,7 +13,7 @@ use Rattle.wb_types.specs.declared.geometry.Geometry.{Geometry}
 use Rattle.wb_types.specs.declared.number.Place.{Place}
 use Rattle.wb_disk.specs.Device.{History}
 use Rattle.wb_format.specs.declared.node.Node.{Node}
-use Rattle.wb_format.specs.NodeWords.{IsEntry, IsLeafWord, IsWord, entry_word}
+use Rattle.wb_format.specs.NodeWords.{IsEntry, IsLeafWord, IsNodeWord, entry_word}
 use Rattle.wb_format.proofs.WordLemmas.{IsWord-everywhere}
 use Rattle.wb_tree.specs.declared.image.Image.{Image}
 use Rattle.wb_tree.specs.Mapping.{Mapping, NodeName, IsMapping, AreInside, nodes_of, place_of, changed, changed_of}
@@ -156,7 +156,7 @@ module _ (heap : Global) (m : Mapping) (geometry : Geometry) (free : List Place)
   place_small level index None e = omega arith
   place_small level index (Some p) e = let i = inside p (record { level = level; index = index; known = e }) in omega (arith, i.1, geometry.within.meta_to)
 
-  word_is : (level index j : ℕ) → 1 ≤ level → IsWord level (word_at n level index j)
+  word_is : (level index j : ℕ) → 1 ≤ level → IsNodeWord level (word_at n level index j)
   word_is zero index j l = absurd (omega (arith, l))
   word_is (suc zero) index j l = record {
     leaf = λ e. subst IsLeafWord (sym (leaf-word m free 1 index j refl)) (leaf_word (slice_index_or m.entries (32 * index + j) None) (may.spelled (32 * index + j)));
@@ -181,7 +181,7 @@ module _ (heap : Global) (m : Mapping) (geometry : Geometry) (free : List Place)
     words = words_of name;
     level_from = from;
     level_to = to;
-    spelled = IsWord-everywhere name.level (words_of name) (λ k below. subst (IsWord name.level) (sym (words_there name k (omega (arith, below, length-words_from (word_at n name.level name.index) 32 0)))) (word_is name.level name.index k from));
+    spelled = IsWord-everywhere name.level (words_of name) (λ k below. subst (IsNodeWord name.level) (sym (words_there name k (omega (arith, below, length-words_from (word_at n name.level name.index) 32 0)))) (word_is name.level name.index k from));
   }
 
   abbrev Whole : Place × Node → Type 0

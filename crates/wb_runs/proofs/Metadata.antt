@@ -19,7 +19,7 @@ use Rattle.wb_meta.specs.declared.read_steps.State.{State as Stored_there}
 use Rattle.wb_meta.specs.declared.commit_steps.CommitSteps.{CommitSteps}
 use Rattle.wb_meta.specs.declared.commit_steps.CommitSteps.TheVariants.{NodesWritten}
 use Rattle.wb_meta.specs.Representing.{Stored}
-use Rattle.wb_meta.specs.Commits.{HasCome}
+use Rattle.wb_meta.specs.Commits.{CommitHasCome}
 use Rattle.wb_meta.specs.Reads.{HasRead, AreStepsOn, FitsDevice}
 use Rattle.wb_meta.proofs.Round.{stored_edited}
 use Rattle.wb_orders.specs.Orders.{AreOrders}
@@ -184,7 +184,7 @@ module _ (P : Type 0) (g : Geometry) (images : Images) (desk : DeskState P) (dev
                 are = ap (λ (s : CommitSteps). Rattle.wb_runs.proofs.Underway.images_of of (Rattle.wb_runs.proofs.Underway.is_written s)) (sym steps);
                 can = both.0;
                 image = refl;
-                come = subst (λ (s : CommitSteps). HasCome image device s device) (sym steps) both.1;
+                come = subst (λ (s : CommitSteps). CommitHasCome image device s device) (sym steps) both.1;
                 same = q.same;
                 fit = q.fit;
                 fit_new = λ c. absurd (let unclean = begun.image_is.root_clean in cc);
@@ -257,7 +257,7 @@ module _ (A : Type 0) (g : Geometry) (images : Images) (device : List History) w
                 are = ap (λ (s : CommitSteps). Rattle.wb_runs.proofs.Underway.images_of of (Rattle.wb_runs.proofs.Underway.is_written s)) (sym next.steps);
                 can = both.0;
                 image = refl;
-                come = subst (λ (s : CommitSteps). HasCome image device s device) (sym next.steps) both.1;
+                come = subst (λ (s : CommitSteps). CommitHasCome image device s device) (sym next.steps) both.1;
                 same = k.found.read.same_geometry;
                 fit = k.found.fit;
                 fit_new = λ c. absurd (let unclean = ap (λ (r : Root). r.clean) opens.root_is in cc);

@@ -165,7 +165,7 @@ module _ (P A : Type 0) (shape : Shape) where
       old : Represents sectors i.committed.root i.committed.found → CanBeRead shape sectors
       old represents = record { stored = i.committed; represents = represents; geometry = r.read.same_geometry; clean = r.fit }
 
-      by_written : (written : Bool) (running : Option Stored) → IsFitToo running → Rattle.wb_meta.specs.Roots.IsOf shape.geometry (if written then running else None) → AreOneOf i.committed (if written then running else None) sectors → CanBeRead shape sectors
+      by_written : (written : Bool) (running : Option Stored) → IsFitToo running → Rattle.wb_meta.specs.Roots.StoredIsOf shape.geometry (if written then running else None) → AreOneOf i.committed (if written then running else None) sectors → CanBeRead shape sectors
       by_written false running f g are = old are
       by_written true None f g are = old are
       by_written true (Some s) f g are = elim are [ inl o ↦ old o | inr n ↦ record { stored = s; represents = n; geometry = g; clean = f } ]

@@ -5,7 +5,7 @@ use Rattle.std.proofs.lemmas.List.{append_assoc, get_or-append_right, get_or_app
 use Rattle.wb_types.specs.declared.number.Place.{Place}
 use Rattle.wb_format.specs.Bytes.{number_at}
 use Rattle.wb_format.specs.Layout.{SpellsNode, node_magic}
-use Rattle.wb_format.specs.NodeWords.{IsWord}
+use Rattle.wb_format.specs.NodeWords.{IsNodeWord}
 use Rattle.wb_format.specs.declared.node.Node.{Node}
 use Rattle.wb_format.proofs.Numbers.{number_at-written, zero-from_bytes, zeros_all, little_bytes-below}
 use Rattle.wb_tree.specs.declared.image.Image.{Image}
@@ -50,7 +50,7 @@ words_there front (w ∷ ws) rest offset (suc j) e small l =
     ∙ words_there (front ++ eight w) ws rest (offset + 8) j (length-append front (eight w) ∙ (let s : length (eight w) ≡ 8 = refl in omega (arith, e, s))) (λ i. small (suc i)) (omega (arith, l))
 
 -- a word of a node fits eight bytes
-word_fits : (level word : ℕ) → IsWord level word → word < 256 ^ 8
+word_fits : (level word : ℕ) → IsNodeWord level word → word < 256 ^ 8
 word_fits level word is = elim (cases_eq level 1) [
   | inl leaf ↦ let none = (is.leaf leaf).bits_from_36 in omega (arith, none)
   | inr inner ↦ let few = (is.inner inner).place in omega (arith, few)

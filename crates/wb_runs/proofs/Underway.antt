@@ -11,7 +11,7 @@ use Rattle.wb_tree.specs.declared.image.Image.{Image}
 use Rattle.wb_meta.specs.declared.commit_steps.CommitSteps.{CommitSteps}
 use Rattle.wb_meta.specs.declared.commit_steps.CommitSteps.TheVariants.{NodesWritten, NodesSynced, RootWritten, Done as Committed}
 use Rattle.wb_meta.specs.Representing.{Stored}
-use Rattle.wb_meta.specs.Commits.{HasCome, HasFailed}
+use Rattle.wb_meta.specs.Commits.{CommitHasCome, HasFailed}
 use Rattle.wb_meta.specs.Steps.{DoesStep, FailsStep, steps_after}
 use Rattle.wb_meta.specs.Imaging.{DeviceStores}
 use Rattle.wb_meta.proofs.Stepping.{goes_on as step_goes_on, fails as step_fails}
@@ -47,7 +47,7 @@ pub record Underway (g : Geometry) (images : Images) (commit : RunningCommit) (o
   pub are : images ≡ images_of of (is_written commit.steps)
   pub can : CanBeMade of
   pub image : of.image ≡ commit.image
-  pub come : HasCome of.image of.before commit.steps device
+  pub come : CommitHasCome of.image of.before commit.steps device
   pub same : of.old.root.geometry ≡ g
   pub fit : IsFit of.old
   pub fit_new : IsFit of.new
@@ -59,7 +59,7 @@ read_as g of now written same fit fit_new may = record { read = subst (λ (x : G
 pub underway_readable : (g : Geometry) (images : Images) (commit : RunningCommit) (of : Commit) (device : List History) → Underway g images commit of device → Readable g images device
 underway_readable g images commit of device u = subst (λ (i : Images). Readable g i device) (sym u.are) (by_steps commit.steps u.come)
   where
-    by_steps : (steps : CommitSteps) → HasCome of.image of.before steps device → Readable g (images_of of (is_written steps)) device
+    by_steps : (steps : CommitSteps) → CommitHasCome of.image of.before steps device → Readable g (images_of of (is_written steps)) device
     by_steps (NodesWritten count) come = read_as g of device false u.same u.fit u.fit_new (early of u.can (NodesWritten count) device tt come)
     by_steps NodesSynced come = read_as g of device false u.same u.fit u.fit_new (early of u.can NodesSynced device tt come)
     by_steps RootWritten come = read_as g of device true u.same u.fit u.fit_new (during of u.can RootWritten device come)
@@ -87,7 +87,7 @@ led_on g images commit of old new u does =
         are = ap (λ (i : Image). images_of of (is_written (steps_after i commit.steps))) u.image;
         can = u.can;
         image = u.image;
-        come = subst (λ (i : Image). HasCome of.image of.before (steps_after i commit.steps) new) u.image
+        come = subst (λ (i : Image). CommitHasCome of.image of.before (steps_after i commit.steps) new) u.image
             (step_goes_on of.image of.old.root.geometry.meta_sectors of.before old new commit.steps u.can.places u.come
             (subst (λ (i : Image). DoesStep i commit.steps old new) (sym u.image) does));
         same = u.same;
@@ -110,7 +110,7 @@ stopped g images commit of old new u failing = by_steps commit.steps u.are
 pub all_done : (g : Geometry) (images : Images) (commit : RunningCommit) (of : Commit) (device : List History) → Underway g images commit of device → is_committed commit.steps ≡ true → DeviceStores of.tree device of.new of.used
 all_done g images commit of device u done = by_steps commit.steps done u.come
   where
-    by_steps : (steps : CommitSteps) → is_committed steps ≡ true → HasCome of.image of.before steps device → DeviceStores of.tree device of.new of.used
+    by_steps : (steps : CommitSteps) → is_committed steps ≡ true → CommitHasCome of.image of.before steps device → DeviceStores of.tree device of.new of.used
     by_steps (NodesWritten count) e come = absurd (cc)
     by_steps NodesSynced e come = absurd (cc)
     by_steps RootWritten e come = absurd (cc)

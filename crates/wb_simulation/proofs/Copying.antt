@@ -28,7 +28,7 @@ use Rattle.wb_link.specs.World.{World, Shared, Held as Having, Owns, AbstractAct
 use Rattle.wb_refines.specs.Going.{shared_after, gone, MayGo}
 use Rattle.wb_contents.specs.Devices.{by_block}
 use Rattle.wb_refines.specs.Translation.{location_at, offsets, offsets_in}
-use Rattle.wb_refines.specs.Data.{IsSide, Moves, left_with as left_there, read_fault, write_fault}
+use Rattle.wb_refines.specs.Data.{IsSide, DeviceMoves, left_with as left_there, read_fault, write_fault}
 use Rattle.wb_refines.specs.Models.{SawSeal, SameImages, WordsAgree, plan_of, held_of, held_for}
 use Rattle.wb_refines.specs.Migrations.{order_on, migration_wants, job_under, migrating}
 use Rattle.wb_refines.specs.Carried.{IsMigrationAt, AnswersAlike}
@@ -40,7 +40,7 @@ use Rattle.wb_promise.specs.declared.job.Job.TheVariants.{Migrate}
 use Rattle.wb_promise.specs.Effects.{contents_at}
 use Rattle.wb_promise.specs.States.{Actor, with_device}
 use Rattle.wb_simulation.specs.Steps.{IsNoWrite, IsTail, IsWrittenNext}
-use Rattle.wb_simulation.specs.Carried.{order_there, HasRead, IsCarried}
+use Rattle.wb_simulation.specs.Carried.{order_there, ActorHasRead, IsCarried}
 use Rattle.wb_simulation.proofs.Orders.{GoesOn, carried_again}
 use Rattle.wb_simulation.proofs.Carrying.{carry_on, carried_job, carried_order}
 use Rattle.wb_simulation.specs.Worlds.{Situation, zeros, Agrees, Stays}
@@ -62,12 +62,12 @@ given_from (h ∷ hs) zero (suc n) l = let later = given_from hs zero n (omega (
 given_from (h ∷ hs) (suc at) count l = let later = given_from hs at count (omega (arith, l)) in (later.0, given_behind h hs at (map newest (take count (drop at hs))) later.1)
 
 -- what is no write has nothing to have been read
-pub no_write_read : (size : ℕ) (steps : List Want) (buffer : List Content) (there : ℕ → Content) → IsNoWrite steps → HasRead size steps buffer there
+pub no_write_read : (size : ℕ) (steps : List Want) (buffer : List Content) (there : ℕ → Content) → IsNoWrite steps → ActorHasRead size steps buffer there
 no_write_read size (Device (Write device e) ∷ ws) buffer there n = absurd n
 no_write_read size steps buffer there n = tt
 
 -- what is read for a write next is what that writes
-written_next : (size : ℕ) (e : Extent) (ws : List Want) (buffer : List Content) (there : ℕ → Content) → IsWrittenNext size e ws → buffer ≡ map there (offsets_in size e) → HasRead size ws buffer there
+written_next : (size : ℕ) (e : Extent) (ws : List Want) (buffer : List Content) (there : ℕ → Content) → IsWrittenNext size e ws → buffer ≡ map there (offsets_in size e) → ActorHasRead size ws buffer there
 written_next size e (Device (Write to r) ∷ later) buffer there w is = is ∙ sym (λ i. map there (rising (w.1 i) (w.0 i)))
 written_next size e ws buffer there w is = absurd w
 
@@ -175,7 +175,7 @@ module _ (now : Situation) (blocks : ℕ) (a : ℕ) (x : Actor) (s : World) (y :
     wants us = migration_wants now.size own_now all migration us
 
     abbrev Went : Option Script → AbstractGot → List History → List AbstractWant → AbstractAnswer → (ℕ → Content) → Type 0
-    Went task got after steps told there = Moves now.size zeros s.actors a s.shared y task (location_at now.size device e) got after (record (left_there y its_job steps told) { buffer = there })
+    Went task got after steps told there = DeviceMoves now.size zeros s.actors a s.shared y task (location_at now.size device e) got after (record (left_there y its_job steps told) { buffer = there })
 
     -- it has moved an extent, or failed at that, and this is left
     moves_on : (us : List Want) (told : AbstractAnswer) (then_answer : Answer) (buffer : List Content) (there : ℕ → Content) (got : AbstractGot) (after : List History) → Went (Some (record { job = its_job; steps = wants (Device step ∷ ws); answer = f.at.answer })) got after (wants us) told there →

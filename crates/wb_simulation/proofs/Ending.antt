@@ -24,7 +24,7 @@ use Rattle.wb_simulation.specs.Actors.{IsLate, IsRequestAt, IsDoing, StandsFor}
 use Rattle.wb_simulation.specs.Carried.{held}
 use Rattle.wb_simulation.specs.Telling.{Telling, Answers, IsTold}
 use Rattle.wb_simulation.specs.Worlds.{Situation, Agrees, WorldFollows}
-use Rattle.wb_simulation.specs.Laws.{AnswersFollowed, IsRequestJob, content_of}
+use Rattle.wb_simulation.specs.Laws.{AnswersFollowed, IsRequestJob, job_content}
 use Rattle.wb_simulation.proofs.Cells.{Leading}
 use Rattle.wb_simulation.proofs.Telling.{nothing_told, answers_at, stopped_answers, late_answers_so}
 use Rattle.wb_simulation.proofs.Orders.{does_none}
@@ -88,7 +88,7 @@ module _ (now : Situation) (a : ℕ) (x : Actor) (s : World) (y : AbstractActor)
       by h (inr (inl k)) = answers x.orders x.awaiting (λ o c. c) (Answers (job_for now.size content p.job) answer) (stopped_answers (job_for now.size content p.job) st.failed p x.card answer y refl k, refl) (stopped_over now.words st.failed st.has_failed p x.card y refl k)
       by h (inr (inr l)) = answers x.orders x.awaiting (λ o c. c) (Answers (job_for now.size content p.job) answer) (late_answers_so (job_for now.size content p.job) st.failed p answer y refl (λ t. let bad = ap (λ (q : Plan). q.steps) t in absurd (cc)) l, refl) (late_over now.words st.failed st.has_failed p y l)
 
-  followed : (blocks : ℕ) (job : Job) (plan : Plan) (answer : Answer) → IsRequestJob job → want plan ≡ End answer → Suits blocks plan x.card → IsDoing now.size now.most st.failed job plan x.card y → Goal plan (content_of job) answer
+  followed : (blocks : ℕ) (job : Job) (plan : Plan) (answer : Answer) → IsRequestJob job → want plan ≡ End answer → Suits blocks plan x.card → IsDoing now.size now.most st.failed job plan x.card y → Goal plan (job_content job) answer
   followed blocks (Read extent) plan answer q next suits d = of_request blocks [] Reading plan answer next suits d
   followed blocks (Write extent content) plan answer q next suits d = of_request blocks content Writing plan answer next suits d
   followed blocks job plan answer q next suits d = absurd q

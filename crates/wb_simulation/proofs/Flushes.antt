@@ -25,7 +25,7 @@ use Rattle.wb_promise.specs.States.{Actor, with_device}
 use Rattle.wb_simulation.specs.Actors.{IsLate, IsFlushAt, IsLeading, IsOfFlush, LeadsAt, StandsFor}
 use Rattle.wb_simulation.specs.Telling.{Quietly, Answers, Releases}
 use Rattle.wb_simulation.specs.Worlds.{Situation, Agrees, Begins, Puts, Ends, GivesUp, WorldFollowsBy, WorldFollows}
-use Rattle.wb_simulation.specs.Laws.{WantsNext, FlushStepsFollowed, after_step, turn_of, went}
+use Rattle.wb_simulation.specs.Laws.{WantsNext, FlushStepsFollowed, after_step, turn_of, stepped_actor}
 use Rattle.wb_types.specs.declared.number.OBlock.{OBlock}
 use Rattle.wb_simulation.specs.Carried.{held}
 use Rattle.wb_simulation.proofs.Among.{own_there}
@@ -62,13 +62,13 @@ module _ (now : Situation) (a : ℕ) (x : Actor) (plan : Plan) (s : World) (next
       let same : flushing serves now.most (Desk (BeginCommit false now.most) ∷ []) plan.answer ≡ flushing serves now.most (Desk (BeginCommit clean allowed) ∷ later) plan.answer = (λ i. flushing serves now.most (Desk (BeginCommit (sym o.0 i) (sym o.1 i)) ∷ sym o.2 i) plan.answer) in
       subst P same (h (subst (λ (p : Plan). IsFlushing now.size [] p false y) (sym same) (not_leading (Desk (BeginCommit clean allowed)) later leads l is))))
 
-  look : want plan ≡ Cell (Look Fail) → WorldFollows Quietly a s now (went now.words Flush plan (Look Fail) x)
-  look e = first plan (Flushing serves now.most) (Cell (Look Fail)) f.job e (λ p. IsOfFlush now.most p.steps → At p → WorldFollows Quietly a s now (went now.words Flush p (Look Fail) x)) (λ later k o at. by later o at) (λ k q. absurd (cc)) f.steps f.at
+  look : want plan ≡ Cell (Look Fail) → WorldFollows Quietly a s now (stepped_actor now.words Flush plan (Look Fail) x)
+  look e = first plan (Flushing serves now.most) (Cell (Look Fail)) f.job e (λ p. IsOfFlush now.most p.steps → At p → WorldFollows Quietly a s now (stepped_actor now.words Flush p (Look Fail) x)) (λ later k o at. by later o at) (λ k q. absurd (cc)) f.steps f.at
     where
       At : Plan → Type 0
       At p = IsLeading now.size its.2.failed p y ⊎ IsLate its.2.failed p y
 
-      by : (later : List Want) → later ≡ Desk (BeginCommit false now.most) ∷ [] → At (flushing serves now.most (Cell (Look Fail) ∷ later) plan.answer) → WorldFollows Quietly a s now (went now.words Flush (flushing serves now.most (Cell (Look Fail) ∷ later) plan.answer) (Look Fail) x)
+      by : (later : List Want) → later ≡ Desk (BeginCommit false now.most) ∷ [] → At (flushing serves now.most (Cell (Look Fail) ∷ later) plan.answer) → WorldFollows Quietly a s now (stepped_actor now.words Flush (flushing serves now.most (Cell (Look Fail) ∷ later) plan.answer) (Look Fail) x)
       by later o (inl l) = looks now serves a x s y wants.here its.1 wants.agrees later plan.answer o (not_leading (Cell (Look Fail)) later l.leads l.at l.is)
       by later o (inr l) = late_looks now serves a x s y wants.here its.1 wants.agrees later plan.answer its.2 l
 
@@ -130,8 +130,8 @@ flush_steps_followed = record {
       (λ later leads l o is. gives_up now n a x s u.0 wants.here u.1 wants.agrees block later plan.answer o (not_leading now a x plan s _ wants (Desk (ReleaseOrder block)) later leads l is) c order awaiting' slot only);
   fails = λ now failures suspensions a x plan s w wants.
       let u = its now a x plan s _ wants in let n = serves now a x plan s _ wants in
-      at_flush now a x plan s _ wants tt (λ p. WorldFollows Quietly a s (record now { words = words_after now.words SetFailed }) (went now.words Flush p SetFailed x))
-      (λ later leads l o is. let same : [] ≡ later = sym o in subst (λ (ws : List Want). WorldFollows Quietly a s (record now { words = words_after now.words SetFailed }) (went now.words Flush (flushing n now.most (Cell SetFailed ∷ ws) plan.answer) SetFailed x)) same
+      at_flush now a x plan s _ wants tt (λ p. WorldFollows Quietly a s (record now { words = words_after now.words SetFailed }) (stepped_actor now.words Flush p SetFailed x))
+      (λ later leads l o is. let same : [] ≡ later = sym o in subst (λ (ws : List Want). WorldFollows Quietly a s (record now { words = words_after now.words SetFailed }) (stepped_actor now.words Flush (flushing n now.most (Cell SetFailed ∷ ws) plan.answer) SetFailed x)) same
       (fails now n a x s u.0 wants.here u.1 wants.agrees failures suspensions plan.answer w (subst (λ (ws : List Want). IsFlushing now.size [] (flushing n now.most (Cell SetFailed ∷ ws) plan.answer) true u.0) o (leading now n a x s u.0 wants.here u.1 wants.agrees (Cell SetFailed) later plan.answer leads l is))));
   answers = λ now answer a x plan orders' awaiting' s wants keeps. answered now a x plan s _ wants orders' awaiting' keeps answer wants.asks;
 }

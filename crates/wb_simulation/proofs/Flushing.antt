@@ -32,7 +32,7 @@ use Rattle.wb_link.specs.World.{World, Shared, AbstractActor, effect}
 use Rattle.wb_refines.specs.Going.{gone, AreQuiet, shared_after}
 use Rattle.wb_refines.specs.Translation.{wants_of}
 use Rattle.wb_refines.specs.Models.{WordsAgree}
-use Rattle.wb_refines.specs.Flushes.{IsFlushing, IsOnMetadata, IsNoBegin, IsWrittenAfter, flushing, Leads}
+use Rattle.wb_refines.specs.Flushes.{IsFlushing, IsOnMetadata, IsNoBegin, IsWrittenAfter, flushing, CanGoOn}
 use Rattle.wb_refines.proofs.Cells.{failed_flag}
 use Rattle.wb_refines.proofs.Flushing.{flush_steps_followed as followed_alone}
 use Rattle.wb_promise.specs.declared.job.Job.TheVariants.{Flush}
@@ -40,7 +40,7 @@ use Rattle.wb_promise.specs.States.{Actor, with_device}
 use Rattle.wb_simulation.specs.Actors.{IsLate, IsOfFlush, LeadsAt, StandsFor, AreReleases}
 use Rattle.wb_simulation.specs.Telling.{Quietly, Releases}
 use Rattle.wb_simulation.specs.Worlds.{Situation, zeros, Agrees, Turn, Stays, Begins, Puts, Ends, GivesUp, TurnedTo, DeskTurnedTo, WorldFollowsBy, WorldFollows, IsUnfinished}
-use Rattle.wb_simulation.specs.Laws.{turn_of, went, IsOnlyOf}
+use Rattle.wb_simulation.specs.Laws.{turn_of, stepped_actor, IsOnlyOf}
 use Rattle.wb_simulation.proofs.Telling.{unnoted_none, quiet_are_unnoted}
 use Rattle.wb_types.specs.declared.number.OBlock.{OBlock}
 use Rattle.wb_simulation.proofs.Orders.{does_none}
@@ -91,7 +91,7 @@ module _ (now : Situation) (serves : List OBlock) (a : ℕ) (x : Actor) (s : Wor
   sync_falls lands Metadata h later answer is = absurd h
 
   -- a step on the metadata is done, or fails; the data devices are as they were
-  metadata_goes : (turn : Turn) (metadata : List History) (step : DeviceStep) (later : List Want) (answer : Answer) (t : Shared) → IsOnMetadata (Device step ∷ later) → IsOnMetadata later → IsFlushing now.size [] (flushing serves now.most (Device step ∷ later) answer) true y → Leads now.size [] s.actors a s.shared y t (flushing serves now.most later answer) true →
+  metadata_goes : (turn : Turn) (metadata : List History) (step : DeviceStep) (later : List Want) (answer : Answer) (t : Shared) → IsOnMetadata (Device step ∷ later) → IsOnMetadata later → IsFlushing now.size [] (flushing serves now.most (Device step ∷ later) answer) true y → CanGoOn now.size [] s.actors a s.shared y t (flushing serves now.most later answer) true →
       WordsAgree now.words t → t.origin ≡ s.shared.origin → t.cache ≡ s.shared.cache → t.mode ≡ s.shared.mode → t.committing ≡ s.shared.committing → t.broken ≡ s.shared.broken → TurnedTo turn s.shared t → DeskTurnedTo turn s.shared t → t.mapping ≡ s.shared.mapping → OnBy turn (with_device Metadata now.devices metadata) (flushing serves now.most later answer)
   metadata_goes turn metadata step later answer t on m is l w og ca mo co br turned desk same_map =
       goes now serves a x s y ex ey g turn (with_device Metadata now.devices metadata) (Device step) later answer (flushing serves now.most later answer) t is (has_wants now.size (Device step ∷ later) on) l refl (commits_on now.most later m).0 (commits_on now.most later m).1 (some_on later m) w (og ∙ g.origin) (ca ∙ g.cache) mo co br turned desk same_map
@@ -124,7 +124,7 @@ module _ (now : Situation) (serves : List OBlock) (a : ℕ) (x : Actor) (s : Wor
   -- ---- the desk and the words
 
   -- the flush leads no commit before it and after it
-  follows_alone : (devices' : Devices (List History)) (plan' : Plan) (card' : Card) → plan'.job ≡ Flushing serves now.most → IsOfFlush now.most plan'.steps → LeadsAt false plan'.steps → Leads now.size [] s.actors a s.shared y s.shared plan' false →
+  follows_alone : (devices' : Devices (List History)) (plan' : Plan) (card' : Card) → plan'.job ≡ Flushing serves now.most → IsOfFlush now.most plan'.steps → LeadsAt false plan'.steps → CanGoOn now.size [] s.actors a s.shared y s.shared plan' false →
       devices' ≡ now.devices → y.order ≡ None → WorldFollows Quietly a s (record now { devices = devices' }) (record x { task = Some (Flush, plan'); card = card' })
   follows_alone devices' plan' card' j o at l d own = subst (λ (ds : Devices (List History)). WorldFollows Quietly a s (record now { devices = ds }) (record x { task = Some (Flush, plan'); card = card' })) (sym d)
       (goes_on now now.words (λ f. f) a x (record x { task = Some (Flush, plan'); card = card' }) s y g ex ey Quietly now.devices l.results s.shared (l.results, quiet_are_unnoted y.task l.results l.quiet, refl) l.may l.shared
@@ -215,12 +215,12 @@ module _ (now : Situation) (serves : List OBlock) (a : ℕ) (x : Actor) (s : Wor
   -- ---- its look at the fail word, and its answer
 
   pub looks : (later : List Want) (answer : Answer) → later ≡ Desk (BeginCommit false now.most) ∷ [] → IsFlushing now.size [] (flushing serves now.most (Cell (Look Fail) ∷ later) answer) false y →
-      WorldFollows Quietly a s now (went now.words Flush (flushing serves now.most (Cell (Look Fail) ∷ later) answer) (Look Fail) x)
+      WorldFollows Quietly a s now (stepped_actor now.words Flush (flushing serves now.most (Cell (Look Fail) ∷ later) answer) (Look Fail) x)
   looks later answer n is = subst (λ (ws : List Want). Goal ws) (sym n)
       (let k = by_test (now.words.fail == 0) in follows_alone now.devices (after begun (Word now.words.fail)) _ k.2 k.0 k.1 (followed_alone.looks now.size serves now.most now.words.fail [] s.actors a s.shared y answer g.words_agree.fail is') refl (ap (λ (v : AbstractActor). v.order) is.is))
     where
       Goal : List Want → Type 0
-      Goal ws = WorldFollows Quietly a s now (went now.words Flush (flushing serves now.most (Cell (Look Fail) ∷ ws) answer) (Look Fail) x)
+      Goal ws = WorldFollows Quietly a s now (stepped_actor now.words Flush (flushing serves now.most (Cell (Look Fail) ∷ ws) answer) (Look Fail) x)
 
       begun : Plan
       begun = flushing serves now.most (Cell (Look Fail) ∷ Desk (BeginCommit false now.most) ∷ []) answer
@@ -237,7 +237,7 @@ module _ (now : Situation) (serves : List OBlock) (a : ℕ) (x : Actor) (s : Wor
 
 -- one that is late has no task there
 pub late_looks : (now : Situation) (serves : List OBlock) (a : ℕ) (x : Actor) (s : World) (y : AbstractActor) → slice_get now.actors a ≡ Some x → slice_get s.actors a ≡ Some y → Agrees now s →
-    (later : List Want) (answer : Answer) (st : StandsFor now.size now.most now.words x y) → IsLate st.failed (flushing serves now.most (Cell (Look Fail) ∷ later) answer) y → WorldFollows Quietly a s now (went now.words Flush (flushing serves now.most (Cell (Look Fail) ∷ later) answer) (Look Fail) x)
+    (later : List Want) (answer : Answer) (st : StandsFor now.size now.most now.words x y) → IsLate st.failed (flushing serves now.most (Cell (Look Fail) ∷ later) answer) y → WorldFollows Quietly a s now (stepped_actor now.words Flush (flushing serves now.most (Cell (Look Fail) ∷ later) answer) (Look Fail) x)
 late_looks now serves a x s y ex ey g later answer st l = subst (λ (p : Plan). WorldFollows Quietly a s now (record x { task = Some (Flush, p); card = card_after now.words (Look Fail) x.card })) (sym (finds_failed now.words (Flushing serves now.most) later answer (st.has_failed l.has_failed)))
     (stays_there now a x (record x { task = Some (Flush, flushing serves now.most [] (Refuses Failed)); card = card_after now.words (Look Fail) x.card }) s y g ex ey Quietly ([], unnoted_none y.task, refl)
     (record { failed = st.failed; has_failed = st.has_failed; at = record { serves = serves; job = refl; steps = tt; at = inr (record { has_failed = l.has_failed; nothing = l.nothing; at = inr (refl, λ e. absurd (cc)) }) }; below = record { owned = st.below.owned; shared = st.below.shared }; among_others = st.among_others }) (λ o h. h) (does_none _ _ _ _ _ tt))

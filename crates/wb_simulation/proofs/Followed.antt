@@ -30,7 +30,7 @@ use Rattle.wb_simulation.specs.Steps.{IsPart, AreOfBlock}
 use Rattle.wb_simulation.specs.Actors.{IsLate, IsRequestAt, IsDoing, IsBusyAt, StandsFor}
 use Rattle.wb_simulation.specs.Telling.{Telling, Quietly, IsTold}
 use Rattle.wb_simulation.specs.Worlds.{Situation, Agrees, WorldFollows}
-use Rattle.wb_simulation.specs.Laws.{CellStepsFollowed, IsRequestJob, went}
+use Rattle.wb_simulation.specs.Laws.{CellStepsFollowed, IsRequestJob, stepped_actor}
 use Rattle.wb_simulation.proofs.Telling.{quiet_are_unnoted}
 use Rattle.wb_simulation.proofs.Steps.{read_of_block, write_of_block, after_cell}
 use Rattle.wb_simulation.proofs.Cells.{Acted, acts_in_role, acts_over, tells}
@@ -85,15 +85,15 @@ module _ (now : Situation) (blocks : ℕ) (a : ℕ) (x : Actor) (job : Job) (ste
     (rule : LockRule blocks now.words (cards_of now.actors)) (ex : slice_get now.actors a ≡ Some x) (ey : slice_get s.actors a ≡ Some y) (g : Agrees now s) where
   -- what its actor did on the words, among all others
   pub among_all : {At : AbstractActor → Type 0} {Is : AbstractJob → Type 0} (plan : Plan) (telling : Telling) (acted : Acted At Is s.actors a s.shared y (words_after now.words step) (after plan (got_of (result_of now.words step))) (card_after now.words step x.card)) → IsTold telling a y.task (records a y.task acted.results) →
-      IsDoing now.size now.most acted.failed job (after plan (got_of (result_of now.words step))) (card_after now.words step x.card) (gone y y.task acted.results) → IsDone now.size (words_after now.words step) now.orders (went now.words job plan step x) (gone y y.task acted.results) →
-      WorldFollows telling a s (record now { words = words_after now.words step }) (went now.words job plan step x)
+      IsDoing now.size now.most acted.failed job (after plan (got_of (result_of now.words step))) (card_after now.words step x.card) (gone y y.task acted.results) → IsDone now.size (words_after now.words step) now.orders (stepped_actor now.words job plan step x) (gone y y.task acted.results) →
+      WorldFollows telling a s (record now { words = words_after now.words step }) (stepped_actor now.words job plan step x)
   among_all plan telling acted told doing its =
       let k = acted.same.images in
-      goes_on now (words_after now.words step) (failed_stays now.words step _ _ rule.logs.fail) a x (went now.words job plan step x) s y g ex ey telling now.devices acted.results (shared_after s.shared y y.task acted.results) told acted.may refl
+      goes_on now (words_after now.words step) (failed_stays now.words step _ _ rule.logs.fail) a x (stepped_actor now.words job plan step x) s y g ex ey telling now.devices acted.results (shared_after s.shared y y.task acted.results) told acted.may refl
       (record { failed = acted.failed; has_failed = acted.has_failed; at = doing; below = acted.below; among_others = acted.among_others }) acted.leads acted.words_agree (acted.same.origin ∙ g.origin) (acted.same.cache ∙ g.cache) k.mode k.committing k.broken (k.committed, k.running, k.root_written) (k.mapping, k.blocks) acted.order (λ o h. h) its
 
   abbrev Goal : Plan → Type 0
-  Goal plan = WorldFollows Quietly a s (record now { words = words_after now.words step }) (went now.words job plan step x)
+  Goal plan = WorldFollows Quietly a s (record now { words = words_after now.words step }) (stepped_actor now.words job plan step x)
 
   -- a request's
   of_request : (content : Content) (job_on : BlockRange → BlockJob) → ((part : BlockRange) → IsRequest (job_on part) × (range_of (job_on part) ≡ part)) → ((part : BlockRange) → IsPart now.size part → (seal : ℕ) → AreOfBlock now.size part.block.0 (work_of (OnBlock (job_on part)) seal)) →
@@ -145,7 +145,7 @@ module _ (now : Situation) (blocks : ℕ) (a : ℕ) (x : Actor) (job : Job) (ste
 
 followed : (now : Situation) (blocks : ℕ) (a : ℕ) (x : Actor) (job : Job) (plan : Plan) (step : CellStep) (s : World) (y : AbstractActor) →
     LockRule blocks now.words (cards_of now.actors) → slice_get now.actors a ≡ Some x → slice_get s.actors a ≡ Some y → IsRequestJob job → Suits blocks plan x.card → want plan ≡ Cell step → Agrees now s → (st : StandsFor now.size now.most now.words x y) → IsDoing now.size now.most st.failed job plan x.card y →
-    WorldFollows Quietly a s (record now { words = words_after now.words step }) (went now.words job plan step x)
+    WorldFollows Quietly a s (record now { words = words_after now.words step }) (stepped_actor now.words job plan step x)
 followed now blocks a x (Read extent) plan step s y rule ex ey q suits next g st d = of_request now blocks a x (Read extent) step s y rule ex ey g [] Reading (λ part. (tt, refl)) (read_of_block now.size) (λ failed p card z r. r) tt plan suits next st d
 followed now blocks a x (Write extent content) plan step s y rule ex ey q suits next g st d = of_request now blocks a x (Write extent content) step s y rule ex ey g content Writing (λ part. (tt, refl)) (write_of_block now.size) (λ failed p card z r. r) tt plan suits next st d
 followed now blocks a x job plan step s y rule ex ey q suits next g st d = absurd q

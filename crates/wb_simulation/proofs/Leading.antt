@@ -18,7 +18,7 @@ use Rattle.wb_link.specs.World.{World, Shared, AbstractActor, is_alone, job_alon
 use Rattle.wb_refines.specs.Going.{gone}
 use Rattle.wb_refines.specs.Translation.{job_for, wants_of}
 use Rattle.wb_refines.specs.Models.{WordsAgree}
-use Rattle.wb_refines.specs.Flushes.{IsFlushing, IsOnMetadata, flushing, Leads}
+use Rattle.wb_refines.specs.Flushes.{IsFlushing, IsOnMetadata, flushing, CanGoOn}
 use Rattle.wb_refines.proofs.Holding.{holds_nothing}
 use Rattle.wb_promise.specs.declared.job.Job.TheVariants.{Flush}
 use Rattle.wb_promise.specs.States.{Actor}
@@ -78,7 +78,7 @@ module _ (now : Situation) (serves : List OBlock) (a : ℕ) (x : Actor) (s : Wor
   leads_alone lead b v n ev l = n (g.one_leads b a v y ev ey l lead)
 
   -- a flush that leads goes on by a step on a device, and its commit stays whole
-  pub goes : (turn : Turn) (devices' : Devices (List History)) (next : Want) (later : List Want) (answer : Answer) (plan' : Plan) (t : Shared) → IsFlushing now.size [] (flushing serves now.most (next ∷ later) answer) true y → wants_of now.size (FlushingFor None) (next ∷ later) ≢ [] → Leads now.size [] s.actors a s.shared y t plan' true →
+  pub goes : (turn : Turn) (devices' : Devices (List History)) (next : Want) (later : List Want) (answer : Answer) (plan' : Plan) (t : Shared) → IsFlushing now.size [] (flushing serves now.most (next ∷ later) answer) true y → wants_of now.size (FlushingFor None) (next ∷ later) ≢ [] → CanGoOn now.size [] s.actors a s.shared y t plan' true →
       plan'.job ≡ Flushing serves now.most → IsOfFlush now.most plan'.steps → LeadsAt true plan'.steps → (plan'.steps ≢ []) → WordsAgree now.words t → t.origin ≡ by_block now.size zeros devices'.origin → t.cache ≡ by_block now.size zeros devices'.cache → t.mode ≡ s.shared.mode → t.committing ≡ s.shared.committing → t.broken ≡ s.shared.broken → TurnedTo turn s.shared t → DeskTurnedTo turn s.shared t → t.mapping ≡ s.shared.mapping →
       WorldFollowsBy turn Quietly a s (record now { devices = devices' }) (record x { task = Some (Flush, plan') })
   goes turn devices' next later answer plan' t is some l j o at unfinished w og ca mo co br turned desk same_map = goes_by now now.words (λ f. f) a x (record x { task = Some (Flush, plan') }) s y g ex ey turn Quietly devices' l.results t (l.results, quiet_are_unnoted y.task l.results l.quiet, refl) l.may l.shared

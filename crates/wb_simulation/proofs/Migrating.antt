@@ -32,7 +32,7 @@ use Rattle.wb_runs.specs.Holding.{cards_of}
 use Rattle.wb_simulation.specs.Steps.{IsTail}
 use Rattle.wb_simulation.specs.Carried.{IsCarried, HasEnded}
 use Rattle.wb_simulation.specs.Worlds.{Situation, Agrees, Stays}
-use Rattle.wb_simulation.specs.Laws.{WantsNext, went}
+use Rattle.wb_simulation.specs.Laws.{WantsNext, stepped_actor}
 use Rattle.wb_simulation.specs.Migrating.{SealTells, SeesWhere, Carried}
 use Rattle.wb_simulation.proofs.Steps.{AreCopies, after_cell, migration_works}
 use Rattle.wb_simulation.proofs.Cells.{Acted, acts_in_role, acts_over, tells}
@@ -111,7 +111,7 @@ module _ (now : Situation) (blocks : ℕ) (a : ℕ) (x : Actor) (step : CellStep
 
 pub cells : (now : Situation) (blocks : ℕ) (a : ℕ) (x : Actor) (migration : Migration) (block : OBlock) (plan : Plan) (step : CellStep) (s : World) →
     LockRule blocks now.words (cards_of now.actors) → WantsNext now a x s (Migrate migration block) plan (Cell step) → Suits blocks plan x.card → SeesWhere now.words now.orders s.shared.mapping migration block step →
-    Carried Stays a s (record now { words = words_after now.words step }) (went now.words (Migrate migration block) plan step x)
+    Carried Stays a s (record now { words = words_after now.words step }) (stepped_actor now.words (Migrate migration block) plan step x)
 cells now blocks a x migration block plan step s rule wants suits sees =
     let y = own_there now s wants.agrees a x wants.here in
     let d = wants.agrees.orders_agree.carried a x y.0 migration block plan wants.here y.1 wants.task in
@@ -126,12 +126,12 @@ cells now blocks a x migration block plan step s rule wants suits sees =
     At failed part y p = IsCarried now.size now.orders migration block part p.steps p.answer x y ⊎ HasEnded failed p x y ⊎ IsLate failed p y
 
     Goal : Plan → Type 0
-    Goal p = Carried Stays a s (record now { words = words_after now.words step }) (went now.words (Migrate migration block) p step x)
+    Goal p = Carried Stays a s (record now { words = words_after now.words step }) (stepped_actor now.words (Migrate migration block) p step x)
 
     goes : (part : BlockRange) (y : AbstractActor) → slice_get s.actors a ≡ Some y → (rest : List Want) {At : AbstractActor → Type 0} (acted : Acted At IsMigrating s.actors a s.shared y (words_after now.words step) (after (plan_of (Migrating migration part) (Cell step ∷ rest) plan.answer) (got_of (result_of now.words step))) (card_after now.words step x.card)) →
-        ((z : AbstractActor) → At z → IsCarried now.size now.orders migration block part (after (plan_of (Migrating migration part) (Cell step ∷ rest) plan.answer) (got_of (result_of now.words step))).steps (after (plan_of (Migrating migration part) (Cell step ∷ rest) plan.answer) (got_of (result_of now.words step))).answer (went now.words (Migrate migration block) (plan_of (Migrating migration part) (Cell step ∷ rest) plan.answer) step x) z) →
+        ((z : AbstractActor) → At z → IsCarried now.size now.orders migration block part (after (plan_of (Migrating migration part) (Cell step ∷ rest) plan.answer) (got_of (result_of now.words step))).steps (after (plan_of (Migrating migration part) (Cell step ∷ rest) plan.answer) (got_of (result_of now.words step))).answer (stepped_actor now.words (Migrate migration block) (plan_of (Migrating migration part) (Cell step ∷ rest) plan.answer) step x) z) →
         IsMigratingOf y.task → Goal (plan_of (Migrating migration part) (Cell step ∷ rest) plan.answer)
     goes part y ey rest acted carried migrates =
         let of : Plan = plan_of (Migrating migration part) (Cell step ∷ rest) plan.answer in
         among_all now blocks a x (Migrate migration block) step s y rule wants.here ey wants.agrees of Carries acted (acted.results, quiet_are_carried acted.results y.task migrates acted.quiet, refl) tt
-        (λ m b p e. at_it now.size (words_after now.words step) now.orders (went now.words (Migrate migration block) of step x) _ migration block (after of (got_of (result_of now.words step))) m b p (record { part = part; job = job_stays of (got_of (result_of now.words step)); failed = acted.failed; has_failed = acted.has_failed; at = elim acted.at [ inl i ↦ inl (carried _ i) | inr o ↦ inr o ] }) e)
+        (λ m b p e. at_it now.size (words_after now.words step) now.orders (stepped_actor now.words (Migrate migration block) of step x) _ migration block (after of (got_of (result_of now.words step))) m b p (record { part = part; job = job_stays of (got_of (result_of now.words step)); failed = acted.failed; has_failed = acted.has_failed; at = elim acted.at [ inl i ↦ inl (carried _ i) | inr o ↦ inr o ] }) e)

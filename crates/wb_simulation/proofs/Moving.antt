@@ -25,7 +25,7 @@ use Rattle.wb_link.specs.Tables.{Seal, Script, Read_all, Gave, Got as AbstractGo
 use Rattle.wb_link.specs.World.{World, Shared, AbstractActor, newest_at, is_alone}
 use Rattle.wb_refines.specs.Going.{records, shared_after}
 use Rattle.wb_refines.specs.Translation.{location_at, wants_of, job_for, script_for, answer_for, offsets, offsets_in}
-use Rattle.wb_refines.specs.Data.{IsSide, SameBeside, Moves, read_fault, write_fault}
+use Rattle.wb_refines.specs.Data.{IsSide, SameBeside, DeviceMoves, read_fault, write_fault}
 use Rattle.wb_refines.specs.Models.{IsAt, HasStopped, plan_of, SealAgrees, WordsAgree}
 use Rattle.wb_refines.proofs.Locks.{has_no_more}
 use Rattle.wb_refines.proofs.Followed.{rest_plain}
@@ -74,7 +74,7 @@ module _ (now : Situation) (a : ℕ) (x : Actor) (s : World) (y : AbstractActor)
 
   -- an actor of a request has moved an extent, and its device is this list now
   moved : (telling : Telling) (job : Job) (content : Content) (plan : Plan) (device : Dev) (e : Extent) (got : AbstractGot) (list : List History) (z : AbstractActor) → IsTold telling a y.task (records a y.task (got ∷ [])) → HoldsBlocks device →
-      Moves now.size zeros s.actors a s.shared y y.task (location_at now.size device e) got list z → IsAt now.size content plan x.card z → is_alone z.task ≡ false → IsDoing now.size now.most false job plan x.card z →
+      DeviceMoves now.size zeros s.actors a s.shared y y.task (location_at now.size device e) got list z → IsAt now.size content plan x.card z → is_alone z.task ≡ false → IsDoing now.size now.most false job plan x.card z →
       y.order ≡ None → MigratesNot job → WorldFollows telling a s (record now { devices = with_device device now.devices list }) (record x { task = Some (job, plan) })
   moved telling job content plan device e got list z told h m at alone doing own other =
       let t = shared_after s.shared y y.task (got ∷ []) in
@@ -108,8 +108,8 @@ module _ (now : Situation) (blocks : ℕ) (a : ℕ) (x : Actor) (s : World) (y :
   side = side_of now a x s y ex ey g device e h
 
   -- what it does there, whose task this is
-  by_task : (content : Content) (plan : Plan) (got : AbstractGot) (list : List History) (z : AbstractActor) → IsAt now.size content plan x.card y → Moves now.size zeros s.actors a s.shared y (Some (script_for now.size content plan)) (location_at now.size device e) got list z → Moves now.size zeros s.actors a s.shared y y.task (location_at now.size device e) got list z
-  by_task content plan got list z is m = subst (λ (task : Option Script). Moves now.size zeros s.actors a s.shared y task (location_at now.size device e) got list z) (sym (ap (λ (v : AbstractActor). v.task) is.is)) m
+  by_task : (content : Content) (plan : Plan) (got : AbstractGot) (list : List History) (z : AbstractActor) → IsAt now.size content plan x.card y → DeviceMoves now.size zeros s.actors a s.shared y (Some (script_for now.size content plan)) (location_at now.size device e) got list z → DeviceMoves now.size zeros s.actors a s.shared y y.task (location_at now.size device e) got list z
+  by_task content plan got list z is m = subst (λ (task : Option Script). DeviceMoves now.size zeros s.actors a s.shared y task (location_at now.size device e) got list z) (sym (ap (λ (v : AbstractActor). v.task) is.is)) m
 
   read_done : (extent : Extent) (contents : List Content) → AreOfBlock now.size part.block.0 (Device (ReadExtent device e) ∷ ws) → Suits blocks reading x.card → length contents ≡ e.count → GivesEach list e.first contents → IsAt now.size [] reading x.card y → Then (Reads part.block.0 (e.first % now.size) contents) now.devices (Read extent) reading Done
   read_done extent contents o suits n given is =

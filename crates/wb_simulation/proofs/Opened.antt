@@ -21,7 +21,7 @@ use Rattle.wb_simulation.specs.Actors.{StandsFor, IsBusyAt}
 use Rattle.wb_promise.specs.declared.job.Job.TheVariants.{Migrate}
 use Rattle.wb_link.specs.Tables.{Order as AbstractOrder}
 use Rattle.wb_simulation.specs.Carried.{live_there}
-use Rattle.wb_simulation.specs.Worlds.{OrdersAgree, IsThere}
+use Rattle.wb_simulation.specs.Worlds.{OrdersAgree, OrderIsThere}
 use Rattle.wb_promise.specs.States.{Actor}
 use Rattle.wb_link.specs.Openings.{opened_on}
 use Rattle.wb_types.specs.declared.mode.Mode.TheVariants.{Writeback}
@@ -214,7 +214,7 @@ no_orders size words actors caches many t rest = record {
     nobody : (a : ℕ) (y : AbstractActor) (p : AbstractOrder) → slice_get (replicate many idle) a ≡ Some y → y.order ≡ Some p → ⊥
     nobody a y p e h = let bad : None ≡ Some p = ap (λ (v : AbstractActor). v.order) (replicated many a idle y e) ∙ h in absurd (cc)
 
-    nothing : (p : AbstractOrder) → IsThere (record { shared = t; actors = replicate many idle; waiting = λ k. None }) p → ⊥
+    nothing : (p : AbstractOrder) → OrderIsThere (record { shared = t; actors = replicate many idle; waiting = λ k. None }) p → ⊥
     nothing p (inl w) = let bad : None ≡ Some p = w in absurd (cc)
     nothing p (inr h) = nobody h.0 h.1 p h.2 h.3
 

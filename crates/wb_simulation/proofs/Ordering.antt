@@ -36,8 +36,8 @@ use Rattle.wb_refines.proofs.Going.{goes}
 use Rattle.wb_simulation.specs.Steps.{IsPart}
 use Rattle.wb_simulation.specs.Carried.{held, order_there, live_there, IsOf, IsOrderFor, IsCarried}
 use Rattle.wb_simulation.specs.Telling.{Resumes, IsResumed, Given, Kept, Failing, Nowhere}
-use Rattle.wb_simulation.specs.Worlds.{Situation, Agrees, OrdersAgree, IsThere, Turn, Stays, WorldFollowsBy, WorldFollows}
-use Rattle.wb_simulation.specs.Migrating.{order_of, IsUngiven, MayBeGiven, MayBeKept, given_by, migrates, begun}
+use Rattle.wb_simulation.specs.Worlds.{Situation, Agrees, OrdersAgree, OrderIsThere, Turn, Stays, WorldFollowsBy, WorldFollows}
+use Rattle.wb_simulation.specs.Migrating.{order_of_block, IsUngiven, MayBeGiven, MayBeKept, given_by, migrates, begun_actor}
 use Rattle.std.proofs.lemmas.List.Elements.{Contains-append_left}
 use Rattle.wb_simulation.specs.Laws.{IsOnlyOf}
 use Rattle.wb_simulation.proofs.Orders.{IsDone, begins_so, is_aside}
@@ -52,7 +52,7 @@ module _ (now : Situation) (s : World) (g : Agrees now s) where
   its_slot : (b : ℕ) (v : AbstractActor) (p : AbstractOrder) → slice_get s.actors b ≡ Some v → v.order ≡ Some p → (z : Actor) × (slice_get now.actors b ≡ Some z) × IsOf now.orders (held z) p
   its_slot b v p ev e = let z = whose now s g b v ev in (z.0, z.1, g.orders_agree.ours b z.0 v p z.1 ev e)
 
-  apart_of : (own p : AbstractOrder) (q : Order) → IsUngiven s.shared.mapping now.orders own → slice_get now.orders p.cache ≡ Some (Some q) → IsThere s p → ShareNoBlock p own
+  apart_of : (own p : AbstractOrder) (q : Order) → IsUngiven s.shared.mapping now.orders own → slice_get now.orders p.cache ≡ Some (Some q) → OrderIsThere s p → ShareNoBlock p own
   apart_of own p q free e there =
       let both : Some (order_there s.shared.mapping p.cache q) ≡ Some p = (g.orders_agree.live p.cache (Some q) e p refl).1 there in
       let same : order_there s.shared.mapping p.cache q ≡ p = cc in
@@ -81,7 +81,7 @@ module _ (now : Situation) (s : World) (g : Agrees now s) where
 -- ---- what it is there
 
 module _ (now : Situation) (a : ℕ) (x : Actor) (migration : Migration) (block : OBlock) (c : CBlock) (next : Option ℕ) (order : Order) (cut : List Extent) (s : World) (y : AbstractActor) (g : Agrees now s) (ex : slice_get now.actors a ≡ Some x) (ey : slice_get s.actors a ≡ Some y) (none : x.task ≡ None)
-    (hold : x.card.hold ≡ HoldsNothing) (some : 0 < now.size) (small : c.0 < 2 ^ 32) (is_cut : IsCutInto (whole_block now.size block) cut) (of : IsOrderFor migration block next order) (order_is : order_there s.shared.mapping c.0 order ≡ order_of block c next) where
+    (hold : x.card.hold ≡ HoldsNothing) (some : 0 < now.size) (small : c.0 < 2 ^ 32) (is_cut : IsCutInto (whole_block now.size block) cut) (of : IsOrderFor migration block next order) (order_is : order_there s.shared.mapping c.0 order ≡ order_of_block block c next) where
   abbrev part : BlockRange
   part = record { mode = Writeback; block_sectors = now.size; block = block; extents = cut }
 
@@ -249,7 +249,7 @@ module _ (now : Situation) (a : ℕ) (x : Actor) (migration : Migration) (block 
 
   module _ (live : slice_get now.orders c.0 ≡ Some (Some order)) (mine : Contains x.orders order) (only : IsOnlyOf now.actors a order) (may : MayBeKept migration c.0 s.shared) where
     abbrev resuming : Actor
-    resuming = begun (Migrate migration block) plan x
+    resuming = begun_actor (Migrate migration block) plan x
 
     abbrev Again_goal : Type 0
     Again_goal = WorldFollows Resumes a s now resuming
@@ -267,7 +267,7 @@ module _ (now : Situation) (a : ℕ) (x : Actor) (migration : Migration) (block 
         let same : o.2.0 ≡ order = cc in
         n (only b o.0 o.1 (subst (λ (q : Order). Contains (held o.0) q) same o.2.2))
 
-    there : IsThere s own
+    there : OrderIsThere s own
     there = (g.orders_agree.live c.0 (Some order) live own refl).0 (ap (λ (o : AbstractOrder). Some o) order_is)
 
     is_put : aside s.waiting y.order c.0 ≡ Some own

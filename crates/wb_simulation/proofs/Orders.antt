@@ -25,8 +25,8 @@ use Rattle.wb_promise.specs.declared.job.Job.{Job}
 use Rattle.wb_promise.specs.declared.job.Job.TheVariants.{Migrate}
 use Rattle.wb_promise.specs.States.{Actor}
 use Rattle.wb_simulation.specs.Steps.{AreOfBlock, ArePaired}
-use Rattle.wb_simulation.specs.Carried.{HasRead, IsUnder, held, is_at, replacement_there, order_there, live_there, IsOf, IsCarried, IsAtMigration}
-use Rattle.wb_simulation.specs.Worlds.{IsThere, OrdersAgree}
+use Rattle.wb_simulation.specs.Carried.{ActorHasRead, IsUnderOrder, held, is_at, replacement_there, order_there, live_there, IsOf, IsCarried, IsAtMigration}
+use Rattle.wb_simulation.specs.Worlds.{OrderIsThere, OrdersAgree}
 
 -- an order of the desk is on its cache block there too
 pub cache_there : (m : Locations) (c : ℕ) (o : Order) → (order_there m c o).cache ≡ c
@@ -69,18 +69,18 @@ aside_has waiting (Some q) p one w = elim (cases_eq p.cache q.cache) [
 ]
 
 module _ (size : ℕ) (words : Words) (orders : List (Option Order)) (actors : List Actor) (a : ℕ) (s : World) (y : AbstractActor) (ey : slice_get s.actors a ≡ Some y) (g : OrdersAgree size words orders actors s) (c : ℕ) (o : Option Order) (e : slice_get orders c ≡ Some o) (p : AbstractOrder) (at : p.cache ≡ c) where
-  one : IsThere s p → (q : AbstractOrder) → y.order ≡ Some q → q.cache ≡ p.cache → q ≡ p
+  one : OrderIsThere s p → (q : AbstractOrder) → y.order ≡ Some q → q.cache ≡ p.cache → q ≡ p
   one h q f k = let both : Some q ≡ Some p = sym ((g.live c o e q (k ∙ at)).1 (inr (a, y, ey, f))) ∙ (g.live c o e p at).1 h in cc
 
   -- an order that is there is aside, or another actor has it
-  aside_or : IsThere s p → (aside s.waiting y.order p.cache ≡ Some p) ⊎ ((b : ℕ) × (v : AbstractActor) × (b ≢ a) × (slice_get s.actors b ≡ Some v) × (v.order ≡ Some p))
+  aside_or : OrderIsThere s p → (aside s.waiting y.order p.cache ≡ Some p) ⊎ ((b : ℕ) × (v : AbstractActor) × (b ≢ a) × (slice_get s.actors b ≡ Some v) × (v.order ≡ Some p))
   aside_or (inl w) = inl (aside_has s.waiting y.order p (one (inl w)) (inl w))
   aside_or (inr h) = elim (cases_eq h.0 a) [
     | inl f ↦ let both : Some h.1 ≡ Some y = sym h.2 ∙ ap (λ k. slice_get s.actors k) f ∙ ey in let same : h.1 ≡ y = cc in inl (aside_has s.waiting y.order p (one (inr h)) (inr (ap (λ (v : AbstractActor). v.order) (sym same) ∙ h.3)))
     | inr n ↦ inr (h.0, h.1, n, h.2, h.3)
   ]
 
-  pub is_aside : IsThere s p → ((b : ℕ) (v : AbstractActor) → b ≢ a → slice_get s.actors b ≡ Some v → v.order ≡ Some p → ⊥) → aside s.waiting y.order p.cache ≡ Some p
+  pub is_aside : OrderIsThere s p → ((b : ℕ) (v : AbstractActor) → b ≢ a → slice_get s.actors b ≡ Some v → v.order ≡ Some p → ⊥) → aside s.waiting y.order p.cache ≡ Some p
   is_aside h only = elim (aside_or h) [ inl w ↦ w | inr k ↦ absurd (only k.0 k.1 k.2 k.3 k.4) ]
 
 -- ---- migrations
@@ -89,11 +89,11 @@ module _ (size : ℕ) (words : Words) (orders : List (Option Order)) (actors : L
 pub record GoesOn (size : ℕ) (part : BlockRange) (us : List Want) (buffer : List Content) (there : ℕ → Content) : Type 0 where
   pub of_block : AreOfBlock size part.block.0 us
   pub paired : ArePaired size us
-  pub read : HasRead size us buffer there
+  pub read : ActorHasRead size us buffer there
 
 -- a migration that is carried has this left now
 pub carried_again : (size : ℕ) (orders orders' : List (Option Order)) (migration : Migration) (block : OBlock) (part : BlockRange) (steps us : List Want) (answer then_answer : Answer) (x x' : Actor) (y z : AbstractActor) (k : IsCarried size orders migration block part steps answer x y) (kept : Option AbstractOrder) →
-    IsUnder (slice_get orders' k.c.0) k.order (order_on part k.c k.next) kept x'.orders us → IsMigrationAt part k.c k.next migration kept (plan_of (Migrating migration part) us then_answer) x'.card z → GoesOn size part us x'.buffer z.buffer → IsCarried size orders' migration block part us then_answer x' z
+    IsUnderOrder (slice_get orders' k.c.0) k.order (order_on part k.c k.next) kept x'.orders us → IsMigrationAt part k.c k.next migration kept (plan_of (Migrating migration part) us then_answer) x'.card z → GoesOn size part us x'.buffer z.buffer → IsCarried size orders' migration block part us then_answer x' z
 carried_again size orders orders' migration block part steps us answer then_answer x x' y z k kept has at on = record { block_is = k.block_is; is_part = k.is_part; c = k.c; small = k.small; fills = k.fills; of_block = on.of_block; paired = on.paired; next = k.next; order = k.order; of = k.of; kept = kept; has = has; at = at; read = on.read }
 
 -- it is so still where its own order's cache block has what it had
@@ -125,7 +125,7 @@ does_none size words orders x y n migration block plan e = absurd (subst (λ (t 
 module _ (size : ℕ) (words words' : Words) (up : flag words.fail ≡ true → flag words'.fail ≡ true) (orders orders' : List (Option Order)) (actors : List Actor) (a : ℕ) (x x' : Actor) (s : World) (y y' : AbstractActor) (ex : slice_get actors a ≡ Some x) (ey : slice_get s.actors a ≡ Some y)
     (g : OrdersAgree size words orders actors s) (its : IsDone size words' orders' x' y') where
   -- who was there and is not aside is this actor, which has the order still, or another one
-  moved : (p : AbstractOrder) → (y.order ≡ Some p → y'.order ≡ Some p) → IsThere s p → (s.waiting p.cache ≡ Some p) ⊎ (y'.order ≡ Some p) ⊎ ((b : ℕ) × (v : AbstractActor) × (b ≢ a) × (slice_get s.actors b ≡ Some v) × (v.order ≡ Some p))
+  moved : (p : AbstractOrder) → (y.order ≡ Some p → y'.order ≡ Some p) → OrderIsThere s p → (s.waiting p.cache ≡ Some p) ⊎ (y'.order ≡ Some p) ⊎ ((b : ℕ) × (v : AbstractActor) × (b ≢ a) × (slice_get s.actors b ≡ Some v) × (v.order ≡ Some p))
   moved p stays (inl w) = inl w
   moved p stays (inr h) = elim (cases_eq h.0 a) [
     | inl e ↦ let here : Some h.1 ≡ Some y = sym h.2 ∙ ap (λ k. slice_get s.actors k) e ∙ ey in let one : h.1 ≡ y = cc in inr (inl (stays (ap (λ (v : AbstractActor). v.order) (sym one) ∙ h.3)))
@@ -140,17 +140,17 @@ module _ (size : ℕ) (words words' : Words) (up : flag words.fail ≡ true → 
       (not_aside : (k : ℕ) (p : AbstractOrder) → Here k → waiting k ≡ Some p → ⊥) (lives : (d : ℕ) (o : Option Order) (p : AbstractOrder) → Here d → slice_get orders' d ≡ Some o → p.cache ≡ d → (live_there t.mapping d o ≡ Some p → y'.order ≡ Some p) × (y'.order ≡ Some p → live_there t.mapping d o ≡ Some p))
       (own : (p : AbstractOrder) → y'.order ≡ Some p → IsOf orders' (held x') p) (keeps : (p : AbstractOrder) → (Here p.cache → ⊥) → y'.order ≡ Some p → (y.order ≡ Some p) × (waiting p.cache ≢ Some p))
       (back : (k : ℕ) (p : AbstractOrder) → (Here k → ⊥) → waiting k ≡ Some p → ((y.order ≡ Some p) × (p.cache ≡ k)) ⊎ (s.waiting k ≡ Some p))
-      (forth : (c : ℕ) (o : Option Order) (p : AbstractOrder) → slice_get orders c ≡ Some o → p.cache ≡ c → (Here c → ⊥) → IsThere s p → (waiting p.cache ≡ Some p) ⊎ (y'.order ≡ Some p) ⊎ ((b : ℕ) × (v : AbstractActor) × (b ≢ a) × (slice_get s.actors b ≡ Some v) × (v.order ≡ Some p))) where
+      (forth : (c : ℕ) (o : Option Order) (p : AbstractOrder) → slice_get orders c ≡ Some o → p.cache ≡ c → (Here c → ⊥) → OrderIsThere s p → (waiting p.cache ≡ Some p) ⊎ (y'.order ≡ Some p) ⊎ ((b : ℕ) × (v : AbstractActor) × (b ≢ a) × (slice_get s.actors b ≡ Some v) × (v.order ≡ Some p))) where
     abbrev then_is : World
     then_is = record { shared = t; actors = slice_set s.actors a y'; waiting = waiting }
 
-    there : (c : ℕ) (o : Option Order) (p : AbstractOrder) → slice_get orders c ≡ Some o → p.cache ≡ c → (Here c → ⊥) → IsThere s p → IsThere then_is p
+    there : (c : ℕ) (o : Option Order) (p : AbstractOrder) → slice_get orders c ≡ Some o → p.cache ≡ c → (Here c → ⊥) → OrderIsThere s p → OrderIsThere then_is p
     there c o p e at n h = elim (forth c o p e at n h) [
       | inl w ↦ inl w
       | inr r ↦ elim r [ inl k ↦ inr (a, y', set_there s.actors a y y' ey, k) | inr k ↦ inr (k.0, k.1, set_other s.actors a k.0 y' k.2 ∙ k.3, k.4) ]
     ]
 
-    was : (p : AbstractOrder) → (Here p.cache → ⊥) → IsThere then_is p → IsThere s p
+    was : (p : AbstractOrder) → (Here p.cache → ⊥) → OrderIsThere then_is p → OrderIsThere s p
     was p n (inl w) = elim (back p.cache p n w) [ inl k ↦ inr (a, y, ey, k.0) | inr k ↦ inl k ]
     was p n (inr h) = elim (who s.actors a y y' ey h.0 h.1 h.2) [
       | inl one ↦ inr (a, y, ey, (keeps p n (ap (λ (v : AbstractActor). v.order) one.1 ∙ h.3)).0)
@@ -158,7 +158,7 @@ module _ (size : ℕ) (words words' : Words) (up : flag words.fail ≡ true → 
     ]
 
     -- on those cache blocks it is this actor's
-    its_own : (p : AbstractOrder) → Here p.cache → IsThere then_is p → y'.order ≡ Some p
+    its_own : (p : AbstractOrder) → Here p.cache → OrderIsThere then_is p → y'.order ≡ Some p
     its_own p k (inl w) = absurd (not_aside p.cache p k w)
     its_own p k (inr h) = elim (who s.actors a y y' ey h.0 h.1 h.2) [ inl one ↦ ap (λ (v : AbstractActor). v.order) one.1 ∙ h.3 | inr one ↦ absurd (alone h.0 h.1 p one.0 one.1 h.3 k) ]
 

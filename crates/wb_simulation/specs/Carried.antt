@@ -68,13 +68,13 @@ abbrev pub IsOf : List (Option Order) → List Order → AbstractOrder → Type 
 IsOf orders own p = (order : Order) × (slice_get orders p.cache ≡ Some (Some order)) × Contains own order
 
 -- It is under its own order, which is live; or that is over, and what is left is to seal the block, to give it back and to answer.
-abbrev pub IsUnder : Option (Option Order) → Order → AbstractOrder → Option AbstractOrder → List Order → List Want → Type 0
-IsUnder live order own kept orders steps = ((live ≡ Some (Some order)) × (kept ≡ Some own) × Contains orders order) ⊎ IsTail steps
+abbrev pub IsUnderOrder : Option (Option Order) → Order → AbstractOrder → Option AbstractOrder → List Order → List Want → Type 0
+IsUnderOrder live order own kept orders steps = ((live ≡ Some (Some order)) × (kept ≡ Some own) × Contains orders order) ⊎ IsTail steps
 
 -- Where an extent is written next, the actor there has read the same.
-abbrev pub HasRead : ℕ → List Want → List Content → (ℕ → Content) → Type 0
-HasRead size (Device (Write device e) ∷ later) buffer there = buffer ≡ map there (offsets_in size e)
-HasRead size steps buffer there = Unit {0}
+abbrev pub ActorHasRead : ℕ → List Want → List Content → (ℕ → Content) → Type 0
+ActorHasRead size (Device (Write device e) ∷ later) buffer there = buffer ≡ map there (offsets_in size e)
+ActorHasRead size steps buffer there = Unit {0}
 
 -- These steps of a migration are left there too, under the same order, with what the actor's card counts.
 pub record IsCarried (size : ℕ) (orders : List (Option Order)) (migration : Migration) (block : OBlock) (part : BlockRange) (steps : List Want) (answer : Answer) (x : Actor) (y : AbstractActor) : Type 0 where
@@ -89,9 +89,9 @@ pub record IsCarried (size : ℕ) (orders : List (Option Order)) (migration : Mi
   pub order : Order
   pub of : IsOrderFor migration block next order
   pub kept : Option AbstractOrder
-  pub has : IsUnder (slice_get orders c.0) order (order_on part c next) kept x.orders steps
+  pub has : IsUnderOrder (slice_get orders c.0) order (order_on part c next) kept x.orders steps
   pub at : IsMigrationAt part c next migration kept (plan_of (Migrating migration part) steps answer) x.card y
-  pub read : HasRead size steps x.buffer y.buffer
+  pub read : ActorHasRead size steps x.buffer y.buffer
 
 -- it has kept what it has at a failure, and has only to answer
 abbrev pub HasEnded : Bool → Plan → Actor → AbstractActor → Type 0

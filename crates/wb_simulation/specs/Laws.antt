@@ -54,14 +54,14 @@ IsRequestJob (Write extent content) = Unit {0}
 IsRequestJob job = ⊥
 
 -- an actor that has done this step of its task on the words
-abbrev pub went : Words → Job → Plan → CellStep → Actor → Actor
-went words job plan step x = record x { task = Some (job, after plan (got_of (result_of words step))); card = card_after words step x.card }
+abbrev pub stepped_actor : Words → Job → Plan → CellStep → Actor → Actor
+stepped_actor words job plan step x = record x { task = Some (job, after plan (got_of (result_of words step))); card = card_after words step x.card }
 
 -- A step of a read or a write on the shared words, which keep their rule, among all others who have tasks.
 abbrev pub CellStepsFollowed : Type 0
 CellStepsFollowed = (now : Situation) (blocks : ℕ) (a : ℕ) (x : Actor) (job : Job) (plan : Plan) (step : CellStep) (s : World) →
     IsRequestJob job → LockRule blocks now.words (cards_of now.actors) → WantsNext now a x s job plan (Cell step) → Suits blocks plan x.card →
-    WorldFollows Quietly a s (record now { words = words_after now.words step }) (went now.words job plan step x)
+    WorldFollows Quietly a s (record now { words = words_after now.words step }) (stepped_actor now.words job plan step x)
 
 -- an actor that has gone on with its task, and knows what it knew
 abbrev pub after_step : Job → Plan → Got → Actor → Actor
@@ -99,15 +99,15 @@ pub record StartsFollowed : Type 0 where
       Begun (FlushingFor None) a s now (record x { task = Some (Flush, table (Flushing serves now.most)) })
 
 -- what a job writes to each of its sectors
-abbrev pub content_of : Job → Content
-content_of (Write extent content) = content
-content_of job = []
+abbrev pub job_content : Job → Content
+job_content (Write extent content) = content
+job_content job = []
 
 -- A read or write is answered, whether it was done, refused, or stopped by a failure.
 abbrev pub AnswersFollowed : Type 0
 AnswersFollowed = (now : Situation) (blocks : ℕ) (a : ℕ) (x : Actor) (job : Job) (plan : Plan) (answer : Answer) (s : World) →
     IsRequestJob job → WantsNext now a x s job plan (End answer) → Suits blocks plan x.card →
-    WorldFollows (Answers (job_for now.size (content_of job) plan.job) answer) a s now (record x { task = None })
+    WorldFollows (Answers (job_for now.size (job_content job) plan.job) answer) a s now (record x { task = None })
 
 -- a step of a commit on the metadata writes the root, or is nothing to the images
 abbrev pub turn_of : DeviceStep → Turn
@@ -122,7 +122,7 @@ IsOnlyOf actors a order = (b : ℕ) (z : Actor) → slice_get actors b ≡ Some 
 pub record FlushStepsFollowed : Type 0 where
   pub looks : (now : Situation) (a : ℕ) (x : Actor) (plan : Plan) (s : World) →
       WantsNext now a x s Flush plan (Cell (Look Fail)) →
-      WorldFollows Quietly a s now (went now.words Flush plan (Look Fail) x)
+      WorldFollows Quietly a s now (stepped_actor now.words Flush plan (Look Fail) x)
   pub begins : (now : Situation) (nodes allowed : ℕ) (clean : Bool) (a : ℕ) (x : Actor) (plan : Plan) (s : World) →
       WantsNext now a x s Flush plan (Desk (BeginCommit clean allowed)) → now.committing ≡ false →
       WorldFollowsBy Begins Quietly a s (record now { committing = true }) (after_step Flush plan (Began nodes) x)
@@ -154,7 +154,7 @@ pub record FlushStepsFollowed : Type 0 where
       WorldFollows Quietly a s now (after_step Flush plan Done x)
   pub fails : (now : Situation) (failures suspensions : ℕ) (a : ℕ) (x : Actor) (plan : Plan) (s : World) → now.words.fail ≡ fail_word failures suspensions →
       WantsNext now a x s Flush plan (Cell SetFailed) →
-      WorldFollows Quietly a s (record now { words = words_after now.words SetFailed }) (went now.words Flush plan SetFailed x)
+      WorldFollows Quietly a s (record now { words = words_after now.words SetFailed }) (stepped_actor now.words Flush plan SetFailed x)
   pub answers : (now : Situation) (answer : Answer) (a : ℕ) (x : Actor) (plan : Plan) (orders' awaiting' : List Order) (s : World) →
       WantsNext now a x s Flush plan (End answer) → ((o : Order) → Contains (held x) o → Contains (orders' ++ awaiting') o) →
       WorldFollows (Answers (FlushingFor None) answer) a s now (record x { task = None; orders = orders'; awaiting = awaiting' })

@@ -26,7 +26,7 @@ use Rattle.wb_promise.specs.declared.job.Job.{Job}
 use Rattle.wb_promise.specs.declared.job.Job.TheVariants.{Migrate}
 use Rattle.wb_promise.specs.States.{Actor, with_device}
 use Rattle.wb_simulation.specs.Telling.{Resumes, Carries, Rests}
-use Rattle.wb_simulation.specs.Laws.{WantsNext, went, after_step, IsOnlyOf}
+use Rattle.wb_simulation.specs.Laws.{WantsNext, stepped_actor, after_step, IsOnlyOf}
 use Rattle.wb_words.specs.Rule.{LockRule}
 use Rattle.wb_words.specs.declared.word.Word.TheVariants.{Seal as SealWord, Number}
 use Rattle.wb_words.specs.declared.step.CellStep.{CellStep}
@@ -77,12 +77,12 @@ abbrev pub LeavesFrom : List (Option Order) → Locations → OBlock → Type 0
 LeavesFrom orders m block = (c : ℕ) (next : Option ℕ) (order : Order) → slice_get orders c ≡ Some (Some order) → IsOrderFor Demote block next order → (next ≢ None → m block.0 ≡ Some c) → m block.0 ≡ Some c
 
 -- an actor of the run, at this task from now on
-abbrev pub begun : Job → Plan → Actor → Actor
-begun job plan x = record x { task = Some (job, plan) }
+abbrev pub begun_actor : Job → Plan → Actor → Actor
+begun_actor job plan x = record x { task = Some (job, plan) }
 
 -- the order there of a block on this cache block
-abbrev pub order_of : OBlock → CBlock → Option ℕ → AbstractOrder
-order_of block c next = record { block = block.0; cache = c.0; next = next }
+abbrev pub order_of_block : OBlock → CBlock → Option ℕ → AbstractOrder
+order_of_block block c next = record { block = block.0; cache = c.0; next = next }
 
 -- the plan of a migration of this block, whose sectors are cut so
 abbrev pub migrates : ℕ → Migration → OBlock → List Extent → Plan
@@ -110,18 +110,18 @@ pub record TurnsOrder (c a : ℕ) (s : World) (now : Situation) (x y : Actor) (b
 pub record MigrationsFollowed : Type 0 where
   -- under an order that is given
   pub starts : (now : Situation) (a : ℕ) (x : Actor) (migration : Migration) (block : OBlock) (c : CBlock) (next : Option ℕ) (order : Order) (cut : List Extent) (s : World) →
-      slice_get now.actors a ≡ Some x → x.task ≡ None → x.card.hold ≡ Nothing → 0 < now.size → c.0 < 2 ^ 32 → IsCutInto (whole_block now.size block) cut → slice_get now.orders c.0 ≡ Some None → IsOrderFor migration block next order → order_there s.shared.mapping c.0 order ≡ order_of block c next → IsUngiven s.shared.mapping now.orders (order_of block c next) → ((b : ℕ) → next ≡ Some b → s.shared.mapping b ≡ None) →
+      slice_get now.actors a ≡ Some x → x.task ≡ None → x.card.hold ≡ Nothing → 0 < now.size → c.0 < 2 ^ 32 → IsCutInto (whole_block now.size block) cut → slice_get now.orders c.0 ≡ Some None → IsOrderFor migration block next order → order_there s.shared.mapping c.0 order ≡ order_of_block block c next → IsUngiven s.shared.mapping now.orders (order_of_block block c next) → ((b : ℕ) → next ≡ Some b → s.shared.mapping b ≡ None) →
       MayBeGiven migration block.0 c.0 s.shared → Agrees now s →
       WorldFollowsBy (given_by migration c.0) Resumes a s (record now { orders = slice_set now.orders c.0 (Some order) })
       (record x { task = Some (Migrate migration block, migrates now.size migration block cut); orders = order ∷ x.orders })
   -- under one that lives and is its actor's alone
   pub again : (now : Situation) (a : ℕ) (x : Actor) (migration : Migration) (block : OBlock) (c : CBlock) (next : Option ℕ) (order : Order) (cut : List Extent) (s : World) →
-      slice_get now.actors a ≡ Some x → x.task ≡ None → x.card.hold ≡ Nothing → 0 < now.size → c.0 < 2 ^ 32 → IsCutInto (whole_block now.size block) cut → slice_get now.orders c.0 ≡ Some (Some order) → IsOrderFor migration block next order → order_there s.shared.mapping c.0 order ≡ order_of block c next → Contains x.orders order → IsOnlyOf now.actors a order →
+      slice_get now.actors a ≡ Some x → x.task ≡ None → x.card.hold ≡ Nothing → 0 < now.size → c.0 < 2 ^ 32 → IsCutInto (whole_block now.size block) cut → slice_get now.orders c.0 ≡ Some (Some order) → IsOrderFor migration block next order → order_there s.shared.mapping c.0 order ≡ order_of_block block c next → Contains x.orders order → IsOnlyOf now.actors a order →
       MayBeKept migration c.0 s.shared → Agrees now s →
-      WorldFollows Resumes a s now (begun (Migrate migration block) (migrates now.size migration block cut) x)
+      WorldFollows Resumes a s now (begun_actor (Migrate migration block) (migrates now.size migration block cut) x)
   pub cells : (now : Situation) (blocks : ℕ) (a : ℕ) (x : Actor) (migration : Migration) (block : OBlock) (plan : Plan) (step : CellStep) (s : World) →
       LockRule blocks now.words (cards_of now.actors) → WantsNext now a x s (Migrate migration block) plan (Cell step) → Suits blocks plan x.card → SeesWhere now.words now.orders s.shared.mapping migration block step →
-      Carried Stays a s (record now { words = words_after now.words step }) (went now.words (Migrate migration block) plan step x)
+      Carried Stays a s (record now { words = words_after now.words step }) (stepped_actor now.words (Migrate migration block) plan step x)
   -- a read puts what it was given in the buffer
   pub read_done : (now : Situation) (blocks : ℕ) (a : ℕ) (x : Actor) (migration : Migration) (block : OBlock) (plan : Plan) (device : Dev) (e : Extent) (s : World) →
       WantsNext now a x s (Migrate migration block) plan (Device (ReadExtent device e)) → Suits blocks plan x.card → e.first + e.count ≤ length (device_in device now.devices) →

@@ -59,7 +59,7 @@ pub data Telling : Type 0 where
   Releases : Telling
 
 -- the next step of a read is this
-pub record IsReading (a block offset : ℕ) (contents : List Content) (task : Option Script) (told : List Record) : Type 0 where
+pub record IsReadNext (a block offset : ℕ) (contents : List Content) (task : Option Script) (told : List Record) : Type 0 where
   pub location : Option ℕ
   pub all : List (List ℕ)
   pub rest : List Want
@@ -100,7 +100,7 @@ Rested (Some script) = (script.steps ≡ []) × IsMigrating script.job
 
 abbrev pub IsTold : Telling → ℕ → Option Script → List Record → Type 0
 IsTold Quietly a task told = (results : List Got) × AreUnnoted task results × (told ≡ records a task results)
-IsTold (Reads block offset contents) a task told = IsReading a block offset contents task told
+IsTold (Reads block offset contents) a task told = IsReadNext a block offset contents task told
 IsTold (Writes block offset count content) a task told = IsWriting a block offset count content task told
 IsTold (Answers job answer) a task told = AnswersSo job answer task × (told ≡ records a task (Done ∷ []))
 IsTold (Starts job) a task told = told ≡ Start a job ∷ []

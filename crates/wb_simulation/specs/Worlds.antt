@@ -29,14 +29,14 @@ IsUnfinished None = ⊥
 IsUnfinished (Some script) = script.steps ≢ []
 
 -- an order is at an actor or aside
-abbrev pub IsThere : World → AbstractOrder → Type 0
-IsThere s p = (s.waiting p.cache ≡ Some p) ⊎ ((b : ℕ) × (z : AbstractActor) × (slice_get s.actors b ≡ Some z) × (z.order ≡ Some p))
+abbrev pub OrderIsThere : World → AbstractOrder → Type 0
+OrderIsThere s p = (s.waiting p.cache ≡ Some p) ⊎ ((b : ℕ) × (z : AbstractActor) × (slice_get s.actors b ≡ Some z) × (z.order ≡ Some p))
 
 -- The orders that live at the desk, each in the slot of its cache block, are those that live there, and each is an actor's or aside; what
 -- an actor of the run is at under one of them, its abstract actor is at there.
 pub record OrdersAgree (size : ℕ) (words : Words) (orders : List (Option Order)) (actors : List Actor) (s : World) : Type 0 where
   -- what lives on a cache block lives there, and nothing else does
-  pub live : (c : ℕ) (order : Option Order) → slice_get orders c ≡ Some order → (p : AbstractOrder) → p.cache ≡ c → ((live_there s.shared.mapping c order ≡ Some p) → IsThere s p) × (IsThere s p → live_there s.shared.mapping c order ≡ Some p)
+  pub live : (c : ℕ) (order : Option Order) → slice_get orders c ≡ Some order → (p : AbstractOrder) → p.cache ≡ c → ((live_there s.shared.mapping c order ≡ Some p) → OrderIsThere s p) × (OrderIsThere s p → live_there s.shared.mapping c order ≡ Some p)
   -- an actor's order is no other actor's, and not aside too
   pub once : (a : ℕ) (y : AbstractActor) (p : AbstractOrder) → slice_get s.actors a ≡ Some y → y.order ≡ Some p → (s.waiting p.cache ≢ Some p) × ((b : ℕ) (z : AbstractActor) (q : AbstractOrder) → slice_get s.actors b ≡ Some z → z.order ≡ Some q → q.cache ≡ p.cache → b ≡ a)
   -- one that is aside is there by its cache block, on which an order lives

@@ -4,7 +4,7 @@ use Rattle.std.specs.Prelude.{◌↔◌, ◌⊎◌, Contains}
 use Rattle.std.proofs.lemmas.Bool.{cases_Bool, cases_eq, cases_lt, false≢true}
 use Rattle.std.proofs.lemmas.List.{ext_get_or, get_or_past, length-replicate, length-set, set_past}
 use Rattle.wb_types.specs.declared.number.Place.{Place}
-use Rattle.wb_space.specs.Places.{HaveLeft, cleared, noted, noted_known, place, unused, without}
+use Rattle.wb_space.specs.Places.{HaveLeft, cleared_places, noted, noted_known, place, unused, without}
 use Rattle.wb_space.proofs.Noted.{flag_stays, flagged, flags_stay, length-noted, length-noted_alone, noted_or}
 use Rattle.wb_space.proofs.Differing.{get_or-unused, get_or-without, length-without}
 
@@ -72,7 +72,7 @@ none_left_of Stands used count are = record {
 
 -- ---- places at an opening
 
-length-cleared : (ps : List Place) (flags : List Bool) → length (cleared ps flags) ≡ length flags
+length-cleared : (ps : List Place) (flags : List Bool) → length (cleared_places ps flags) ≡ length flags
 length-cleared [] flags = refl
 length-cleared (p ∷ ps) flags = length-cleared ps (set flags p.0 false) ∙ length-set flags p.0 false
 
@@ -91,16 +91,16 @@ flag_gone flags p = elim (cases_lt p (length flags)) [
   | inr past ↦ get_or_past (set flags p false) p false (omega (arith, past, length-set flags p false))
 ]
 
-stay_gone : (ps : List Place) (flags : List Bool) (k : ℕ) → get_or flags k false ≡ false → get_or (cleared ps flags) k false ≡ false
+stay_gone : (ps : List Place) (flags : List Bool) (k : ℕ) → get_or flags k false ≡ false → get_or (cleared_places ps flags) k false ≡ false
 stay_gone [] flags k e = e
 stay_gone (p ∷ ps) flags k e = stay_gone ps (set flags p.0 false) k (flag_goes flags p.0 k e)
 
-gone_at : (ps : List Place) (flags : List Bool) (p : Place) (k : ℕ) → k < length ps → get_or ps k p ≡ p → get_or (cleared ps flags) p.0 false ≡ false
+gone_at : (ps : List Place) (flags : List Bool) (p : Place) (k : ℕ) → k < length ps → get_or ps k p ≡ p → get_or (cleared_places ps flags) p.0 false ≡ false
 gone_at [] flags p k l e = absurd (omega arith)
 gone_at (q ∷ ps) flags p zero l e = stay_gone ps (set flags q.0 false) p.0 (ap (λ (x : Place). get_or (set flags x.0 false) p.0 false) e ∙ flag_gone flags p.0)
 gone_at (q ∷ ps) flags p (suc k) l e = gone_at ps (set flags q.0 false) p k (omega arith) e
 
-cleared_or : (ps : List Place) (flags : List Bool) (k : ℕ) → get_or flags k false ≡ true → get_or (cleared ps flags) k false ≡ false → Contains ps (place k)
+cleared_or : (ps : List Place) (flags : List Bool) (k : ℕ) → get_or flags k false ≡ true → get_or (cleared_places ps flags) k false ≡ false → Contains ps (place k)
 cleared_or [] flags k was gone = absurd (false≢true (sym gone ∙ was))
 cleared_or (p ∷ ps) flags k was gone = elim (cases_eq k p.0) [
   | inl same ↦ (0, omega arith, ap place (sym same))
@@ -112,7 +112,7 @@ cleared_or (p ∷ ps) flags k was gone = elim (cases_eq k p.0) [
 
 -- what an opening finds used, but for the places at which something stands, has left
 pub opened_left : (Stands : Place → Type 0) (known used : List Place) (count : ℕ) → ((p : Place) → Contains known p ↔ Stands p)
-    → HaveLeft Stands (noted used (unused count)) (cleared known (noted used (unused count)))
+    → HaveLeft Stands (noted used (unused count)) (cleared_places known (noted used (unused count)))
 opened_left Stands known used count are = record {
   size = length-cleared known (noted used (unused count));
   stands = λ p is. let has = (are p).1 is in gone_at known (noted used (unused count)) p has.0 has.1 has.2;

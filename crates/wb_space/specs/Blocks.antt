@@ -5,11 +5,11 @@ use Rattle.wb_space.specs.declared.block.Block.TheVariants.{Free, Mapped, Reserv
 use Rattle.wb_space.specs.declared.holding.Holding.{Holding}
 
 -- what a caller is told of a block
-abbrev pub shown : Block → Holding
-shown Free = Rattle.wb_space.specs.declared.holding.Holding.TheVariants.Free
-shown Mapped = Rattle.wb_space.specs.declared.holding.Holding.TheVariants.Mapped
-shown Reserved = Rattle.wb_space.specs.declared.holding.Holding.TheVariants.Reserved
-shown (Quarantined claimed early) = Rattle.wb_space.specs.declared.holding.Holding.TheVariants.Quarantined
+abbrev pub shown_holding : Block → Holding
+shown_holding Free = Rattle.wb_space.specs.declared.holding.Holding.TheVariants.Free
+shown_holding Mapped = Rattle.wb_space.specs.declared.holding.Holding.TheVariants.Mapped
+shown_holding Reserved = Rattle.wb_space.specs.declared.holding.Holding.TheVariants.Reserved
+shown_holding (Quarantined claimed early) = Rattle.wb_space.specs.declared.holding.Holding.TheVariants.Quarantined
 
 -- the state of a block of the list
 abbrev pub state : List Block → ℕ → Block

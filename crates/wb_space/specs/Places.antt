@@ -25,9 +25,9 @@ without (l ∷ left) [] = []
 without (l ∷ left) (u ∷ uses) = (u && not l) ∷ without left uses
 
 -- and without these
-abbrev pub cleared : List Place → List Bool → List Bool
-cleared [] uses = uses
-cleared (p ∷ ps) uses = cleared ps (slice_set uses p.0 false)
+abbrev pub cleared_places : List Place → List Bool → List Bool
+cleared_places [] uses = uses
+cleared_places (p ∷ ps) uses = cleared_places ps (slice_set uses p.0 false)
 
 -- with the places that are told of these, as far as the list goes
 abbrev pub noted_known : List (Option Place) → List Bool → List Bool

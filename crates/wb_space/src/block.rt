@@ -1,7 +1,7 @@
 //! The state of one cache block.
 
 ghost use Rattle.std.specs.Prelude.{◌≡◌};
-ghost use Rattle.wb_space.specs.Blocks.{shown, released, commit_begun, commit_ended, is_free, is_late, is_early, IsClaimed};
+ghost use Rattle.wb_space.specs.Blocks.{shown_holding, released, commit_begun, commit_ended, is_free, is_late, is_early, IsClaimed};
 ghost use Rattle.std.specs.Bool.{OnTrue, OnFalse};
 
 use crate::Holding;
@@ -23,7 +23,7 @@ pub enum Block {
 impl Block {
     /// What it is held for.
     pub fn shown(self) -> Holding
-        ensures { result ≡ shown self }
+        ensures { result ≡ shown_holding self }
     {
         match self {
             Block::Free => Holding::Free,

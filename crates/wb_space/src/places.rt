@@ -4,7 +4,7 @@ ghost use Rattle.std.specs.Prelude.{◌≡◌, ◌<◌, ◌≤◌, ◌+◌, ◌*
 ghost use Rattle.std.specs.List.{position};
 ghost use Rattle.std.specs.Option.{IfSome, IfNone};
 ghost use Rattle.wb_bits.specs.Leasts.{IsLeastFrom};
-ghost use Rattle.wb_space.specs.Places.{unused, noted, noted_known, cleared, without, with_running, is_free_place, free_places, place};
+ghost use Rattle.wb_space.specs.Places.{unused, noted, noted_known, cleared_places, without, with_running, is_free_place, free_places, place};
 
 use std::alloc::{AllocError, Global};
 use std::marker::Model;
@@ -242,7 +242,7 @@ pub fn left_of(
     known: &[Place],
 ) -> Result<BitSet, AllocError>
     requires { bound < 2 ^ 32 }
-    ensures { IfOk result (λ left. left ≡ cleared known.now (noted used.now (unused bound))) }
+    ensures { IfOk result (λ left. left ≡ cleared_places known.now (noted used.now (unused bound))) }
 {
     let mut left = set_of(alloc, bound, used)?;
     for place in known {

@@ -4,7 +4,7 @@ ghost use Rattle.std.specs.Prelude.{◌≡◌, ◌<◌, ◌^◌, ℕ, true, fals
 ghost use Rattle.std.specs.List.{position};
 ghost use Rattle.std.specs.Bool.{OnTrue, OnFalse};
 ghost use Rattle.std.specs.Option.{option_map};
-ghost use Rattle.wb_space.specs.Blocks.{shown, is_free, released, state, IsClaimed, commit_begun, commit_ended, opened_block};
+ghost use Rattle.wb_space.specs.Blocks.{shown_holding, is_free, released, state, IsClaimed, commit_begun, commit_ended, opened_block};
 ghost use Rattle.wb_space.specs.Places.{unused, noted, without, free_places, place, place_count};
 
 use crate::{Block, Blocks, Holding, Places};
@@ -94,7 +94,7 @@ impl Space {
     /// What this block is held for.
     pub fn block(&self, c: CBlock) -> Holding
         requires { c.0 < length self.now.blocks }
-        ensures { option_map shown (slice_get self.now.blocks c.0) ≡ Some result }
+        ensures { option_map shown_holding (slice_get self.now.blocks c.0) ≡ Some result }
     {
         let CBlock(at) = c;
         self.blocks.get(at as usize).shown()

@@ -15,35 +15,35 @@ arguments None = codes "0"
 arguments (Some least) = codes "2 promote_min " ++ decimal least
 
 -- texts one behind the other
-abbrev pub joined : List (List ℕ) → List ℕ
-joined [] = []
-joined (text ∷ texts) = text ++ joined texts
+abbrev pub joined_texts : List (List ℕ) → List ℕ
+joined_texts [] = []
+joined_texts (text ∷ texts) = text ++ joined_texts texts
 
 -- what is in use, of how much
 abbrev pub sizes : Fields → List ℕ
-sizes told = joined (
+sizes told = joined_texts (
     codes "1 " ∷ decimal told.used_metadata ∷ codes "/" ∷ decimal told.metadata
     ∷ codes " " ∷ decimal told.block ∷ codes " " ∷ decimal told.mapped ∷ codes "/" ∷ decimal told.cache_blocks ∷ [])
 
 -- hits and misses
 abbrev pub accesses : Fields → List ℕ
-accesses told = joined (
+accesses told = joined_texts (
     decimal told.read_hits ∷ codes " " ∷ decimal told.read_misses
     ∷ codes " " ∷ decimal told.write_hits ∷ codes " " ∷ decimal told.write_misses ∷ [])
 
 -- what was moved, and what is to be
 abbrev pub moves : Fields → List ℕ
-moves told = joined (decimal told.demotions ∷ codes " " ∷ decimal told.promotions ∷ codes " " ∷ decimal told.dirty ∷ [])
+moves told = joined_texts (decimal told.demotions ∷ codes " " ∷ decimal told.promotions ∷ codes " " ∷ decimal told.dirty ∷ [])
 
 -- features, and the arguments of the target and of its policy
 abbrev pub settings : Fields → List ℕ
-settings told = joined (
+settings told = joined_texts (
     codes "1 " ∷ mode_name told.mode ∷ codes " 2 migration_threshold " ∷ decimal told.threshold
     ∷ codes " " ∷ told.policy.now ∷ codes " " ∷ arguments told.promote_min ∷ [])
 
 -- what is told of a target that works
 abbrev pub figures : Fields → List ℕ
-figures told = joined (
+figures told = joined_texts (
     sizes told ∷ codes " " ∷ accesses told ∷ codes " " ∷ moves told ∷ codes " " ∷ settings told ∷ codes " rw -" ∷ [])
 
 -- the status line

@@ -15,7 +15,7 @@ use Rattle.wb_devices.specs.declared.running.RunningCommit.{RunningCommit}
 use Rattle.wb_devices.specs.declared.devices.Devices.{Devices}
 use Rattle.wb_stage.specs.Stages.{DidAsk, EndsWith, is_all_done}
 use Rattle.wb_port.specs.Moves.{MayPerform}
-use Rattle.wb_target.specs.Works.{DidAskDesk, EndsIf, MayWork, MayCommit}
+use Rattle.wb_target.specs.Works.{DidAskDesk, EndsIf, MayWork, WritesUnderCommit}
 
 ends : {P : Type 0} (done : Bool) (d d' : DeskState P) (commit commit' : Option RunningCommit) → EndsWith done d commit d' commit' → EndsIf done commit commit'
 ends true d d' commit commit' h = h.1
@@ -37,7 +37,7 @@ commit_asked with_entry without_entry held (BeginCommit clean most) (Word n) d d
 commit_asked with_entry without_entry held EndCommit got d d' commit commit' h = ends (is_all_done commit) d d' commit commit' h
 
 pub may_perform : {D : Type 0} (tells : Type 0) (contents : D → List History) (size : ℕ) (held : List Order) (card : Card) (devices : Devices D) (commit : Option RunningCommit) (step : DeviceStep)
-    → MayWork size held card (Device step) → MayCommit tells contents devices commit (Device step) → MayPerform tells contents size card devices commit step
+    → MayWork size held card (Device step) → WritesUnderCommit tells contents devices commit (Device step) → MayPerform tells contents size card devices commit step
 may_perform tells contents size held card devices commit (Read device e) w c = w
 may_perform tells contents size held card devices commit (Write device e) w c = w.0
 may_perform tells contents size held card devices commit (Sync device) w c = tt

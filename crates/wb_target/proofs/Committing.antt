@@ -24,7 +24,7 @@ use Rattle.wb_devices.specs.Stepping.{Goes}
 use Rattle.wb_devices.specs.declared.devices.Devices.{Devices}
 use Rattle.wb_devices.specs.declared.running.RunningCommit.{RunningCommit}
 use Rattle.wb_port.specs.Moves.{IsSynced}
-use Rattle.wb_target.specs.Works.{DeskTold, WorksOn, MayCommit}
+use Rattle.wb_target.specs.Works.{DeskTold, WorksOn, WritesUnderCommit}
 use Rattle.wb_target.proofs.Syncing.{synced_now}
 
 -- So much is known where these steps come: what each node or root that is to be written asks for, each sync being known from
@@ -132,7 +132,7 @@ module _ {D S : Type 0} (tells : Type 0) (size : D → ℕ) (contents : D → Li
   commits_on serves most s t answer (Cell step ∷ ws) got o k f d = absurd o
   commits_on serves most s t answer (w ∷ ws) got o k f d = absurd f
 
-  may_commit : (s : S) (ws : List Want) (answer : Answer) → Knows s ws → MayCommit tells contents (devices s) (commit s) (first_step ws answer)
+  may_commit : (s : S) (ws : List Want) (answer : Answer) → Knows s ws → WritesUnderCommit tells contents (devices s) (commit s) (first_step ws answer)
   may_commit s [] answer k = tt
   may_commit s (Cell step ∷ ws) answer k = tt
   may_commit s (Desk step ∷ ws) answer k = tt
@@ -148,8 +148,8 @@ module _ {D S : Type 0} (tells : Type 0) (size : D → ℕ) (contents : D → Li
 
   module _ (led : S → Want → Got → S → Type 0) (does : (s : S) (w : Want) (g : Got) (t : S) → led s w g t → Did s w g t) (serves : List OBlock) (most : ℕ) where
     pub commits_there : (s : Plan) (old : S) (steps : List (Want × Got)) (mid : S) → s.job ≡ Flushing serves most → ((done : List (Want × Got)) (at : S) → AreFirst s done → Leads led old done at → IsOwnStep (Flushing serves most) (want (left_by s done))) → Knows old s.steps → AreFirst s steps → Leads led old steps mid
-        → MayCommit tells contents (devices mid) (commit mid) (want (left_by s steps))
-    commits_there s old [] mid on own k f e = subst (λ (x : S). MayCommit tells contents (devices x) (commit x) (want s)) e (may_commit old s.steps s.answer k)
+        → WritesUnderCommit tells contents (devices mid) (commit mid) (want (left_by s steps))
+    commits_there s old [] mid on own k f e = subst (λ (x : S). WritesUnderCommit tells contents (devices x) (commit x) (want s)) e (may_commit old s.steps s.answer k)
     commits_there s old (step ∷ steps) mid on own k f h =
         let fits : Fits (want s) step.1 = subst (λ (w : Want). Fits w step.1) f.0 f.1 in
         let did : Did old (want s) step.1 h.0 = subst (λ (w : Want). Did old w step.1 h.0) f.0 (does old step.0 step.1 h.0 h.1) in
@@ -158,7 +158,7 @@ module _ {D S : Type 0} (tells : Type 0) (size : D → ℕ) (contents : D → Li
         commits_there (after s step.1) h.0 steps mid (job_stays s step.1 ∙ on) (λ done at g l. own (step ∷ done) at (f.0, f.1, g) (h.0, h.1, l)) known f.2 h.2
 
 -- a job on a block writes none
-pub block_commits : {D : Type 0} (tells : Type 0) (contents : D → List History) (devices : Devices D) (commit : Option RunningCommit) (job : BlockJob) (w : Want) → IsOwnStep (OnBlock job) w → MayCommit tells contents devices commit w
+pub block_commits : {D : Type 0} (tells : Type 0) (contents : D → List History) (devices : Devices D) (commit : Option RunningCommit) (job : BlockJob) (w : Want) → IsOwnStep (OnBlock job) w → WritesUnderCommit tells contents devices commit w
 block_commits tells contents devices commit job (Cell step) o = tt
 block_commits tells contents devices commit job (Desk step) o = tt
 block_commits tells contents devices commit job (End a) o = tt

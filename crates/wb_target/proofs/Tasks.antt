@@ -12,7 +12,7 @@ use Rattle.wb_tasks.specs.declared.step.Want.{Want}
 use Rattle.wb_tasks.specs.declared.step.Got.{Got}
 use Rattle.wb_stage.specs.Jobs.{MayRun}
 use Rattle.wb_policy.specs.declared.order.Order.{Order}
-use Rattle.wb_target.specs.Works.{DeskTold, WorkState, WorkStep, WorkLed, WasPerformed, IsReadyToWork, MayWork, MayMigrate, MayCommit}
+use Rattle.wb_target.specs.Works.{DeskTold, WorkState, WorkStep, WorkLed, WasPerformed, IsReadyToWork, MayWork, MayMigrate, WritesUnderCommit}
 use Rattle.wb_target.specs.declared.gate.Point.{Point}
 use Rattle.wb_target.specs.declared.working.WorkStage.{WorkStage}
 use Rattle.wb_port.proofs.Passing.{made_by_pass, same_table}
@@ -55,13 +55,13 @@ module _ {R D P G : Type 0} (tells : Type 0) (size : D → ℕ) (contents : D �
       (subst (λ h. MayWork old.hand.now.block_sectors h.now new.hand.now.pass.card (want (left_by s steps))) (sym same_held)
       (work_moves led (λ x. x.hand.now.pass.card) (λ x w g y h. made_by_pass x.cells.now.blocks x.hand.now.pass y.hand.now.pass w g h.by_pass) old.cells.now.blocks s job old begun may idle old.hand.now.block_sectors old.held.now migrates steps new f leads))
 
-  commits : MayRun old.cells.now.blocks job → old.hand.now.pass.card.hold ≡ Nothing → AreFirst s steps → MayCommit tells contents new.hand.now.devices new.commit.now (want (left_by s steps))
+  commits : MayRun old.cells.now.blocks job → old.hand.now.pass.card.hold ≡ Nothing → AreFirst s steps → WritesUnderCommit tells contents new.hand.now.devices new.commit.now (want (left_by s steps))
   commits may idle f = by_job job begun may
     where
       own : (job : TaskJob) → s ≡ table job → MayRun old.cells.now.blocks job → (done : List (Want × Got)) (at : WorkStage R D P G) → AreFirst s done → Leads led old done at → IsOwnStep job (want (left_by s done))
       own job b m done at g l = work_own led (λ x. x.hand.now.pass.card) (λ x w g y h. made_by_pass x.cells.now.blocks x.hand.now.pass y.hand.now.pass w g h.by_pass) old.cells.now.blocks s job old b m idle done at g l
 
-      by_job : (job : TaskJob) → s ≡ table job → MayRun old.cells.now.blocks job → MayCommit tells contents new.hand.now.devices new.commit.now (want (left_by s steps))
+      by_job : (job : TaskJob) → s ≡ table job → MayRun old.cells.now.blocks job → WritesUnderCommit tells contents new.hand.now.devices new.commit.now (want (left_by s steps))
       by_job (OnBlock block_job) b m = block_commits tells contents new.hand.now.devices new.commit.now block_job (want (left_by s steps)) (own (OnBlock block_job) b m steps new f leads)
       by_job (Flushing serves most) b m =
           commits_there tells size contents faults (λ (x : WorkStage R D P G). asked x.held.now) (λ (x : WorkStage R D P G). x.hand.now.devices) (λ x. x.buffer.now) (λ x. x.commit.now) led (λ x w g y h. h.works) serves most s old steps new (ap (λ (t : Plan). t.job) b) (own (Flushing serves most) b m)

@@ -8,30 +8,30 @@ use Rattle.wb_disk.specs.Device.{History, Content}
 use Rattle.wb_port.specs.Ports.{block_at, IsTryRefused, TryReadRefused, TryWriteRefused}
 use Rattle.wb_port.specs.Requests.{IsOutside, ReadRefused, WriteRefused, WasRead, WasWritten}
 use Rattle.wb_port.specs.declared.port.Port.{Port}
-use Rattle.wb_target.specs.Blocking.{IsInside, ReadCame, WriteCame}
+use Rattle.wb_target.specs.Blocking.{IsInsideOrigin, ReadCame, WriteCame}
 
-pub not_outside : (geometry : Geometry) (first count : ℕ) → IsInside geometry first count → IsOutside geometry first count → ⊥
+pub not_outside : (geometry : Geometry) (first count : ℕ) → IsInsideOrigin geometry first count → IsOutside geometry first count → ⊥
 not_outside geometry first count inside (inl none) = absurd (omega (arith, inside.0, none))
 not_outside geometry first count inside (inr over) = absurd (omega (arith, inside.1, over))
 
-pub not_range : (geometry geometry' : Geometry) (first count count' : ℕ) (refusal : Refusal) → geometry' ≡ geometry → count' ≡ count → IsInside geometry first count → (refusal ≡ Range → IsOutside geometry' first count') → refusal ≢ Range
+pub not_range : (geometry geometry' : Geometry) (first count count' : ℕ) (refusal : Refusal) → geometry' ≡ geometry → count' ≡ count → IsInsideOrigin geometry first count → (refusal ≡ Range → IsOutside geometry' first count') → refusal ≢ Range
 not_range geometry geometry' first count count' refusal same many inside outside e =
     not_outside geometry first count inside (subst (λ (g : Geometry). IsOutside g first count) same (subst (λ (n : ℕ). IsOutside geometry' first n) many (outside e)))
 
 -- no look comes before its steps that would refuse it
-never_before : (geometry : Geometry) (unsettled first count : ℕ) (refusal : Refusal) → unsettled ≡ 0 → IsInside geometry first count → first % geometry.block + count ≤ geometry.block → IsTryRefused geometry unsettled first count refusal → ⊥
+never_before : (geometry : Geometry) (unsettled first count : ℕ) (refusal : Refusal) → unsettled ≡ 0 → IsInsideOrigin geometry first count → first % geometry.block + count ≤ geometry.block → IsTryRefused geometry unsettled first count refusal → ⊥
 never_before geometry unsettled first count Range none inside fits h = not_outside geometry first count inside h
 never_before geometry unsettled first count CrossesBlocks none inside fits h = absurd (omega (arith, fits, h))
 never_before geometry unsettled first count Defer none inside fits h = absurd (omega (arith, none, h))
 never_before geometry unsettled first count refusal none inside fits h = absurd h
 
 module _ {D : Type 0} (tells : Type 0) (size : D → ℕ) (contents : D → List History) (faults : D → ℕ) (port port' : Port D) (geometry : Geometry) (same : port.geometry ≡ geometry) (sized : port.cells.value.blocks ≡ port.geometry.origin_blocks)
-    (settled : length port.accesses.items ≡ 0) (first count : ℕ) (inside : IsInside geometry first count) (fits : first % geometry.block + count ≤ geometry.block) where
+    (settled : length port.accesses.items ≡ 0) (first count : ℕ) (inside : IsInsideOrigin geometry first count) (fits : first % geometry.block + count ≤ geometry.block) where
   abbrev at : ℕ → Extent
   at n = record { first = first; count = n }
 
   not_before : (refusal : Refusal) → IsTryRefused port.geometry (length port.accesses.items) first count refusal → ⊥
-  not_before refusal h = never_before port.geometry (length port.accesses.items) first count refusal settled (subst (λ (g : Geometry). IsInside g first count) (sym same) inside) (subst (λ (g : Geometry). first % g.block + count ≤ g.block) (sym same) fits) h
+  not_before refusal h = never_before port.geometry (length port.accesses.items) first count refusal settled (subst (λ (g : Geometry). IsInsideOrigin g first count) (sym same) inside) (subst (λ (g : Geometry). first % g.block + count ≤ g.block) (sym same) fits) h
 
   pub read_refused : (out out' : List Content) (refusal : Refusal) → length out ≡ count → TryReadRefused tells size contents faults port first out refusal port' out' → ReadCame tells size contents faults geometry (Some refusal) (at count) (port.hand, out) (port'.hand, out')
   read_refused out out' refusal many (inl h) = absurd (not_before refusal (subst (λ (n : ℕ). IsTryRefused port.geometry (length port.accesses.items) first n refusal) many h.0))

@@ -17,7 +17,7 @@ use Rattle.wb_tasks.specs.declared.step.Migration.TheVariants.{Promote as Promot
 use Rattle.wb_port.specs.Hands.{saw_fail_word}
 use Rattle.wb_port.specs.declared.port.Port.{Port}
 use Rattle.wb_target.specs.Works.{DeskTold, WorkState}
-use Rattle.wb_target.specs.Carried.{state_of, looked_at_fail, HasBegun, Runs, WasDone, migration_of, flush_of, jobs_of}
+use Rattle.wb_target.specs.Carried.{client_state, looked_at_fail, HasBegun, Runs, WasDone, migration_of, flush_of, jobs_of}
 use Rattle.wb_target.specs.declared.gate.Point.{Point}
 use Rattle.wb_target.specs.declared.gate.Point.TheVariants.{Order as BeforeOrder, Idle}
 use Rattle.wb_target.specs.Workers.{WasRefused, DidNotBegin, GaveUpAmong, FlushRefused, HasBuffer, Took, Turn, Works, Idles, StoppedAt}
@@ -25,14 +25,14 @@ use Rattle.wb_target.proofs.Carried.{Before}
 
 -- ---- a look at the fail word
 
-pub looked : {D : Type 0} (word : ℕ) (p q : Port D) → q.hand ≡ saw_fail_word word p.hand → q.buffer ≡ p.buffer → q.commit ≡ p.commit → state_of q ≡ looked_at_fail word (state_of p)
+pub looked : {D : Type 0} (word : ℕ) (p q : Port D) → q.hand ≡ saw_fail_word word p.hand → q.buffer ≡ p.buffer → q.commit ≡ p.commit → client_state q ≡ looked_at_fail word (client_state p)
 looked {D} word p q hand buffer commit =
-    let one : state_of q ≡ record { hand = saw_fail_word word p.hand; buffer = q.buffer.items; commit = q.commit } = ap (λ (h : _). record { hand = h; buffer = q.buffer.items; commit = q.commit }) hand in
+    let one : client_state q ≡ record { hand = saw_fail_word word p.hand; buffer = q.buffer.items; commit = q.commit } = ap (λ (h : _). record { hand = h; buffer = q.buffer.items; commit = q.commit }) hand in
     let two : record { hand = saw_fail_word word p.hand; buffer = q.buffer.items; commit = q.commit } ≡ record { hand = saw_fail_word word p.hand; buffer = p.buffer.items; commit = q.commit } = ap (λ (b : _). record { hand = saw_fail_word word p.hand; buffer = b.items; commit = q.commit }) buffer in
     one ∙ (two ∙ ap (λ (c : _). record { hand = saw_fail_word word p.hand; buffer = p.buffer.items; commit = c }) commit)
 
 -- a clear one, and then a buffer was taken
-pub begun_by : {D : Type 0} (p q r : Port D) → q.hand ≡ saw_fail_word 0 p.hand → q.buffer ≡ p.buffer → q.commit ≡ p.commit → r.hand ≡ q.hand → r.commit ≡ q.commit → (0 < length q.buffer.items → r.buffer.items ≡ q.buffer.items) → HasBegun (state_of p) (state_of r)
+pub begun_by : {D : Type 0} (p q r : Port D) → q.hand ≡ saw_fail_word 0 p.hand → q.buffer ≡ p.buffer → q.commit ≡ p.commit → r.hand ≡ q.hand → r.commit ≡ q.commit → (0 < length q.buffer.items → r.buffer.items ≡ q.buffer.items) → HasBegun (client_state p) (client_state r)
 begun_by p q r hand buffer commit hand' commit' kept = record {
   clear = hand' ∙ hand;
   commit = commit' ∙ commit;

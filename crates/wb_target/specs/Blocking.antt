@@ -46,11 +46,11 @@ InParts {H} came block_sectors end (suc done) first old slice new slice' =
     (0 < length slice) × ((mid : H) × CameTo came None part (old, take part.count slice) (mid, take part.count slice')
     × InParts came block_sectors end done (first + part.count) mid (drop part.count slice) new (drop part.count slice'))
 
-abbrev pub IsInside : Geometry → ℕ → ℕ → Type 0
-IsInside geometry first count = (0 < count) × (first + count ≤ geometry.block * geometry.origin_blocks)
+abbrev pub IsInsideOrigin : Geometry → ℕ → ℕ → Type 0
+IsInsideOrigin geometry first count = (0 < count) × (first + count ≤ geometry.block * geometry.origin_blocks)
 
 -- A request that was stopped lay outside, and nothing was done; or so many of its parts were done, and the next one was refused.
 abbrev pub IsStopped : {H : Type 0} → (Option Refusal → Extent → H × List Bytes → H × List Bytes → Type 0) → Geometry → ℕ → Stopped → H → List Bytes → H → List Bytes → Type 0
 IsStopped came geometry first stopped old slice new slice' =
     (IsOutside geometry first (length slice) × (stopped.done ≡ 0) × (stopped.refusal ≡ Range) × (new ≡ old) × (slice' ≡ slice))
-    ⊎ (IsInside geometry first (length slice) × (stopped.refusal ≢ Range) × InParts came geometry.block (Some stopped.refusal) stopped.done first old slice new slice')
+    ⊎ (IsInsideOrigin geometry first (length slice) × (stopped.refusal ≢ Range) × InParts came geometry.block (Some stopped.refusal) stopped.done first old slice new slice')

@@ -24,8 +24,8 @@ use Rattle.wb_target.specs.Tries.{EndedAfter}
 use Rattle.wb_target.specs.Works.{WorkState, DeskTold, WasPerformed}
 
 -- what a client is at
-abbrev pub state_of : {D : Type 0} → Port D → WorkState D
-state_of port = record { hand = port.hand; buffer = port.buffer.items; commit = port.commit }
+abbrev pub client_state : {D : Type 0} → Port D → WorkState D
+client_state port = record { hand = port.hand; buffer = port.buffer.items; commit = port.commit }
 
 -- it has looked at the fail word, and found this
 abbrev pub looked_at_fail : {D : Type 0} → ℕ → WorkState D → WorkState D
@@ -75,11 +75,11 @@ jobs_of geometry (Clean block) = migration_of geometry Cleaning block ∷ []
 jobs_of geometry (Replace victim block to) = migration_of geometry Demoting victim ∷ flush_of geometry (Some block) ∷ migration_of geometry (Promoting to) block ∷ []
 
 -- an order's blocks are there
-abbrev pub IsThere : Geometry → Order → Type 0
-IsThere geometry (Promote b c) = b.0 < geometry.origin_blocks
-IsThere geometry (Demote b) = b.0 < geometry.origin_blocks
-IsThere geometry (Clean b) = b.0 < geometry.origin_blocks
-IsThere geometry (Replace v x c) = (v.0 < geometry.origin_blocks) × (x.0 < geometry.origin_blocks)
+abbrev pub BlocksAreThere : Geometry → Order → Type 0
+BlocksAreThere geometry (Promote b c) = b.0 < geometry.origin_blocks
+BlocksAreThere geometry (Demote b) = b.0 < geometry.origin_blocks
+BlocksAreThere geometry (Clean b) = b.0 < geometry.origin_blocks
+BlocksAreThere geometry (Replace v x c) = (v.0 < geometry.origin_blocks) × (x.0 < geometry.origin_blocks)
 
 -- ---- what a flush leaves
 

@@ -58,8 +58,8 @@ MadeFirst with_setting making want = writes_root want ≡ true → IsMadeOfRead 
 
 -- A step is one of the opening, over what was read or, where that was taken for the target, without it, and that was made before the root is
 -- written; or it failed, and no device was asked. What was read so far, where it is still there, is of the metadata device.
-abbrev pub GoesOn : {D P : Type 0} → Type 0 → (D → ℕ) → (D → List History) → (D → ℕ) → (P → Key → ℕ → Option P) → MakingStage D P → Want → Got → MakingStage D P → Type 0
-GoesOn {D} tells size contents faults with_setting old want got new =
+abbrev pub MakingGoesOn : {D P : Type 0} → Type 0 → (D → ℕ) → (D → List History) → (D → ℕ) → (P → Key → ℕ → Option P) → MakingStage D P → Want → Got → MakingStage D P → Type 0
+MakingGoesOn {D} tells size contents faults with_setting old want got new =
     MayGoOn (size new.stage.devices.metadata) new.stage.opening
     × (((before : OpeningStage D) × (before.devices ≡ old.stage.devices) × (before.opening.commit ≡ old.stage.opening.commit)
     × (before.opening.geometry ≡ old.stage.opening.geometry) × LedOpening tells size contents faults before want got new.stage × MadeFirst with_setting old want)
@@ -74,5 +74,5 @@ pub record WasRun {D P : Type 0} (tells : Type 0) (size : D → ℕ) (contents :
   pub not_begun : HasNotBegun first.stage.opening
   pub steps : List (Want × Got)
   pub run : IsRunOf (table (OpeningJob left)) steps answer
-  pub leads : Leads (GoesOn tells size contents faults with_setting) first steps last
+  pub leads : Leads (MakingGoesOn tells size contents faults with_setting) first steps last
   pub back_is : back ≡ last.stage.devices

@@ -12,7 +12,7 @@ use Rattle.wb_target.specs.declared.gate.Point.{Point}
 use Rattle.wb_target.specs.declared.gate.Point.TheVariants.{Order, Idle}
 use Rattle.wb_target.specs.Tries.{Tried, EndedAfter}
 use Rattle.wb_target.specs.Works.{WorkState}
-use Rattle.wb_target.specs.Carried.{looked_at_fail, HasBegun, WasDone, WereDone, flush_of, jobs_of, IsThere}
+use Rattle.wb_target.specs.Carried.{looked_at_fail, HasBegun, WasDone, WereDone, flush_of, jobs_of, BlocksAreThere}
 
 -- the gate said no before an order, or where none waited
 abbrev pub IsEndedBy : {G : Type 0} → (G → Point → Bool → Type 0) → G → Type 0
@@ -53,7 +53,7 @@ pub record HasBuffer {D : Type 0} (old new : WorkState D) : Type 0 where
 pub data Took {D : Type 0} (runs : List CacheOrder → TaskJob → WorkState D → Answer → WorkState D → Type 0) (next : Option CacheOrder → Type 0) (geometry : Geometry) (old new : WorkState D) : Type 0 where
   Carried : (order : CacheOrder) → next (Some order) → (begun : WorkState D) → HasBuffer old begun → WereDone (runs (order ∷ [])) (jobs_of geometry order) begun new → Took runs next geometry old new
   GaveUp : (order : CacheOrder) → next (Some order) → (refusal : Refusal) → (begun mid : WorkState D) → HasBuffer old begun → GaveUpAmong (runs (order ∷ [])) (jobs_of geometry order) refusal begun mid → new ≡ looked_at_fail 0 mid → Took runs next geometry old new
-  GaveBack : (order : CacheOrder) → next (Some order) → HasBuffer old new → (length old.buffer ≡ 0) ⊎ ¬ IsThere geometry order → Took runs next geometry old new
+  GaveBack : (order : CacheOrder) → next (Some order) → HasBuffer old new → (length old.buffer ≡ 0) ⊎ ¬ BlocksAreThere geometry order → Took runs next geometry old new
 
 -- A turn begins with a look at the fail word, which is clear, and a yes of the gate before an order. Then one was taken; or none waited, and
 -- the gate said yes again.
@@ -115,5 +115,5 @@ abbrev pub OrderRefused : {D : Type 0} → (List CacheOrder → TaskJob → Work
 OrderRefused {D} runs next geometry refusal old new =
     FoundFailed refusal old new
     ⊎ ((refusal ≡ Memory) × (length old.buffer ≡ 0) × HasBegun old new)
-    ⊎ ((order : CacheOrder) × next (Some order) × (refusal ≡ Range) × (¬ IsThere geometry order) × HasBegun old new)
+    ⊎ ((order : CacheOrder) × next (Some order) × (refusal ≡ Range) × (¬ BlocksAreThere geometry order) × HasBegun old new)
     ⊎ ((order : CacheOrder) × next (Some order) × ((begun : WorkState D) × HasBegun old begun × GaveUpAmong (runs (order ∷ [])) (jobs_of geometry order) refusal begun new))

@@ -116,24 +116,24 @@ MayMigrate size held (OnBlock job) = ⊥
 MayMigrate size held job = Unit {0}
 
 -- A node or root is written by a commit that runs, once cache and origin are durable.
-abbrev pub MayCommit : {D : Type 0} → Type 0 → (D → List History) → Devices D → Option RunningCommit → Want → Type 0
-MayCommit tells contents devices commit (Device (WriteNode number)) = MayPut tells contents devices commit
-MayCommit tells contents devices commit (Device WriteRoot) = MayPut tells contents devices commit
-MayCommit tells contents devices commit want = Unit {0}
+abbrev pub WritesUnderCommit : {D : Type 0} → Type 0 → (D → List History) → Devices D → Option RunningCommit → Want → Type 0
+WritesUnderCommit tells contents devices commit (Device (WriteNode number)) = MayPut tells contents devices commit
+WritesUnderCommit tells contents devices commit (Device WriteRoot) = MayPut tells contents devices commit
+WritesUnderCommit tells contents devices commit want = Unit {0}
 
 abbrev pub IsReadyToWork : {R D P G : Type 0} → Type 0 → (D → List History) → WorkStage R D P G → Want → Type 0
-IsReadyToWork tells contents stage want = IsReadyOn stage.cells.now stage.hand.now.pass want × IsServed want × MayWork stage.hand.now.block_sectors stage.held.now stage.hand.now.pass.card want × MayCommit tells contents stage.hand.now.devices stage.commit.now want
+IsReadyToWork tells contents stage want = IsReadyOn stage.cells.now stage.hand.now.pass want × IsServed want × MayWork stage.hand.now.block_sectors stage.held.now stage.hand.now.pass.card want × WritesUnderCommit tells contents stage.hand.now.devices stage.commit.now want
 
 -- the gate was asked before a step on a device
-abbrev pub IsAsked : {G : Type 0} → (G → Point → Bool → Type 0) → G → Want → Type 0
-IsAsked answers gate (Device step) = (go : Bool) × answers gate AtDevice go
-IsAsked answers gate want = Unit {0}
+abbrev pub GateIsAsked : {G : Type 0} → (G → Point → Bool → Type 0) → G → Want → Type 0
+GateIsAsked answers gate (Device step) = (go : Bool) × answers gate AtDevice go
+GateIsAsked answers gate want = Unit {0}
 
 pub record WorkLed {R D P G : Type 0} (tells : Type 0) (size : D → ℕ) (contents : D → List History) (faults : D → ℕ) (told : List Order → DeskTold) (answers : G → Point → Bool → Type 0) (old : WorkStage R D P G) (want : Want) (got : Got) (new : WorkStage R D P G) : Type 0 where
   pub cells : new.cells ≡ old.cells
   pub held : new.held ≡ old.held
   pub gate : new.gate ≡ old.gate
-  pub asked : IsAsked answers old.gate.now want
+  pub asked : GateIsAsked answers old.gate.now want
   pub same_hand : new.hand.ghost_name ≡ old.hand.ghost_name
   pub same_buffer : new.buffer.ghost_name ≡ old.buffer.ghost_name
   pub same_commit : new.commit.ghost_name ≡ old.commit.ghost_name

@@ -2,7 +2,7 @@
 
 ghost use Rattle.std.specs.Prelude.{◌≡◌, ◌≢◌, ◌≤◌, ◌<◌, ◌+◌, ◌-◌, ◌*◌, ◌%◌, ℕ, min, Some, None, OnOk, IfErr, length};
 ghost use Rattle.wb_port.specs.Requests.{IsOutside};
-ghost use Rattle.wb_target.specs.Blocking.{ReadCame, WriteCame, CameTo, InParts, IsInside, IsStopped};
+ghost use Rattle.wb_target.specs.Blocking.{ReadCame, WriteCame, CameTo, InParts, IsInsideOrigin, IsStopped};
 
 use crate::client::Client;
 use std::sync::Wait;
@@ -23,7 +23,7 @@ impl<'t, D: Disk + Drop, P: Policy> Client<'t, D, P> {
     ///
     /// `Range` for no sector, or one outside the origin, before any block; `Failed`, `Io` and `Memory` where a block met them.
     pub fn read<R: Wait>(&mut self, rt: &R, at: Sector, out: &mut [Content]) -> Result<(), Stopped>
-        ensures inside { OnOk result (IsInside self.old.port.geometry at.0 (length out.old)) }
+        ensures inside { OnOk result (IsInsideOrigin self.old.port.geometry at.0 (length out.old)) }
         ensures read { OnOk result ((parts : ℕ) × InParts (ReadCame D.tells D.size D.contents D.faults self.old.port.geometry) self.old.port.geometry.block None parts at.0 self.old.port.hand out.old self.new.port.hand out.new) }
         ensures waits { IfErr result (λ stopped. stopped.refusal ≢ Refusal.Busy) }
         ensures stopped { IfErr result (λ stopped. IsStopped (ReadCame D.tells D.size D.contents D.faults self.old.port.geometry) self.old.port.geometry at.0 stopped self.old.port.hand out.old self.new.port.hand out.new) }
@@ -55,7 +55,7 @@ impl<'t, D: Disk + Drop, P: Policy> Client<'t, D, P> {
     ///
     /// `Range` as `read`; `Failed`, `Worn` and `Io` where a block met them.
     pub fn write<R: Wait>(&mut self, rt: &R, at: Sector, from: &[Content]) -> Result<(), Stopped>
-        ensures inside { OnOk result (IsInside self.old.port.geometry at.0 (length from.now)) }
+        ensures inside { OnOk result (IsInsideOrigin self.old.port.geometry at.0 (length from.now)) }
         ensures written { OnOk result ((parts : ℕ) × InParts (WriteCame D.tells D.size D.contents D.faults self.old.port.geometry) self.old.port.geometry.block None parts at.0 self.old.port.hand from.now self.new.port.hand from.now) }
         ensures waits { IfErr result (λ stopped. stopped.refusal ≢ Refusal.Busy) }
         ensures stopped { IfErr result (λ stopped. IsStopped (WriteCame D.tells D.size D.contents D.faults self.old.port.geometry) self.old.port.geometry at.0 stopped self.old.port.hand from.now self.new.port.hand from.now) }
@@ -84,7 +84,7 @@ impl<'t, D: Disk + Drop, P: Policy> Client<'t, D, P> {
 
     /// Whether so many sectors, and at least one, lie in the origin.
     fn in_range(&self, at: Sector, count: u64) -> Result<(), Stopped>
-        ensures inside { OnOk result (IsInside self.now.port.geometry at.0 count) }
+        ensures inside { OnOk result (IsInsideOrigin self.now.port.geometry at.0 count) }
         ensures refused { IfErr result (λ stopped. (stopped.done ≡ 0) × (stopped.refusal ≡ Refusal.Range) × IsOutside self.now.port.geometry at.0 count) }
     {
         let Sector(first) = at;
@@ -105,7 +105,7 @@ impl<'t, D: Disk + Drop, P: Policy> Client<'t, D, P> {
         at: Sector,
         out: &mut [Content],
     ) -> Result<(), Refusal>
-        requires inside { IsInside self.old.port.geometry at.0 (length out.old) }
+        requires inside { IsInsideOrigin self.old.port.geometry at.0 (length out.old) }
         requires fits { at.0 % self.old.port.geometry.block + length out.old ≤ self.old.port.geometry.block }
         ensures read { OnOk result (CameTo (ReadCame D.tells D.size D.contents D.faults self.old.port.geometry) None (record { first = at.0; count = length out.old }) (self.old.port.hand, out.old) (self.new.port.hand, out.new)) }
         ensures waits { IfErr result (λ refusal. refusal ≢ Refusal.Busy) }
@@ -135,7 +135,7 @@ impl<'t, D: Disk + Drop, P: Policy> Client<'t, D, P> {
 
     /// Writes sectors of one block, as `read_block` reads them.
     fn write_block<R: Wait>(&mut self, rt: &R, at: Sector, from: &[Content]) -> Result<(), Refusal>
-        requires inside { IsInside self.old.port.geometry at.0 (length from.now) }
+        requires inside { IsInsideOrigin self.old.port.geometry at.0 (length from.now) }
         requires fits { at.0 % self.old.port.geometry.block + length from.now ≤ self.old.port.geometry.block }
         ensures written { OnOk result (CameTo (WriteCame D.tells D.size D.contents D.faults self.old.port.geometry) None (record { first = at.0; count = length from.now }) (self.old.port.hand, from.now) (self.new.port.hand, from.now)) }
         ensures waits { IfErr result (λ refusal. refusal ≢ Refusal.Busy) }

@@ -7,7 +7,7 @@ ghost use Rattle.wb_tasks.specs.Plan.{table};
 ghost use Rattle.wb_stage.specs.Jobs.{MayRun};
 ghost use Rattle.wb_port.specs.Moves.{copied_to};
 ghost use Rattle.wb_target.specs.Works.{WasAsked, WasPerformed, IsOrdered, MayMigrate};
-ghost use Rattle.wb_target.specs.Carried.{state_of, looked_at_fail, HasBegun, Runs, WasDone, WereDone, migration_of, serving, flush_of, jobs_of, IsThere, AreSynced};
+ghost use Rattle.wb_target.specs.Carried.{client_state, looked_at_fail, HasBegun, Runs, WasDone, WereDone, migration_of, serving, flush_of, jobs_of, BlocksAreThere, AreSynced};
 ghost use Rattle.wb_target.specs.Told.{HadTick, WasNext, WasGivenUp};
 ghost use Rattle.wb_target.specs.Workers.{WasRefused, DidNotBegin, GaveUpAmong, OrderRefused, FlushRefused, TickRefused};
 
@@ -42,7 +42,7 @@ fn work<R: Wait, D: Disk + Drop, P: Policy, G: Gate, T: Task>(
     task: &mut T,
 ) -> Answer
     requires begun { (job : TaskJob) × (T.plan task.old ≡ table job) × MayRun port.old.geometry.origin_blocks job × MayMigrate port.old.geometry.block held.now job }
-    ensures performed { WasPerformed D.tells D.size D.contents D.faults (WasAsked P.with_entry P.without_entry held.now) port.old.geometry.origin_blocks (T.plan task.old) (state_of port.old) result (state_of port.new) }
+    ensures performed { WasPerformed D.tells D.size D.contents D.faults (WasAsked P.with_entry P.without_entry held.now) port.old.geometry.origin_blocks (T.plan task.old) (client_state port.old) result (client_state port.new) }
     ensures geometry { port.new.geometry ≡ port.old.geometry }
 {
     perform_task(
@@ -60,7 +60,7 @@ fn work<R: Wait, D: Disk + Drop, P: Policy, G: Gate, T: Task>(
 
 /// Where the target has failed, whoever waits for its commit is told.
 fn note_failure<R: Wait, D: Disk + Drop, P: Policy>(rt: &R, target: &Target<P>, port: &mut Port<D>)
-    ensures looked { (word : ℕ) × (state_of port.new ≡ looked_at_fail word (state_of port.old)) }
+    ensures looked { (word : ℕ) × (client_state port.new ≡ looked_at_fail word (client_state port.old)) }
     ensures geometry { port.new.geometry ≡ port.old.geometry }
 {
     if port.has_failed() {
@@ -95,8 +95,8 @@ fn migrate<R: Wait, D: Disk + Drop, P: Policy, G: Gate>(
 ) -> Result<(), Refusal>
     requires there { block.0 < port.old.geometry.origin_blocks }
     requires ordered { IsOrdered (order ∷ []) block (copied_to migration) }
-    ensures done { OnOk result (WasDone (Runs D.tells D.size D.contents D.faults (WasAsked P.with_entry P.without_entry) port.old.geometry.origin_blocks (order ∷ [])) (migration_of port.old.geometry migration block) (state_of port.old) (state_of port.new)) }
-    ensures refused { IfErr result (λ refusal. WasRefused (Runs D.tells D.size D.contents D.faults (WasAsked P.with_entry P.without_entry) port.old.geometry.origin_blocks (order ∷ [])) (migration_of port.old.geometry migration block) refusal (state_of port.old) (state_of port.new)) }
+    ensures done { OnOk result (WasDone (Runs D.tells D.size D.contents D.faults (WasAsked P.with_entry P.without_entry) port.old.geometry.origin_blocks (order ∷ [])) (migration_of port.old.geometry migration block) (client_state port.old) (client_state port.new)) }
+    ensures refused { IfErr result (λ refusal. WasRefused (Runs D.tells D.size D.contents D.faults (WasAsked P.with_entry P.without_entry) port.old.geometry.origin_blocks (order ∷ [])) (migration_of port.old.geometry migration block) refusal (client_state port.old) (client_state port.new)) }
     ensures geometry { port.new.geometry ≡ port.old.geometry }
 {
     let held = [order];
@@ -127,8 +127,8 @@ fn flush<R: Wait, D: Disk + Drop, P: Policy, G: Gate>(
     held: &[Order],
     serves: Option<OBlock>,
 ) -> Result<(), Refusal>
-    ensures done { OnOk result (WasDone (Runs D.tells D.size D.contents D.faults (WasAsked P.with_entry P.without_entry) port.old.geometry.origin_blocks held.now) (flush_of port.old.geometry serves) (state_of port.old) (state_of port.new)) }
-    ensures refused { IfErr result (λ refusal. WasRefused (Runs D.tells D.size D.contents D.faults (WasAsked P.with_entry P.without_entry) port.old.geometry.origin_blocks held.now) (flush_of port.old.geometry serves) refusal (state_of port.old) (state_of port.new) ⊎ DidNotBegin (Runs D.tells D.size D.contents D.faults (WasAsked P.with_entry P.without_entry) port.old.geometry.origin_blocks held.now) (flush_of port.old.geometry serves) refusal (state_of port.old) (state_of port.new)) }
+    ensures done { OnOk result (WasDone (Runs D.tells D.size D.contents D.faults (WasAsked P.with_entry P.without_entry) port.old.geometry.origin_blocks held.now) (flush_of port.old.geometry serves) (client_state port.old) (client_state port.new)) }
+    ensures refused { IfErr result (λ refusal. WasRefused (Runs D.tells D.size D.contents D.faults (WasAsked P.with_entry P.without_entry) port.old.geometry.origin_blocks held.now) (flush_of port.old.geometry serves) refusal (client_state port.old) (client_state port.new) ⊎ DidNotBegin (Runs D.tells D.size D.contents D.faults (WasAsked P.with_entry P.without_entry) port.old.geometry.origin_blocks held.now) (flush_of port.old.geometry serves) refusal (client_state port.old) (client_state port.new)) }
     ensures geometry { port.new.geometry ≡ port.old.geometry }
 {
     let most = port.geometry.node_count();
@@ -186,9 +186,9 @@ pub(crate) fn carry_out<R: Wait, D: Disk + Drop, P: Policy, G: Gate>(
     port: &mut Port<D>,
     order: Order,
 ) -> Result<(), Refusal>
-    requires { IsThere port.old.geometry order }
-    ensures carried { OnOk result (WereDone (Runs D.tells D.size D.contents D.faults (WasAsked P.with_entry P.without_entry) port.old.geometry.origin_blocks (order ∷ [])) (jobs_of port.old.geometry order) (state_of port.old) (state_of port.new)) }
-    ensures given_up { IfErr result (λ refusal. GaveUpAmong (Runs D.tells D.size D.contents D.faults (WasAsked P.with_entry P.without_entry) port.old.geometry.origin_blocks (order ∷ [])) (jobs_of port.old.geometry order) refusal (state_of port.old) (state_of port.new)) }
+    requires { BlocksAreThere port.old.geometry order }
+    ensures carried { OnOk result (WereDone (Runs D.tells D.size D.contents D.faults (WasAsked P.with_entry P.without_entry) port.old.geometry.origin_blocks (order ∷ [])) (jobs_of port.old.geometry order) (client_state port.old) (client_state port.new)) }
+    ensures given_up { IfErr result (λ refusal. GaveUpAmong (Runs D.tells D.size D.contents D.faults (WasAsked P.with_entry P.without_entry) port.old.geometry.origin_blocks (order ∷ [])) (jobs_of port.old.geometry order) refusal (client_state port.old) (client_state port.new)) }
     ensures geometry { port.new.geometry ≡ port.old.geometry }
 {
     match order {
@@ -207,8 +207,8 @@ pub(crate) fn carry_out<R: Wait, D: Disk + Drop, P: Policy, G: Gate>(
 
 /// Whether an order's blocks are there. All are; the lock cannot say of which cache the desk under it is.
 pub(crate) fn is_there(geometry: &Geometry, order: Order) -> bool
-    ensures there { OnTrue result (IsThere geometry.now order) }
-    ensures absent { OnFalse result (¬ IsThere geometry.now order) }
+    ensures there { OnTrue result (BlocksAreThere geometry.now order) }
+    ensures absent { OnFalse result (¬ BlocksAreThere geometry.now order) }
 {
     match order {
         Order::Promote(block, _) | Order::Demote(block) | Order::Clean(block) => {
@@ -227,10 +227,10 @@ impl<'t, D: Disk + Drop, P: Policy> Client<'t, D, P> {
     /// `Failed` where the target has failed; `Memory` where there is none; `Io` where a step failed; `GenerationEnd` where a
     /// replacement's commit has no next generation; `Range` for an order of blocks that are not there, of which none is given.
     pub fn work_one<R: Wait>(&mut self, rt: &R) -> Result<Option<Order>, Refusal>
-        ensures carried { IfOk result (λ told. IfSome told (λ order. (begun : _) × HasBegun (state_of self.old.port) begun × WereDone (Runs D.tells D.size D.contents D.faults (WasAsked P.with_entry P.without_entry) self.old.port.geometry.origin_blocks (order ∷ [])) (jobs_of self.old.port.geometry order) begun (state_of self.new.port))) }
+        ensures carried { IfOk result (λ told. IfSome told (λ order. (begun : _) × HasBegun (client_state self.old.port) begun × WereDone (Runs D.tells D.size D.contents D.faults (WasAsked P.with_entry P.without_entry) self.old.port.geometry.origin_blocks (order ∷ [])) (jobs_of self.old.port.geometry order) begun (client_state self.new.port))) }
         ensures next { IfOk result (WasNext P) }
-        ensures idle { IfOk result (λ told. IfNone told (HasBegun (state_of self.old.port) (state_of self.new.port))) }
-        ensures refused { IfErr result (λ refusal. OrderRefused (Runs D.tells D.size D.contents D.faults (WasAsked P.with_entry P.without_entry) self.old.port.geometry.origin_blocks) (WasNext P) self.old.port.geometry refusal (state_of self.old.port) (state_of self.new.port)) }
+        ensures idle { IfOk result (λ told. IfNone told (HasBegun (client_state self.old.port) (client_state self.new.port))) }
+        ensures refused { IfErr result (λ refusal. OrderRefused (Runs D.tells D.size D.contents D.faults (WasAsked P.with_entry P.without_entry) self.old.port.geometry.origin_blocks) (WasNext P) self.old.port.geometry refusal (client_state self.old.port) (client_state self.new.port)) }
         ensures target { self.new.target ≡ self.old.target }
         ensures geometry { self.new.port.geometry ≡ self.old.port.geometry }
     {
@@ -254,9 +254,9 @@ impl<'t, D: Disk + Drop, P: Policy> Client<'t, D, P> {
     /// `Failed` where the target has failed; `Io` where a step failed; `Memory` where there is none; `GenerationEnd` where there
     /// is no next generation.
     pub fn flush<R: Wait>(&mut self, rt: &R) -> Result<Flushed, Refusal>
-        ensures flushed { OnOk result (WasDone (Runs D.tells D.size D.contents D.faults (WasAsked P.with_entry P.without_entry) self.old.port.geometry.origin_blocks []) (flush_of self.old.port.geometry None) (state_of self.old.port) (state_of self.new.port)) }
+        ensures flushed { OnOk result (WasDone (Runs D.tells D.size D.contents D.faults (WasAsked P.with_entry P.without_entry) self.old.port.geometry.origin_blocks []) (flush_of self.old.port.geometry None) (client_state self.old.port) (client_state self.new.port)) }
         ensures synced { OnOk result (D.tells → AreSynced D.contents self.new.port.hand.devices) }
-        ensures refused { IfErr result (λ refusal. FlushRefused (Runs D.tells D.size D.contents D.faults (WasAsked P.with_entry P.without_entry) self.old.port.geometry.origin_blocks) self.old.port.geometry refusal (state_of self.old.port) (state_of self.new.port)) }
+        ensures refused { IfErr result (λ refusal. FlushRefused (Runs D.tells D.size D.contents D.faults (WasAsked P.with_entry P.without_entry) self.old.port.geometry.origin_blocks) self.old.port.geometry refusal (client_state self.old.port) (client_state self.new.port)) }
         ensures target { self.new.target ≡ self.old.target }
         ensures geometry { self.new.port.geometry ≡ self.old.port.geometry }
     {
@@ -272,9 +272,9 @@ impl<'t, D: Disk + Drop, P: Policy> Client<'t, D, P> {
     /// told nothing. Else as `flush`, and then the orders stay.
     pub fn tick<R: Wait>(&mut self, rt: &R) -> Result<Flushed, Refusal>
         ensures ticked { OnOk result (HadTick P.cleaned P.ticked) }
-        ensures flushed { OnOk result (WasDone (Runs D.tells D.size D.contents D.faults (WasAsked P.with_entry P.without_entry) self.old.port.geometry.origin_blocks []) (flush_of self.old.port.geometry None) (looked_at_fail 0 (state_of self.old.port)) (state_of self.new.port)) }
+        ensures flushed { OnOk result (WasDone (Runs D.tells D.size D.contents D.faults (WasAsked P.with_entry P.without_entry) self.old.port.geometry.origin_blocks []) (flush_of self.old.port.geometry None) (looked_at_fail 0 (client_state self.old.port)) (client_state self.new.port)) }
         ensures synced { OnOk result (D.tells → AreSynced D.contents self.new.port.hand.devices) }
-        ensures refused { IfErr result (λ refusal. TickRefused (Runs D.tells D.size D.contents D.faults (WasAsked P.with_entry P.without_entry) self.old.port.geometry.origin_blocks) self.old.port.geometry refusal (state_of self.old.port) (state_of self.new.port)) }
+        ensures refused { IfErr result (λ refusal. TickRefused (Runs D.tells D.size D.contents D.faults (WasAsked P.with_entry P.without_entry) self.old.port.geometry.origin_blocks) self.old.port.geometry refusal (client_state self.old.port) (client_state self.new.port)) }
         ensures target { self.new.target ≡ self.old.target }
         ensures geometry { self.new.port.geometry ≡ self.old.port.geometry }
     {

@@ -7,7 +7,7 @@ ghost use Rattle.wb_tasks.specs.Run.{IsRunOf, Leads};
 ghost use Rattle.wb_tasks.specs.declared.step.Want.{Want as WantTerm};
 ghost use Rattle.wb_tasks.specs.declared.step.Got.{Got as GotTerm};
 ghost use Rattle.wb_devices.specs.Openings.{MayGoOn, HasNotBegun};
-ghost use Rattle.wb_target.specs.Making.{IsReadyToMake, IsMadeOfRead, GoesOn, writes_root};
+ghost use Rattle.wb_target.specs.Making.{IsReadyToMake, IsMadeOfRead, MakingGoesOn, writes_root};
 ghost use Rattle.std.specs.Bool.{OnTrue};
 
 use crate::opening::over;
@@ -60,7 +60,7 @@ impl<'k, D: Disk + Drop, P: Policy> MakingStage<'k, D, P> {
     pub(crate) fn run<T: Task>(&mut self, task: &mut T) -> Answer
         requires begun { (left : ℕ) × (T.plan task.old ≡ table (OpeningJob left)) }
         requires goes_on { MayGoOn (D.size self.old.stage.devices.metadata) self.old.stage.opening }
-        ensures run { (steps : List (WantTerm × GotTerm)) × IsRunOf (T.plan task.old) steps result × Leads (GoesOn D.tells D.size D.contents D.faults P.with_setting) self.old steps self.new }
+        ensures run { (steps : List (WantTerm × GotTerm)) × IsRunOf (T.plan task.old) steps result × Leads (MakingGoesOn D.tells D.size D.contents D.faults P.with_setting) self.old steps self.new }
     {
         drive(task, self)
     }
@@ -122,7 +122,7 @@ impl<'k, D: Disk + Drop, P: Policy> MakingStage<'k, D, P> {
 impl<'k, D: Disk + Drop, P: Policy> Stage for MakingStage<'k, D, P> {
     ghost ready = { IsReadyToMake D.size };
 
-    ghost led = { GoesOn D.tells D.size D.contents D.faults P.with_setting };
+    ghost led = { MakingGoesOn D.tells D.size D.contents D.faults P.with_setting };
 
     fn perform(&mut self, want: &Want) -> Got {
         if writes_root(want) {

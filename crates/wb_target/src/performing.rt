@@ -7,7 +7,7 @@ ghost use Rattle.wb_devices.specs.Moving.{IsOutcome, OthersStay, device_in};
 ghost use Rattle.wb_devices.specs.Stepping.{CommitGoes, DidStep, BufferStays};
 ghost use Rattle.wb_stage.specs.Stages.{IsServed};
 ghost use Rattle.wb_target.specs.Told.{WasGivenUp};
-ghost use Rattle.wb_target.specs.Works.{IsReadyToWork, MayWork, MayCommit, DidAskDesk, WasAsked, WorkLed};
+ghost use Rattle.wb_target.specs.Works.{IsReadyToWork, MayWork, WritesUnderCommit, DidAskDesk, WasAsked, WorkLed};
 
 use crate::gate::{Gate, Point};
 use crate::target::Target;
@@ -62,7 +62,7 @@ impl<'a, R: Wait, D: Disk, P: Policy, G: Gate> WorkStage<'a, R, D, P, G> {
     #[tactic(auto, using(crate::proofs::Asking::may_perform))]
     fn device_step(&mut self, step: DeviceStep) -> Got
         requires may { MayWork self.old.hand.now.block_sectors self.old.held.now self.old.hand.now.pass.card (OnDevice step) }
-        requires commits { MayCommit D.tells D.contents self.old.hand.now.devices self.old.commit.now (OnDevice step) }
+        requires commits { WritesUnderCommit D.tells D.contents self.old.hand.now.devices self.old.commit.now (OnDevice step) }
         ensures kind { IsOutcome result }
         ensures cells { self.new.cells ≡ self.old.cells }
         ensures held { self.new.held ≡ self.old.held }

@@ -12,7 +12,7 @@ use Rattle.wb_words.specs.declared.grip.GripStage.{GripStage}
 use Rattle.wb_words.specs.declared.grip.GripStage.TheVariants.{LookFail, LookLock, Exchange, LookSeal, LookNumber}
 use Rattle.wb_tasks.specs.Tables.{BlockRange, OnBlock, device_at, cache_extent, places_written, read_step, write_step, writes}
 use Rattle.wb_tasks.specs.Plan.{Plan, want, after, first_step, later_steps, Fits}
-use Rattle.wb_tasks.specs.Phases.{job_of, write_end, steps_in, left_in, has_order}
+use Rattle.wb_tasks.specs.Phases.{job_on_block, write_end, steps_in, left_in, has_order}
 use Rattle.wb_tasks.specs.declared.block.Work.{Work}
 use Rattle.wb_tasks.specs.declared.block.Work.TheVariants.{Read as ToRead, Write as ToWrite, Migrate as ToMigrate}
 use Rattle.wb_tasks.specs.declared.block.Phase.{Phase}
@@ -51,7 +51,7 @@ at_first part Passthrough place e us ws Q q = q Origin e
 
 -- What a fault leaves of a job that reads at this place, and of one that writes there.
 after_failed_read : (work : Work) (part : BlockRange) (place : Option CBlock) (e : Extent) (ws : List Want) (extents : List Extent) →
-    left_in work part (Releases (has_order work) (Refuses (Io (device_at place)))) extents ≡ after (record { job = OnBlock (job_of work part); steps = read_step part place e ∷ ws; answer = Finished }) Fault
+    left_in work part (Releases (has_order work) (Refuses (Io (device_at place)))) extents ≡ after (record { job = OnBlock (job_on_block work part); steps = read_step part place e ∷ ws; answer = Finished }) Fault
 after_failed_read ToRead part None e ws extents = refl
 after_failed_read ToRead part (Some c) e ws extents = refl
 after_failed_read ToWrite part None e ws extents = refl
@@ -60,7 +60,7 @@ after_failed_read (ToMigrate migration) part None e ws extents = refl
 after_failed_read (ToMigrate migration) part (Some c) e ws extents = refl
 
 after_failed_write : (work : Work) (part : BlockRange) (place : Option CBlock) (e : Extent) (ws : List Want) (extents : List Extent) →
-    left_in work part (SetsFailed (device_at place)) extents ≡ after (record { job = OnBlock (job_of work part); steps = write_step part place e ∷ ws; answer = Finished }) Fault
+    left_in work part (SetsFailed (device_at place)) extents ≡ after (record { job = OnBlock (job_on_block work part); steps = write_step part place e ∷ ws; answer = Finished }) Fault
 after_failed_write work part None e ws extents = refl
 after_failed_write work part (Some c) e ws extents = refl
 
@@ -85,7 +85,7 @@ after_failed (ToMigrate Clean) part (Copies from to) left [] f h = absurd h
 after_failed work part (Copies from to) left (e ∷ extents) f h = rw f (after_failed_read work part from e (later_steps (steps_in work part (Copies from to) (e ∷ extents))) (e ∷ extents))
 after_failed work part (Writes place) left [] f h = absurd h
 after_failed work part (Writes place) left (e ∷ extents) f h =
-    rw f.3 (subst (λ (us : List Want). left_in work part (SetsFailed (device_at f.0)) (e ∷ extents) ≡ after (record { job = OnBlock (job_of work part); steps = us; answer = Finished }) Fault)
+    rw f.3 (subst (λ (us : List Want). left_in work part (SetsFailed (device_at f.0)) (e ∷ extents) ≡ after (record { job = OnBlock (job_on_block work part); steps = us; answer = Finished }) Fault)
     (ap (λ (places : List (Option CBlock)). writes_at work part place e extents places) (sym f.2))
     (after_failed_write work part f.0 e (later_steps (writes_at work part place e extents (f.0 ∷ (if f.1 then place ∷ [] else [])))) (e ∷ extents)))
 after_failed work part (Mirrors place e) left extents f h = rw f (after_failed_write work part place e (later_steps (steps_in work part (Mirrors place e) extents)) extents)

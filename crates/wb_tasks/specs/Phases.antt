@@ -42,10 +42,10 @@ after_seeing job (Refused refusal) = record { job = OnBlock job; steps = []; ans
 after_seeing job WornOut = record { job = OnBlock job; steps = release job ∷ []; answer = Refuses Worn }
 
 -- the job of a task that does this with these sectors of its block
-abbrev pub job_of : Work → BlockRange → BlockJob
-job_of ToRead part = Reading part
-job_of ToWrite part = Writing part
-job_of (ToMigrate migration) part = Migrating migration part
+abbrev pub job_on_block : Work → BlockRange → BlockJob
+job_on_block ToRead part = Reading part
+job_on_block ToWrite part = Writing part
+job_on_block (ToMigrate migration) part = Migrating migration part
 
 -- a migration runs under an order
 abbrev pub has_order : Work → Bool
@@ -57,26 +57,26 @@ order_left part true = Desk (ReleaseOrder part.block) ∷ []
 order_left part false = []
 
 -- what a migration ends with, once its extents are copied; no request copies
-abbrev pub ends : Work → BlockRange → Option CBlock → List Want
-ends (ToMigrate migration) part place = ending migration part.block place
-ends work part place = []
+abbrev pub migration_ends : Work → BlockRange → Option CBlock → List Want
+migration_ends (ToMigrate migration) part place = ending migration part.block place
+migration_ends work part place = []
 
 -- what a write ends with, once its extents are written
 abbrev pub write_end : Work → BlockRange → Option CBlock → List Want
-write_end work part place = Cell (Finish part.block) ∷ write_count place ∷ release (job_of work part) ∷ []
+write_end work part place = Cell (Finish part.block) ∷ write_count place ∷ release (job_on_block work part) ∷ []
 
 -- the steps to come in a phase, with these extents still to move
 abbrev pub steps_in : Work → BlockRange → Phase → List Extent → List Want
-steps_in work part (Acquires stage) extents = steps_from (job_of work part) stage
+steps_in work part (Acquires stage) extents = steps_from (job_on_block work part) stage
 steps_in work part (Dirties c) extents = Cell (SealStep part.block (Some c) true) ∷ (writes part (places_written part.mode (Some c)) extents ++ write_end work part (Some c))
-steps_in work part (Reads place) extents = map (read_step part place) extents ++ read_count place ∷ release (job_of work part) ∷ []
+steps_in work part (Reads place) extents = map (read_step part place) extents ++ read_count place ∷ release (job_on_block work part) ∷ []
 steps_in work part (Writes place) extents = writes part (places_written part.mode place) extents ++ write_end work part place
 steps_in work part (Mirrors place e) extents = write_step part place e ∷ (writes part (places_written part.mode place) extents ++ write_end work part place)
-steps_in work part (Counts place) extents = write_count place ∷ release (job_of work part) ∷ []
-steps_in work part (Copies from to) extents = copies part from to extents ++ ends work part from
-steps_in work part (Puts from to e) extents = write_step part to e ∷ (copies part from to extents ++ ends work part from)
-steps_in work part (Seals place) extents = Cell (SealStep part.block place false) ∷ release (job_of work part) ∷ []
-steps_in work part (Releases order answer) extents = release (job_of work part) ∷ order_left part order
+steps_in work part (Counts place) extents = write_count place ∷ release (job_on_block work part) ∷ []
+steps_in work part (Copies from to) extents = copies part from to extents ++ migration_ends work part from
+steps_in work part (Puts from to e) extents = write_step part to e ∷ (copies part from to extents ++ migration_ends work part from)
+steps_in work part (Seals place) extents = Cell (SealStep part.block place false) ∷ release (job_on_block work part) ∷ []
+steps_in work part (Releases order answer) extents = release (job_on_block work part) ∷ order_left part order
 steps_in work part (GivesUp answer) extents = Desk (ReleaseOrder part.block) ∷ []
 steps_in work part (SetsFailed device) extents = Cell SetFailed ∷ []
 steps_in work part (Ended answer) extents = []
@@ -90,4 +90,4 @@ answer_in phase = Finished
 
 -- what is left then
 abbrev pub left_in : Work → BlockRange → Phase → List Extent → Plan
-left_in work part phase extents = record { job = OnBlock (job_of work part); steps = steps_in work part phase extents; answer = answer_in phase }
+left_in work part phase extents = record { job = OnBlock (job_on_block work part); steps = steps_in work part phase extents; answer = answer_in phase }

@@ -198,9 +198,9 @@ abbrev pub IsExchange : Want → Type 0
 IsExchange (Cell (Take access block seen)) = Unit {0}
 IsExchange want = ⊥
 
-abbrev pub MayFail : Want → Type 0
-MayFail (Device step) = Unit {0}
-MayFail want = ⊥
+abbrev pub WantMayFail : Want → Type 0
+WantMayFail (Device step) = Unit {0}
+WantMayFail want = ⊥
 
 -- The desk refuses an entry of the mapping for want of memory, a commit also where another one runs or no generation is
 -- left. What was read of the metadata is refused where it has no root, or a root of another geometry or one that cannot be
@@ -224,19 +224,19 @@ MayBegin (Desk (BeginCommit clean most)) nodes = nodes ≤ most
 MayBegin want nodes = ⊥
 
 -- nor has a reading more sectors
-abbrev pub MayGoOn : Want → Type 0
-MayGoOn (Device (ReadMetadata left)) = 1 ≤ left
-MayGoOn want = ⊥
+abbrev pub ReadingMayGoOn : Want → Type 0
+ReadingMayGoOn (Device (ReadMetadata left)) = 1 ≤ left
+ReadingMayGoOn want = ⊥
 
 abbrev pub Fits : Want → Got → Type 0
 Fits want Begin = ⊥
 Fits want Done = MayBeDone want
 Fits want (Word value) = IsLook want
 Fits want Lost = IsExchange want
-Fits want Fault = MayFail want
+Fits want Fault = WantMayFail want
 Fits want (Refused refusal) = MayBeRefused want refusal
 Fits want (Began nodes) = MayBegin want nodes
-Fits want More = MayGoOn want
+Fits want More = ReadingMayGoOn want
 
 -- a want that is a step, and no answer
 abbrev pub IsStep : Want → Type 0

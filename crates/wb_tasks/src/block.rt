@@ -19,7 +19,7 @@ ghost use Rattle.wb_types.specs.Extents.{pieces};
 ghost use Rattle.wb_types.specs.declared.mode.Mode.TheVariants.{Writeback};
 ghost use Rattle.wb_tasks.specs.Tables.{BlockRange, OnBlock, Reading, Writing, Migrating, access_of, is_write, whole_block};
 ghost use Rattle.wb_tasks.specs.Plan.{Plan, want, after, refused, table, Fits};
-ghost use Rattle.wb_tasks.specs.Phases.{job_of, has_order, left_in, after_seeing};
+ghost use Rattle.wb_tasks.specs.Phases.{job_on_block, has_order, left_in, after_seeing};
 
 use crate::acquire::{self, Seen};
 use crate::cut::split;
@@ -360,7 +360,7 @@ fn begun(
     requires some { 0 < block_sectors }
     requires in_range { sectors.first + sectors.count < 2 ^ 64 }
     requires longest { 1 ≤ longest }
-    ensures { result ≡ table (OnBlock (job_of work (record { mode = mode; block_sectors = block_sectors; block = block; extents = pieces longest sectors }))) }
+    ensures { result ≡ table (OnBlock (job_on_block work (record { mode = mode; block_sectors = block_sectors; block = block; extents = pieces longest sectors }))) }
 {
     BlockTask {
         work,
@@ -376,7 +376,7 @@ fn begun(
 
 /// A read shares its block, all others own it.
 fn access_of(work: Work) -> Access
-    ensures { (part : BlockRange) → result ≡ access_of (job_of work part) }
+    ensures { (part : BlockRange) → result ≡ access_of (job_on_block work part) }
 {
     match work {
         Work::Read => Access::Shared,
@@ -386,7 +386,7 @@ fn access_of(work: Work) -> Access
 
 /// Whether it wants a number for itself.
 fn is_write(work: Work) -> bool
-    ensures { (part : BlockRange) → result ≡ is_write (job_of work part) }
+    ensures { (part : BlockRange) → result ≡ is_write (job_on_block work part) }
 {
     matches!(work, Work::Write)
 }

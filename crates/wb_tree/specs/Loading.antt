@@ -9,7 +9,7 @@ use Rattle.wb_format.specs.declared.node.Node.{Node}
 use Rattle.wb_format.specs.declared.root.Root.{Root}
 use Rattle.wb_tree.specs.declared.placed.PlacedNode.{PlacedNode}
 use Rattle.wb_tree.specs.declared.frame.Frame.{Frame}
-use Rattle.wb_tree.specs.Reading.{Found, Reading, Nodes, ◌then◌, each_step, child_read, entry_read, entry_in, node_read, tree_read, is_reached}
+use Rattle.wb_tree.specs.Reading.{Found, ReadOutcome, Nodes, ◌then◌, each_step, child_read, entry_read, entry_in, node_read, tree_read, is_reached}
 
 -- a reading so far: what was found, the nodes above the leaves whose words are being read, from the top down, and the
 -- node that is to be read next
@@ -40,30 +40,30 @@ abbrev pub top_node : Root → Option PlacedNode
 top_node root = node_on_top root root.top
 
 -- word j of such a node
-abbrev pub frame_step : Root → Nodes → Frame → ℕ → Found → Reading
+abbrev pub frame_step : Root → Nodes → Frame → ℕ → Found → ReadOutcome
 frame_step root nodes frame j =
     child_read root frame.node.place (frame.node.level - 1) (32 * frame.node.index + j) (node_read root nodes (frame.node.level - 1)) (slice_index frame.words j)
 
 -- the words that are left of it
-abbrev pub frame_rest : Root → Nodes → Frame → Found → Reading
+abbrev pub frame_rest : Root → Nodes → Frame → Found → ReadOutcome
 frame_rest root nodes frame found = each_step (frame_step root nodes frame) (32 - frame.next) frame.next found
 
 -- all words of a leaf
-abbrev pub leaf_read : Root → PlacedNode → List ℕ → Found → Reading
+abbrev pub leaf_read : Root → PlacedNode → List ℕ → Found → ReadOutcome
 leaf_read root leaf words found = each_step (λ j. entry_read root leaf.place (32 * leaf.index + j) (entry_in (slice_index words j))) 32 0 found
 
 -- what is left of these nodes, the lowest first
-abbrev pub frames_rest : Root → Nodes → List Frame → Found → Reading
+abbrev pub frames_rest : Root → Nodes → List Frame → Found → ReadOutcome
 frames_rest root nodes [] found = Ok found
 frames_rest root nodes (frame ∷ frames) found = frame_rest root nodes frame found then frames_rest root nodes frames
 
 -- a node, and then what is left
-abbrev pub wanted_rest : Root → Nodes → List Frame → Option PlacedNode → Found → Reading
+abbrev pub wanted_rest : Root → Nodes → List Frame → Option PlacedNode → Found → ReadOutcome
 wanted_rest root nodes frames None found = frames_rest root nodes frames found
 wanted_rest root nodes frames (Some node) found = node_read root nodes node.level node.index node.place found then frames_rest root nodes frames
 
 -- what the whole reading gives, over sectors that read as these nodes
-abbrev pub outcome : Loading → Nodes → Reading
+abbrev pub outcome : Loading → Nodes → ReadOutcome
 outcome l nodes = wanted_rest l.root nodes (reverse l.frames) l.wanted l.found
 
 -- a place that may be read: behind the slots, on the device, and not read before
@@ -73,7 +73,7 @@ pub record IsFresh (root : Root) (reached : List PlacedNode) (place : Place) : T
   pub unread : is_reached place.0 reached ≡ false
 
 -- a refusal of want of memory says nothing of a reading, one of damage names its first fault, and no other comes
-abbrev pub FailsBy : Refusal → Reading → Type 0
+abbrev pub FailsBy : Refusal → ReadOutcome → Type 0
 FailsBy Memory reading = Unit {0}
 FailsBy (Damaged place) reading = reading ≡ Err place
 FailsBy _ reading = ⊥

@@ -32,17 +32,17 @@ pub record Found : Type 0 where
   pub mapped : List Bool
 
 -- what is read, or the place that the first fault names
-abbrev pub Reading : Type 0
-Reading = Result Found Place
+abbrev pub ReadOutcome : Type 0
+ReadOutcome = Result Found Place
 
 -- goes on where there was no fault
 infixl 10 ◌then◌
-abbrev pub ◌then◌ : Reading → (Found → Reading) → Reading
+abbrev pub ◌then◌ : ReadOutcome → (Found → ReadOutcome) → ReadOutcome
 (Ok found) then next = next found
 (Err place) then next = Err place
 
 -- so many steps one after the other, with the numbers from one on
-unfoldable pub each_step : (ℕ → Found → Reading) → ℕ → ℕ → Found → Reading
+unfoldable pub each_step : (ℕ → Found → ReadOutcome) → ℕ → ℕ → Found → ReadOutcome
 each_step step zero first found = Ok found
 each_step step (suc count) first found = step first found then each_step step count (suc first)
 
@@ -62,7 +62,7 @@ may_map root mapped block entry =
     nat_lt block root.geometry.cache_blocks && nat_lt entry.origin.0 root.geometry.origin_blocks && not (slice_index_or mapped entry.origin.0 false)
 
 -- an entry in the leaf that stands here
-abbrev pub entry_read : Root → Place → ℕ → Option Entry → Found → Reading
+abbrev pub entry_read : Root → Place → ℕ → Option Entry → Found → ReadOutcome
 entry_read root here block None found = Ok found
 entry_read root here block (Some entry) found =
     if may_map root found.mapped block entry
@@ -76,7 +76,7 @@ names_child root reached level index word =
     nat_le 2 word && nat_lt word root.geometry.meta_sectors && not (is_reached word reached) && nat_lt (index * 32 ^ level) root.geometry.cache_blocks
 
 -- a word of the node here that is no leaf, with the child that it names
-abbrev pub child_read : Root → Place → ℕ → ℕ → (ℕ → Place → Found → Reading) → ℕ → Found → Reading
+abbrev pub child_read : Root → Place → ℕ → ℕ → (ℕ → Place → Found → ReadOutcome) → ℕ → Found → ReadOutcome
 child_read root here level index read word found =
     if word == 0 then Ok found
     else (if names_child root found.reached level index word then read index (record { 0 = word }) found else Err here)
@@ -90,13 +90,13 @@ abbrev pub reached_at : ℕ → ℕ → Place → Found → Found
 reached_at level index place found = record found { reached = found.reached ++ record { level = level; index = index; place = place } ∷ [] }
 
 -- the words of what is spelled here, where that is the node that the tree has here
-abbrev pub words_read : Root → ℕ → ℕ → Place → (Node → Found → Reading) → Option Node → Found → Reading
+abbrev pub words_read : Root → ℕ → ℕ → Place → (Node → Found → ReadOutcome) → Option Node → Found → ReadOutcome
 words_read root level index here read None found = Err here
 words_read root level index here read (Some node) found =
     if is_node_of root level index node then read node (reached_at level index here found) else Err here
 
 -- the node that stands at a place, and all below it
-unfoldable pub node_read : Root → Nodes → ℕ → ℕ → Place → Found → Reading
+unfoldable pub node_read : Root → Nodes → ℕ → ℕ → Place → Found → ReadOutcome
 node_read root nodes zero index here found = Err here
 node_read root nodes (suc zero) index here found =
     words_read root 1 index here (λ node. each_step (λ j. entry_read root here (32 * index + j) (entry_in (slice_index node.words j))) 32 0) (nodes here.0) found
@@ -109,11 +109,11 @@ abbrev pub nothing_found : Root → Found
 nothing_found root = record { reached = []; entries = replicate root.geometry.cache_blocks None; mapped = replicate root.geometry.origin_blocks false }
 
 -- the tree of a root, from its top
-abbrev pub top_read : Root → Nodes → Option Place → Reading
+abbrev pub top_read : Root → Nodes → Option Place → ReadOutcome
 top_read root nodes None = Ok (nothing_found root)
 top_read root nodes (Some top) = node_read root nodes (depth_of root.geometry.cache_blocks) 0 top (nothing_found root)
 
-abbrev pub tree_read : Root → Nodes → Reading
+abbrev pub tree_read : Root → Nodes → ReadOutcome
 tree_read root nodes = top_read root nodes root.top
 
 -- The valid root of higher generation: it stands in its slot, and where the other slot has a valid root, that one's

@@ -26,7 +26,7 @@ pub record IsSettledAt (old new : Branch) (node : PlacedNode) : Type 0 where
   pub known : IsInserted old.known new.known node
 
 -- a node of a tree with this box on top, that has a box
-pub record IsNamed (top : Branch) (node : PlacedNode) : Type 0 where
+pub record HasBox (top : Branch) (node : PlacedNode) : Type 0 where
   pub from : 1 ≤ node.level
   pub to : node.level ≤ top.level
   pub inside : node.index < 32 ^ (top.level - node.level)
@@ -36,10 +36,10 @@ pub record IsNamed (top : Branch) (node : PlacedNode) : Type 0 where
 pub record CanSettle (top : Branch) (nodes : List PlacedNode) : Type 0 where
   pub first : top.index ≡ 0
   pub apart : AreApart (top.known ++ nodes)
-  pub each : (i : ℕ) (node : PlacedNode) → slice_get nodes i ≡ Some node → IsNamed top node
+  pub each : (i : ℕ) (node : PlacedNode) → slice_get nodes i ≡ Some node → HasBox top node
 
 -- these nodes became known, and nothing else changed
-pub record IsSettled (old new : Branch) (nodes : List PlacedNode) : Type 0 where
+pub record NodesAreSettled (old new : Branch) (nodes : List PlacedNode) : Type 0 where
   pub level_same : new.level ≡ old.level
   pub index_same : new.index ≡ old.index
   pub entries_same : new.entries ≡ old.entries

@@ -3,7 +3,7 @@
 ghost use Rattle.std.specs.Prelude.{◌≡◌, ◌≤◌, ◌<◌, ◌+◌, ◌-◌, ◌*◌, ◌^◌, ◌++◌, ℕ, Some, None, IfOk, OnOk, IfErr, slice_index, slice_index_or};
 ghost use Rattle.wb_types.specs.declared.entry.Entry.{Entry as EntryValue};
 ghost use Rattle.wb_types.specs.declared.refusal.Refusal.TheVariants.{Memory as OutOfMemory};
-ghost use Rattle.wb_format.specs.NodeWords.{IsEntry, IsLeafWord, IsWord, entry_word};
+ghost use Rattle.wb_format.specs.NodeWords.{IsEntry, IsLeafWord, IsNodeWord, entry_word};
 ghost use Rattle.wb_tree.specs.Mapping.{each_from, place_of, entry_at as entry_of};
 ghost use Rattle.wb_tree.specs.Images.{word_at, place_word};
 ghost use Rattle.wb_tree.specs.Planning.{names, planned, levels, changed_below, AreWritten, Begins, MayPlan};
@@ -94,7 +94,7 @@ fn plan_words<A: Allocator + Clone>(
         plan.now.free.now nodes.new.items) }
     ensures words { IfOk result (λ words. (j : ℕ) → j < 32 → slice_index words j
         ≡ word_at (planned plan.now.tree.now plan.now.free.now) level index j) }
-    ensures spelled { IfOk result (λ words. (j : ℕ) → IsWord level (slice_index words j)) }
+    ensures spelled { IfOk result (λ words. (j : ℕ) → IsNodeWord level (slice_index words j)) }
     ensures refused { IfErr result (λ refusal. refusal ≡ OutOfMemory) }
 {
     if level == 1 {

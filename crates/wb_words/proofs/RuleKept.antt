@@ -20,7 +20,7 @@ use Rattle.wb_words.specs.declared.card.Hold.TheVariants.{Nothing, Held}
 use Rattle.wb_words.specs.declared.card.Card.{Card}
 use Rattle.wb_words.specs.declared.word.FailBit.{FailBit}
 use Rattle.wb_words.specs.declared.word.FailBit.TheVariants.{Failed, Suspended}
-use Rattle.wb_words.specs.Cards.{blank_card, total, is_block, is_write, is_count, shares, owns, sharers, owners, writes_on, counts_of, seals_on, times_set, is_own_seal, is_own_number, looked, losing, holding, sealing, finishing, counting, failing_at, failing}
+use Rattle.wb_words.specs.Cards.{blank_card, total, is_block, count_of_write, is_count, shares, owns, sharers, owners, writes_on, counts_of, seals_on, times_set, is_own_seal, is_own_number, looked, losing, holding, sealing, finishing, counting, failing_at, failing}
 use Rattle.wb_words.specs.Rule.{block, IsLock, SawNoMore, AllSawNoMore, Knows, NotesWhatWas, LogRule, LockRule}
 use Rattle.wb_words.specs.declared.step.CellStep.{CellStep}
 use Rattle.wb_words.specs.declared.step.CellStep.TheVariants.{Look, Take, Release, Seal, Finish, Count, SetFailed, SetSuspended}
@@ -163,7 +163,7 @@ module _ (n : ℕ) (w : Words) (cs : List Card) (p : ℕ) (c : Card) (r : LockRu
     seals_are = r.seals_are;
     numbers_are = r.numbers_are;
     cells = locks d (λ b. ap (shares b) hold) (λ b t. owns b (hold t) + total (is_block b) (kept t));
-    numbers = numbered d (λ b. ap (total (is_write b)) added);
+    numbers = numbered d (λ b. ap (total (count_of_write b)) added);
     fits = r.fits;
     counts = counted_so d (λ kind. ap (total (is_count kind)) added);
     knows = known_after w d known (λ q e _ g. r.knows q e g);
@@ -329,7 +329,7 @@ module _ (n : ℕ) (w : Words) (cs : List Card) (p : ℕ) (c : Card) (r : LockRu
 
   pub fail_keeps : (bit : FailBit) → LockRule n (put w Fail (bit_or w.fail (bit_word bit))) (set cs p (failing bit c))
   fail_keeps bit = let d : Card = failing bit c in let u : Words = put w Fail (bit_or w.fail (bit_word bit)) in let known = fail_knows_at w u c.hold c (λ b. refl) (λ b. refl) mine in
-      low_step u d refl refl refl (λ a. (fail_at c.hold a c refl).0) (λ a. (fail_at c.hold a c refl).1) (λ a. ap (total (is_write a)) (fail_at c.hold a c refl).2)
+      low_step u d refl refl refl (λ a. (fail_at c.hold a c refl).0) (λ a. (fail_at c.hold a c refl).1) (λ a. ap (total (count_of_write a)) (fail_at c.hold a c refl).2)
       counts_stay record { seal = known.seal; number = known.number; saw = known.saw } (fail_logs n w cs p c r at bit)
     where
       still_counted : (kind : Kind) → count_in w kind ≡ total (counts_of kind) (set cs p (failing bit c)) % 2 ^ 64

@@ -43,12 +43,12 @@ sharers b card = shares b card.hold
 abbrev pub owners : ℕ → Card → ℕ
 owners b card = owns b card.hold + total (is_block b) card.kept
 
-abbrev pub is_write : ℕ → WordName → ℕ
-is_write b (LockWord a) = 0
-is_write b (SealWord a) = 0
-is_write b (Number a) = is_block b a
-is_write b (CountWord kind) = 0
-is_write b Fail = 0
+abbrev pub count_of_write : ℕ → WordName → ℕ
+count_of_write b (LockWord a) = 0
+count_of_write b (SealWord a) = 0
+count_of_write b (Number a) = is_block b a
+count_of_write b (CountWord kind) = 0
+count_of_write b Fail = 0
 
 abbrev pub is_count : Kind → WordName → ℕ
 is_count kind (LockWord a) = 0
@@ -59,7 +59,7 @@ is_count kind Fail = 0
 
 -- the writes that a card finished on the block b
 abbrev pub writes_on : ℕ → Card → ℕ
-writes_on b card = total (is_write b) card.added
+writes_on b card = total (count_of_write b) card.added
 
 -- what a card counted of a kind
 abbrev pub counts_of : Kind → Card → ℕ

@@ -5,12 +5,12 @@ use Rattle.wbcache.specs.declared.line.Line.{Line}
 use Rattle.wbcache.specs.declared.line.Line.TheVariants.{Read, Write, TryRead, TryWrite}
 
 -- a line that asks for sectors
-abbrev pub IsRequest : Line → Type 0
-IsRequest (Read at count) = Unit {0}
-IsRequest (TryRead at count) = Unit {0}
-IsRequest (Write at count fill) = Unit {0}
-IsRequest (TryWrite at count fill) = Unit {0}
-IsRequest line = ⊥
+abbrev pub AsksForSectors : Line → Type 0
+AsksForSectors (Read at count) = Unit {0}
+AsksForSectors (TryRead at count) = Unit {0}
+AsksForSectors (Write at count fill) = Unit {0}
+AsksForSectors (TryWrite at count fill) = Unit {0}
+AsksForSectors line = ⊥
 
 -- What a line asks lies on an origin of this size.
 abbrev pub AsksInside : Line → ℕ → Type 0

@@ -2,7 +2,7 @@
 
 ghost use Rattle.std.specs.Prelude.{◌≡◌, ◌<◌, ◌≤◌, ◌+◌, ◌*◌, IfOk, IfErr, OnErr, IsErrOf, length, replicate};
 ghost use Rattle.wb_opened.specs.Inside.{IsInside};
-ghost use Rattle.wbcache.specs.Request.{IsRequest, AsksInside};
+ghost use Rattle.wbcache.specs.Request.{AsksForSectors, AsksInside};
 
 use crate::fill::Fill;
 use crate::line::Line;
@@ -29,8 +29,8 @@ pub fn answer<R: Wait, C: Served>(
     text: &mut String,
     progress: &mut Progress<'_>,
 ) -> Result<(), Refusal>
-    ensures outside { IsRequest asked → ¬ AsksInside asked ((C.sizes client.old).block * (C.sizes client.old).origin_blocks) → IsErrOf result Refusal.Range }
-    ensures inside { IsRequest asked → IsErrOf result Refusal.Range → ¬ AsksInside asked ((C.sizes client.old).block * (C.sizes client.old).origin_blocks) }
+    ensures outside { AsksForSectors asked → ¬ AsksInside asked ((C.sizes client.old).block * (C.sizes client.old).origin_blocks) → IsErrOf result Refusal.Range }
+    ensures inside { AsksForSectors asked → IsErrOf result Refusal.Range → ¬ AsksInside asked ((C.sizes client.old).block * (C.sizes client.old).origin_blocks) }
 {
     match asked {
         Line::Nothing => return Ok(()),

@@ -1,7 +1,7 @@
 //! The lines of a script.
 
 ghost use Rattle.std.specs.Prelude.{◌≡◌, ◌≢◌, ◌∷◌, ℕ, IfSome, IfNone, codes};
-ghost use Rattle.wbcache.specs.Line.{Asks, IsLine};
+ghost use Rattle.wbcache.specs.Line.{WordsAsk, IsLine};
 ghost use Rattle.wb_table.specs.Words.{words_of};
 ghost use Rattle.wbcache.specs.declared.line.Line.{Line as Asked};
 
@@ -46,8 +46,8 @@ pub fn read_line(line: &[u8]) -> Option<Line>
 }
 
 fn read_words(mut words: SplitSpaces<'_>) -> Option<Line>
-    ensures found { IfSome result (Asks (words_of words.entry.0.now)) }
-    ensures none { IfNone result ((asked : Asked) → ¬ Asks (words_of words.entry.0.now) asked) }
+    ensures found { IfSome result (WordsAsk (words_of words.entry.0.now)) }
+    ensures none { IfNone result ((asked : Asked) → ¬ WordsAsk (words_of words.entry.0.now) asked) }
 {
     match words.next() {
         None => Some(Line::Nothing),
@@ -75,8 +75,8 @@ fn read_words(mut words: SplitSpaces<'_>) -> Option<Line>
 fn read_word(word: &str, mut words: SplitSpaces<'_>) -> Option<Line>
     requires reads { (word.now ≢ codes "r") × (word.now ≢ codes "tr") }
     requires writes { (word.now ≢ codes "w") × (word.now ≢ codes "tw") }
-    ensures found { IfSome result (Asks (word.now ∷ words_of words.entry.0.now)) }
-    ensures none { IfNone result ((asked : Asked) → ¬ Asks (word.now ∷ words_of words.entry.0.now) asked) }
+    ensures found { IfSome result (WordsAsk (word.now ∷ words_of words.entry.0.now)) }
+    ensures none { IfNone result ((asked : Asked) → ¬ WordsAsk (word.now ∷ words_of words.entry.0.now) asked) }
 {
     words.expect_end()?;
     match word {

@@ -8,8 +8,8 @@ ghost use Rattle.wb_policy.specs.Law.{AreMapped};
 ghost use Rattle.std.specs.List.Sorted.{IsNonDecreasingBy};
 ghost use Rattle.wb_desk.specs.Desks.{MayReserve, holdings};
 ghost use Rattle.wb_desk.specs.Calls.{reserved};
-ghost use Rattle.wb_desk.specs.Safety.{IsDecided};
-ghost use Rattle.wb_desk.specs.Settling.{AreSettled, IsSettled, IsAccess, Fits, IsTick, TickGives, TickEnds, IsTicked};
+ghost use Rattle.wb_desk.specs.Safety.{ComesByCalls};
+ghost use Rattle.wb_desk.specs.Settling.{AreSettled, AccessIsSettled, IsAccess, Fits, IsTick, TickGives, TickEnds, IsTicked};
 
 use super::Desk;
 use wb_policy::{Order, Policy, Settled, Tick};
@@ -20,7 +20,7 @@ impl<P: Policy> Desk<P> {
     /// taken.
     pub fn settle(&mut self, blocks: &[OBlock])
         ensures settled { AreSettled P.ordered P.settled self.old blocks.now self.new }
-        ensures calls { IsDecided P.knows self.old self.new }
+        ensures calls { ComesByCalls P.knows self.old self.new }
     {
         for block in blocks {
             self.settle_one(*block);
@@ -28,8 +28,8 @@ impl<P: Policy> Desk<P> {
     }
 
     fn settle_one(&mut self, block: OBlock)
-        ensures settled { IsSettled P.ordered P.settled self.old block self.new }
-        ensures calls { IsDecided P.knows self.old self.new }
+        ensures settled { AccessIsSettled P.ordered P.settled self.old block self.new }
+        ensures calls { ComesByCalls P.knows self.old self.new }
     {
         if let Some(order) = self.decide(block) {
             self.queue(order);
@@ -41,7 +41,7 @@ impl<P: Policy> Desk<P> {
         ensures state { (a : Access) × IsAccess self.old block a × (result ≡ P.ordered self.old.policy a)
             × (self.new ≡ record self.old { policy = P.settled self.old.policy a }) }
         ensures lawful { IfSome result (λ order. Fits self.old order → (c : _) × MayReserve self.old c order) }
-        ensures calls { IsDecided P.knows self.old self.new }
+        ensures calls { ComesByCalls P.knows self.old self.new }
     {
         let access = Settled {
             block,
@@ -59,7 +59,7 @@ impl<P: Policy> Desk<P> {
         requires mapped { AreMapped (holdings self.old) dirty.now }
         requires rising { IsNonDecreasingBy (λ e. e.0.0) dirty.now }
         ensures ticked { IsTicked P.cleaned P.ticked dirty.now (self.old.geometry.cache_blocks + 1) 0 self.old self.new }
-        ensures calls { IsDecided P.knows self.old self.new }
+        ensures calls { ComesByCalls P.knows self.old self.new }
     {
         for given in 0..self.geometry.cache_blocks + 1 {
             if !self.tick_one(dirty, given) {
@@ -75,7 +75,7 @@ impl<P: Policy> Desk<P> {
         ensures gives { OnTrue result (TickGives P.cleaned P.ticked dirty.now given self.old self.new) }
         ensures ends { OnFalse result (TickEnds P.cleaned P.ticked dirty.now given self.old self.new) }
         ensures tree { self.new.tree ≡ self.old.tree }
-        ensures calls { IsDecided P.knows self.old self.new }
+        ensures calls { ComesByCalls P.knows self.old self.new }
     {
         match self.decide_tick(dirty, given) {
             Some(order) => self.queue(order),
@@ -90,7 +90,7 @@ impl<P: Policy> Desk<P> {
         ensures state { (t : Ticking) × IsTick self.old dirty.now t × (result ≡ P.cleaned self.old.policy t given)
             × (self.new ≡ record self.old { policy = P.ticked self.old.policy t given }) }
         ensures lawful { IfSome result (λ order. Fits self.old order → (c : _) × MayReserve self.old c order) }
-        ensures calls { IsDecided P.knows self.old self.new }
+        ensures calls { ComesByCalls P.knows self.old self.new }
     {
         let tick = Tick {
             mode: self.mode,
@@ -106,7 +106,7 @@ impl<P: Policy> Desk<P> {
         ensures given { OnTrue result ((c : _) × MayReserve self.old c order × (self.new ≡ reserved self.old c order true)) }
         ensures may_not { OnFalse result ((c : _) → ¬ MayReserve self.old c order) }
         ensures other { OnFalse result (self.new ≡ self.old) }
-        ensures calls { IsDecided P.knows self.old self.new }
+        ensures calls { ComesByCalls P.knows self.old self.new }
     {
         match self.may_reserve(order) {
             Some(c) => {

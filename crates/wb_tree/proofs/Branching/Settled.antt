@@ -13,7 +13,7 @@ use Rattle.wb_tree.specs.declared.placed.PlacedNode.{PlacedNode}
 use Rattle.wb_tree.specs.Mapping.{Mapping, IsSound, exists, place_in, place_of}
 use Rattle.wb_tree.specs.Fields.{AreApart}
 use Rattle.wb_tree.specs.Branches.{AreBoxes, Branch, boxes_of, entries_in, known_in}
-use Rattle.wb_tree.specs.Settling.{CanSettle, IsNamed, IsSettled, IsSettledAt}
+use Rattle.wb_tree.specs.Settling.{CanSettle, HasBox, NodesAreSettled, IsSettledAt}
 use Rattle.wb_tree.proofs.Nodes.Alike.{AreAlike}
 use Rattle.wb_tree.proofs.Nodes.Fronts.{begins_inside}
 use Rattle.wb_tree.proofs.Nodes.Knowing.{found_some, same_names}
@@ -90,7 +90,7 @@ pub apart_front : (xs ys : List PlacedNode) → AreApart (xs ++ ys) → AreApart
 apart_front [] ys apart = tt
 apart_front (x ∷ xs) ys apart = ((both_none (place_in xs x.level x.index) (place_in ys x.level x.index) (sym (place_append xs ys x.level x.index) ∙ apart.0)).0, apart_front xs ys apart.1)
 
-pub settled_none : (top : Branch) → AreApart top.known → IsSettled top top []
+pub settled_none : (top : Branch) → AreApart top.known → NodesAreSettled top top []
 settled_none top apart = record {
   level_same = refl;
   index_same = refl;
@@ -104,8 +104,8 @@ settled_none top apart = record {
 pub first_name : (index size k : ℕ) → index ≡ 0 → index * size + k ≡ k
 first_name index size k e = ap (λ n. n * size + k) e ∙ omega arith
 
-pub settled_more : (old mid new : Branch) (nodes more : List PlacedNode) (node : PlacedNode) → old.index ≡ 0 → IsSettled old mid nodes → IsNamed old node → place_in (old.known ++ nodes) node.level node.index ≡ None
-    → IsSettledAt mid new (record { level = node.level; index = mid.index * 32 ^ (mid.level - node.level) + node.index; place = node.place }) → more ≡ nodes ++ node ∷ [] → IsSettled old new more
+pub settled_more : (old mid new : Branch) (nodes more : List PlacedNode) (node : PlacedNode) → old.index ≡ 0 → NodesAreSettled old mid nodes → HasBox old node → place_in (old.known ++ nodes) node.level node.index ≡ None
+    → IsSettledAt mid new (record { level = node.level; index = mid.index * 32 ^ (mid.level - node.level) + node.index; place = node.place }) → more ≡ nodes ++ node ∷ [] → NodesAreSettled old new more
 settled_more old mid new nodes more node first was named none at e =
     let here : mid.index ≡ 0 = was.index_same ∙ first in
     let k = at.known in
@@ -185,7 +185,7 @@ index_inside entries depth level index enough to there =
 
 -- a node of a sound tree has a box
 named_node : {A : Type 0} (cache_blocks depth : ℕ) (kid : Box Branch A) (m k : Mapping) (node : PlacedNode) (place : Place) → AreBoxes cache_blocks depth (Some kid) → boxes_of cache_blocks depth (Some kid) ≡ m → k.entries ≡ m.entries
-    → IsSound k → place_of k node.level node.index ≡ Some place → IsNamed kid.value node
+    → IsSound k → place_of k node.level node.index ≡ Some place → HasBox kid.value node
 named_node cache_blocks depth kid m k node place are view same sound h =
     let top = are.top in
     let deep : depth_of (length k.entries) ≡ kid.value.level = ap (λ (es : List (Option Entry)). depth_of (length es)) (same ∙ ap (λ (n : Mapping). n.entries) (sym view)) ∙ (levels-boxes cache_blocks depth (Some kid) are ∙ sym top.level_is) in
@@ -202,7 +202,7 @@ named_node cache_blocks depth kid m k node place are view same sound h =
     }
 
 some_named : {A : Type 0} (cache_blocks depth : ℕ) (kid : Box Branch A) (m k : Mapping) (node : PlacedNode) (o : Option Place) → AreBoxes cache_blocks depth (Some kid) → boxes_of cache_blocks depth (Some kid) ≡ m → k.entries ≡ m.entries
-    → IsSound k → place_of k node.level node.index ≡ o → (o ≡ None → ⊥) → IsNamed kid.value node
+    → IsSound k → place_of k node.level node.index ≡ o → (o ≡ None → ⊥) → HasBox kid.value node
 some_named cache_blocks depth kid m k node None are view same sound h some = absurd (some refl)
 some_named cache_blocks depth kid m k node (Some place) are view same sound h some = named_node cache_blocks depth kid m k node place are view same sound h
 
@@ -220,7 +220,7 @@ can_settle cache_blocks depth kid m nodes are view apart sound =
     }
 
 -- the tree afterwards
-pub settled_alike : {A : Type 0} (cache_blocks depth : ℕ) (kid new : Box Branch A) (m : Mapping) (nodes : List PlacedNode) → boxes_of cache_blocks depth (Some kid) ≡ m → IsSettled kid.value new.value nodes
+pub settled_alike : {A : Type 0} (cache_blocks depth : ℕ) (kid new : Box Branch A) (m : Mapping) (nodes : List PlacedNode) → boxes_of cache_blocks depth (Some kid) ≡ m → NodesAreSettled kid.value new.value nodes
     → AreAlike (record { entries = m.entries; known = m.known ++ nodes }) (boxes_of cache_blocks depth (Some new))
 settled_alike cache_blocks depth kid new m nodes view settled = record {
   entries = ap (λ (es : List (Option Entry)). take cache_blocks es) settled.entries_same ∙ ap (λ (n : Mapping). n.entries) view;

@@ -12,7 +12,7 @@ use Rattle.wb_format.specs.declared.node.Node.{Node}
 use Rattle.wb_format.specs.declared.root.Root.{Root}
 use Rattle.wb_tree.specs.declared.placed.PlacedNode.{PlacedNode}
 use Rattle.wb_tree.specs.Mapping.{NodeName, exists, each_from, nodes_below, nodes_of}
-use Rattle.wb_tree.specs.Reading.{Found, Reading, Nodes, ◌then◌, each_step, entry_in, entry_read, may_map, child_read, names_child, is_node_of, reached_at, words_read, node_read, nothing_found, top_read, tree_read}
+use Rattle.wb_tree.specs.Reading.{Found, ReadOutcome, Nodes, ◌then◌, each_step, entry_in, entry_read, may_map, child_read, names_child, is_node_of, reached_at, words_read, node_read, nothing_found, top_read, tree_read}
 use Rattle.wb_tree.proofs.Nodes.Fronts.{begins_inside}
 use Rattle.wb_tree.proofs.Reading.Steps.{names_child-is, then_ok, test_ok}
 
@@ -75,13 +75,13 @@ count-nodes entries blocks long = omega (arith, below-counted entries blocks lon
 -- ---- nodes that a reading reaches
 
 -- a reading reaches no more nodes than there are from the first of these numbers to the second
-abbrev Reaches : ℕ → ℕ → (Found → Reading) → Type 0
+abbrev Reaches : ℕ → ℕ → (Found → ReadOutcome) → Type 0
 Reaches from to read = (found next : Found) → read found ≡ Ok next → length next.reached + from ≤ length found.reached + to
 
-same_reached : (found next : Found) → ◌≡◌ {A = Reading} (Ok found) (Ok next) → length found.reached ≡ length next.reached
+same_reached : (found next : Found) → ◌≡◌ {A = ReadOutcome} (Ok found) (Ok next) → length found.reached ≡ length next.reached
 same_reached found next e = let same : found ≡ next = cc in ap (λ (f : Found). length f.reached) same
 
-each_reaches : (f : ℕ → ℕ) (step : ℕ → Found → Reading) → ((j : ℕ) → Reaches (f j) (f (suc j)) (step j)) → (count first : ℕ) → Reaches (f first) (f (first + count)) (each_step step count first)
+each_reaches : (f : ℕ → ℕ) (step : ℕ → Found → ReadOutcome) → ((j : ℕ) → Reaches (f j) (f (suc j)) (step j)) → (count first : ℕ) → Reaches (f first) (f (first + count)) (each_step step count first)
 unfolding each_step
 each_reaches f step h zero first found next e =
     let last : f (first + 0) ≡ f first = ap f (omega arith) in
@@ -98,12 +98,12 @@ entry_reaches root here block (Some entry) found next e =
     let w = test_ok (may_map root found.mapped block entry) here _ next e in
     omega (arith, same_reached _ next w.1)
 
-child_by : (from to : ℕ) (none names : Bool) (here : Place) (read : Found → Reading) → from ≤ to → (names ≡ true → Reaches from to read) → Reaches from to (λ found. if none then Ok found else (if names then read found else Err here))
+child_by : (from to : ℕ) (none names : Bool) (here : Place) (read : Found → ReadOutcome) → from ≤ to → (names ≡ true → Reaches from to read) → Reaches from to (λ found. if none then Ok found else (if names then read found else Err here))
 child_by from to true names here read rises h found next e = omega (arith, rises, same_reached found next e)
 child_by from to false true here read rises h found next e = h refl found next e
 child_by from to false false here read rises h found next e = absurd cc
 
-words_reach : (from to : ℕ) (root : Root) (level index : ℕ) (here : Place) (read : Node → Found → Reading) (o : Option Node) → ((node : Node) → Reaches (suc from) to (read node)) → Reaches from to (words_read root level index here read o)
+words_reach : (from to : ℕ) (root : Root) (level index : ℕ) (here : Place) (read : Node → Found → ReadOutcome) (o : Option Node) → ((node : Node) → Reaches (suc from) to (read node)) → Reaches from to (words_read root level index here read o)
 words_reach from to root level index here read None h found next e = absurd cc
 words_reach from to root level index here read (Some node) h found next e =
     let w = test_ok (is_node_of root level index node) here (read node (reached_at level index here found)) next e in

@@ -11,7 +11,7 @@ use Rattle.wb_format.specs.declared.node.Node.{Node}
 use Rattle.wb_tree.specs.declared.placed.PlacedNode.{PlacedNode}
 use Rattle.wb_tree.specs.Mapping.{place_in}
 use Rattle.wb_tree.specs.Fields.{AreApart}
-use Rattle.wb_tree.specs.Reading.{Found, Reading, Nodes, ◌then◌, each_step, entry_in, entry_read, child_read, names_child, is_node_of, reached_at, words_read, node_read, nothing_found, top_read, tree_read}
+use Rattle.wb_tree.specs.Reading.{Found, ReadOutcome, Nodes, ◌then◌, each_step, entry_in, entry_read, child_read, names_child, is_node_of, reached_at, words_read, node_read, nothing_found, top_read, tree_read}
 use Rattle.wb_tree.proofs.Reading.Steps.{names_child-is, then_ok, test_ok, nothing_there}
 use Rattle.wb_tree.proofs.Reading.PlacedLists.{PlacesApart}
 use Rattle.wb_tree.proofs.Reading.Grown.{Grown, WasRead, Covers, at, tree_with, up_block, grown_then, grown_none, grown_tops}
@@ -69,13 +69,13 @@ grown_children root nodes level base here words (suc count) first found next gro
 
 -- ---- nodes
 
-record WordsOk (root : Root) (level index : ℕ) (here : Place) (read : Node → Found → Reading) (o : Option Node) (found next : Found) : Type 0 where
+record WordsOk (root : Root) (level index : ℕ) (here : Place) (read : Node → Found → ReadOutcome) (o : Option Node) (found next : Found) : Type 0 where
   node : Node
   is : o ≡ Some node
   right : is_node_of root level index node ≡ true
   reads : read node (reached_at level index here found) ≡ Ok next
 
-words_ok : (root : Root) (level index : ℕ) (here : Place) (read : Node → Found → Reading) (o : Option Node) (found next : Found) → words_read root level index here read o found ≡ Ok next → WordsOk root level index here read o found next
+words_ok : (root : Root) (level index : ℕ) (here : Place) (read : Node → Found → ReadOutcome) (o : Option Node) (found next : Found) → words_read root level index here read o found ≡ Ok next → WordsOk root level index here read o found next
 words_ok root level index here read None found next e = absurd cc
 words_ok root level index here read (Some node) found next e =
     let w = test_ok (is_node_of root level index node) here (read node (reached_at level index here found)) next e in

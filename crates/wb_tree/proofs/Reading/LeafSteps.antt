@@ -5,11 +5,11 @@ use Rattle.std.proofs.lemmas.List.{length-set}
 use Rattle.wb_types.specs.declared.entry.Entry.{Entry}
 use Rattle.wb_format.specs.declared.root.Root.{Root}
 use Rattle.wb_tree.specs.declared.placed.PlacedNode.{PlacedNode}
-use Rattle.wb_tree.specs.Reading.{Found, Reading, ◌then◌, each_step, entry_read, entry_in, may_map}
+use Rattle.wb_tree.specs.Reading.{Found, ReadOutcome, ◌then◌, each_step, entry_read, entry_in, may_map}
 use Rattle.wb_tree.specs.Loading.{leaf_read, found_with}
 use Rattle.wb_tree.proofs.Reading.Steps.{each_step-next, each_step-none, entry_read-some, entry_read-fault, entry_read-none}
 
-abbrev pub leaf_step : Root → PlacedNode → List ℕ → ℕ → Found → Reading
+abbrev pub leaf_step : Root → PlacedNode → List ℕ → ℕ → Found → ReadOutcome
 leaf_step root leaf words j = entry_read root leaf.place (32 * leaf.index + j) (entry_in (slice_index words j))
 
 -- up to word j the leaf was read without a fault
@@ -18,7 +18,7 @@ pub record IsPassed (root : Root) (leaf : PlacedNode) (words : List ℕ) (entrie
   pub mapped_long : length mapped ≡ root.geometry.origin_blocks
   pub passed : (reached : List PlacedNode) → leaf_read root leaf words (found_with reached entries₀ mapped₀) ≡ each_step (leaf_step root leaf words) (32 - j) j (found_with reached entries mapped)
 
-section_rest : Root → PlacedNode → List ℕ → ℕ → Reading → Reading
+section_rest : Root → PlacedNode → List ℕ → ℕ → ReadOutcome → ReadOutcome
 section_rest root leaf words j reading = reading then each_step (leaf_step root leaf words) (32 - (j + 1)) (j + 1)
 
 -- a word with an entry that may be there

@@ -13,7 +13,7 @@ use Rattle.wb_format.specs.declared.root.Root.{Root}
 use Rattle.wb_format.specs.declared.node.Node.{Node}
 use Rattle.wb_tree.specs.declared.placed.PlacedNode.{PlacedNode}
 use Rattle.wb_tree.specs.declared.frame.Frame.{Frame}
-use Rattle.wb_tree.specs.Reading.{Found, Reading, Nodes, ◌then◌, is_node_of, is_reached, reached_at, node_read, nothing_found, top_read, tree_read}
+use Rattle.wb_tree.specs.Reading.{Found, ReadOutcome, Nodes, ◌then◌, is_node_of, is_reached, reached_at, node_read, nothing_found, top_read, tree_read}
 use Rattle.wb_tree.specs.Loading.{Loading, outcome, wanted_rest, frames_rest, leaf_read, found_with, node_on_top, top_node, IsFresh, IsLoading, FailsBy, AgreeAt}
 use Rattle.wb_tree.proofs.Reading.FrameSteps.{frames_rest-lowest}
 use Rattle.wb_tree.proofs.Reading.ReachedLemmas.{is_reached-push}
@@ -23,7 +23,7 @@ use Rattle.wb_tree.proofs.Reading.NodeSteps.{node_read-none, node_read-other, no
 pub outcome-wanted : (l : Loading) (wanted : PlacedNode) (nodes : Nodes) → l.wanted ≡ Some wanted → outcome l nodes ≡ wanted_rest l.root nodes (reverse l.frames) (Some wanted) l.found
 outcome-wanted l wanted nodes e = ap (λ (o : Option PlacedNode). wanted_rest l.root nodes (reverse l.frames) o l.found) e
 
-rest_of : Root → Nodes → List Frame → Reading → Reading
+rest_of : Root → Nodes → List Frame → ReadOutcome → ReadOutcome
 rest_of root nodes frames reading = reading then frames_rest root nodes frames
 
 -- nothing, or another node, is spelled there
@@ -44,7 +44,7 @@ unfolding rest_of
 rest-leaf root nodes frames wanted node found one some right = ap (rest_of root nodes frames) (node_read-leaf root nodes wanted node found one some right)
 
 -- with what its words give
-pub rest-leaf_read : (root : Root) (nodes : Nodes) (frames : List Frame) (wanted : PlacedNode) (node : Node) (found : Found) (reading : Reading) → wanted.level ≡ 1 → nodes wanted.place.0 ≡ Some node
+pub rest-leaf_read : (root : Root) (nodes : Nodes) (frames : List Frame) (wanted : PlacedNode) (node : Node) (found : Found) (reading : ReadOutcome) → wanted.level ≡ 1 → nodes wanted.place.0 ≡ Some node
     → is_node_of root wanted.level wanted.index node ≡ true → leaf_read root wanted node.words (reached_at wanted.level wanted.index wanted.place found) ≡ reading
     → wanted_rest root nodes frames (Some wanted) found ≡ (reading then frames_rest root nodes frames)
 unfolding rest_of
@@ -74,7 +74,7 @@ pub same_wanted : (a b : PlacedNode) → ◌≡◌ {A = Option PlacedNode} (Some
 same_wanted a b e = cc
 
 -- a refusal that names the place of the fault
-pub fails_there : (refusal : Refusal) (place : Place) (reading : Reading) → refusal ≡ Damaged place → reading ≡ Err place → FailsBy refusal reading
+pub fails_there : (refusal : Refusal) (place : Place) (reading : ReadOutcome) → refusal ≡ Damaged place → reading ≡ Err place → FailsBy refusal reading
 fails_there refusal place reading e h = rw e h
 
 -- ---- the top
@@ -113,7 +113,7 @@ top_node-is root node h = top_is root root.top node refl h
 
 -- ---- what was told
 
-then_nothing : (reading : Reading) → (reading then (λ found. Ok found)) ≡ reading
+then_nothing : (reading : ReadOutcome) → (reading then (λ found. Ok found)) ≡ reading
 then_nothing (Ok found) = refl
 then_nothing (Err place) = refl
 

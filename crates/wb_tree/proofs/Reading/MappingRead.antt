@@ -11,28 +11,28 @@ use Rattle.wb_format.specs.declared.root.Root.{Root}
 use Rattle.wb_format.specs.declared.node.Node.{Node}
 use Rattle.wb_format.specs.NodeWords.{IsLeafWord}
 use Rattle.wb_tree.specs.Mapping.{IsMapping}
-use Rattle.wb_tree.specs.Reading.{Found, Reading, Nodes, ◌then◌, each_step, entry_in, entry_read, may_map, child_read, names_child, is_node_of, reached_at, words_read, node_read, nothing_found, top_read, tree_read}
+use Rattle.wb_tree.specs.Reading.{Found, ReadOutcome, Nodes, ◌then◌, each_step, entry_in, entry_read, may_map, child_read, names_child, is_node_of, reached_at, words_read, node_read, nothing_found, top_read, tree_read}
 use Rattle.wb_tree.proofs.Reading.Grown.{at}
 use Rattle.wb_types.proofs.Truth.{and_true}
 use Rattle.wb_tree.proofs.Reading.Steps.{then_ok, test_ok, nothing_there}
 
 -- what a reading leaves true
-abbrev Leaves : (Found → Type 0) → (Found → Reading) → Type 0
+abbrev Leaves : (Found → Type 0) → (Found → ReadOutcome) → Type 0
 Leaves P read = (found next : Found) → P found → read found ≡ Ok next → P next
 
-each_leaves : (P : Found → Type 0) (step : ℕ → Found → Reading) → ((j : ℕ) → Leaves P (step j)) → (count first : ℕ) → Leaves P (each_step step count first)
+each_leaves : (P : Found → Type 0) (step : ℕ → Found → ReadOutcome) → ((j : ℕ) → Leaves P (step j)) → (count first : ℕ) → Leaves P (each_step step count first)
 unfolding each_step
 each_leaves P step h zero first found next p e = let same : found ≡ next = cc in subst P same p
 each_leaves P step h (suc count) first found next p e =
     let w = then_ok (step first found) (each_step step count (suc first)) next e in
     each_leaves P step h count (suc first) w.0 next (h first found w.0 p w.1) w.2
 
-child_by : (P : Found → Type 0) (none names : Bool) (here : Place) (read : Found → Reading) → Leaves P read → Leaves P (λ found. if none then Ok found else (if names then read found else Err here))
+child_by : (P : Found → Type 0) (none names : Bool) (here : Place) (read : Found → ReadOutcome) → Leaves P read → Leaves P (λ found. if none then Ok found else (if names then read found else Err here))
 child_by P true names here read h found next p e = let same : found ≡ next = cc in subst P same p
 child_by P false true here read h found next p e = h found next p e
 child_by P false false here read h found next p e = absurd cc
 
-words_leave : (P : Found → Type 0) (root : Root) (level index : ℕ) (here : Place) (read : Node → Found → Reading) (o : Option Node) → ((found : Found) → P found → P (reached_at level index here found))
+words_leave : (P : Found → Type 0) (root : Root) (level index : ℕ) (here : Place) (read : Node → Found → ReadOutcome) (o : Option Node) → ((found : Found) → P found → P (reached_at level index here found))
     → ((node : Node) → is_node_of root level index node ≡ true → Leaves P (read node)) → Leaves P (words_read root level index here read o)
 words_leave P root level index here read None reach h found next p e = absurd cc
 words_leave P root level index here read (Some node) reach h found next p e =

@@ -5,7 +5,7 @@ use Rattle.wb_format.specs.declared.root.Root.{Root}
 use Rattle.wb_format.specs.declared.node.Node.{Node}
 use Rattle.wb_tree.specs.declared.placed.PlacedNode.{PlacedNode}
 use Rattle.wb_tree.specs.declared.frame.Frame.{Frame}
-use Rattle.wb_tree.specs.Reading.{Found, Reading, Nodes, each_step, child_read, node_read, is_node_of, reached_at}
+use Rattle.wb_tree.specs.Reading.{Found, ReadOutcome, Nodes, each_step, child_read, node_read, is_node_of, reached_at}
 use Rattle.wb_tree.specs.Loading.{leaf_read, frame_rest, frame_step}
 
 -- nothing is spelled there
@@ -46,7 +46,7 @@ node_read-inner root nodes frame node found two next words e right =
     let below : frame.node.level - 1 ≡ suc (frame.node.level - 2) = omega arith in
     let right' : is_node_of root (suc (suc (frame.node.level - 2))) frame.node.index node ≡ true = subst (λ l. is_node_of root l frame.node.index node ≡ true) level right in
     let read = read_above_leaves root nodes (frame.node.level - 2) frame.node.index frame.node.place node found e right' in
-    let all : ℕ → List ℕ → ℕ → Reading = λ below words level. each_step (λ j. child_read root frame.node.place below (32 * frame.node.index + j) (node_read root nodes below) (slice_index words j)) 32 0 (reached_at level frame.node.index frame.node.place found) in
+    let all : ℕ → List ℕ → ℕ → ReadOutcome = λ below words level. each_step (λ j. child_read root frame.node.place below (32 * frame.node.index + j) (node_read root nodes below) (slice_index words j)) 32 0 (reached_at level frame.node.index frame.node.place found) in
     ap (λ l. node_read root nodes l frame.node.index frame.node.place found) level
     ∙ (read
     ∙ (ap (λ l. all l node.words (suc (suc (frame.node.level - 2)))) (sym below)

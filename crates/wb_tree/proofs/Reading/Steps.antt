@@ -9,34 +9,34 @@ use Rattle.wb_types.specs.declared.entry.Entry.{Entry}
 use Rattle.wb_types.specs.declared.number.Place.{Place}
 use Rattle.wb_format.specs.declared.root.Root.{Root}
 use Rattle.wb_tree.specs.declared.placed.PlacedNode.{PlacedNode}
-use Rattle.wb_tree.specs.Reading.{Found, Reading, Nodes, node_read, ◌then◌, each_step, child_read, names_child, entry_read, may_map, is_reached}
+use Rattle.wb_tree.specs.Reading.{Found, ReadOutcome, Nodes, node_read, ◌then◌, each_step, child_read, names_child, entry_read, may_map, is_reached}
 use Rattle.wb_types.proofs.Truth.{and_true}
 
 -- the next of the steps that are left
-pub each_step-next : (step : ℕ → Found → Reading) (j : ℕ) (found : Found) → j < 32 → each_step step (32 - j) j found ≡ (step j found then each_step step (32 - (j + 1)) (j + 1))
+pub each_step-next : (step : ℕ → Found → ReadOutcome) (j : ℕ) (found : Found) → j < 32 → each_step step (32 - j) j found ≡ (step j found then each_step step (32 - (j + 1)) (j + 1))
 unfolding each_step
 each_step-next step j found h =
     let e : 32 - j ≡ suc (32 - (j + 1)) = omega arith in
     rw (e, add-one j) refl
 
 -- none is left
-pub each_step-none : (step : ℕ → Found → Reading) (j : ℕ) (found : Found) → 32 ≤ j → each_step step (32 - j) j found ≡ Ok found
+pub each_step-none : (step : ℕ → Found → ReadOutcome) (j : ℕ) (found : Found) → 32 ≤ j → each_step step (32 - j) j found ≡ Ok found
 unfolding each_step
 each_step-none step j found h = let e : 32 - j ≡ 0 = omega arith in rw e refl
 
 -- ---- children
 
-pub child_read-zero : (root : Root) (here : Place) (level index : ℕ) (read : ℕ → Place → Found → Reading) (word : ℕ) (found : Found) → word ≡ 0 → child_read root here level index read word found ≡ Ok found
+pub child_read-zero : (root : Root) (here : Place) (level index : ℕ) (read : ℕ → Place → Found → ReadOutcome) (word : ℕ) (found : Found) → word ≡ 0 → child_read root here level index read word found ≡ Ok found
 child_read-zero root here level index read word found e = rw e refl
 
 not_zero : (word : ℕ) → word ≢ 0 → nat_eq word 0 ≡ false
 not_zero word h = ne_eqb word 0 h
 
-pub child_read-named : (root : Root) (here : Place) (level index : ℕ) (read : ℕ → Place → Found → Reading) (word : ℕ) (found : Found) → word ≢ 0 → names_child root found.reached level index word ≡ true
+pub child_read-named : (root : Root) (here : Place) (level index : ℕ) (read : ℕ → Place → Found → ReadOutcome) (word : ℕ) (found : Found) → word ≢ 0 → names_child root found.reached level index word ≡ true
     → child_read root here level index read word found ≡ read index (record { 0 = word }) found
 child_read-named root here level index read word found some named = rw (not_zero word some, named) refl
 
-pub child_read-unnamed : (root : Root) (here : Place) (level index : ℕ) (read : ℕ → Place → Found → Reading) (word : ℕ) (found : Found) → word ≢ 0 → names_child root found.reached level index word ≡ false
+pub child_read-unnamed : (root : Root) (here : Place) (level index : ℕ) (read : ℕ → Place → Found → ReadOutcome) (word : ℕ) (found : Found) → word ≢ 0 → names_child root found.reached level index word ≡ false
     → child_read root here level index read word found ≡ Err here
 child_read-unnamed root here level index read word found some unnamed = rw (not_zero word some, unnamed) refl
 
@@ -89,12 +89,12 @@ entry_read-none root here block (Some entry) found none = absurd (none entry ref
 
 -- ---- what was read without a fault
 
-pub then_ok : (reading : Reading) (go_on : Found → Reading) (next : Found) → (reading then go_on) ≡ Ok next → (found : Found) × (reading ≡ Ok found) × (go_on found ≡ Ok next)
+pub then_ok : (reading : ReadOutcome) (go_on : Found → ReadOutcome) (next : Found) → (reading then go_on) ≡ Ok next → (found : Found) × (reading ≡ Ok found) × (go_on found ≡ Ok next)
 then_ok (Ok found) go_on next e = (found, refl, e)
 then_ok (Err place) go_on next e = absurd (cc)
 
 -- where a test has to come out true
-pub test_ok : (test : Bool) (here : Place) (reading : Reading) (next : Found) → (if test then reading else Err here) ≡ Ok next → (test ≡ true) × (reading ≡ Ok next)
+pub test_ok : (test : Bool) (here : Place) (reading : ReadOutcome) (next : Found) → (if test then reading else Err here) ≡ Ok next → (test ≡ true) × (reading ≡ Ok next)
 test_ok true here reading next e = (refl, e)
 test_ok false here reading next e = absurd (cc)
 

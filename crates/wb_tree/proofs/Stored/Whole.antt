@@ -14,7 +14,7 @@ use Rattle.wb_format.specs.declared.root.Root.{Root}
 use Rattle.wb_format.specs.NodeWords.{entry_word}
 use Rattle.wb_tree.specs.declared.placed.PlacedNode.{PlacedNode}
 use Rattle.wb_tree.specs.Mapping.{Mapping, NodeName, IsSound, IsMapping, AreInside, entry_at, place_of, exists, each_from, nodes_below, changed_of, changed}
-use Rattle.wb_tree.specs.Reading.{Found, Reading, Nodes, ◌then◌, each_step, child_read, names_child, entry_read, entry_in, may_map, is_reached, is_node_of, reached_at, node_read, nothing_found, top_read, tree_read}
+use Rattle.wb_tree.specs.Reading.{Found, ReadOutcome, Nodes, ◌then◌, each_step, child_read, names_child, entry_read, entry_in, may_map, is_reached, is_node_of, reached_at, node_read, nothing_found, top_read, tree_read}
 use Rattle.wb_tree.specs.Images.{place_word, word_at, IsNodeOf, AreRead}
 use Rattle.wb_tree.specs.Whole.{node_first, reached_below, marked, found_of}
 use Rattle.wb_tree.proofs.Nodes.Fronts.{shown, shown-none, shown-all, shown-set, shown-skip, marks_to, marks_to-none, marks_to-all, marks_to-set, marks_to-skip, unmarked, nothing_below, begins_inside}
@@ -38,19 +38,19 @@ pub record IsAt (root : Root) (m : Mapping) (start : ℕ) (reached : List Placed
   pub marks_are : found.mapped ≡ marks_to start m.entries (replicate root.geometry.origin_blocks false)
 
 -- a reading has no fault, and what is found is so
-pub record Comes (P : Found → Type 0) (reading : Reading) : Type 0 where
+pub record Comes (P : Found → Type 0) (reading : ReadOutcome) : Type 0 where
   pub found : Found
   pub ok : reading ≡ Ok found
   pub so : P found
 
-Comes-same : (P : Found → Type 0) (a b : Reading) → a ≡ b → Comes P b → Comes P a
+Comes-same : (P : Found → Type 0) (a b : ReadOutcome) → a ≡ b → Comes P b → Comes P a
 Comes-same P a b e h = record { found = h.found; ok = e ∙ h.ok; so = h.so }
 
-Comes-weaker : (P Q : Found → Type 0) (reading : Reading) → ((found : Found) → P found → Q found) → Comes P reading → Comes Q reading
+Comes-weaker : (P Q : Found → Type 0) (reading : ReadOutcome) → ((found : Found) → P found → Q found) → Comes P reading → Comes Q reading
 Comes-weaker P Q reading f h = record { found = h.found; ok = h.ok; so = f h.found h.so }
 
 -- each of some steps goes on from what the one before came to
-each_step-comes : (step : ℕ → Found → Reading) (P : ℕ → Found → Type 0) (count first : ℕ) (found : Found) → P first found
+each_step-comes : (step : ℕ → Found → ReadOutcome) (P : ℕ → Found → Type 0) (count first : ℕ) (found : Found) → P first found
     → ((j : ℕ) (found : Found) → first ≤ j → j < first + count → P j found → Comes (P (suc j)) (step j found)) → Comes (P (first + count)) (each_step step count first found)
 unfolding each_step
 each_step-comes step P zero first found here each =
@@ -62,7 +62,7 @@ each_step-comes step P (suc count) first found here each =
     let end : suc first + count ≡ first + suc count = omega arith in
     record {
       found = rest.found;
-      ok = ap (λ (r : Reading). r then each_step step count (suc first)) one.ok ∙ rest.ok;
+      ok = ap (λ (r : ReadOutcome). r then each_step step count (suc first)) one.ok ∙ rest.ok;
       so = subst (λ n. P n rest.found) end rest.so;
     }
 
@@ -264,7 +264,7 @@ unfolding reached_below
 children_none m zero index e = refl
 children_none m (suc level) index e = rw e refl
 
-child_whole : (m : Mapping) (root : Root) (nodes : Nodes) → IsReadable m root nodes → (level child : ℕ) (here : Place) (reached : List PlacedNode) (found : Found) (read : ℕ → Place → Found → Reading) (o : Option Place)
+child_whole : (m : Mapping) (root : Root) (nodes : Nodes) → IsReadable m root nodes → (level child : ℕ) (here : Place) (reached : List PlacedNode) (found : Found) (read : ℕ → Place → Found → ReadOutcome) (o : Option Place)
     → place_of m level child ≡ o → (o ≡ None → exists m.entries level child ≡ false) → All (IsBefore m level (child * 32 ^ level)) reached → IsAt root m (child * 32 ^ level) reached found
     → ((place : Place) → o ≡ Some place → Comes (IsAt root m ((child + 1) * 32 ^ level) (reached ++ reached_below m level child)) (read child place found))
     → Comes (IsAt root m ((child + 1) * 32 ^ level) (reached ++ reached_below m level child)) (child_read root here level child read (place_word o) found)

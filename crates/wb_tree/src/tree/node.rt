@@ -4,7 +4,7 @@ ghost use Rattle.std.specs.Prelude.{◌≡◌, [], false, ◌≤◌, ◌<◌, �
 ghost use Rattle.std.specs.List.{list_any};
 ghost use Rattle.wb_tree.specs.Mapping.{exists, place_in};
 ghost use Rattle.wb_tree.specs.Branches.{rewritten, sole_branch, IsKid};
-ghost use Rattle.wb_tree.specs.Settling.{place_told, CanSettle, IsSettled, IsSettledAt};
+ghost use Rattle.wb_tree.specs.Settling.{place_told, CanSettle, NodesAreSettled, IsSettledAt};
 
 mod copying;
 mod filling;
@@ -259,7 +259,7 @@ pub(crate) fn boxed<A: Allocator + Clone>(
 /// These nodes of a tree, none of which was known, are known from now on.
 pub(crate) fn settle_all<A: Allocator>(top: &mut Node<A>, nodes: &[PlacedNode])
     requires { CanSettle top.old nodes.now }
-    ensures { IsSettled top.old top.new nodes.now }
+    ensures { NodesAreSettled top.old top.new nodes.now }
 {
     for node in nodes {
         top.settle(node.level, node.index, node.place);

@@ -1,7 +1,7 @@
 use Rattle.std.proofs.Common.{◌+◌, ◌%◌, ◌^◌, ◌≤◌, ℕ, length, refl, sym, ◌∙◌, ap, arith, subst}
 use Rattle.wb_meta.specs.Laws.{Wanted}
 use Rattle.wb_meta.specs.Placing.{HavePlaces}
-use Rattle.wb_meta.specs.Commits.{HasCome, steps_left}
+use Rattle.wb_meta.specs.Commits.{CommitHasCome, steps_left}
 use Rattle.wb_meta.specs.declared.commit_steps.CommitSteps.{CommitSteps}
 use Rattle.wb_meta.proofs.Crashing.{failed_crash, done_crash}
 use Rattle.wb_meta.proofs.Imaging.{failed_next, done_next}
@@ -54,7 +54,7 @@ pub returns-clause-ok : goal.returns-clause-ok
 returns-clause-ok g c tells old found m may sectors left =
     let before = g.D.Disk.contents c.args.disk.now in
     let now = g.D.Disk.contents c.loop-steps.disk in
-    let P : CommitSteps → Type 0 = λ s. HasCome c.args.image.now before s now in
+    let P : CommitSteps → Type 0 = λ s. CommitHasCome c.args.image.now before s now in
     let done = subst P (c.is_done.ensures.done.0 c.loop-steps-test.false) (c.loop-steps.invariant.1 tells) in
     done_crash c.args.image.now before now old (Wanted c.args.image.now found m) may done sectors left
 
@@ -62,7 +62,7 @@ pub returns-clause-tree : goal.returns-clause-tree
 returns-clause-tree g c tells m n plan old next sectors left =
     let before = g.D.Disk.contents c.args.disk.now in
     let now = g.D.Disk.contents c.loop-steps.disk in
-    let P : CommitSteps → Type 0 = λ s. HasCome c.args.image.now before s now in
+    let P : CommitSteps → Type 0 = λ s. CommitHasCome c.args.image.now before s now in
     let done = subst P (c.is_done.ensures.done.0 c.loop-steps-test.false) (c.loop-steps.invariant.1 tells) in
     done_next m n plan c.args.image.now before old next now done sectors left
 

@@ -1,5 +1,5 @@
 use Rattle.std.proofs.Common.{◌≡◌}
-use Rattle.wb_target.specs.Carried.{state_of, Runs}
+use Rattle.wb_target.specs.Carried.{client_state, Runs}
 use Rattle.wb_target.specs.Workers.{Turn}
 use Rattle.wb_target.proofs.Tries.{SoFar}
 use Rattle.wb_target.specs.Works.{WasAsked}
@@ -9,5 +9,5 @@ use Rattle.wb_target.proofs.worker.work_off.Given as goal
 abbrev pub invariant-loop : goal.invariant-loop
 invariant-loop g l = record {
   geometry : l.port.geometry ≡ l.fn.port.geometry;
-  turned : SoFar (Turn (Runs g.D.Disk.tells g.D.Disk.size g.D.Disk.contents g.D.Disk.faults (WasAsked g.P.Policy.with_entry g.P.Policy.without_entry) l.fn.port.geometry.origin_blocks) (WasNext g.row.P.Denot) l.fn.port.geometry g.G.Gate.answers l.fn.gate) (state_of l.fn.port) (state_of l.port);
+  turned : SoFar (Turn (Runs g.D.Disk.tells g.D.Disk.size g.D.Disk.contents g.D.Disk.faults (WasAsked g.P.Policy.with_entry g.P.Policy.without_entry) l.fn.port.geometry.origin_blocks) (WasNext g.row.P.Denot) l.fn.port.geometry g.G.Gate.answers l.fn.gate) (client_state l.fn.port) (client_state l.port);
 }

@@ -1,6 +1,6 @@
 use Rattle.std.proofs.Common.{◌≡◌, ◌+◌, ◌-◌}
 use Rattle.wb_desk.specs.Desks.{DeskState}
-use Rattle.wb_desk.specs.Safety.{IsDecided}
+use Rattle.wb_desk.specs.Safety.{ComesByCalls}
 use Rattle.wb_desk.specs.Settling.{IsTicked}
 use Rattle.wb_desk.proofs.desk.Desk.tick.Given as goal
 
@@ -8,7 +8,7 @@ use Rattle.wb_desk.proofs.desk.Desk.tick.Given as goal
 abbrev pub invariant-loop-given : goal.invariant-loop-given
 invariant-loop-given g l = record {
   tree : l.self.tree ≡ l.fn.self.tree;
-  calls : IsDecided g.P.Policy.knows l.fn.self l.self;
+  calls : ComesByCalls g.P.Policy.knows l.fn.self l.self;
   told : (new : DeskState _) → IsTicked g.P.Policy.cleaned g.P.Policy.ticked l.dirty (l.fn.self.geometry.cache_blocks + 1 - l.given) l.given l.self new
       → IsTicked g.P.Policy.cleaned g.P.Policy.ticked l.dirty (l.fn.self.geometry.cache_blocks + 1) 0 l.fn.self new;
 }

@@ -2,7 +2,7 @@ use Rattle.std.proofs.Common.{◌≡◌, ◌∙◌, Bool, true, false, if◌then
 use Rattle.wb_promise.specs.declared.event.What.{What}
 use Rattle.wb_machine.specs.Life.{contents_of}
 use Rattle.wb_machine.specs.Members.{Member}
-use Rattle.wb_machine.specs.Serving.{Steps, held_for, is_copied}
+use Rattle.wb_machine.specs.Serving.{Steps, may_give_up, is_copied}
 use Rattle.wb_machine.proofs.Stepped.{awaiting_are, buffer_stays, buffer_read, orders_are, performs_so, steps_at}
 use Rattle.wb_machine.proofs.member.Member.step.Goals as goal
 
@@ -33,7 +33,7 @@ returns-then-copies-clause-ok c =
     (c.take_read.ensures.task ∙ c.change_orders.ensures.task ∙ c.go_on.ensures.task)
     (c.take_read.ensures.orders ∙ orders_is)
     (c.take_read.ensures.awaiting ∙ awaiting_is)
-    (c.take_read.ensures.buffer ∙ sym (buffer_read devices old a job (held_for job m.orders m.awaiting) m.buffer next got given devices' new copied p)))
+    (c.take_read.ensures.buffer ∙ sym (buffer_read devices old a job (may_give_up job m.orders m.awaiting) m.buffer next got given devices' new copied p)))
 
 pub returns-clause-ok : goal.returns-clause-ok
 returns-clause-ok c =

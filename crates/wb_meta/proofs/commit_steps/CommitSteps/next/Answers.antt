@@ -8,7 +8,7 @@ use Rattle.wb_disk.proofs.FailedSyncs.{partly_so}
 use Rattle.wb_meta.proofs.Failing.{put_left}
 use Rattle.wb_disk.specs.Device.{History}
 use Rattle.wb_tree.specs.declared.image.Image.{Image}
-use Rattle.wb_meta.specs.Commits.{HasCome, HasFailed}
+use Rattle.wb_meta.specs.Commits.{CommitHasCome, HasFailed}
 use Rattle.wb_meta.specs.declared.commit_steps.CommitSteps.{CommitSteps}
 use Rattle.wb_meta.proofs.Stepping.{node_written, node_failed, nodes_synced, nodes_unsynced, root_written, root_failed, root_synced, root_unsynced}
 use Rattle.wb_meta.proofs.commit_steps.CommitSteps.next.Goals as goal
@@ -22,7 +22,7 @@ pub returns-in_err-put_node-in-NodesWritten-clause-failed : goal.returns-in_err-
 returns-in_err-put_node-in-NodesWritten-clause-failed g c tells =
     on_err c.from_residual.result (λ before come.
     let now = g.D.Disk.contents c.args.disk.now in
-    let P : CommitSteps → Type 0 = λ s. HasCome c.args.image.now before s now in
+    let P : CommitSteps → Type 0 = λ s. CommitHasCome c.args.image.now before s now in
     let so_far = subst P c.in-NodesWritten.is come in
     let nodes = c.args.image.now.nodes.items in
     let listed : slice_get nodes c.in-NodesWritten.count ≡ Some c.index.result.now = slice_get_read nodes (length nodes) c.in-NodesWritten.count c.index.result.now refl (omega arith) c.index.ensures in
@@ -32,7 +32,7 @@ pub returns-in_err-sync-in-NodesWritten-clause-failed : goal.returns-in_err-sync
 returns-in_err-sync-in-NodesWritten-clause-failed g c tells =
     on_err c.from_residual-in_err-sync-in-NodesWritten.result (λ before come.
     let now = g.D.Disk.contents c.args.disk.now in
-    let P : CommitSteps → Type 0 = λ s. HasCome c.args.image.now before s now in
+    let P : CommitSteps → Type 0 = λ s. CommitHasCome c.args.image.now before s now in
     let so_far = subst P c.in-NodesWritten.is come in
     failed_at c.args.image.now before _ c.args.self.now _ c.in-NodesWritten.is (nodes_unsynced c.args.image.now before now (g.D.Disk.contents c.sync.new.disk) c.in-NodesWritten.count so_far (partly_so (g.D.Disk.falters c.args.disk.now Syncing) now (g.D.Disk.contents c.sync.new.disk) (c.in_err-sync-in-NodesWritten.ensures.how tells))))
 
@@ -40,7 +40,7 @@ pub returns-in_err-put_root-in-NodesSynced-clause-failed : goal.returns-in_err-p
 returns-in_err-put_root-in-NodesSynced-clause-failed g c tells =
     on_err c.from_residual-in_err-put_root-in-NodesSynced.result (λ before come.
     let now = g.D.Disk.contents c.args.disk.now in
-    let P : CommitSteps → Type 0 = λ s. HasCome c.args.image.now before s now in
+    let P : CommitSteps → Type 0 = λ s. CommitHasCome c.args.image.now before s now in
     let so_far = subst P c.in-NodesSynced.is come in
     let slot : c.slot-slot.result.0 ≡ c.args.image.now.root.generation % 2 = c.slot-slot.ensures in
     failed_at c.args.image.now before _ c.args.self.now _ c.in-NodesSynced.is (root_failed c.args.image.now (g.D.Disk.size c.args.disk.now) before now (g.D.Disk.contents c.put_root.new.disk) c.slot-slot.result.0 c.requires slot so_far (put_left (g.D.Disk.falters c.args.disk.now) (λ content. SpellsRoot content c.args.image.now.root) _ now (g.D.Disk.contents c.put_root.new.disk) (subst (λ (at : ℕ). PutSo (g.D.Disk.falters c.args.disk.now) (λ content. SpellsRoot content c.args.image.now.root) at now (g.D.Disk.contents c.put_root.new.disk)) c.from-in-NodesSynced.ensures (c.in_err-put_root-in-NodesSynced.ensures.how tells)))))
@@ -49,14 +49,14 @@ pub returns-in_err-sync-in-RootWritten-clause-failed : goal.returns-in_err-sync-
 returns-in_err-sync-in-RootWritten-clause-failed g c tells =
     on_err c.from_residual-in_err-sync-in-RootWritten.result (λ before come.
     let now = g.D.Disk.contents c.args.disk.now in
-    let P : CommitSteps → Type 0 = λ s. HasCome c.args.image.now before s now in
+    let P : CommitSteps → Type 0 = λ s. CommitHasCome c.args.image.now before s now in
     let so_far = subst P c.in-RootWritten.is come in
     failed_at c.args.image.now before _ c.args.self.now _ c.in-RootWritten.is (root_unsynced c.args.image.now before now (g.D.Disk.contents c.sync-in-RootWritten.new.disk) so_far (partly_so (g.D.Disk.falters c.args.disk.now Syncing) now (g.D.Disk.contents c.sync-in-RootWritten.new.disk) (c.in_err-sync-in-RootWritten.ensures.how tells))))
 
 pub returns-in_ok-put_node-in-NodesWritten-clause-come : goal.returns-in_ok-put_node-in-NodesWritten-clause-come
 returns-in_ok-put_node-in-NodesWritten-clause-come g c tells before come =
     let now = g.D.Disk.contents c.args.disk.now in
-    let P : CommitSteps → Type 0 = λ s. HasCome c.args.image.now before s now in
+    let P : CommitSteps → Type 0 = λ s. CommitHasCome c.args.image.now before s now in
     let so_far = subst P c.in-NodesWritten.is come in
     let nodes = c.args.image.now.nodes.items in
     let listed : slice_get nodes c.in-NodesWritten.count ≡ Some c.index.result.now = slice_get_read nodes (length nodes) c.in-NodesWritten.count c.index.result.now refl (omega arith) c.index.ensures in
@@ -65,14 +65,14 @@ returns-in_ok-put_node-in-NodesWritten-clause-come g c tells before come =
 pub returns-in_ok-sync-in-NodesWritten-clause-come : goal.returns-in_ok-sync-in-NodesWritten-clause-come
 returns-in_ok-sync-in-NodesWritten-clause-come g c tells before come =
     let now = g.D.Disk.contents c.args.disk.now in
-    let P : CommitSteps → Type 0 = λ s. HasCome c.args.image.now before s now in
+    let P : CommitSteps → Type 0 = λ s. CommitHasCome c.args.image.now before s now in
     let so_far = subst P c.in-NodesWritten.is come in
     nodes_synced c.args.image.now before now (g.D.Disk.contents c.sync.new.disk) c.in-NodesWritten.count (omega arith) so_far (c.in_ok-sync-in-NodesWritten.ensures.ok tells)
 
 pub returns-in_ok-put_root-in-NodesSynced-clause-come : goal.returns-in_ok-put_root-in-NodesSynced-clause-come
 returns-in_ok-put_root-in-NodesSynced-clause-come g c tells before come =
     let now = g.D.Disk.contents c.args.disk.now in
-    let P : CommitSteps → Type 0 = λ s. HasCome c.args.image.now before s now in
+    let P : CommitSteps → Type 0 = λ s. CommitHasCome c.args.image.now before s now in
     let so_far = subst P c.in-NodesSynced.is come in
     let slot : c.slot-slot.result.0 ≡ c.args.image.now.root.generation % 2 = c.slot-slot.ensures in
     root_written c.args.image.now (g.D.Disk.size c.args.disk.now) before now (g.D.Disk.contents c.put_root.new.disk) c.slot-slot.result.0 c.requires slot so_far (subst (λ (at : ℕ). Puts (λ content. SpellsRoot content c.args.image.now.root) at now (g.D.Disk.contents c.put_root.new.disk)) c.from-in-NodesSynced.ensures (c.in_ok-put_root-in-NodesSynced.ensures.ok tells))
@@ -80,6 +80,6 @@ returns-in_ok-put_root-in-NodesSynced-clause-come g c tells before come =
 pub returns-in_ok-sync-in-RootWritten-clause-come : goal.returns-in_ok-sync-in-RootWritten-clause-come
 returns-in_ok-sync-in-RootWritten-clause-come g c tells before come =
     let now = g.D.Disk.contents c.args.disk.now in
-    let P : CommitSteps → Type 0 = λ s. HasCome c.args.image.now before s now in
+    let P : CommitSteps → Type 0 = λ s. CommitHasCome c.args.image.now before s now in
     let so_far = subst P c.in-RootWritten.is come in
     root_synced c.args.image.now before now (g.D.Disk.contents c.sync-in-RootWritten.new.disk) so_far (c.in_ok-sync-in-RootWritten.ensures.ok tells)

@@ -12,7 +12,7 @@ use Rattle.wb_types.specs.declared.number.Place.{Place}
 use Rattle.wb_tree.specs.declared.placed.PlacedNode.{PlacedNode}
 use Rattle.wb_meta.specs.declared.read_steps.ReadSteps.{ReadSteps}
 use Rattle.wb_meta.specs.States.{IsRefusedBy, IsOfReading, CountsFault, FailsIf}
-use Rattle.wb_meta.specs.Reads.{AgreeThere, AreStepsOn, HasRead, ReadingGoesOn, StopsBy, IsDone, IsTreeOn, coming_sector, place_number, sectors_read, steps_left}
+use Rattle.wb_meta.specs.Reads.{AgreeThere, AreStepsOn, HasRead, ReadingGoesOn, StopsBy, IsDone, IsTreeOn, coming_sector, number_of_place, sectors_read, steps_left}
 use Rattle.wb_meta.proofs.Loaded.{loaded_none, loaded_more, loaded_refused, memory_refused, fails_kind, fails_cause, fails_way, wanted_node, IfErr-handed}
 use Rattle.wb_meta.proofs.Counting.{tree_begun, tree_pushed, fewer_left, length_pushed}
 use Rattle.wb_disk.specs.Extents.{Reading, MayLand}
@@ -48,7 +48,7 @@ returns-in_err-tell-in-Some-clause-refused g c tells = stops c.args.self (g.D.Di
     let R : ReadSteps _ → Type 0 = λ s. HasRead sectors s in
     let loaded = subst R c.in-RootFound.is has in
     let S : ℕ → Type 0 = λ at. ReadsThere (map newest device) (λ _. c.in_ok-node-in-Some.node) at in
-    let comes = ap (λ s. coming_sector s) c.in-RootFound.is ∙ (ap place_number (sym c.wanted.ensures.place ∙ c.in-Some.is) ∙ ap (λ (p : Place). Some p.0) (sym wanted.there)) in
+    let comes = ap (λ s. coming_sector s) c.in-RootFound.is ∙ (ap number_of_place (sym c.wanted.ensures.place ∙ c.in-Some.is) ∙ ap (λ (p : Place). Some p.0) (sym wanted.there)) in
     let here = node_found sectors (map newest device) (λ _. c.in_ok-node-in-Some.node) wanted.node.place.0 (agrees.here wanted.node.place.0 comes) (subst S (c.from.ensures ∙ sym (ap (λ (p : Place). p.0) wanted.there)) (c.in_ok-node-in-Some.ensures.found tells)) in
     IfErr-handed c.from_residual-in_err-tell-in-Some.result c.in_err-tell-in-Some.field-0.0 (IsRefusedBy sectors) c.from_residual-in_err-tell-in-Some.ensures.1
     (loaded_refused sectors c.in-RootFound.root c.in-RootFound.loader wanted.node c.in_ok-node-in-Some.node c.in_err-tell-in-Some.field-0.0 (on.size ∙ sym (whole_size sectors device _ agrees.size (g.met.D.Disk.whole c.args.disk.now tells))) loaded here
@@ -163,7 +163,7 @@ returns-in_ok-tell-in-Some-clause-read g c tells = goes c.args.self (g.D.Disk.co
     let R : ReadSteps _ → Type 0 = λ s. HasRead sectors s in
     let loaded = subst R c.in-RootFound.is has in
     let S : ℕ → Type 0 = λ at. ReadsThere (map newest device) (λ _. c.in_ok-node-in-Some.node) at in
-    let comes = ap (λ s. coming_sector s) c.in-RootFound.is ∙ (ap place_number (sym c.wanted.ensures.place ∙ c.in-Some.is) ∙ ap (λ (p : Place). Some p.0) (sym wanted.there)) in
+    let comes = ap (λ s. coming_sector s) c.in-RootFound.is ∙ (ap number_of_place (sym c.wanted.ensures.place ∙ c.in-Some.is) ∙ ap (λ (p : Place). Some p.0) (sym wanted.there)) in
     let here = node_found sectors (map newest device) (λ _. c.in_ok-node-in-Some.node) wanted.node.place.0 (agrees.here wanted.node.place.0 comes) (subst S (c.from.ensures ∙ sym (ap (λ (p : Place). p.0) wanted.there)) (c.in_ok-node-in-Some.ensures.found tells)) in
     let P : Place → Type 0 = λ place. IsFresh c.in-RootFound.loader.root c.in-RootFound.loader.found.reached place in
     let told = c.in_ok-tell-in-Some.ensures in

@@ -1,7 +1,7 @@
 use Rattle.std.proofs.Common.{◌≡◌, ◌+◌, ◌-◌, ◌*◌, ℕ, List, Err, true, false, sym, ap, subst, ◌∙◌, arith, slice_index}
 use Rattle.wb_tree.specs.declared.placed.PlacedNode.{PlacedNode}
 use Rattle.wb_tree.specs.declared.frame.Frame.{Frame}
-use Rattle.wb_tree.specs.Reading.{names_child, Reading, ◌then◌, each_step, node_read}
+use Rattle.wb_tree.specs.Reading.{names_child, ReadOutcome, ◌then◌, each_step, node_read}
 use Rattle.wb_tree.specs.Loading.{frame_step}
 use Rattle.wb_tree.proofs.Reading.Steps.{each_step-next, each_step-none, child_read-zero, child_read-named, child_read-unnamed, same_node_read}
 use Rattle.wb_tree.proofs.frame.Frame.next_child.Goals as goal
@@ -17,7 +17,7 @@ returns-in-Some-clause-child c nodes found e =
     let child = sym (same_node_read root nodes c.in-Some.child.level (node.level - 1) c.in-Some.child.index (32 * node.index + c.loop-j.j) c.in-Some.child.place (record { 0 = word }) found c.in-Some.ensures.level c.in-Some.ensures.index c.in-Some.ensures.place) in
     c.loop-j.invariant.passed nodes found e
     ∙ (each_step-next (frame_step root nodes frame) c.loop-j.j found c.loop-j-test.true
-    ∙ ap (λ (reading : Reading). reading then each_step (frame_step root nodes frame) (32 - (c.loop-j.j + 1)) (c.loop-j.j + 1)) (step ∙ child))
+    ∙ ap (λ (reading : ReadOutcome). reading then each_step (frame_step root nodes frame) (32 - (c.loop-j.j + 1)) (c.loop-j.j + 1)) (step ∙ child))
 
 pub returns-in-Some-clause-level : goal.returns-in-Some-clause-level
 returns-in-Some-clause-level c =
@@ -33,11 +33,11 @@ returns-in-None-clause-fault c nodes found e =
     let word : ℕ = slice_index frame.words c.loop-j.j in
     let unnamed = subst (λ (reached : List PlacedNode). names_child root reached (node.level - 1) (32 * node.index + c.loop-j.j) word ≡ false) (sym e) c.in-None.ensures.none in
     let step = child_read-unnamed root node.place (node.level - 1) (32 * node.index + c.loop-j.j) (node_read root nodes (node.level - 1)) word found c.if-word-ne0.true unnamed in
-    let fault : Frame → Reading = λ f. Err f.node.place in
+    let fault : Frame → ReadOutcome = λ f. Err f.node.place in
     let place_same = ap fault c.loop-j.invariant.same in
     c.loop-j.invariant.passed nodes found e
     ∙ (each_step-next (frame_step root nodes frame) c.loop-j.j found c.loop-j-test.true
-    ∙ (ap (λ (reading : Reading). reading then each_step (frame_step root nodes frame) (32 - (c.loop-j.j + 1)) (c.loop-j.j + 1)) step
+    ∙ (ap (λ (reading : ReadOutcome). reading then each_step (frame_step root nodes frame) (32 - (c.loop-j.j + 1)) (c.loop-j.j + 1)) step
     ∙ place_same))
 
 pub loop-j-preserved : goal.loop-j-preserved
@@ -51,7 +51,7 @@ loop-j-preserved c =
       passed = λ nodes found e.
           c.loop-j.invariant.passed nodes found e
           ∙ (each_step-next (frame_step root nodes frame) c.loop-j.j found c.loop-j-test.true
-          ∙ ap (λ (reading : Reading). reading then each_step (frame_step root nodes frame) (32 - (c.loop-j.j + 1)) (c.loop-j.j + 1))
+          ∙ ap (λ (reading : ReadOutcome). reading then each_step (frame_step root nodes frame) (32 - (c.loop-j.j + 1)) (c.loop-j.j + 1))
           (child_read-zero root node.place (node.level - 1) (32 * node.index + c.loop-j.j) (node_read root nodes (node.level - 1)) word found c.if-word-ne0.false));
     }
 
