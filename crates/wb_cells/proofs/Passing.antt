@@ -47,17 +47,6 @@ module _ {bits : List FailBit} {how : Card → Card → Type 0} {change : Words 
   pub shows : (t u : TableId) (m after : Me ℕ View) (c : Card) → u ≡ t → SeatMoves bits 0 how change m after → card_at 0 after.0 ≡ c → pass_state u after ≡ record (pass_state t m) { card = c; failed = bits ++ m.0.fail }
   shows t u m after c same s is = λ i. record { table = same i; fraction = s.0.fraction i; card = is i; failed = s.0.fail i }
 
--- what a look finds where one card is all there is
-sum_of : (n : ℕ) (w : Words) (c : Card) (word : WordName) → IsWord n word → LockRule n w (c ∷ []) → IsSum word (value_of w word) c
-sum_of n w c (LockWord b) inside r = let l = r.cells b.0 inside in omega (arith, l.is)
-sum_of n w c (SealWord b) inside r = ⊎_elim (λ t. let e = t.1 in inl (t.0, omega arith)) (λ h. inr (omega arith)) (r.logs.seals b.0 inside)
-sum_of n w c (Number b) inside r = let e = r.numbers b.0 inside in e ∙ omega arith
-sum_of n w c (CountWord kind) inside r = r.counts kind ∙ ap (λ (z : ℕ). z % 2 ^ 64) (omega arith)
-sum_of n w c Fail inside r = r.logs.fail ∙ (λ j. fail_word (alone_sum (times_set Failed) j) (alone_sum (times_set Suspended) j))
-  where
-    alone_sum : (f : Card → ℕ) → total f (c ∷ []) ≡ f c
-    alone_sum f = omega arith
-
 -- the moment of a step
 pub moment_of : {bits : List FailBit} {how : Card → Card → Type 0} {change : Words → Words → Type 0} (words n : ℕ) (m after : Me ℕ View) → IsPass words m → words ≡ 3 * n + 5 → SeatMoves bits 0 how change m after
     → (at : Moment n (IsWhole m.0.fraction) (card_at 0 m.0)) × (now : Words) × change at.words now

@@ -139,18 +139,6 @@ free_of_unused m geometry used free known unused = record {
   unused = λ i place h is. unused.unused i place h (known place is);
 }
 
--- enough for all nodes are enough for those that changed
-pub unused_for_changed : (m : Mapping) (geometry : Geometry) (used free : List Place) → length m.entries ≡ geometry.cache_blocks → AreUnused geometry used free → AreUnusedFor m geometry used free
-unused_for_changed m geometry used free size unused =
-    let enough = unused.enough in
-    record {
-      enough = omega (arith, enough, few_changed m geometry.cache_blocks size);
-      behind = unused.behind;
-      inside = unused.inside;
-      apart = unused.apart;
-      unused = unused.unused;
-    }
-
 pub unused_free : (m : Mapping) (device : List History) (old : Stored) (used free : List Place) → DeviceStores m device old used → AreUnusedFor m old.root.geometry used free → AreFree m old.root.geometry free
 unused_free m device old used free stores unused = free_of_unused m old.root.geometry used free stores.known_used unused
 

@@ -10,10 +10,6 @@ use Rattle.wb_table.specs.Words.{is_filled, words_of}
 filter-filled : (part : List ℕ) (parts : List (List ℕ)) → 0 < length part → filter is_filled (part ∷ parts) ≡ part ∷ filter is_filled parts
 filter-filled part parts h = ap (λ b. cond b (part ∷ filter is_filled parts) (filter is_filled parts)) (lt-ltb 0 (length part) h)
 
--- a part that is none
-filter-empty : (part : List ℕ) (parts : List (List ℕ)) → length part ≤ 0 → filter is_filled (part ∷ parts) ≡ filter is_filled parts
-filter-empty part parts h = ap (λ b. cond b (part ∷ filter is_filled parts) (filter is_filled parts)) (le-ltb 0 (length part) h)
-
 abbrev pub is_space : ℕ → Bool
 is_space b = eqb b 32
 

@@ -272,11 +272,6 @@ slot_settled level index kid new l k place is to less h = record {
   some = ap (λ (es : List (Option Entry)). list_any is_some es) h.entries_same ∙ is.some;
 }
 
--- the node itself
-inserted_here : (xs : List PlacedNode) (level index : ℕ) (place : Option Place) (new : Place) → place ≡ None → IsInserted (placed_here place level index ++ xs) (placed_here (Some new) level index ++ xs) (record { level = level; index = index; place = new })
-inserted_here xs level index None new none = record { front = []; back = xs; was = refl; is = refl }
-inserted_here xs level index (Some place) new none = absurd cc
-
 -- a node below a word
 pub settled_below : {A : Type 0} (level index l k w r : ℕ) (place : Option Place) (there : Place) (words : List (Option Entry)) (kids : List (Option (Box Branch A))) (kid new : Box Branch A) → IsNode level index words kids → (level ≡ 1 → ⊥)
     → IsWay level index l k (level - l) w r → get_or kids w None ≡ Some kid → IsSettledAt kid.value new.value (record { level = l; index = kid.value.index * 32 ^ (kid.value.level - l) + r; place = there })

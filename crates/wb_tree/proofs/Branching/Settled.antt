@@ -219,14 +219,6 @@ can_settle cache_blocks depth kid m nodes are view apart sound =
           (λ none. found_some nodes i node h (both_none (place_in m.known node.level node.index) (place_in nodes node.level node.index) (sym (place_append m.known nodes node.level node.index) ∙ none)).1);
     }
 
--- the tree afterwards
-pub settled_alike : {A : Type 0} (cache_blocks depth : ℕ) (kid new : Box Branch A) (m : Mapping) (nodes : List PlacedNode) → boxes_of cache_blocks depth (Some kid) ≡ m → NodesAreSettled kid.value new.value nodes
-    → AreAlike (record { entries = m.entries; known = m.known ++ nodes }) (boxes_of cache_blocks depth (Some new))
-settled_alike cache_blocks depth kid new m nodes view settled = record {
-  entries = ap (λ (es : List (Option Entry)). take cache_blocks es) settled.entries_same ∙ ap (λ (n : Mapping). n.entries) view;
-  places = λ level index. settled.places level index ∙ ap (λ (n : Mapping). place_in (n.known ++ nodes) level index) view;
-}
-
 -- without a box there is no entry
 pub nothing_there_at_all : {A : Type 0} (cache_blocks depth level index : ℕ) (root : Option (Box Branch A)) (m : Mapping) → root ≡ None → AreBoxes cache_blocks depth root → boxes_of cache_blocks depth root ≡ m → exists m.entries level index ≡ false
 unfolding exists
