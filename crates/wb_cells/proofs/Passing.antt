@@ -1,5 +1,5 @@
 -- Steps of a seat of one card; seats cut in two and put together.
-use Rattle.std.proofs.Common.{◌≡◌, ◌≢◌, ℕ, zero, suc, ◌+◌, ◌-◌, ◌*◌, ◌%◌, ◌^◌, List, [], ◌∷◌, ◌++◌, get_or, set, sym, refl, ap, ◌∙◌, subst, ⊎_elim, inl, inr, arith, None}
+use Rattle.std.proofs.Common.{◌≡◌, ◌≢◌, ℕ, zero, suc, ◌+◌, ◌-◌, ◌*◌, ◌%◌, ◌^◌, List, [], ◌∷◌, ◌++◌, get_or, set, sym, refl, ap, ◌∙◌, subst, ⊎_elim, arith, None}
 use Rattle.std.proofs.lemmas.Option.{none-some}
 use mathlib.Core.Option.{some, some-injective, some-ne-none}
 use lib.ListN.{get_elem?}
@@ -8,12 +8,11 @@ use Rattle.atomic_table.specs.Table.{State, Me, Splits, Joins}
 use Rattle.atomic_table.proofs.Lists.{at_set, at_snoc, set_else}
 use Rattle.wb_words.specs.declared.word.Kind.{Kind}
 use Rattle.wb_words.specs.declared.word.Word.{Word as WordName}
-use Rattle.wb_words.specs.declared.word.Word.TheVariants.{Cell as LockWord, Seal as SealWord, Number, Count as CountWord, Fail}
-use Rattle.wb_words.specs.SharedWords.{Words, value_of, word_at}
+use Rattle.wb_words.specs.SharedWords.{Words, word_at}
 use Rattle.wb_words.specs.declared.card.Hold.TheVariants.{Nothing}
 use Rattle.wb_words.specs.declared.card.Card.{Card}
 use Rattle.wb_cells.specs.declared.view.View.{View}
-use Rattle.wb_words.specs.SharedWords.{IsWord, HasBits, fail_word}
+use Rattle.wb_words.specs.SharedWords.{HasBits, fail_word}
 use Rattle.wb_cells.specs.Flat.{decode}
 use Rattle.wb_words.specs.Cards.{blank_card, total, is_block, count_of_write, is_count, is_share, is_own, seal_times, seal_count, is_newest, is_bit, shares, owns, sharers, owners, writes_on, counts_of, shared_of, owned_of, stores, seals_on, ends, times_set, merged}
 use Rattle.wb_words.specs.Rule.{block, AllSawNoMore, Knows, LooksAllowed, LossesAllowed, NotesWhatWas, LockRule, IsLock}
@@ -25,7 +24,7 @@ use Rattle.wb_cells.specs.declared.view.Fraction.{Fraction}
 use Rattle.wb_cells.specs.Fractions.{IsWhole, together}
 use Rattle.wb_cells.specs.Views.{Ruled, AllHaveParts, MakeWhole, all_cards, cut_left, cut_right, merged_cards, joined, spent}
 use Rattle.wb_cells.specs.Moves.{card_at, SeatMoves}
-use Rattle.wb_cells.specs.Passes.{pass_state, IsPass, IsSum}
+use Rattle.wb_cells.specs.Passes.{pass_state, IsPass}
 use Rattle.wb_words.proofs.Totals.{total-append}
 use Rattle.wb_cells.proofs.Halves.{crowd, split_parts, join_parts, doubled-le}
 use Rattle.wb_cells.proofs.Flatten.{in_all, card_of_set, card_of_snoc, cards_sum, all-snoc}

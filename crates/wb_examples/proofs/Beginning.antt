@@ -12,7 +12,7 @@ use Rattle.wb_format.specs.Sizes.{IsTop}
 use Rattle.wb_meta.specs.Placing.{HavePlaces}
 use Rattle.wb_tree.specs.declared.image.Image.{Image}
 use Rattle.wb_tree.specs.declared.placed.PlacedNode.{PlacedNode}
-use Rattle.wb_tree.specs.Mapping.{Mapping, IsMapping, IsSound, place_in, place_of, used_places}
+use Rattle.wb_tree.specs.Mapping.{Mapping, IsSound, place_in, place_of, used_places}
 use Rattle.wb_tree.specs.Images.{AreUsed, ImagePlan, IsImage, levels_of}
 use Rattle.wb_meta.specs.declared.commit_steps.CommitSteps.TheVariants.{NodesWritten}
 use Rattle.wb_desk.specs.Desks.{DeskState}

@@ -13,7 +13,7 @@ use Rattle.wb_words.specs.SharedWords.{Words, word_at, place_in}
 use Rattle.wb_words.specs.Effects.{result_of, words_after}
 use Rattle.wb_words.specs.declared.step.CellStep.{CellStep}
 use Rattle.wb_policy.specs.declared.order.Order.{Order}
-use Rattle.wb_tasks.specs.Plan.{Plan, want, after, got_of, table}
+use Rattle.wb_tasks.specs.Plan.{Plan, want, after, got_of}
 use Rattle.wb_tasks.specs.Ready.{Suits, HoldsBlocks, IsOwnStep}
 use Rattle.wb_tasks.specs.declared.step.Answer.{Answer}
 use Rattle.wb_tasks.specs.declared.step.Answer.TheVariants.{Done as Finished, Refused as Refuses}

@@ -35,9 +35,9 @@ use Rattle.wb_promise.specs.Effects.{actor_then, task_then, target_over, device_
 use Rattle.wb_promise.specs.Clerk.{Notes, begins, put, Doing, noted_step}
 use Rattle.wb_promise.specs.Headline.{place_of, shown_by, ShowsAllowed, shown, shown_in}
 use Rattle.wb_runs.proofs.Images.{Images, later_of}
-use Rattle.wb_runs.proofs.Metadata.{MetadataKept, AtDesk, AtOpening, Quiet, Rooting as RootingKept, kept_readable, target_stands}
+use Rattle.wb_runs.proofs.Metadata.{MetadataKept, AtDesk, AtOpening, Rooting as RootingKept, kept_readable, target_stands}
 use Rattle.wb_runs.proofs.Linking.{IsTask, AtPhase}
-use Rattle.wb_link.specs.World.{World, Shared, AbstractActor, abstract_resting as idle}
+use Rattle.wb_link.specs.World.{World, abstract_resting as idle}
 use Rattle.wb_link.specs.Clerk.{abstract_opened as opened_notes}
 use Rattle.wb_link.specs.Openings.{Site, Gone as GoneThere, Opens as OpensThere, Learnt, Answering, opened_on, Stage, Settling, Caching, Basing, Looking, Rooting, Renewing}
 use Rattle.wb_simulation.specs.Opened.{located}
@@ -53,7 +53,7 @@ use Rattle.wb_tasks.specs.declared.step.Answer.{Answer}
 use Rattle.wb_tasks.specs.declared.step.DeviceStep.TheVariants.{Sync, ReadMetadata, WriteRoot}
 use Rattle.wb_tasks.specs.declared.step.Want.{Want}
 use Rattle.wb_tasks.specs.declared.step.Got.TheVariants.{Done, Fault}
-use Rattle.wb_promise.specs.Happenings.{Chosen, Plain, Cut, Orders, Begins, Reaches, Puts, Commits, Asks, Opened, Gives, Falters, MayFailAt, IsNextOf, DoesPut, DoesSync, FailsSync, FailsPut, LandedOr, sector_put, DoesOpen}
+use Rattle.wb_promise.specs.Happenings.{Chosen, Reaches, Puts, Opened, Gives, Falters, DoesPut, DoesSync, FailsSync, FailsPut, sector_put, DoesOpen}
 use Rattle.wb_runs.proofs.Underway.{sync_does, sync_fails, put_fails}
 use Rattle.wb_types.specs.declared.number.CBlock.{CBlock}
 use Rattle.wb_promise.specs.Sealed.{number_of}

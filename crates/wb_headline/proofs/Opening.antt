@@ -18,7 +18,6 @@ use Rattle.wb_meta.specs.declared.read_steps.ReadSteps.{ReadSteps}
 use Rattle.wb_meta.specs.declared.read_steps.ReadSteps.TheVariants.{Begun, Done as AllRead}
 use Rattle.wb_tasks.specs.Tables.{Opening}
 use Rattle.wb_tasks.specs.Plan.{Plan, after}
-use Rattle.wb_tasks.specs.declared.step.Answer.TheVariants.{Done as Finished}
 use Rattle.wb_tasks.specs.declared.step.DeviceStep.{DeviceStep}
 use Rattle.wb_tasks.specs.declared.step.DeviceStep.TheVariants.{Sync, ReadMetadata, WriteRoot}
 use Rattle.wb_tasks.specs.declared.step.Want.TheVariants.{Device}
@@ -41,7 +40,7 @@ use Rattle.wb_runs.proofs.Linking.{IsTask, AtPhase}
 use Rattle.wb_link.specs.World.{Shared}
 use Rattle.wb_link.specs.Openings.{AbstractPhase as PhaseThere, Stands as StandsThere, Gone as GoneThere, Opens as OpensThere, Learnt, Stage, Settling, Caching, Basing, Looking, Rooting, Renewing, Answering, Learns, Advances, advance}
 use Rattle.wb_simulation.specs.Opened.{located}
-use Rattle.wb_simulation.specs.Sites.{ImagesAgree, DevicesAgree, LeadsTo, locations}
+use Rattle.wb_simulation.specs.Sites.{DevicesAgree, LeadsTo, locations}
 use Rattle.wb_simulation.proofs.Opening.{openings_followed}
 use Rattle.wb_headline.proofs.Events.{never_clean}
 use Rattle.wb_headline.proofs.Following.{opening_at, HasLearnt, HasRoot, HasReadAt, AtStage, IsOver, many, size, Followed, Goes}

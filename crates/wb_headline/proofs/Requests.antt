@@ -29,7 +29,7 @@ use Rattle.wb_devices.specs.declared.running.RunningCommit.{RunningCommit}
 use Rattle.wb_devices.specs.Moving.{device_in}
 use Rattle.wb_promise.specs.declared.job.Job.{Job}
 use Rattle.wb_promise.specs.declared.job.Job.TheVariants.{Read, Write}
-use Rattle.wb_promise.specs.States.{Shape, State, Actor, Target, Stands, with_device, Phase, block_size, sector_count}
+use Rattle.wb_promise.specs.States.{Shape, State, Actor, Target, Stands, with_device, sector_count}
 use Rattle.wb_promise.specs.Happenings.{block_range, Chosen, Gives, Falters, MayFailAt}
 use Rattle.wb_promise.specs.Effects.{actor_then, orders_then, awaiting_then, device_done, device_failed, stepped}
 use Rattle.wb_runs.specs.Holding.{cards_of}

@@ -39,7 +39,7 @@ use Rattle.wb_simulation.proofs.Opening.{openings_followed, images_followed}
 use Rattle.wb_simulation.proofs.Noted.{notes_followed}
 use Rattle.wb_headline.specs.Desks.{live_orders, block_there, DeskAgrees}
 use Rattle.wb_contents.proofs.Lists.{there_is as there}
-use Rattle.wb_headline.proofs.Following.{situation, opening_at, AtStage, IsOver, size, most, Sized, Followed, Goes}
+use Rattle.wb_headline.proofs.Following.{situation, size, most, Followed, Goes}
 use Rattle.wb_headline.proofs.Arriving.{SameSectors, sized_so, arrives, opens, agreeing}
 use Rattle.wb_headline.proofs.Targets.{standing, beside, noted_within, stays_on, leads_on}
 use Rattle.std.proofs.lemmas.Option.{get_or_from_slice_get, slice_get_within}

@@ -36,7 +36,8 @@ use Rattle.wb_machine.specs.Life.{Happens, IsThere, Now, actors_of, answered, co
 use Rattle.wb_machine.specs.Making.{HasMade, IsMade, read_of, reading_by, reading_of}
 use Rattle.wb_machine.specs.Members.{Member, free, with_cards}
 use Rattle.wb_desk.specs.Desks.{DeskState}
-use Rattle.wb_machine.specs.Standing.{AllRoomy, Point, AtEnd, AtRefusal, HasMadeThere, HasReadAll, HasComeTo, StandsAt, StandsSo, plan_from}
+use Rattle.wb_tasks.specs.Points.{OpenPoint, AtEnd, AtRefusal}
+use Rattle.wb_machine.specs.Standing.{AllRoomy, HasMadeThere, HasReadAll, HasComeTo, StandsAt, StandsSo, plan_from}
 use Rattle.wb_machine.proofs.Members.{all_free}
 use Rattle.wb_machine.proofs.Served.{roomy_free}
 use Rattle.wb_machine.proofs.Openings.{busy, length_replicate, set_replicate, there}
@@ -120,7 +121,7 @@ answers_refused g n devices o h refusal next =
 all_done : (g : Geometry) (reading : Option (ReadSteps Global)) (commit : Option RunningCommit) → HasReadAll g Committed reading commit → is_all_done commit ≡ true
 all_done g reading commit all = ap is_all_done all.commit_is ∙ ap is_committed all.steps_are
 
-answers_at : (g : Geometry) (n : ℕ) (devices : Devices Memory) (o : Opener) → o.actor < n → (point : Point) → o.task ≡ plan_from g.meta_sectors point → HasComeTo g point (reading_of o) o.opening.commit → HasMadeThere g n point o.actor o.made → device_step_of (want (plan_from g.meta_sectors point)) ≡ None
+answers_at : (g : Geometry) (n : ℕ) (devices : Devices Memory) (o : Opener) → o.actor < n → (point : OpenPoint) → o.task ≡ plan_from g.meta_sectors point → HasComeTo g point (reading_of o) o.opening.commit → HasMadeThere g n point o.actor o.made → device_step_of (want (plan_from g.meta_sectors point)) ≡ None
     → Answers g n devices o (answered (Underway o))
 answers_at g n devices o h AtEnd plan come made none = answers_done g n devices o h (ap want plan) (all_done g (reading_of o) o.opening.commit come) o.made refl made
 answers_at g n devices o h (AtRefusal refusal) plan come made none = answers_refused g n devices o h refusal (ap want plan)

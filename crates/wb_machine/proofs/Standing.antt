@@ -36,7 +36,8 @@ use Rattle.wb_machine.specs.Making.{MadeBy, reading_of}
 use Rattle.wb_devices.specs.declared.running.RunningCommit.{RunningCommit}
 use Rattle.wb_promise.specs.Happenings.{Reaches, DoesRead, HasGeneration, LandedOr, MayFailAt}
 use Rattle.wb_machine.specs.Life.{FailsOn, MayPutCommitted, PutsRoot, commit_synced, commit_written, device_step_of, made_synced, reading_synced}
-use Rattle.wb_machine.specs.Standing.{Point, AtMetadata, AtCache, AtOrigin, AtRead, AtRoot, AtRootSync, AtEnd, AtRefusal, plan_from, HasComeTo, HasMadeThere, HasReadAll, IsReading, StandsAt}
+use Rattle.wb_tasks.specs.Points.{OpenPoint, AtFirst, AtCache, AtOrigin, AtRead, AtRoot, AtRootSync, AtEnd, AtRefusal}
+use Rattle.wb_machine.specs.Standing.{plan_from, HasComeTo, HasMadeThere, HasReadAll, IsReading, StandsAt}
 
 -- ---- at a sync
 
@@ -50,8 +51,8 @@ abbrev pub Finds : Geometry → DeviceStep → Option (ReadSteps Global) → Opt
 Finds g step reading commit = ((commit ≡ None) × (step ≢ WriteRoot))
     ⊎ (((step ≡ WriteRoot) × HasReadAll g NodesSynced reading commit) ⊎ ((step ≡ Sync Metadata) × HasReadAll g RootWritten reading commit))
 
-finds_at : (g : Geometry) (point : Point) (step : DeviceStep) → device_step_of (want (plan_from g.meta_sectors point)) ≡ Some step → (reading : Option (ReadSteps Global)) (commit : Option RunningCommit) → HasComeTo g point reading commit → Finds g step reading commit
-finds_at g AtMetadata step e reading commit come = inl (come, λ root. cc)
+finds_at : (g : Geometry) (point : OpenPoint) (step : DeviceStep) → device_step_of (want (plan_from g.meta_sectors point)) ≡ Some step → (reading : Option (ReadSteps Global)) (commit : Option RunningCommit) → HasComeTo g point reading commit → Finds g step reading commit
+finds_at g AtFirst step e reading commit come = inl (come, λ root. cc)
 finds_at g AtCache step e reading commit come = inl (reading_alone g g.meta_sectors reading commit come, λ root. cc)
 finds_at g AtOrigin step e reading commit come = inl (reading_alone g g.meta_sectors reading commit come, λ root. cc)
 finds_at g (AtRead left) step e reading commit come = inl (reading_alone g left reading commit come, λ root. cc)
@@ -65,8 +66,8 @@ pub finds : (g : Geometry) (n : ℕ) (o : Opener) (step : DeviceStep) → Stands
 finds g n o step at e = finds_at g at.point step (ap (λ p. device_step_of (want p)) (sym at.plan_is) ∙ e) (reading_of o) o.opening.commit at.come
 
 -- at its next point, after what came of a step, an opening of this actor has come so far
-record Goes (g : Geometry) (n a : ℕ) (point : Point) (got : Got) (reading : Option (ReadSteps Global)) (commit : Option RunningCommit) (made : Option Made) : Type 0 where
-  pub next : Point
+record Goes (g : Geometry) (n a : ℕ) (point : OpenPoint) (got : Got) (reading : Option (ReadSteps Global)) (commit : Option RunningCommit) (made : Option Made) : Type 0 where
+  pub next : OpenPoint
   pub plan : after (plan_from g.meta_sectors point) got ≡ plan_from g.meta_sectors next
   pub come : HasComeTo g next reading commit
   pub made_is : HasMadeThere g n next a made
@@ -94,9 +95,9 @@ gone_on g steps steps' reading commit all = record {
   steps_are = refl;
 }
 
-synced_from : (g : Geometry) (n a : ℕ) (point : Point) (device : Dev) → want (plan_from g.meta_sectors point) ≡ Device (Sync device) → (alloc : Global) (reading : Option (ReadSteps Global)) (commit : Option RunningCommit) (made : Option Made)
+synced_from : (g : Geometry) (n a : ℕ) (point : OpenPoint) (device : Dev) → want (plan_from g.meta_sectors point) ≡ Device (Sync device) → (alloc : Global) (reading : Option (ReadSteps Global)) (commit : Option RunningCommit) (made : Option Made)
     → HasComeTo g point reading commit → HasMadeThere g n point a made → Goes g n a point Done (reading_synced alloc device commit reading) (commit_synced device commit) (made_synced device commit made)
-synced_from g n a AtMetadata Metadata e alloc reading commit made come is = rw come (record { next = AtCache; plan = refl; come = (refl, (λ d. d), tt, omega arith); made_is = refl })
+synced_from g n a AtFirst Metadata e alloc reading commit made come is = rw come (record { next = AtCache; plan = refl; come = (refl, (λ d. d), tt, omega arith); made_is = refl })
 synced_from g n a AtCache Cache e alloc reading commit made come is = record { next = AtOrigin; plan = refl; come = come; made_is = is }
 synced_from g n a AtOrigin Origin e alloc reading commit made come is = record { next = AtRead g.meta_sectors; plan = refl; come = come; made_is = is }
 synced_from g n a AtRootSync Metadata e alloc reading commit made come is = rw come.commit_is (record { next = AtEnd; plan = refl; come = gone_on g RootWritten Committed reading commit come; made_is = is })
@@ -109,8 +110,8 @@ synced_stands g n o new alloc device at next same p q c r m =
 
 -- ---- after a fault
 
-failed_from : (g : Geometry) (n a : ℕ) (point : Point) (step : DeviceStep) → device_step_of (want (plan_from g.meta_sectors point)) ≡ Some step → (reading : Option (ReadSteps Global)) (commit : Option RunningCommit) (made : Option Made) → Goes g n a point Fault reading commit made
-failed_from g n a AtMetadata step e reading commit made = record { next = AtRefusal (Io Metadata); plan = refl; come = tt; made_is = tt }
+failed_from : (g : Geometry) (n a : ℕ) (point : OpenPoint) (step : DeviceStep) → device_step_of (want (plan_from g.meta_sectors point)) ≡ Some step → (reading : Option (ReadSteps Global)) (commit : Option RunningCommit) (made : Option Made) → Goes g n a point Fault reading commit made
+failed_from g n a AtFirst step e reading commit made = record { next = AtRefusal (Io Metadata); plan = refl; come = tt; made_is = tt }
 failed_from g n a AtCache step e reading commit made = record { next = AtRefusal (Io Cache); plan = refl; come = tt; made_is = tt }
 failed_from g n a AtOrigin step e reading commit made = record { next = AtRefusal (Io Origin); plan = refl; come = tt; made_is = tt }
 failed_from g n a (AtRead left) step e reading commit made = record { next = AtRefusal (Io Metadata); plan = refl; come = tt; made_is = tt }
@@ -143,7 +144,7 @@ failed_size g commit step reading choice old new found failed = ap (λ (d : Devi
 
 -- ---- at the root
 
-roots_from : (g : Geometry) (n a : ℕ) (point : Point) → want (plan_from g.meta_sectors point) ≡ Device WriteRoot → (reading : Option (ReadSteps Global)) (commit : Option RunningCommit) (made : Option Made)
+roots_from : (g : Geometry) (n a : ℕ) (point : OpenPoint) → want (plan_from g.meta_sectors point) ≡ Device WriteRoot → (reading : Option (ReadSteps Global)) (commit : Option RunningCommit) (made : Option Made)
     → HasComeTo g point reading commit → HasMadeThere g n point a made → Goes g n a point Done reading (commit_written commit) made
 roots_from g n a AtRoot e reading commit made come is = rw come.commit_is (record { next = AtRootSync; plan = refl; come = gone_on g NodesSynced RootWritten reading commit come; made_is = is })
 roots_from g n a point e reading commit made come is = absurd (cc)
@@ -155,12 +156,12 @@ written_stands g n o new at next same p q c r m =
 
 -- ---- at a read
 
-pub record Reads (g : Geometry) (n a : ℕ) (point : Point) (left : ℕ) (reading : Option (ReadSteps Global)) (commit : Option RunningCommit) (made : Option Made) : Type 0 where
+pub record Reads (g : Geometry) (n a : ℕ) (point : OpenPoint) (left : ℕ) (reading : Option (ReadSteps Global)) (commit : Option RunningCommit) (made : Option Made) : Type 0 where
   pub is : point ≡ AtRead left
   pub at : IsReading g left reading commit
   pub none : made ≡ None
 
-reads_from : (g : Geometry) (n a : ℕ) (point : Point) (left : ℕ) → want (plan_from g.meta_sectors point) ≡ Device (ReadMetadata left) → (reading : Option (ReadSteps Global)) (commit : Option RunningCommit) (made : Option Made)
+reads_from : (g : Geometry) (n a : ℕ) (point : OpenPoint) (left : ℕ) → want (plan_from g.meta_sectors point) ≡ Device (ReadMetadata left) → (reading : Option (ReadSteps Global)) (commit : Option RunningCommit) (made : Option Made)
     → HasComeTo g point reading commit → HasMadeThere g n point a made → Reads g n a point left reading commit made
 reads_from g n a (AtRead other) left e reading commit made come is = let same : other ≡ left = cc in record { is = ap AtRead same; at = subst (λ k. IsReading g k reading commit) same come; none = is }
 reads_from g n a point left e reading commit made come is = absurd (cc)
@@ -316,7 +317,7 @@ none_made g n a got made other none = none
 
 -- ---- at the answer
 
-ends_at : (g : Geometry) (point : Point) → device_step_of (want (plan_from g.meta_sectors point)) ≡ None → (devices : Devices (List History)) (choice : Choice) → MayFailAt devices choice (want (plan_from g.meta_sectors point)) → ⊥
+ends_at : (g : Geometry) (point : OpenPoint) → device_step_of (want (plan_from g.meta_sectors point)) ≡ None → (devices : Devices (List History)) (choice : Choice) → MayFailAt devices choice (want (plan_from g.meta_sectors point)) → ⊥
 ends_at g AtEnd none devices choice may = may
 ends_at g (AtRefusal refusal) none devices choice may = may
 ends_at g point none devices choice may = absurd (cc)

@@ -3,8 +3,6 @@ use Rattle.std.specs.Prelude.{◌≡◌, ◌≤◌, ◌+◌, ℕ, List, [], ◌�
 use Rattle.std.specs.declared.alloc.Global.{Global}
 use Rattle.wb_types.specs.Limits.{node_count}
 use Rattle.wb_types.specs.declared.geometry.Geometry.{Geometry}
-use Rattle.wb_types.specs.declared.mode.Dev.TheVariants.{Metadata, Cache, Origin}
-use Rattle.wb_types.specs.declared.refusal.Refusal.{Refusal}
 use Rattle.wb_disk.specs.Memory.{Memory}
 use Rattle.wb_meta.specs.Openings.{IsOpening}
 use Rattle.wb_meta.specs.Reads.{AreStepsOn, FitsDevice, IsDone, sectors_read}
@@ -14,12 +12,8 @@ use Rattle.wb_meta.specs.declared.read_steps.ReadSteps.{ReadSteps}
 use Rattle.wb_meta.specs.declared.read_steps.ReadSteps.TheVariants.{Done as AllRead}
 use Rattle.wb_meta.specs.declared.read_steps.State.{State}
 use Rattle.wb_tasks.specs.Tables.{TaskJob, Flushing, Opening as OpeningJob}
-use Rattle.wb_tasks.specs.Plan.{Plan, first_steps}
-use Rattle.wb_tasks.specs.declared.step.Answer.{Answer}
-use Rattle.wb_tasks.specs.declared.step.Answer.TheVariants.{Done as Finished, Refused as Refuses}
-use Rattle.wb_tasks.specs.declared.step.DeviceStep.TheVariants.{Sync, ReadMetadata, WriteRoot}
-use Rattle.wb_tasks.specs.declared.step.Want.{Want}
-use Rattle.wb_tasks.specs.declared.step.Want.TheVariants.{Device}
+use Rattle.wb_tasks.specs.Plan.{Plan}
+use Rattle.wb_tasks.specs.Points.{OpenPoint, AtFirst, AtCache, AtOrigin, AtRead, AtRoot, AtRootSync, AtEnd, AtRefusal, open_left, open_answer}
 use Rattle.wb_devices.specs.declared.devices.Devices.{Devices}
 use Rattle.wb_devices.specs.declared.running.RunningCommit.{RunningCommit}
 use Rattle.wb_words.specs.SharedWords.{flag}
@@ -32,34 +26,8 @@ use Rattle.wb_machine.specs.declared.phase.Phase.TheVariants.{Closed, Underway, 
 use Rattle.wb_machine.specs.declared.target.Target.{Target}
 use Rattle.wb_machine.specs.Making.{HasMade, reading_of}
 
--- what comes next: a sync, a sector that is read with so many that may follow, the root, its sync, or the answer
-pub data Point : Type 0 where
-  AtMetadata : Point
-  AtCache : Point
-  AtOrigin : Point
-  AtRead : ℕ → Point
-  AtRoot : Point
-  AtRootSync : Point
-  AtEnd : Point
-  AtRefusal : Refusal → Point
-
--- the steps from there, where so many sectors may follow the first
-abbrev pub steps_after_point : ℕ → Point → List Want
-steps_after_point most AtMetadata = first_steps (OpeningJob most)
-steps_after_point most AtCache = Device (Sync Cache) ∷ Device (Sync Origin) ∷ Device (ReadMetadata most) ∷ Device WriteRoot ∷ Device (Sync Metadata) ∷ []
-steps_after_point most AtOrigin = Device (Sync Origin) ∷ Device (ReadMetadata most) ∷ Device WriteRoot ∷ Device (Sync Metadata) ∷ []
-steps_after_point most (AtRead left) = Device (ReadMetadata left) ∷ Device WriteRoot ∷ Device (Sync Metadata) ∷ []
-steps_after_point most AtRoot = Device WriteRoot ∷ Device (Sync Metadata) ∷ []
-steps_after_point most AtRootSync = Device (Sync Metadata) ∷ []
-steps_after_point most AtEnd = []
-steps_after_point most (AtRefusal refusal) = []
-
-abbrev pub answer_from : Point → Answer
-answer_from (AtRefusal refusal) = Refuses refusal
-answer_from point = Finished
-
-abbrev pub plan_from : ℕ → Point → Plan
-plan_from most point = record { job = OpeningJob most; steps = steps_after_point most point; answer = answer_from point }
+abbrev pub plan_from : ℕ → OpenPoint → Plan
+plan_from most point = record { job = OpeningJob most; steps = open_left most point; answer = open_answer point }
 
 -- No commit runs, not all was read, and as many sectors may follow as were not read.
 abbrev pub IsReading : Geometry → ℕ → Option (ReadSteps Global) → Option RunningCommit → Type 0
@@ -78,8 +46,8 @@ pub record HasReadAll (g : Geometry) (steps : CommitSteps) (reading : Option (Re
   pub steps_are : next.steps ≡ steps
 
 -- how far the reading has come there, and the commit of the root
-abbrev pub HasComeTo : Geometry → Point → Option (ReadSteps Global) → Option RunningCommit → Type 0
-HasComeTo g AtMetadata reading commit = commit ≡ None
+abbrev pub HasComeTo : Geometry → OpenPoint → Option (ReadSteps Global) → Option RunningCommit → Type 0
+HasComeTo g AtFirst reading commit = commit ≡ None
 HasComeTo g AtCache reading commit = IsReading g g.meta_sectors reading commit
 HasComeTo g AtOrigin reading commit = IsReading g g.meta_sectors reading commit
 HasComeTo g (AtRead left) reading commit = IsReading g left reading commit
@@ -89,7 +57,7 @@ HasComeTo g AtEnd reading commit = HasReadAll g Committed reading commit
 HasComeTo g (AtRefusal refusal) reading commit = Unit {0}
 
 -- What the answer wants was made once all was read, and not before.
-abbrev pub HasMadeThere : Geometry → ℕ → Point → ℕ → Option Made → Type 0
+abbrev pub HasMadeThere : Geometry → ℕ → OpenPoint → ℕ → Option Made → Type 0
 HasMadeThere g actors AtRoot actor made = HasMade g actors actor made
 HasMadeThere g actors AtRootSync actor made = HasMade g actors actor made
 HasMadeThere g actors AtEnd actor made = HasMade g actors actor made
@@ -98,7 +66,7 @@ HasMadeThere g actors point actor made = made ≡ None
 
 -- An opening over metadata of this geometry, for so many actors, stands at some point.
 pub record StandsAt (g : Geometry) (actors : ℕ) (o : Opener) : Type 0 where
-  pub point : Point
+  pub point : OpenPoint
   pub plan_is : o.task ≡ plan_from g.meta_sectors point
   pub geometry : o.opening.geometry ≡ g
   pub come : HasComeTo g point (reading_of o) o.opening.commit

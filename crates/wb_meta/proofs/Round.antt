@@ -12,7 +12,6 @@ use Rattle.wb_tree.specs.Mapping.{Mapping, IsSound, IsPlaceOf, AreInside, empty_
 use Rattle.wb_tree.specs.Images.{AreFree, ImagePlan, Stores}
 use Rattle.wb_tree.specs.declared.image.Image.{Image}
 use Rattle.wb_tree.specs.Reading.{Found, is_reached, nothing_found}
-use Rattle.wb_tree.proofs.Images.Changes.{few_changed}
 use Rattle.wb_tree.proofs.Stored.Edited.{stored-edited, inside-edited, places-edited}
 use Rattle.wb_tree.proofs.Stored.Whole.{reached_below-known}
 use Rattle.wb_tree.specs.Whole.{found_of, marked, reached_below}
@@ -20,7 +19,7 @@ use Rattle.wb_disk.specs.Crashes.{MayLeave, AfterEveryCrash}
 use Rattle.wb_meta.specs.Formats.{IsFormatted}
 use Rattle.wb_meta.specs.Representing.{Represents, RepresentsTree, Stored}
 use Rattle.wb_tree.specs.Edits.{IsEdited}
-use Rattle.wb_meta.specs.Imaging.{DeviceStores, AreUnused, AreUnusedFor, IsNextImage, IsPlanned, Follows}
+use Rattle.wb_meta.specs.Imaging.{DeviceStores, AreUnusedFor, IsNextImage, IsPlanned, Follows}
 use Rattle.wb_meta.specs.Laws.{of_first}
 use Rattle.wb_meta.specs.Reads.{AreApartPlaces, FitsDevice}
 use Rattle.wb_meta.proofs.Counting.{all_contained}

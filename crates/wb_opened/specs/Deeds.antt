@@ -1,7 +1,6 @@
 -- What a call on a target was that was answered done, and what a client of the target has done by it.
 use Rattle.std.specs.Prelude.{◌≡◌, ◌<◌, ◌++◌, ℕ, List, [], ◌∷◌, Option, Some, None, length}
 use Rattle.wb_types.specs.declared.geometry.Geometry.{Geometry}
-use Rattle.wb_types.specs.declared.extent.Extent.{Extent}
 use Rattle.wb_types.specs.declared.number.OBlock.{OBlock}
 use Rattle.wb_disk.specs.Device.{History, Content as Bytes}
 use Rattle.wb_policy.specs.declared.order.Order.{Order}

@@ -6,7 +6,7 @@ use Rattle.circular_buffer.specs.Buffer.{Buffer, buffer}
 use Rattle.wb_types.specs.declared.number.CBlock.{CBlock}
 use Rattle.wb_orders.specs.declared.live_order.LiveOrder.{LiveOrder}
 use Rattle.wb_orders.specs.Named.{first_of, second_of}
-use Rattle.wb_orders.specs.Orders.{Orders, MayGive, IsTaken, order_at, cost_of, marked, queued, order_taken, AreOrders}
+use Rattle.wb_orders.specs.Orders.{Orders, MayGive, IsTaken, order_at, marked, queued, order_taken, AreOrders}
 use Rattle.wb_orders.specs.Fields.{orders_of, AreStored}
 use Rattle.wb_orders.proofs.Kept.{Slots, none_kept, none_cost}
 use Rattle.wb_orders.proofs.Calls.{IsGiven, given_kept, given_room, given_cost, taken_kept, taken_cost, over_kept, over_cost, busy_in}

@@ -1,5 +1,5 @@
 -- The extents of a request that lies in one block lie in it, too.
-use Rattle.std.proofs.Common.{◌≡◌, ◌≤◌, ◌<◌, ◌+◌, ◌-◌, ◌*◌, ◌/◌, ◌%◌, ℕ, zero, suc, List, [], ◌∷◌, ◌++◌, refl, sym, ap, ◌∙◌, arith, length, ◌&&◌, inl, inr, slice_get, Bool, true, false, Option, Some, None, mul_comm}
+use Rattle.std.proofs.Common.{◌≡◌, ◌≤◌, ◌<◌, ◌+◌, ◌-◌, ◌*◌, ◌/◌, ◌%◌, ℕ, zero, suc, List, [], ◌∷◌, ◌++◌, refl, sym, ap, ◌∙◌, arith, ◌&&◌, inl, inr, Bool, true, false, Some, None, mul_comm}
 use Rattle.std.proofs.Common.{subst, Contains}
 use Rattle.std.proofs.lemmas.List.Elements.{Contains-append_cases}
 use Rattle.wb_types.proofs.Lists.{Contains-one}

@@ -24,7 +24,7 @@ use Rattle.wb_meta.specs.Formats.{IsFormatted}
 use Rattle.wb_meta.specs.declared.read_steps.ReadSteps.{ReadSteps}
 use Rattle.wb_meta.specs.declared.read_steps.ReadSteps.TheVariants.{Begun, FirstSlotRead, RootFound, Done as AllRead}
 use Rattle.wb_tasks.specs.Tables.{TaskJob, whole_block}
-use Rattle.wb_tasks.specs.Plan.{Plan, want, after, table, got_of, device_of}
+use Rattle.wb_tasks.specs.Plan.{Plan, want, table, got_of, device_of}
 use Rattle.wb_tasks.specs.Ready.{HoldsBlocks}
 use Rattle.wb_tasks.proofs.Readiness.{job_stays}
 use Rattle.wb_tasks.specs.declared.step.Migration.{Migration}

@@ -1,8 +1,7 @@
 -- Where a flush or an opening stands in its table, and how far the commit and the reading have come there.
 use Rattle.std.proofs.Common.{◌≡◌, ◌≤◌, ◌+◌, ◌++◌, ℕ, false, List, [], ◌∷◌, Option, Some, None, length, slice_get}
-use Rattle.wb_types.specs.declared.mode.Dev.TheVariants.{Metadata, Cache, Origin}
+use Rattle.wb_types.specs.declared.mode.Dev.TheVariants.{Metadata, Origin}
 use Rattle.wb_types.specs.declared.number.OBlock.{OBlock}
-use Rattle.wb_types.specs.declared.refusal.Refusal.{Refusal}
 use Rattle.wb_words.specs.declared.step.CellStep.TheVariants.{SetFailed}
 use Rattle.wb_meta.specs.Reads.{sectors_read}
 use Rattle.wb_meta.specs.declared.read_steps.ReadSteps.{ReadSteps}
@@ -10,10 +9,10 @@ use Rattle.wb_meta.specs.declared.commit_steps.CommitSteps.{CommitSteps}
 use Rattle.wb_meta.specs.declared.commit_steps.CommitSteps.TheVariants.{NodesWritten, NodesSynced, RootWritten, Done as Committed}
 use Rattle.wb_tasks.specs.Tables.{BlockRange, Migrating, OnBlock, Flushing, Opening}
 use Rattle.wb_tasks.specs.Plan.{Plan, node_writes, commit_steps, root_steps, first_steps, release_orders}
+use Rattle.wb_tasks.specs.Points.{OpenPoint, AtFirst, AtCache, AtOrigin, AtRead, AtRoot, AtRootSync, AtEnd, AtRefusal, open_left, open_answer}
 use Rattle.wb_tasks.specs.declared.step.Migration.{Migration}
 use Rattle.wb_tasks.specs.declared.step.Answer.{Answer}
-use Rattle.wb_tasks.specs.declared.step.Answer.TheVariants.{Done as Finished, Refused as Refuses}
-use Rattle.wb_tasks.specs.declared.step.DeviceStep.TheVariants.{Sync, ReadMetadata, WriteRoot}
+use Rattle.wb_tasks.specs.declared.step.DeviceStep.TheVariants.{Sync, WriteRoot}
 use Rattle.wb_tasks.specs.declared.step.DeskStep.TheVariants.{BeginCommit, EndCommit}
 use Rattle.wb_tasks.specs.declared.step.Want.{Want}
 use Rattle.wb_tasks.specs.declared.step.Want.TheVariants.{Cell, Device, Desk}
@@ -103,30 +102,6 @@ FlushTask commit IsLeader None = Unit {0}
 FlushTask commit IsLeader (Some task) = FlushJob commit IsLeader task.0 task.1
 
 -- ---- openings
-
-pub data OpenPoint : Type 0 where
-  AtFirst : OpenPoint
-  AtCache : OpenPoint
-  AtOrigin : OpenPoint
-  AtRead : ℕ → OpenPoint
-  AtRoot : OpenPoint
-  AtRootSync : OpenPoint
-  AtEnd : OpenPoint
-  AtRefusal : Refusal → OpenPoint
-
-abbrev pub open_left : ℕ → OpenPoint → List Want
-open_left n AtFirst = first_steps (Opening n)
-open_left n AtCache = Device (Sync Cache) ∷ Device (Sync Origin) ∷ Device (ReadMetadata n) ∷ Device WriteRoot ∷ Device (Sync Metadata) ∷ []
-open_left n AtOrigin = Device (Sync Origin) ∷ Device (ReadMetadata n) ∷ Device WriteRoot ∷ Device (Sync Metadata) ∷ []
-open_left n (AtRead left) = Device (ReadMetadata left) ∷ Device WriteRoot ∷ Device (Sync Metadata) ∷ []
-open_left n AtRoot = Device WriteRoot ∷ Device (Sync Metadata) ∷ []
-open_left n AtRootSync = Device (Sync Metadata) ∷ []
-open_left n AtEnd = []
-open_left n (AtRefusal refusal) = []
-
-abbrev pub open_answer : OpenPoint → Answer
-open_answer (AtRefusal refusal) = Refuses refusal
-open_answer point = Finished
 
 -- No commit runs until all was read; a reading that has read nothing may read a sector more.
 abbrev pub AtOpen : {A : Type 0} → ℕ → OpenPoint → Option (ReadSteps A) → Option RunningCommit → Type 0

@@ -42,7 +42,8 @@ use Rattle.wb_runs.proofs.Claims.{TaskClaim, Noted, noted_of}
 use Rattle.wb_runs.proofs.Linking.{IsOpeningJob, IsServed, TaskHere, IsTask, Linked}
 use Rattle.wb_runs.proofs.LinkedRuns.{Base, base_after, base_start}
 use Rattle.wb_runs.proofs.Plans.{plan_of}
-use Rattle.wb_runs.proofs.Points.{ToLook, FlushAt, FlushJob, FlushTask, AtFirst, OpenAt, OpenTask, Going}
+use Rattle.wb_tasks.specs.Points.{AtFirst}
+use Rattle.wb_runs.proofs.Points.{ToLook, FlushAt, FlushJob, FlushTask, OpenAt, OpenTask, Going}
 use Rattle.wb_runs.proofs.Going.{Moved, flush_moves, flush_fails, open_moves, open_fails}
 
 -- ---- one actor of a list changed

@@ -38,7 +38,7 @@ use Rattle.wb_promise.specs.declared.event.What.{What}
 use Rattle.wb_promise.specs.declared.event.What.TheVariants.{Skipped, Refused, Started, Stepped, Stopped}
 use Rattle.wb_promise.specs.States.{Shape, State, Actor, Target, Phase, Stands, Gone, Opens, OfTarget, resting, start}
 use Rattle.wb_promise.specs.Happenings.{Chosen, Plain, Cut, Orders, order_for, Opened, Happening, OfSome, DoesNotApply, DoesOpen, MayFailAt, Falters, StartGives, Gives, MayBe, KeepsMigration, blocks_left}
-use Rattle.wb_promise.specs.Effects.{task_then, card_then, actor_then, card_over, card_by, words_by, seals_of, sealing_steps, words_then, desk_then, phase_then, phase_opened, target_over, stepped, with_actor, cleared, given, phase_given, started, job_of, device_done, device_failed, all_resting, after_what, after_happening, after_all, IsRun, orders_then, awaiting_then, orders_given}
+use Rattle.wb_promise.specs.Effects.{task_then, actor_then, card_over, card_by, words_by, seals_of, phase_then, target_over, stepped, with_actor, cleared, given, phase_given, job_of, device_done, device_failed, all_resting, after_what, after_happening, after_all, IsRun, orders_then, awaiting_then, orders_given}
 use Rattle.wb_runs.specs.Holding.{cards_of, TaskSuits, AllSuited, AreUsedRightly}
 use Rattle.wb_runs.proofs.Extents.{MayStart, may_start, some_sectors}
 use Rattle.wb_types.specs.declared.number.OBlock.{OBlock}

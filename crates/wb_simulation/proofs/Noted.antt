@@ -22,7 +22,7 @@ use Rattle.wb_promise.specs.Clerk.{Notes, Doing, Position, Entering, begins, beg
 use Rattle.wb_simulation.specs.Noting.{counts_by_block, AreEntries, DoesAlike, IsNotedSo, NotesAgree}
 use Rattle.wb_simulation.specs.Noted.{told, AreNewest, NotesFollowed}
 use Rattle.std.proofs.lemmas.Option.{slice_get_within}
-use Rattle.wb_simulation.specs.Telling.{IsMigrating, IsResumed, Given, Kept, Failing, Nowhere, Rested, AreCarried, IsNoEnd, AreUnnoted, AnswersSo, reading, writing}
+use Rattle.wb_simulation.specs.Telling.{IsMigrating, IsResumed, Given, Kept, Failing, Nowhere, Rested, AreCarried, IsNoEnd, AreUnnoted, AnswersSo, writing}
 use Rattle.wb_simulation.specs.Worlds.{zeros}
 use Rattle.wb_simulation.proofs.Counts.{everywhere, all_raised-length, no_entries_alike, greater_counts, greater-length}
 use Rattle.wb_link.proofs.Actors.{job_on}

@@ -5,3 +5,4 @@ pub mod Length
 pub mod Causes
 pub mod Phases
 pub mod Ready
+pub mod Points

@@ -1,7 +1,7 @@
 -- What a tree of boxes tells of its known nodes.
-use Rattle.std.proofs.Common.{◌≡◌, ◌≤◌, ◌<◌, ◌+◌, ◌-◌, ◌*◌, ◌/◌, ◌^◌, ◌++◌, ◌∙◌, sym, ap, subst, ℕ, Option, Some, None, Box, List, [], length, arith}
+use Rattle.std.proofs.Common.{◌≡◌, ◌≤◌, ◌<◌, ◌+◌, ◌-◌, ◌*◌, ◌/◌, ◌^◌, ◌++◌, ◌∙◌, sym, ap, subst, ℕ, Option, Box, List, [], length, arith}
 use Rattle.std.proofs.Math.Nat.{div-lt_iff_lt-mul, one-le-pow}
-use Rattle.wb_types.specs.Limits.{depth_of, node_count}
+use Rattle.wb_types.specs.Limits.{depth_of}
 use Rattle.wb_types.specs.declared.entry.Entry.{Entry}
 use Rattle.wb_tree.specs.declared.placed.PlacedNode.{PlacedNode}
 use Rattle.wb_tree.specs.Mapping.{Mapping, IsSound}

@@ -1,11 +1,11 @@
 -- The known nodes above a cache block: how many a change of its entry forgets, and which places it leaves.
-use Rattle.std.proofs.Common.{◌≡◌, ◌≤◌, ◌<◌, ◌+◌, ◌/◌, ◌^◌, ◌&&◌, ◌==◌, ◌∙◌, sym, ap, subst, refl, ℕ, zero, suc, Bool, true, false, cond, is_some, List, [], ◌∷◌, Option, Some, None, length, count_by, arith, inl, inr}
+use Rattle.std.proofs.Common.{◌≡◌, ◌≤◌, ◌<◌, ◌+◌, ◌/◌, ◌^◌, ◌&&◌, ◌==◌, ◌∙◌, sym, ap, subst, refl, ℕ, zero, suc, true, false, cond, is_some, List, [], ◌∷◌, Some, None, length, count_by, arith, inl, inr}
 use Rattle.std.specs.Prelude.{Contains, slice_index_or}
 use Rattle.std.proofs.lemmas.Bool.{cases_Bool, cases_eq, eqb-true}
 use Rattle.wb_types.specs.declared.number.Place.{Place}
 use Rattle.wb_types.proofs.Truth.{and_true, yes}
 use Rattle.wb_tree.specs.declared.placed.PlacedNode.{PlacedNode}
-use Rattle.wb_tree.specs.Mapping.{Mapping, Forgets, IsOnPath, IsPlaceOf, IsSound, place_in, place_of, places_above}
+use Rattle.wb_tree.specs.Mapping.{Mapping, IsOnPath, IsSound, place_in, place_of, places_above}
 use Rattle.wb_tree.specs.Branches.{forget}
 use Rattle.wb_tree.specs.Edits.{LeavesAbove}
 use Rattle.wb_tree.specs.Fields.{AreApart}

@@ -3,7 +3,7 @@ use Rattle.wb_promise.specs.declared.event.Event.TheVariants.{Start}
 use Rattle.wb_promise.specs.Happenings.{DoesNotApply}
 use Rattle.wb_machine.specs.declared.machine.TheConstants.{ACTORS}
 use Rattle.wb_machine.specs.Life.{shape_of, state_of}
-use Rattle.wb_machine.specs.Standing.{AtMetadata}
+use Rattle.wb_tasks.specs.Points.{AtFirst}
 use Rattle.wb_machine.proofs.Openings.{nobody_starts, busy_starts, passes, starts}
 use Rattle.wb_machine.proofs.starting.open.Goals as goal
 use Rattle.wb_machine.proofs.starting.open.Goals.{then-actor-ge-ACTORS-via-then-actor-ge-ACTORS, then-actor-ge-ACTORS-via-else-actor-ge-ACTORS+then-is_busy}
@@ -27,4 +27,4 @@ pub returns-clause-there : goal.returns-clause-there
 returns-clause-there c = rw c.put.ensures (omega (arith, c.if-actor-ge-ACTORS.false))
 
 pub returns-clause-sound : goal.returns-clause-sound
-returns-clause-sound c = rw c.put.ensures (record { whole = c.requires.sound.whole; stands = record { point = AtMetadata; plan_is = c.reading.ensures; geometry = refl; come = refl; made = refl } })
+returns-clause-sound c = rw c.put.ensures (record { whole = c.requires.sound.whole; stands = record { point = AtFirst; plan_is = c.reading.ensures; geometry = refl; come = refl; made = refl } })
