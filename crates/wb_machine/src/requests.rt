@@ -118,7 +118,8 @@ fn read_of(geometry: &Geometry, extent: Extent) -> BlockTask
     requires { extent_refusal (shape_of geometry.now ACTORS) extent ≡ None }
     ensures { result ≡ table (OnBlock (Reading (block_range (shape_of geometry.now ACTORS) extent (pieces 1 extent)))) }
 {
-    BlockTask::read(
+    BlockTask::new(
+        wb_tasks::Work::Read,
         Mode::Writeback,
         geometry.block,
         block_of(geometry, extent),
@@ -131,7 +132,8 @@ fn write_of(geometry: &Geometry, extent: Extent) -> BlockTask
     requires { extent_refusal (shape_of geometry.now ACTORS) extent ≡ None }
     ensures { result ≡ table (OnBlock (Writing (block_range (shape_of geometry.now ACTORS) extent (pieces 1 extent)))) }
 {
-    BlockTask::write(
+    BlockTask::new(
+        wb_tasks::Work::Write,
         Mode::Writeback,
         geometry.block,
         block_of(geometry, extent),

@@ -11,7 +11,7 @@ ghost use Rattle.wb_port.specs.Requests.{part_of, WasRead, WasWritten, ReadRefus
 use crate::moving::{LONGEST, ReadStage, WriteStage};
 use crate::straight::{Part, Way, request};
 use wb_disk::Disk;
-use wb_tasks::{Answer, BlockTask, Stage, drive};
+use wb_tasks::{Answer, BlockTask, Stage, Work, drive};
 use wb_types::{Extent, Mode, OBlock, Refusal};
 
 impl<'a, D: Disk> ReadStage<'a, D> {
@@ -92,7 +92,14 @@ fn read_all<S: Stage>(stage: &mut S, block_sectors: u32, block: OBlock, sectors:
         };
         return request(stage, Way::Reads, part);
     }
-    let mut task = BlockTask::read(Mode::Writeback, block_sectors, block, sectors, LONGEST);
+    let mut task = BlockTask::new(
+        Work::Read,
+        Mode::Writeback,
+        block_sectors,
+        block,
+        sectors,
+        LONGEST,
+    );
     drive(&mut task, stage)
 }
 
@@ -112,7 +119,14 @@ fn write_all<S: Stage>(stage: &mut S, block_sectors: u32, block: OBlock, sectors
         };
         return request(stage, Way::Writes, part);
     }
-    let mut task = BlockTask::write(Mode::Writeback, block_sectors, block, sectors, LONGEST);
+    let mut task = BlockTask::new(
+        Work::Write,
+        Mode::Writeback,
+        block_sectors,
+        block,
+        sectors,
+        LONGEST,
+    );
     drive(&mut task, stage)
 }
 

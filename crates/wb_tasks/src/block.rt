@@ -17,7 +17,7 @@
 ghost use Rattle.std.specs.Prelude.{◌≡◌, ◌+◌, ◌*◌, ◌<◌, ◌≤◌, ◌^◌, []};
 ghost use Rattle.wb_types.specs.Extents.{pieces};
 ghost use Rattle.wb_types.specs.declared.mode.Mode.TheVariants.{Writeback};
-ghost use Rattle.wb_tasks.specs.Tables.{BlockRange, OnBlock, Reading, Writing, Migrating, access_of, is_write, whole_block};
+ghost use Rattle.wb_tasks.specs.Tables.{BlockRange, OnBlock, Writing, Migrating, access_of, is_write, whole_block};
 ghost use Rattle.wb_tasks.specs.Plan.{Plan, want, after, refused, table, Fits};
 ghost use Rattle.wb_tasks.specs.Phases.{job_on_block, has_order, left_in, after_seeing};
 
@@ -32,9 +32,15 @@ use wb_words::{Access, CellStep, GripStage, Kind};
 
 /// What a job does with its block.
 #[derive(Clone, Copy)]
-enum Work {
+pub enum Work {
+    /// It shares the block, reads where its seal says that the newest copy stands, in passthrough on the origin, and counts as a hit
+    /// where that is the cache.
     Read,
+    /// It owns the block, is finished, and counts as a hit where the block is mapped. In write-back it seals a clean copy in the cache
+    /// dirty, and writes where the newest copy stands; in write-through it writes each extent on the origin, and then in the cache
+    /// where the block is mapped; in passthrough on the origin alone.
     Write,
+    /// It owns the block, and copies its sectors: see `BlockTask::migrate`.
     Migrate(Migration),
 }
 
@@ -95,10 +101,10 @@ impl Model for BlockTask {
 }
 
 impl BlockTask {
-    /// A read of sectors that lie in that block of the origin. It shares the block, reads where its seal says that the newest copy
-    /// stands, in passthrough on the origin, and counts as a hit where that is the cache. Each of its steps on a device takes at most
-    /// `longest` sectors.
-    pub fn read(
+    /// A task that does this with sectors that lie in that block of the origin, and has not begun. Each of its steps on a device takes at
+    /// most `longest` sectors.
+    pub fn new(
+        work: Work,
         mode: Mode,
         block_sectors: u32,
         block: OBlock,
@@ -108,28 +114,18 @@ impl BlockTask {
         requires some { 0 < block_sectors }
         requires in_range { sectors.first + sectors.count < 2 ^ 64 }
         requires longest { 1 ≤ longest }
-        ensures { result ≡ table (OnBlock (Reading (record { mode = mode; block_sectors = block_sectors; block = block; extents = pieces longest sectors }))) }
+        ensures { result ≡ table (OnBlock (job_on_block work (record { mode = mode; block_sectors = block_sectors; block = block; extents = pieces longest sectors }))) }
     {
-        begun(Work::Read, mode, block_sectors, block, sectors, longest)
-    }
-
-    /// A write of sectors that lie in that block of the origin. It owns the block, is finished, and counts as a hit where the block is
-    /// mapped. In write-back it seals a clean copy in the cache dirty, and writes where the newest copy stands; in write-through it
-    /// writes each extent on the origin, and then in the cache where the block is mapped; in passthrough on the origin alone. Each of
-    /// its steps on a device takes at most `longest` sectors.
-    pub fn write(
-        mode: Mode,
-        block_sectors: u32,
-        block: OBlock,
-        sectors: Extent,
-        longest: u64,
-    ) -> BlockTask
-        requires some { 0 < block_sectors }
-        requires in_range { sectors.first + sectors.count < 2 ^ 64 }
-        requires longest { 1 ≤ longest }
-        ensures { result ≡ table (OnBlock (Writing (record { mode = mode; block_sectors = block_sectors; block = block; extents = pieces longest sectors }))) }
-    {
-        begun(Work::Write, mode, block_sectors, block, sectors, longest)
+        BlockTask {
+            work,
+            phase: Phase::Acquires(GripStage::LookFail),
+            mode,
+            block_sectors,
+            block,
+            sectors,
+            left: sectors,
+            longest,
+        }
     }
 
     /// A migration of a whole block, under an order for it: a promotion into the cache block that the order reserved, a demotion, or a
@@ -145,7 +141,7 @@ impl BlockTask {
         ensures { result ≡ table (OnBlock (Migrating migration (record { mode = Writeback; block_sectors = block_sectors; block = block; extents = pieces longest (whole_block block_sectors block) }))) }
     {
         let sectors = whole_block(block_sectors, block);
-        begun(
+        BlockTask::new(
             Work::Migrate(migration),
             Mode::Writeback,
             block_sectors,
@@ -345,32 +341,6 @@ impl Task for BlockTask {
             }
         }
         self.want()
-    }
-}
-
-/// A task that has not begun.
-fn begun(
-    work: Work,
-    mode: Mode,
-    block_sectors: u32,
-    block: OBlock,
-    sectors: Extent,
-    longest: u64,
-) -> BlockTask
-    requires some { 0 < block_sectors }
-    requires in_range { sectors.first + sectors.count < 2 ^ 64 }
-    requires longest { 1 ≤ longest }
-    ensures { result ≡ table (OnBlock (job_on_block work (record { mode = mode; block_sectors = block_sectors; block = block; extents = pieces longest sectors }))) }
-{
-    BlockTask {
-        work,
-        phase: Phase::Acquires(GripStage::LookFail),
-        mode,
-        block_sectors,
-        block,
-        sectors,
-        left: sectors,
-        longest,
     }
 }
 

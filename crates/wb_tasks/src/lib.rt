@@ -13,7 +13,7 @@ mod stage;
 mod step;
 mod task;
 
-pub use block::BlockTask;
+pub use block::{BlockTask, Work};
 pub use law::{refusal_causes, step_bound, steps_are_ready};
 pub use stage::{Stage, drive};
 pub use step::{Answer, DeskStep, DeviceStep, Got, Migration, Want};

@@ -18,20 +18,26 @@ use wb_words::Word;
 /// Drives a row's task.
 fn play(bench: &mut Bench, row: &Row) -> Answer {
     let longest = row.longest.max(1);
-    match row.job {
-        Job::Read => {
-            let mut task = BlockTask::read(row.mode, BLOCK_SECTORS, BLOCK, SECTORS, longest);
-            drive(&mut task, bench)
-        }
-        Job::Write => {
-            let mut task = BlockTask::write(row.mode, BLOCK_SECTORS, BLOCK, SECTORS, longest);
-            drive(&mut task, bench)
-        }
-        Job::Migrate(migration) => {
-            let mut task = BlockTask::migrate(migration, BLOCK_SECTORS, BLOCK, longest);
-            drive(&mut task, bench)
-        }
-    }
+    let mut task = match row.job {
+        Job::Read => BlockTask::new(
+            Work::Read,
+            row.mode,
+            BLOCK_SECTORS,
+            BLOCK,
+            SECTORS,
+            longest,
+        ),
+        Job::Write => BlockTask::new(
+            Work::Write,
+            row.mode,
+            BLOCK_SECTORS,
+            BLOCK,
+            SECTORS,
+            longest,
+        ),
+        Job::Migrate(migration) => BlockTask::migrate(migration, BLOCK_SECTORS, BLOCK, longest),
+    };
+    drive(&mut task, bench)
 }
 
 /// Whether the words are these.

@@ -1,7 +1,7 @@
 //! Why a call is refused.
 
 ghost use Rattle.std.specs.Prelude.{◌≡◌};
-ghost use Rattle.wb_types.specs.Refusals.{refusal_number};
+ghost use Rattle.wb_types.specs.Refusals.{number_of};
 
 use crate::{Dev, Place};
 use std::alloc::AllocError;
@@ -67,7 +67,7 @@ pub enum Refusal {
 impl Refusal {
     /// The number that a user reads, 1 to 17.
     pub fn number(&self) -> u8
-        ensures { result ≡ refusal_number self.now }
+        ensures { result ≡ number_of self.now }
     {
         match self {
             Refusal::Range => 1,
