@@ -23,6 +23,10 @@ same_made {A} {B} P make one x y e h =
 
 -- ---- geometries
 
+-- there is one version
+pub one_number : (a b : Version) → version_number a ≡ version_number b
+one_number One One = refl
+
 one_version : (a b : Version) → version_number a ≡ version_number b → a ≡ b
 one_version One One e = refl
 

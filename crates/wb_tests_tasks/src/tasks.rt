@@ -19,14 +19,7 @@ use wb_words::Word;
 fn play(bench: &mut Bench, row: &Row) -> Answer {
     let longest = row.longest.max(1);
     let mut task = match row.job {
-        Job::Read => BlockTask::new(
-            Work::Read,
-            row.mode,
-            BLOCK_SECTORS,
-            BLOCK,
-            SECTORS,
-            longest,
-        ),
+        Job::Read => BlockTask::new(Work::Read, row.mode, BLOCK_SECTORS, BLOCK, SECTORS, longest),
         Job::Write => BlockTask::new(
             Work::Write,
             row.mode,

@@ -14,9 +14,9 @@ returns-clause-found c = record {
   magic = sym c.u64_at.ensures ∙ (c.if-u64_at-from_le_bytes.false ∙ c.from_le_bytes.ensures);
   generation = sym c.u64_at-2.ensures;
   version = c.in_ok-geometry.ensures.found.version;
-  flags = sym c.u32_at-2.ensures ∙ c.in_ok-clean.ensures.found;
+  flags = sym c.u32_at.ensures ∙ c.in_ok-clean.ensures.found;
   geometry = c.in_ok-geometry.ensures.found;
-  top = sym c.u32_at-3.ensures ∙ c.in_ok-top.ensures.found;
+  top = sym c.u32_at-2.ensures ∙ c.in_ok-top.ensures.found;
   rest = c.is_zero.ensures.0 c.if-not-is_zero.false;
 }
 

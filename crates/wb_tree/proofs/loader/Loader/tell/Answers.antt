@@ -1,4 +1,5 @@
 use Rattle.std.proofs.Common.{◌≡◌, ◌∙◌, sym, ap, Some, false}
+use Rattle.std.proofs.lemmas.Result.{IfOk-weaker}
 use Rattle.wb_tree.specs.declared.placed.PlacedNode.{PlacedNode}
 use Rattle.wb_tree.specs.Loading.{Loading}
 use Rattle.wb_tree.specs.Reading.{is_node_of}
@@ -18,3 +19,9 @@ returns-then-not-is_node_of-clause-err g c wanted nodes e told =
     let wrong : is_node_of c.args.self.root c.in-Some.wanted.level c.in-Some.wanted.index c.in-Some-node.node ≡ false =
     sym (ap (λ (m : Loading). is_node_of m.root c.in-Some.wanted.level c.in-Some.wanted.index c.in-Some-node.node) c.self.view_is) ∙ (sym c.is_node_of.ensures ∙ c.if-not-is_node_of.true) in
     outcome-other c.args.self c.in-Some.wanted nodes c.in-Some-node.node here (ap (λ (w : PlacedNode). nodes w.place.0) same ∙ (told ∙ c.in-Some-node.is)) wrong
+
+pub returns-clause-goes_on : goal.returns-clause-goes_on
+returns-clause-goes_on g c =
+    let here : c.args.self.wanted ≡ Some c.in-Some.wanted = sym (ap (λ (m : Loading). m.wanted) c.self.view_is) ∙ c.in-Some.is in
+    IfOk-weaker c.enter.result _ _
+    (λ l h wanted nodes e told. h nodes (ap (λ (w : PlacedNode). nodes w.place.0) (same_wanted c.in-Some.wanted wanted (sym here ∙ e)) ∙ (told ∙ c.in-Some-node.is))) c.enter.ensures.goes_on
