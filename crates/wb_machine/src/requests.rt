@@ -4,7 +4,8 @@ ghost use Rattle.std.specs.Prelude.{◌≡◌, ◌/◌, None, true, IfOk, IfErr}
 ghost use Rattle.wb_types.specs.declared.refusal.Refusal.TheVariants.{Memory};
 ghost use Rattle.wb_types.specs.Extents.{pieces};
 ghost use Rattle.wb_tasks.specs.Plan.{table};
-ghost use Rattle.wb_tasks.specs.Tables.{OnBlock, Migrating, Reading, Writing, whole_block};
+ghost use Rattle.wb_tasks.specs.Phases.{job_on_block};
+ghost use Rattle.wb_tasks.specs.Tables.{OnBlock, Migrating, whole_block};
 ghost use Rattle.wb_promise.specs.Happenings.{begun_as, block_range, extent_refusal, job_refusal, migrated_range, order_for, task_job};
 ghost use Rattle.wb_machine.specs.declared.machine.TheConstants.{ACTORS};
 ghost use Rattle.wb_machine.specs.Life.{shape_of, wants_target};
@@ -96,8 +97,14 @@ pub(crate) fn task_of(
     ensures refusal { IfErr result (λ refusal. refusal ≡ Memory) }
 {
     match job {
-        Job::Read(extent) => Ok(Work::on_block(read_of(geometry, *extent))),
-        Job::Write(extent, _) => Ok(Work::on_block(write_of(geometry, *extent))),
+        Job::Read(extent) => {
+            let task = moves(geometry, wb_tasks::Work::Read, *extent);
+            Ok(Work::on_block(task))
+        }
+        Job::Write(extent, _) => {
+            let task = moves(geometry, wb_tasks::Work::Write, *extent);
+            Ok(Work::on_block(task))
+        }
         Job::Flush => {
             let serves = blocks_left(alloc, awaiting)?;
             Ok(Work::flushes(FlushTask::new(serves, geometry.node_count())))
@@ -114,32 +121,13 @@ fn migrates(geometry: &Geometry, migration: Migration, block: OBlock) -> Work
     Work::on_block(BlockTask::migrate(migration, geometry.block, block, 1))
 }
 
-fn read_of(geometry: &Geometry, extent: Extent) -> BlockTask
+/// The task that does this with sectors of one block.
+fn moves(geometry: &Geometry, work: wb_tasks::Work, extent: Extent) -> BlockTask
     requires { extent_refusal (shape_of geometry.now ACTORS) extent ≡ None }
-    ensures { result ≡ table (OnBlock (Reading (block_range (shape_of geometry.now ACTORS) extent (pieces 1 extent)))) }
+    ensures { result ≡ table (OnBlock (job_on_block work (block_range (shape_of geometry.now ACTORS) extent (pieces 1 extent)))) }
 {
-    BlockTask::new(
-        wb_tasks::Work::Read,
-        Mode::Writeback,
-        geometry.block,
-        block_of(geometry, extent),
-        extent,
-        1,
-    )
-}
-
-fn write_of(geometry: &Geometry, extent: Extent) -> BlockTask
-    requires { extent_refusal (shape_of geometry.now ACTORS) extent ≡ None }
-    ensures { result ≡ table (OnBlock (Writing (block_range (shape_of geometry.now ACTORS) extent (pieces 1 extent)))) }
-{
-    BlockTask::new(
-        wb_tasks::Work::Write,
-        Mode::Writeback,
-        geometry.block,
-        block_of(geometry, extent),
-        extent,
-        1,
-    )
+    let block = block_of(geometry, extent);
+    BlockTask::new(work, Mode::Writeback, geometry.block, block, extent, 1)
 }
 
 /// The block in which these sectors lie.
