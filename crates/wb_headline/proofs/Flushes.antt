@@ -360,7 +360,7 @@ module _ (P A : Type 0) (shape : Shape) (images : Images) (t : Target P) (commit
   answers : (answer : Answer) (shown contents : List Bytes) → End answer ≡ want plan → length doing.then_finished ≡ length n.floors → Goes P A shape (then_is t commit devices (End answer) Done) (noted_step shape shown n a (Some (Some doing)) (End answer) Done contents)
   answers answer shown contents next asked = by_answer answer next
     where
-      b : (y : Rattle.wb_link.specs.World.Actor) × (slice_get f.site.world.actors a ≡ Some y)
+      b : (y : Rattle.wb_link.specs.World.AbstractActor) × (slice_get f.site.world.actors a ≡ Some y)
       b = beside P A shape images t commit devices actors n known f a x ex
 
       given : (v : Answer) (orders' awaiting' : List Order) → ((o : Order) → Contains (held_of x) o → Contains (orders' ++ awaiting') o) → End v ≡ want plan →

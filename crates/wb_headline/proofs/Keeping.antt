@@ -281,7 +281,7 @@ module _ (P A : Type 0) (shape : Shape) (images : Images) (t : Target P) (commit
           of_it : (block : ℕ) → AreOfBlock (size P A shape) block plan.steps → place_in (seal_word place dirty) ≡ place
           of_it block all = (subst (λ (s : CellStep). AreOfBlock (size P A shape) block (Cell s ∷ first.0)) is (subst (λ (us : List Want). AreOfBlock (size P A shape) block us) first.1 all)).0
 
-          z : (v : Rattle.wb_link.specs.World.Actor) × (slice_get f.site.world.actors a ≡ Some v)
+          z : (v : Rattle.wb_link.specs.World.AbstractActor) × (slice_get f.site.world.actors a ≡ Some v)
           z = beside P A shape images t commit devices actors n known f a x ex
 
           doing : (j : Job) → x.task ≡ Some (j, plan) → IsDoing (size P A shape) (most P A shape) (f.phase.agrees.each a x z.0 ex z.1).failed j plan x.card z.0

@@ -104,7 +104,7 @@ module _ (P A : Type 0) (shape : Shape) (images : Images) (t : Target P) (commit
       n' : Notes
       n' = put n a (Some (begun n job))
 
-      y : (v : Rattle.wb_link.specs.World.Actor) × (slice_get f.site.world.actors a ≡ Some v)
+      y : (v : Rattle.wb_link.specs.World.AbstractActor) × (slice_get f.site.world.actors a ≡ Some v)
       y = beside P A shape images t commit devices actors n known f a x ex
 
       less : a < length n.doings

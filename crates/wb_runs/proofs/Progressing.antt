@@ -240,13 +240,13 @@ module _ (P A : Type 0) (shape : Shape) where
     opener job plan xt = l.alone.1 a x e (subst (λ (k : Option (Job × Plan)). IsTask k) (sym xt) tt)
 
     task_left : (m' : Mode) (plan : Plan) (next : Want) (got : Got) (chosen : Chosen P A) (k : OpenAt reading commit plan) → next ≡ want plan → (Goes : Want → Type 0) → Goes next →
-        ((Goes (want (plan_of (Rattle.wb_tasks.specs.Tables.Opening k.sectors) (Rattle.wb_runs.proofs.Points.open_left k.sectors k.point) (Rattle.wb_runs.proofs.Points.open_answer k.point)))) →
-        OpenTask (reading_then reading (want (plan_of (Rattle.wb_tasks.specs.Tables.Opening k.sectors) (Rattle.wb_runs.proofs.Points.open_left k.sectors k.point) (Rattle.wb_runs.proofs.Points.open_answer k.point))) got chosen)
-        (commit_then {P = P} {A = A} (Opens mode reading) commit (want (plan_of (Rattle.wb_tasks.specs.Tables.Opening k.sectors) (Rattle.wb_runs.proofs.Points.open_left k.sectors k.point) (Rattle.wb_runs.proofs.Points.open_answer k.point))) got chosen)
-        (task_then (Some (Open m', plan_of (Rattle.wb_tasks.specs.Tables.Opening k.sectors) (Rattle.wb_runs.proofs.Points.open_left k.sectors k.point) (Rattle.wb_runs.proofs.Points.open_answer k.point))) (want (plan_of (Rattle.wb_tasks.specs.Tables.Opening k.sectors) (Rattle.wb_runs.proofs.Points.open_left k.sectors k.point) (Rattle.wb_runs.proofs.Points.open_answer k.point))) got)) →
+        ((Goes (want (plan_of (Rattle.wb_tasks.specs.Tables.Opening k.sectors) (Rattle.wb_tasks.specs.Points.open_left k.sectors k.point) (Rattle.wb_tasks.specs.Points.open_answer k.point)))) →
+        OpenTask (reading_then reading (want (plan_of (Rattle.wb_tasks.specs.Tables.Opening k.sectors) (Rattle.wb_tasks.specs.Points.open_left k.sectors k.point) (Rattle.wb_tasks.specs.Points.open_answer k.point))) got chosen)
+        (commit_then {P = P} {A = A} (Opens mode reading) commit (want (plan_of (Rattle.wb_tasks.specs.Tables.Opening k.sectors) (Rattle.wb_tasks.specs.Points.open_left k.sectors k.point) (Rattle.wb_tasks.specs.Points.open_answer k.point))) got chosen)
+        (task_then (Some (Open m', plan_of (Rattle.wb_tasks.specs.Tables.Opening k.sectors) (Rattle.wb_tasks.specs.Points.open_left k.sectors k.point) (Rattle.wb_tasks.specs.Points.open_answer k.point))) (want (plan_of (Rattle.wb_tasks.specs.Tables.Opening k.sectors) (Rattle.wb_tasks.specs.Points.open_left k.sectors k.point) (Rattle.wb_tasks.specs.Points.open_answer k.point))) got)) →
         OpenTask (reading_then reading next got chosen) (commit_then {P = P} {A = A} (Opens mode reading) commit next got chosen) (task_then (Some (Open m', plan)) next got)
     task_left m' plan next got chosen k h Goes g f =
-        let O = plan_of (Rattle.wb_tasks.specs.Tables.Opening k.sectors) (Rattle.wb_runs.proofs.Points.open_left k.sectors k.point) (Rattle.wb_runs.proofs.Points.open_answer k.point) in
+        let O = plan_of (Rattle.wb_tasks.specs.Tables.Opening k.sectors) (Rattle.wb_tasks.specs.Points.open_left k.sectors k.point) (Rattle.wb_tasks.specs.Points.open_answer k.point) in
         subst (λ (s : Plan). OpenTask (reading_then reading next got chosen) (commit_then {P = P} {A = A} (Opens mode reading) commit next got chosen) (task_then (Some (Open m', s)) next got)) (sym k.is)
         (subst (λ (u : Want). Goes u → OpenTask (reading_then reading u got chosen) (commit_then {P = P} {A = A} (Opens mode reading) commit u got chosen) (task_then (Some (Open m', O)) u got)) (sym (h ∙ ap want k.is)) f g)
 

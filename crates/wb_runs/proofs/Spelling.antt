@@ -103,11 +103,11 @@ spelled_root r fits = record {
     f44 : List ℕ
     f44 = f24 ++ (four g.block ++ (four g.cache_blocks ++ (four g.origin_blocks ++ (four g.meta_sectors ++ four (top_number r.top)))))
 
-    version : number_at (spelling r) 16 4 ≡ version_number r.version
-    version = number_at-written f16 (from_flags r) 16 4 (version_number r.version) refl (small_version r.version)
-
     small_version : (v : Version) → version_number v < 256 ^ 4
     small_version One = omega arith
+
+    version : number_at (spelling r) 16 4 ≡ version_number r.version
+    version = number_at-written f16 (from_flags r) 16 4 (version_number r.version) refl (small_version r.version)
 
     small_flag : (b : Bool) → ◌<◌ (cond b 1 0) (256 ^ 4)
     small_flag true = omega arith
