@@ -2,11 +2,13 @@
 
 ghost use Rattle.std.specs.Prelude.{◌≡◌, ◌++◌, OnOk, IfErr};
 ghost use Rattle.std.specs.Io.KnownBytes.{Appends};
-ghost use Rattle.wb_nbd.specs.Answers.{spelling};
+ghost use Rattle.wb_nbd.specs.Answers.{spelling, IsAnswered};
 ghost use Rattle.wb_nbd.specs.Replies.{reply_header, error_number, joined_sectors};
 
 use crate::broken::Broken;
 use crate::errno::Errno;
+use crate::export::Export;
+use crate::job::Job;
 use crate::request::Cookie;
 use crate::words::REPLY_MAGIC;
 use byteorder::{BigEndian, WriteBytesExt};
@@ -24,8 +26,15 @@ pub struct Answer {
 }
 
 impl Answer {
-    /// Writes the reply. `Writer` where the writer fails, and then some of it may be written.
-    pub fn send<W: Write>(&self, writer: &mut W) -> Result<(), Broken>
+    /// Writes the reply to a job that was done, or refused, on an export which stands as that left it. `Writer` where the writer
+    /// fails, and then some of it may be written.
+    pub fn send<E: Export, W: Write>(
+        &self,
+        _export: &E,
+        _job: &Job,
+        writer: &mut W,
+    ) -> Result<(), Broken>
+        requires answered { IsAnswered E.acts _job.now self.now _export.now }
         ensures sent { OnOk result (Appends (W.contents writer.old) (W.contents writer.new) (spelling self.now)) }
         ensures refused { IfErr result (λ broken. broken ≡ Broken.Writer) }
     {

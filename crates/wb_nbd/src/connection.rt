@@ -3,10 +3,10 @@
 ghost use Rattle.std.specs.Prelude.{◌≡◌, ◌≢◌, ◌<◌, ◌+◌, ◌^◌, ℕ, List, Option, Ok, Err, true, false, OnOk, OnErr, IfOk, IfErr, is_some};
 ghost use Rattle.std.specs.Option.{IfSome};
 ghost use Rattle.std.specs.Io.KnownBytes.{Consumes, Appends};
-ghost use Rattle.wb_nbd.specs.Answers.{spelling};
+ghost use Rattle.wb_nbd.specs.Answers.{spelling, IsAnswered};
 ghost use Rattle.wb_nbd.specs.Handshakes.{AgreesOn, lines};
 ghost use Rattle.wb_nbd.specs.Jobs.{AsksFor};
-ghost use Rattle.wb_nbd.specs.Serving.{ServesAll, Serves, with_taken};
+ghost use Rattle.wb_nbd.specs.Serving.{BreaksSo, ServesAll, Serves, ServesUntil, with_taken};
 
 use crate::answer::Answer;
 use crate::broken::Broken;
@@ -89,7 +89,7 @@ impl<R: Read, W: Write> Connection<R, W> {
         export: &mut E,
     ) -> Result<(), Broken>
         ensures ended { OnOk result (ServesAll E.size E.acts export.old export.new) }
-        ensures broken { IfErr result (λ broken. broken ≢ Broken.Writer → ServesAll E.size E.acts export.old export.new) }
+        ensures broken { IfErr result (λ broken. ServesUntil E.size E.acts broken export.old export.new) }
     {
         self.greet(rt, terms);
         let mut turns = Turns { taken: 0, sent: 0 };
@@ -113,7 +113,7 @@ impl<R: Read, W: Write> Connection<R, W> {
         ensures turn { IfOk result (λ goes_on. goes_on ≡ true → Serves E.size E.acts export.old export.new) }
         ensures counted { IfOk result (λ goes_on. goes_on ≡ true → turns.new ≡ record { taken = turns.old.taken + 1; sent = turns.old.sent + 1 }) }
         ensures end { IfOk result (λ goes_on. goes_on ≡ false → (export.new ≡ export.old) × (turns.new ≡ turns.old)) }
-        ensures broken { IfErr result (λ broken. broken ≢ Broken.Writer → export.new ≡ export.old) }
+        ensures broken { IfErr result (λ broken. BreaksSo E.acts broken export.old export.new) }
     {
         let size = export.sectors();
         let Some(job) = self.take(rt, alloc, size, turns)? else {
@@ -122,8 +122,8 @@ impl<R: Read, W: Write> Connection<R, W> {
         if self.is_told_in_vain(rt) {
             return Err(Broken::Writer);
         }
-        let answer = perform(alloc, export, job);
-        self.send(rt, &answer, turns)?;
+        let answer = perform(alloc, export, &job);
+        self.send(rt, export, &job, &answer, turns)?;
         Ok(true)
     }
 
@@ -157,13 +157,21 @@ impl<R: Read, W: Write> Connection<R, W> {
     }
 
     /// Writes a reply, once others are out.
-    fn send<C: Wait>(&self, rt: &C, answer: &Answer, turns: &mut Turns) -> Result<(), Broken>
+    fn send<C: Wait, E: Export>(
+        &self,
+        rt: &C,
+        export: &E,
+        job: &Job,
+        answer: &Answer,
+        turns: &mut Turns,
+    ) -> Result<(), Broken>
+        requires answered { IsAnswered E.acts job.now answer.now export.now }
         requires few { turns.old.sent + 1 < 2 ^ 64 }
         ensures counted { OnOk result (turns.new ≡ record turns.old { sent = turns.old.sent + 1 }) }
         ensures sent { OnOk result ((held then : Option (List ℕ)) × Appends held then (spelling answer.now)) }
         ensures refused { IfErr result (λ broken. broken ≡ Broken.Writer) }
     {
-        self.output.lock(rt).send(answer, turns)
+        self.output.lock(rt).send(export, job, answer, turns)
     }
 }
 
@@ -206,7 +214,14 @@ impl<R: Read> Input<R> {
 
 impl<W: Write> Output<W> {
     /// Writes a reply, unless an earlier one could not be written.
-    fn send(&mut self, answer: &Answer, turns: &mut Turns) -> Result<(), Broken>
+    fn send<E: Export>(
+        &mut self,
+        export: &E,
+        job: &Job,
+        answer: &Answer,
+        turns: &mut Turns,
+    ) -> Result<(), Broken>
+        requires answered { IsAnswered E.acts job.now answer.now export.now }
         requires few { turns.old.sent + 1 < 2 ^ 64 }
         ensures counted { OnOk result (turns.new ≡ record turns.old { sent = turns.old.sent + 1 }) }
         ensures sent { OnOk result (Appends (W.contents self.old.writer) (W.contents self.new.writer) (spelling answer.now)) }
@@ -216,7 +231,7 @@ impl<W: Write> Output<W> {
         if self.broken {
             return Err(Broken::Writer);
         }
-        let told = answer.send(&mut self.writer);
+        let told = answer.send(export, job, &mut self.writer);
         match told {
             Ok(()) => turns.sent += 1,
             Err(_) => self.broken = true,

@@ -13,19 +13,21 @@ use wb_types::{Content, SECTOR_BYTES, Sector};
 
 /// Does a job on an export, and gives its answer: the sectors that were read, none where nothing was to be read, or why it was
 /// refused. `Invalid` where its sectors are not all the export's, and then nothing is done.
-pub fn perform<E: Export>(alloc: Global, export: &mut E, job: Job) -> Answer
-    ensures cookie { result.cookie ≡ job.cookie }
-    ensures told { TaskFits (E.size export.old) job.task → Performs E.acts export.old job.task result.told export.new }
-    ensures outside { (TaskFits (E.size export.old) job.task → ⊥) → (result.told ≡ Err Errno.Invalid) × (export.new ≡ export.old) }
+pub fn perform<E: Export>(alloc: Global, export: &mut E, job: &Job) -> Answer
+    ensures cookie { result.cookie ≡ job.now.cookie }
+    ensures told { TaskFits (E.size export.old) job.now.task → Performs E.acts export.old job.now.task result.told export.new }
+    ensures outside { (TaskFits (E.size export.old) job.now.task → ⊥) → (result.told ≡ Err Errno.Invalid) × (export.new ≡ export.old) }
     ensures size { E.size export.new ≡ E.size export.old }
 {
-    let Job { cookie, task } = job;
-    let told = if fits(export.sectors(), &task) {
-        perform_task(alloc, export, task)
+    let told = if fits(export.sectors(), &job.task) {
+        perform_task(alloc, export, &job.task)
     } else {
         Err(Errno::Invalid)
     };
-    Answer { cookie, told }
+    Answer {
+        cookie: job.cookie,
+        told,
+    }
 }
 
 /// Whether the sectors of a task are some of so many.
@@ -40,22 +42,26 @@ fn fits(size: u64, task: &Task) -> bool
     first <= size && count <= size - first
 }
 
-fn perform_task<E: Export>(alloc: Global, export: &mut E, task: Task) -> Result<Vec<Content>, Errno>
-    requires { TaskFits (E.size export.old) task }
-    ensures told { Performs E.acts export.old task result export.new }
+fn perform_task<E: Export>(
+    alloc: Global,
+    export: &mut E,
+    task: &Task,
+) -> Result<Vec<Content>, Errno>
+    requires { TaskFits (E.size export.old) task.now }
+    ensures told { Performs E.acts export.old task.now result export.new }
     ensures size { E.size export.new ≡ E.size export.old }
 {
     match task {
-        Task::Read(at, count) => read(alloc, export, at, count),
+        Task::Read(at, count) => read(alloc, export, *at, *count),
         Task::Write(at, content, durable) => {
-            write(export, at, content.as_slice(), durable)?;
+            write(export, *at, content.as_slice(), *durable)?;
             Ok(Vec::new(alloc))
         }
         Task::Flush => {
             export.flush()?;
             Ok(Vec::new(alloc))
         }
-        Task::Refuse(errno) => Err(errno),
+        Task::Refuse(errno) => Err(*errno),
     }
 }
 

@@ -49,6 +49,6 @@ fn take_turn<E: Export, R: Read, W: Write>(
     let Some(job) = take_job(alloc, size, reader)? else {
         return Ok(false);
     };
-    perform(alloc, export, job).send(writer)?;
+    perform(alloc, export, &job).send(export, &job, writer)?;
     Ok(true)
 }
