@@ -8,6 +8,7 @@ use Rattle.wb_types.specs.declared.geometry.Geometry.{Geometry}
 use Rattle.wb_types.specs.declared.mode.Mode.TheVariants.{Writeback}
 use Rattle.wb_types.specs.declared.number.OBlock.{OBlock}
 use Rattle.wb_types.specs.declared.number.CBlock.{CBlock}
+use Rattle.wb_types.specs.declared.version.Version.{Version}
 use Rattle.wb_tree.specs.Mapping.{IsSound, empty_mapping}
 use Rattle.wb_tree.specs.Edits.{IsChangedAt}
 use Rattle.wb_tree.proofs.Branching.Edits.{changed_at, changed-sound}
@@ -33,12 +34,13 @@ pub record Sizes (more : ℕ) : Type 0 where
   pub k : ℕ
   pub meta_sectors : ℕ
   pub within : IsWithinLimits 64 (suc k) (suc more) meta_sectors
+  pub version : Version
   pub threshold : ℕ
   pub others : ℕ
 
 -- such a shape, with so many blocks behind the first on the origin
 abbrev pub geometry_of : (more : ℕ) → Sizes more → Geometry
-geometry_of more sizes = record { block = 64; cache_blocks = suc sizes.k; origin_blocks = suc more; meta_sectors = sizes.meta_sectors; within = sizes.within }
+geometry_of more sizes = record { block = 64; cache_blocks = suc sizes.k; origin_blocks = suc more; meta_sectors = sizes.meta_sectors; version = sizes.version; within = sizes.within }
 
 abbrev pub shape_of : (more : ℕ) → Sizes more → Shape
 shape_of more sizes = record { geometry = geometry_of more sizes; threshold = sizes.threshold; actors = suc sizes.others }

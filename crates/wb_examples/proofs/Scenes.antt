@@ -11,6 +11,7 @@ use Rattle.wb_types.specs.declared.geometry.Geometry.{Geometry}
 use Rattle.wb_types.specs.Extents.{IsCutInto, sectors_in}
 use Rattle.wb_types.specs.declared.mode.Dev.TheVariants.{Origin}
 use Rattle.wb_types.specs.declared.mode.Mode.TheVariants.{Writeback}
+use Rattle.wb_types.specs.declared.version.Version.{Version}
 use Rattle.wb_disk.specs.Device.{Content as Bytes, History, only, newest}
 use Rattle.wb_disk.specs.Memory.{blank}
 use Rattle.wb_disk.specs.Crash.{Choice}
@@ -211,22 +212,22 @@ module _ (P A : Type 0) (more : ℕ) (f : Formatted P A more) where
   from_opened conditions passes = along shape_at (down P A down_at) opened_at (formatted shape_at) opening_run conditions (opened_is P A down_at ∙ opened_there) (goes_on global shape_at (down P A down_at) (opening P A down_at) (opening_may P A down_at)) (passes _ refl)
 
 -- what is claimed of these sizes
-abbrev Claim : (P A : Type 0) → (Shape → List (State P A → Notes → Type 0)) → (b c o m : ℕ) → IsWithinLimits b c o m → (threshold others : ℕ) → List History → Type 0
-Claim P A conditions b c o m w threshold others metadata = let geometry : Geometry = record { block = b; cache_blocks = c; origin_blocks = o; meta_sectors = m; within = w } in
+abbrev Claim : (P A : Type 0) → (Shape → List (State P A → Notes → Type 0)) → (b c o m : ℕ) (v : Version) → IsWithinLimits b c o m → (threshold others : ℕ) → List History → Type 0
+Claim P A conditions b c o m v w threshold others metadata = let geometry : Geometry = record { block = b; cache_blocks = c; origin_blocks = o; meta_sectors = m; version = v; within = w } in
     let shape : Shape = record { geometry = geometry; threshold = threshold; actors = suc others } in
     IsFormatted geometry metadata → length metadata ≡ m → PassesThrough shape (start shape metadata) (formatted shape) (conditions shape)
 
 -- a small shape is one of such sizes
 pub small_can : (P A : Type 0) (more asked : ℕ) (conditions : Shape → List (State P A → Notes → Type 0)) → ((f : Formatted P A more) → asked ≤ f.sizes.threshold → Whole P A more f (conditions (shape_of more f.sizes))) → CanPass P A (IsSmall (suc more) asked) conditions
 small_can P A more asked conditions passes = can_pass P A (IsSmall (suc more) asked) conditions (λ shape suits. suits.actors) (λ policy alloc global g threshold others metadata suits is_formatted size.
-    by_sizes policy alloc global g.block g.cache_blocks g.origin_blocks g.meta_sectors g.within threshold others metadata suits.block suits.origin suits.room is_formatted size)
+    by_sizes policy alloc global g.block g.cache_blocks g.origin_blocks g.meta_sectors g.version g.within threshold others metadata suits.block suits.origin suits.room is_formatted size)
   where
-    by_cache : (policy : P) (alloc : A) (global : Global) (c m : ℕ) (w : IsWithinLimits 64 c (suc more) m) (threshold others : ℕ) (metadata : List History) → asked ≤ threshold → Claim P A conditions 64 c (suc more) m w threshold others metadata
-    by_cache policy alloc global zero m w threshold others metadata room is_formatted size = absurd (omega (arith, w.cache_from))
-    by_cache policy alloc global (suc k) m w threshold others metadata room is_formatted size =
-        passes (record { policy = policy; alloc = alloc; global = global; sizes = record { k = k; meta_sectors = m; within = w; threshold = threshold; others = others }; metadata = metadata; is_formatted = is_formatted; size = size }) room
+    by_cache : (policy : P) (alloc : A) (global : Global) (c m : ℕ) (v : Version) (w : IsWithinLimits 64 c (suc more) m) (threshold others : ℕ) (metadata : List History) → asked ≤ threshold → Claim P A conditions 64 c (suc more) m v w threshold others metadata
+    by_cache policy alloc global zero m v w threshold others metadata room is_formatted size = absurd (omega (arith, w.cache_from))
+    by_cache policy alloc global (suc k) m v w threshold others metadata room is_formatted size =
+        passes (record { policy = policy; alloc = alloc; global = global; sizes = record { k = k; meta_sectors = m; within = w; version = v; threshold = threshold; others = others }; metadata = metadata; is_formatted = is_formatted; size = size }) room
 
-    by_sizes : (policy : P) (alloc : A) (global : Global) (b c o m : ℕ) (w : IsWithinLimits b c o m) (threshold others : ℕ) (metadata : List History) → b ≡ 64 → o ≡ suc more → asked ≤ threshold → Claim P A conditions b c o m w threshold others metadata
-    by_sizes policy alloc global b c o m w threshold others metadata e f room =
-        subst (λ (b : ℕ). (w : IsWithinLimits b c o m) → Claim P A conditions b c o m w threshold others metadata) (sym e)
-        (subst (λ (o : ℕ). (w : IsWithinLimits 64 c o m) → Claim P A conditions 64 c o m w threshold others metadata) (sym f) (λ w. by_cache policy alloc global c m w threshold others metadata room)) w
+    by_sizes : (policy : P) (alloc : A) (global : Global) (b c o m : ℕ) (v : Version) (w : IsWithinLimits b c o m) (threshold others : ℕ) (metadata : List History) → b ≡ 64 → o ≡ suc more → asked ≤ threshold → Claim P A conditions b c o m v w threshold others metadata
+    by_sizes policy alloc global b c o m v w threshold others metadata e f room =
+        subst (λ (b : ℕ). (w : IsWithinLimits b c o m) → Claim P A conditions b c o m v w threshold others metadata) (sym e)
+        (subst (λ (o : ℕ). (w : IsWithinLimits 64 c o m) → Claim P A conditions 64 c o m v w threshold others metadata) (sym f) (λ w. by_cache policy alloc global c m v w threshold others metadata room)) w
