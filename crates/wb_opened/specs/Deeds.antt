@@ -1,11 +1,13 @@
 -- What a call on a target was that was answered done, and what a client of the target has done by it.
-use Rattle.std.specs.Prelude.{◌≡◌, ◌<◌, ◌++◌, ℕ, List, [], ◌∷◌, Option, Some, None, length}
+use Rattle.std.specs.Prelude.{◌≡◌, ◌<◌, ◌++◌, Bool, ℕ, List, [], ◌∷◌, Option, Some, None, length}
 use Rattle.wb_types.specs.declared.geometry.Geometry.{Geometry}
 use Rattle.wb_types.specs.declared.number.OBlock.{OBlock}
 use Rattle.wb_disk.specs.Device.{History, Content as Bytes}
 use Rattle.wb_policy.specs.declared.order.Order.{Order}
 use Rattle.wb_target.specs.declared.client.Client.{Client}
+use Rattle.wb_target.specs.declared.gate.Point.{Point}
 use Rattle.wb_target.specs.Works.{DeskTold, WorkState}
+use Rattle.wb_target.specs.Workers.{EndedBy}
 use Rattle.wb_target.specs.Blocking.{ReadCame, WriteCame, InParts}
 use Rattle.wb_tasks.specs.Tables.{TaskJob}
 use Rattle.wb_tasks.specs.declared.step.Answer.{Answer}
@@ -54,3 +56,8 @@ ClientDid tells size contents faults asked settled ticked next old Ticked new =
     × (tells → AreSynced contents new.port.hand.devices)
 ClientDid tells size contents faults asked settled ticked next old (Worked order) new =
     next order × DidWork (Runs tells size contents faults asked old.port.geometry.origin_blocks) old.port.geometry (client_state old.port) order (client_state new.port)
+
+-- It has carried out orders, one after the other, the one that waits longest first, until the gate said no.
+abbrev pub ClientWorked : {D P G : Type 0} → Type 0 → (D → ℕ) → (D → List History) → (D → ℕ) → (List Order → DeskTold) → (Option Order → Type 0) → (G → Point → Bool → Type 0) → G → Client D P → Client D P → Type 0
+ClientWorked tells size contents faults asked next answers gate old new =
+    EndedBy (Runs tells size contents faults asked old.port.geometry.origin_blocks) next old.port.geometry answers gate (client_state old.port) (client_state new.port)

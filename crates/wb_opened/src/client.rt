@@ -1,7 +1,7 @@
 //! A client of a target, as who stands above it sees it.
 
 ghost use Rattle.std.specs.Prelude.{◌≡◌, ◌*◌, IfErr, length};
-ghost use Rattle.wb_opened.specs.Deeds.{ClientDid};
+ghost use Rattle.wb_opened.specs.Deeds.{ClientDid, ClientWorked};
 ghost use Rattle.wb_target.specs.Works.{WasAsked};
 ghost use Rattle.wb_target.specs.Told.{WereSettled, HadTick, WasNext};
 ghost use Rattle.wb_opened.specs.Inside.{IsInside};
@@ -17,6 +17,8 @@ impl<'t, D: Disk + Drop, P: Policy> Served for Client<'t, D, P> {
     ghost sizes = { λ client. client.port.geometry };
 
     ghost did = { ClientDid D.tells D.size D.contents D.faults (WasAsked P.with_entry P.without_entry) (WereSettled P.ordered P.settled) (HadTick P.cleaned P.ticked) (WasNext P) };
+
+    ghost worked = { λ {G} answers gate. ClientWorked D.tells D.size D.contents D.faults (WasAsked P.with_entry P.without_entry) (WasNext P) answers gate };
 
     fn geometry(&self) -> Geometry {
         self.port.geometry

@@ -1,5 +1,7 @@
 //! Opening a target over the files of a table.
 
+ghost use Rattle.std.specs.Prelude.{◌≡◌};
+
 use crate::difference::find_difference;
 use crate::unserved::Unserved;
 use std::alloc::Global;
@@ -26,7 +28,12 @@ pub(crate) fn open_devices<'a, 'w, R: Files<File = File>, P: Patience, N: Watch>
     }
 }
 
-fn devices_of<D>(disks: Disks<D>) -> Devices<D> {
+/// The disks in their places.
+fn devices_of<D>(disks: Disks<D>) -> Devices<D>
+    ensures metadata { result.metadata ≡ disks.metadata }
+    ensures cache { result.cache ≡ disks.cache }
+    ensures origin { result.origin ≡ disks.origin }
+{
     let Disks {
         metadata,
         cache,

@@ -1,8 +1,10 @@
 //! What a target is to who stands above it: what its clients can be asked, and what is done by one of them.
 
-ghost use Rattle.std.specs.Prelude.{◌≡◌, ◌*◌, ◌++◌, OnOk, OnErr, IfOk, IfErr, length, string_bytes};
+ghost use Rattle.std.specs.Prelude.{Bool, ◌≡◌, ◌*◌, ◌++◌, OnOk, OnErr, IfOk, IfErr, length, string_bytes};
 ghost use Rattle.std.specs.Bool.{OnTrue};
 ghost use Rattle.wb_types.specs.declared.geometry.Geometry.{Geometry as Sizes};
+ghost use Rattle.wb_target.specs.declared.gate.Point.{Point as WorkPoint};
+ghost use Rattle.wb_target.specs.Workers.{IsFailure};
 ghost use Rattle.wb_opened.specs.Deeds.{Deed, Read, Wrote, TriedRead, TriedWrite, Settled, Flushed, Ticked, Worked};
 ghost use Rattle.wb_table.specs.Status.{status_line};
 ghost use Rattle.wb_table.specs.declared.status.Fields.{Fields};
@@ -20,6 +22,9 @@ pub trait Served {
 
     /// Whether a call that was answered done, and was this, may lead from one client to another.
     ghost did: { Self → Deed → Self → Type 0 };
+
+    /// Whether who carries out orders may come from one to another until a gate that answers so ends it.
+    ghost worked: { {G : Type 0} → (G → WorkPoint → Bool → Type 0) → G → Self → Self → Type 0 };
 
     /// Its sizes.
     fn geometry(&self) -> Geometry
@@ -74,7 +79,9 @@ pub trait Served {
         ensures { IfOk result (λ order. did self.old (Worked order) self.new) };
 
     /// Carries out orders until the gate ends it: `Failed` and `Io`.
-    fn worker<R: Wait, G: Gate>(&mut self, rt: &R, gate: &G) -> Result<(), Refusal>;
+    fn worker<R: Wait, G: Gate>(&mut self, rt: &R, gate: &G) -> Result<(), Refusal>
+        ensures ended { OnOk result (worked G.answers gate.now self.old self.new) }
+        ensures refused { IfErr result IsFailure };
 
     /// Adds the status line, with no end of line: `Memory`.
     fn status<R: Wait>(&self, rt: &R, text: &mut String) -> Result<(), Refusal>
