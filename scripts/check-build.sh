@@ -123,7 +123,7 @@ background() { # JOBS, crates that are held
   shift
   for name in begun "$@"; do mkfifo "$HOLDS/$name"; done
   exec 5<>"$HOLDS/begun"
-  (cd "$tree" && JOBS=$jobs PATH=$work/bin:/usr/bin:/bin exec env --default-signal=INT sh scripts/build.sh wbcache) >"$work/said" 2>&1 &
+  (cd "$tree" && JOBS=$jobs PATH=$work/bin:/usr/bin:/bin exec env --default-signal=HUP,INT,TERM sh scripts/build.sh wbcache) >"$work/said" 2>&1 &
   builder=$!
   held=''
   for name in "$@"; do
