@@ -1,17 +1,19 @@
 -- A task refuses for a cause alone.
 use Rattle.std.proofs.Common.{◌≡◌, ◌≢◌, ◌==◌, ◌+◌, ◌⊎◌, inl, inr, ℕ, zero, suc, Bool, true, false, List, [], ◌∷◌, ◌++◌, Option, Some, None, if◌then◌else◌, refl, sym, subst}
 use Rattle.std.proofs.lemmas.Bool.{eq-eqb}
+use Rattle.wb_types.specs.declared.mode.Mode.{Mode}
+use Rattle.wb_types.specs.declared.mode.Mode.TheVariants.{Writeback, Writethrough, Passthrough}
 use Rattle.wb_types.specs.declared.number.OBlock.{OBlock}
 use Rattle.wb_types.specs.declared.number.CBlock.{CBlock}
 use Rattle.wb_types.specs.declared.refusal.Refusal.{Refusal}
-use Rattle.wb_types.specs.declared.refusal.Refusal.TheVariants.{Busy, Failed, Memory, Worn, NotFormatted, Damaged, Mismatch, NotClean, GenerationEnd, Io}
+use Rattle.wb_types.specs.declared.refusal.Refusal.TheVariants.{Busy, Defer, Failed, Memory, Worn, NotFormatted, Damaged, Mismatch, NotClean, GenerationEnd, Io}
 use Rattle.wb_words.specs.declared.word.Word.TheVariants.{Cell as LockWord, Seal as SealWord, Number, Count as CountWord, Fail}
 use Rattle.wb_words.specs.SharedWords.{place_in, dirty_in}
 use Rattle.wb_types.specs.declared.extent.Extent.{Extent}
 use Rattle.wb_words.specs.declared.word.Access.TheVariants.{Shared, Owned}
-use Rattle.wb_tasks.specs.Tables.{BlockJob, Reading, Writing, Migrating, TaskJob, OnBlock, Flushing, Opening, place_read, read_step, read_count, write_count, work}
+use Rattle.wb_tasks.specs.Tables.{BlockJob, Reading, Writing, Displacing, Invalidating, Migrating, TaskJob, OnBlock, Flushing, Suspending, Opening, place_read, read_step, read_count, write_count, writing, work}
 use Rattle.wb_tasks.proofs.Working.{Works, work_has}
-use Rattle.wb_tasks.specs.Plan.{Plan, after, table, first_step, refused, gives_back, gives_up, release_orders, node_writes, root_steps, commit_steps, lets_go, after_fault_of, exchange, work_of, may_take, is_worn, Fits}
+use Rattle.wb_tasks.specs.Plan.{Plan, after, table, first_step, refused, gives_back, gives_up, release_orders, node_writes, root_steps, begun_steps, seal_looks, steps_seeing, deferring, answer_seeing, lets_go, after_fault_of, exchange, may_take, is_worn, Fits}
 use Rattle.wb_tasks.specs.Run.{IsRunOf}
 use Rattle.wb_tasks.proofs.Driving.{no_result}
 use Rattle.wb_tasks.specs.Causes.{Causes, GaveCause}
@@ -46,32 +48,49 @@ own_work job = work_has (λ place dirty ws. AreOwn ws) job (by_job job)
         counted : (place : Option CBlock) → AreOwn (read_count place ∷ Cell (Release Shared part.block) ∷ [])
         counted None = tt
         counted (Some c) = tt
-    by_job (Writing part) = record { seal = λ c ws back r. r; home = λ dirty e ws m r. r; cached = λ c dirty e ws sealed m r. r; through = λ c dirty e ws other m r. r; last = λ place dirty. counted place }
+    by_job (Writing part) = record { seal = λ c ws back r. r; home = λ dirty e ws m r. r; cached = λ c dirty e ws sealed m r. r; through = λ c dirty e ws other m r. r; defers = λ c dirty past. tt; last = λ place dirty. counted place }
       where
         counted : (place : Option CBlock) → AreOwn (Cell (Finish part.block) ∷ write_count place ∷ Cell (Release Owned part.block) ∷ [])
         counted None = tt
         counted (Some c) = tt
+    by_job (Displacing part) = record { drops = λ c dirty ws r. r; each = λ dirty e ws m r. r; last = λ was dirty. counted was }
+      where
+        counted : (place : Option CBlock) → AreOwn (Cell (Finish part.block) ∷ write_count place ∷ Cell (Release Owned part.block) ∷ [])
+        counted None = tt
+        counted (Some c) = tt
+    by_job (Invalidating part) = record { drops = λ c dirty ws r. r; last = λ dirty. tt }
     by_job (Migrating (Promote c) part) = record { each = λ place dirty e ws m r. r; last = λ place dirty. tt }
     by_job (Migrating Demote part) = record { each = λ c e ws m r. r; last = λ place dirty. tt }
     by_job (Migrating Clean part) = record { each = λ c e ws m r. r; last = λ place dirty. tt }
 
-own_works : (job : TaskJob) (seal : ℕ) → AreOwn (work_of job seal)
-own_works (OnBlock job) seal = own_work job (place_in seal) (dirty_in seal)
-own_works (Flushing serves most) seal = tt
-own_works (Opening left) seal = tt
-
 own_exchange : (job : TaskJob) (seen : ℕ) → AreOwn (exchange job seen)
 own_exchange (OnBlock job) seen = tt
 own_exchange (Flushing serves most) seen = tt
+own_exchange (Suspending blocks most) seen = tt
 own_exchange (Opening left) seen = tt
 
 own_nodes : (nodes first : ℕ) → AreOwn (node_writes nodes first ++ root_steps)
 own_nodes zero first = tt
 own_nodes (suc nodes) first = own_nodes nodes (first + 1)
 
+own_closing : (nodes first : ℕ) → AreOwn ((node_writes nodes first ++ root_steps) ++ Cell SetSuspended ∷ [])
+own_closing zero first = tt
+own_closing (suc nodes) first = own_closing nodes (first + 1)
+
+own_begun : (job : TaskJob) (nodes : ℕ) → AreOwn (begun_steps job nodes)
+own_begun (OnBlock job) nodes = own_nodes nodes 0
+own_begun (Flushing serves most) nodes = own_nodes nodes 0
+own_begun (Suspending blocks most) nodes = own_closing nodes 0
+own_begun (Opening left) nodes = own_nodes nodes 0
+
+own_looks : (blocks : List OBlock) (ws : List Want) → AreOwn ws → AreOwn (seal_looks blocks ++ ws)
+own_looks [] ws own = own
+own_looks (block ∷ blocks) ws own = own_looks blocks ws own
+
 own_table : (job : TaskJob) → AreOwn ((table job).steps)
 own_table (OnBlock job) = tt
 own_table (Flushing serves most) = tt
+own_table (Suspending blocks most) = own_looks blocks _ tt
 own_table (Opening left) = tt
 
 -- steps that can only be done: what a refused task lets go
@@ -89,16 +108,20 @@ calm_orders (block ∷ blocks) = calm_orders blocks
 calm_parting : (job : BlockJob) → AreCalm (gives_up job)
 calm_parting (Reading part) = tt
 calm_parting (Writing part) = tt
+calm_parting (Displacing part) = tt
+calm_parting (Invalidating part) = tt
 calm_parting (Migrating migration part) = tt
 
 calm_lets_go : (job : TaskJob) → AreCalm (lets_go job)
 calm_lets_go (OnBlock job) = calm_parting job
 calm_lets_go (Flushing serves most) = calm_orders serves
+calm_lets_go (Suspending blocks most) = tt
 calm_lets_go (Opening left) = tt
 
 calm_gives_back : (job : TaskJob) → AreCalm (gives_back job)
 calm_gives_back (OnBlock job) = tt
 calm_gives_back (Flushing serves most) = tt
+calm_gives_back (Suspending blocks most) = tt
 calm_gives_back (Opening left) = tt
 
 calm_fault : (job : TaskJob) (step : DeviceStep) → AreCalm (after_fault_of job step)
@@ -109,6 +132,7 @@ calm_fault (OnBlock job) (ReadMetadata left) = tt
 calm_fault (OnBlock job) (WriteNode number) = tt
 calm_fault (OnBlock job) WriteRoot = tt
 calm_fault (Flushing serves most) step = tt
+calm_fault (Suspending blocks most) step = tt
 calm_fault (Opening left) step = tt
 
 only_done : (w : Want) (ws : List Want) (g : Got) → AreCalm (w ∷ ws) → Fits w g → (g ≡ Done) × AreCalm ws
@@ -127,21 +151,28 @@ no_answer (Desk step) ws x calm e = cc
 no_answer (End answer) ws x calm e = calm
 
 -- after them this refusal alone is answered
-answers : (s : Plan) (ws : List Want) (x : Refusal) → AreCalm ws → (steps : List (Want × Got)) (r : Refusal) → IsRunOf (refused s ws x) steps (Refuses r) → x ≡ r
-answers s [] x calm [] r e = cc
-answers s [] x calm (step ∷ steps) r h = absurd (no_result (Refuses x) step.1 (subst (λ (w : Want). Fits w step.1) h.0 h.1))
-answers s (w ∷ ws) x calm [] r e = absurd (no_answer w ws r calm e)
-answers s (w ∷ ws) x calm (step ∷ steps) r h =
+answered : (s : Plan) (ws : List Want) (x : Refusal) → AreCalm ws → (steps : List (Want × Got)) (r : Refusal) → IsRunOf (refused s ws x) steps (Refuses r) → x ≡ r
+answered s [] x calm [] r e = cc
+answered s [] x calm (step ∷ steps) r h = absurd (no_result (Refuses x) step.1 (subst (λ (w : Want). Fits w step.1) h.0 h.1))
+answered s (w ∷ ws) x calm [] r e = absurd (no_answer w ws r calm e)
+answered s (w ∷ ws) x calm (step ∷ steps) r h =
     let done = only_done w ws step.1 calm (subst (λ (v : Want). Fits v step.1) h.0 h.1) in
-    answers s ws x done.1 steps r (subst (λ (g : Got). IsRunOf (after (refused s (w ∷ ws) x) g) steps (Refuses r)) done.0 h.2)
+    answered s ws x done.1 steps r (subst (λ (g : Got). IsRunOf (after (refused s (w ∷ ws) x) g) steps (Refuses r)) done.0 h.2)
 
 abbrev going : TaskJob → List Want → Plan
 going job ws = record { job = job; steps = ws; answer = Finished }
 
+-- it refuses so, or for a cause to come
+abbrev Refusing : TaskJob → Refusal → Plan → Type 0
+Refusing job x s = (steps : List (Want × Got)) (r : Refusal) → IsRunOf s steps (Refuses r) → (x ≡ r) ⊎ GaveCause job r steps
+
+answers : (s : Plan) (ws : List Want) (x : Refusal) → AreCalm ws → Refusing s.job x (refused s ws x)
+answers s ws x calm steps r h = inl (answered s ws x calm steps r h)
+
 -- a step gives the cause of a refusal, or the job goes on
 abbrev Outcome : TaskJob → Want → Got → Plan → Type 0
 Outcome job w g s =
-    ((x : Refusal) × Causes job x w g × ((steps : List (Want × Got)) (r : Refusal) → IsRunOf s steps (Refuses r) → x ≡ r))
+    ((x : Refusal) × Causes job x w g × Refusing job x s)
     ⊎ ((ws : List Want) × AreOwn ws × (s ≡ going job ws))
 
 by_fail_word : (job : TaskJob) (ws : List Want) (value : ℕ) → AreOwn ws → (b : Bool) → (value == 0) ≡ b → Outcome job (Cell (Look Fail)) (Word value) (if b then going job ws else refused (going job ws) [] Failed)
@@ -156,11 +187,53 @@ by_number : (job : TaskJob) (block : OBlock) (ws : List Want) (value : ℕ) → 
 by_number job block ws value own false e = inr (ws, own, refl)
 by_number job block ws value own true e = inl (Worn, e, answers (going job ws) (gives_back job) Worn (calm_gives_back job))
 
+-- A write whose number is worn answers so, also where it would be deferred.
+abbrev deferred : TaskJob → OBlock → OBlock → Plan
+deferred job block b = record { job = job; steps = Cell (Look (Number block)) ∷ Cell (Release Owned b) ∷ []; answer = Refuses Defer }
+
+number_seen : (job : TaskJob) (block b : OBlock) (g : Got) (steps : List (Want × Got)) (r : Refusal) → Fits (Cell (Look (Number block))) g → IsRunOf (after (deferred job block b) g) steps (Refuses r) → (Defer ≡ r) ⊎ Causes job r (Cell (Look (Number block))) g
+number_seen job block b (Word value) steps r f run = by_test (is_worn job value) refl run
+  where
+    by_test : (t : Bool) → is_worn job value ≡ t → IsRunOf (if t then refused (deferred job block b) (gives_back job) Worn else refused (deferred job block b) (Cell (Release Owned b) ∷ []) Defer) steps (Refuses r) → (Defer ≡ r) ⊎ Causes job r (Cell (Look (Number block))) (Word value)
+    by_test true e run = inr (subst (λ (x : Refusal). Causes job x (Cell (Look (Number block))) (Word value)) (answered (deferred job block b) (gives_back job) Worn (calm_gives_back job) steps r run) e)
+    by_test false e run = inl (answered (deferred job block b) (Cell (Release Owned b) ∷ []) Defer tt steps r run)
+number_seen job block b g steps r f run = absurd f
+
+defers : (job : TaskJob) (block b : OBlock) → Refusing job Defer (deferred job block b)
+defers job block b [] r e = absurd (cc)
+defers job block b (step ∷ steps) r h =
+    elim (number_seen job block b step.1 steps r (subst (λ (w : Want). Fits w step.1) h.0 h.1) h.2) [
+      | inl e ↦ inl e
+      | inr c ↦ inr (inl (subst (λ (w : Want). Causes job r w step.1) (sym h.0) c))
+    ]
+
+by_seal : (job : TaskJob) (block : OBlock) (ws : List Want) (value : ℕ) → AreOwn ws → Outcome job (Cell (Look (SealWord block))) (Word value) (record { job = job; steps = steps_seeing job block value ws; answer = answer_seeing job value Finished })
+by_seal (OnBlock (Writing part)) block ws value own = by_mode part.mode refl (place_in value) refl
+  where
+    Seen : Mode → Option CBlock → Type 0
+    Seen mode place = Outcome (OnBlock (Writing part)) (Cell (Look (SealWord block))) (Word value) (record { job = OnBlock (Writing part); steps = Cell (Look (Number block)) ∷ writing mode part place (dirty_in value); answer = deferring mode place Finished })
+
+    works : (mode : Mode) → part.mode ≡ mode → (place : Option CBlock) → place_in value ≡ place → AreOwn (writing mode part place (dirty_in value))
+    works mode is place at = subst (λ (m : Mode). AreOwn (writing m part place (dirty_in value))) is (subst (λ (p : Option CBlock). AreOwn (writing part.mode part p (dirty_in value))) at (own_work (Writing part) (place_in value) (dirty_in value)))
+
+    by_mode : (mode : Mode) → part.mode ≡ mode → (place : Option CBlock) → place_in value ≡ place → Seen mode place
+    by_mode Writeback is place at = inr (_, works Writeback is place at, refl)
+    by_mode Writethrough is place at = inr (_, works Writethrough is place at, refl)
+    by_mode Passthrough is None at = inr (_, works Passthrough is None at, refl)
+    by_mode Passthrough is (Some c) at = inl (Defer, (λ i. deferring (is i) (at i) Finished), defers (OnBlock (Writing part)) block part.block)
+by_seal (OnBlock (Reading part)) block ws value own = inr (_, own_work (Reading part) (place_in value) (dirty_in value), refl)
+by_seal (OnBlock (Displacing part)) block ws value own = inr (_, own_work (Displacing part) (place_in value) (dirty_in value), refl)
+by_seal (OnBlock (Invalidating part)) block ws value own = inr (_, own_work (Invalidating part) (place_in value) (dirty_in value), refl)
+by_seal (OnBlock (Migrating migration part)) block ws value own = inr (_, own_work (Migrating migration part) (place_in value) (dirty_in value), refl)
+by_seal (Flushing serves most) block ws value own = inr (ws, own, refl)
+by_seal (Suspending blocks most) block ws value own = inr (ws, own, refl)
+by_seal (Opening left) block ws value own = inr (ws, own, refl)
+
 outcome : (job : TaskJob) (ws : List Want) (g : Got) → AreOwn ws → Fits (first_step ws Finished) g → Outcome job (first_step ws Finished) g (after (going job ws) g)
 outcome job [] g own h = absurd (no_result Finished g h)
 outcome job (Cell (Look Fail) ∷ ws) (Word value) own h = by_fail_word job ws value own (value == 0) refl
 outcome job (Cell (Look (LockWord block)) ∷ ws) (Word value) own h = by_lock_word job block ws value (may_take job value) refl
-outcome job (Cell (Look (SealWord block)) ∷ ws) (Word value) own h = inr (Cell (Look (Number block)) ∷ work_of job value, own_works job value, refl)
+outcome job (Cell (Look (SealWord block)) ∷ ws) (Word value) own h = by_seal job block ws value own
 outcome job (Cell (Look (Number block)) ∷ ws) (Word value) own h = by_number job block ws value own (is_worn job value) refl
 outcome job (Cell (Look (CountWord kind)) ∷ ws) (Word value) own h = inr (ws, own, refl)
 outcome job (Cell (Take access block seen) ∷ ws) Done own h = inr (ws, own, refl)
@@ -187,7 +260,7 @@ outcome job (Desk (ReleaseOrder block) ∷ ws) Done own h = inr (ws, own, refl)
 outcome job (Desk (BeginCommit clean most) ∷ ws) (Refused Busy) own h = inl (Busy, refl, answers (going job ws) [] Busy tt)
 outcome job (Desk (BeginCommit clean most) ∷ ws) (Refused Memory) own h = inl (Memory, refl, answers (going job ws) (lets_go job) Memory (calm_lets_go job))
 outcome job (Desk (BeginCommit clean most) ∷ ws) (Refused GenerationEnd) own h = inl (GenerationEnd, refl, answers (going job ws) (lets_go job) GenerationEnd (calm_lets_go job))
-outcome job (Desk (BeginCommit clean most) ∷ ws) (Began nodes) own h = inr (commit_steps nodes, own_nodes nodes 0, refl)
+outcome job (Desk (BeginCommit clean most) ∷ ws) (Began nodes) own h = inr (begun_steps job nodes, own_begun job nodes, refl)
 outcome job (Desk EndCommit ∷ ws) Done own h = inr (ws, own, refl)
 outcome job (End b ∷ ws) g own h = absurd own
 outcome job (w ∷ ws) g own h = absurd h
@@ -205,7 +278,10 @@ caused job ws (step ∷ steps) r own h =
     let w = first_step ws Finished in
     let fits : Fits w step.1 = subst (λ (v : Want). Fits v step.1) h.0 h.1 in
     elim (outcome job ws step.1 own fits) [
-      | inl o ↦ inl (subst (λ (v : Want). Causes job r v step.1) (sym h.0) (subst (λ (x : Refusal). Causes job x w step.1) (o.2 steps r h.2) o.1))
+      | inl o ↦ elim (o.2 steps r h.2) [
+        | inl e ↦ inl (subst (λ (v : Want). Causes job r v step.1) (sym h.0) (subst (λ (x : Refusal). Causes job x w step.1) e o.1))
+        | inr later ↦ inr later
+      ]
       | inr o ↦ inr (caused job o.0 steps r o.1 (subst (λ (s : Plan). IsRunOf s steps (Refuses r)) o.2 h.2))
     ]
 

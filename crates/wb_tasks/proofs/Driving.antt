@@ -10,8 +10,8 @@ use Rattle.wb_words.specs.declared.word.Word.{Word as WordName}
 use Rattle.wb_words.specs.declared.word.Word.TheVariants.{Cell as LockWord, Seal as SealWord, Number, Count as CountWord, Fail}
 use Rattle.wb_words.specs.SharedWords.{place_in, dirty_in}
 use Rattle.wb_types.specs.declared.extent.Extent.{Extent}
-use Rattle.wb_tasks.specs.Tables.{BlockRange, BlockJob, TaskJob, OnBlock, Flushing, Opening, Reading, Writing, Migrating, work, copies, ending, place_read, places_written, dirtying, writes, read_step, read_count, write_count}
-use Rattle.wb_tasks.specs.Plan.{Plan, want, after, after_look, gives_back, gives_up, release_orders, lets_go, after_fault_of, exchange, may_take, node_writes, root_steps, commit_steps, Fits, IsStep, first_step, is_worn}
+use Rattle.wb_tasks.specs.Tables.{BlockRange, BlockJob, TaskJob, OnBlock, Flushing, Suspending, Opening, Reading, Writing, Displacing, Invalidating, Migrating, work, copies, ending, place_read, writes, writing, read_step, read_count, write_count}
+use Rattle.wb_tasks.specs.Plan.{Plan, want, after, after_look, gives_back, gives_up, release_orders, lets_go, after_fault_of, exchange, may_take, node_writes, root_steps, begun_steps, Fits, IsStep, first_step, is_worn}
 use Rattle.wb_tasks.specs.Ready.{AreFirst, left_by}
 use Rattle.wb_tasks.specs.Run.{IsRunOf, Leads}
 use Rattle.wb_tasks.specs.Length.{most_written, longest_work, longest_failing, longest_commit, longest_of, longest}
@@ -109,14 +109,24 @@ longest_of-work (Writing part) place dirty = by_mode part.mode place dirty
     ends : Option CBlock → List Want
     ends place = Cell (Finish part.block) ∷ write_count place ∷ Cell (Release Owned part.block) ∷ []
 
-    by_mode : (mode : Mode) (place : Option CBlock) (dirty : Bool) → longest_of (OnBlock (Writing part)) (dirtying mode part.block place dirty ++ writes part (places_written mode place) part.extents ++ ends place) ≤ most_written mode * length part.extents + 5
+    by_mode : (mode : Mode) (place : Option CBlock) (dirty : Bool) → longest_of (OnBlock (Writing part)) (writing mode part place dirty) ≤ most_written mode * length part.extents + 5
     by_mode Writeback None dirty = omega (arith, longest_of-writes (Writing part) part None part.extents (ends None) (omega arith))
     by_mode Writeback (Some c) true = omega (arith, longest_of-writes (Writing part) part (Some c) part.extents (ends (Some c)) (omega arith))
     by_mode Writeback (Some c) false = omega (arith, longest_of-writes (Writing part) part (Some c) part.extents (ends (Some c)) (omega arith))
     by_mode Writethrough None dirty = omega (arith, longest_of-writes (Writing part) part None part.extents (ends None) (omega arith))
     by_mode Writethrough (Some c) dirty = omega (arith, longest_of-writes_through (Writing part) part c part.extents (ends (Some c)) (omega arith))
     by_mode Passthrough None dirty = omega (arith, longest_of-writes (Writing part) part None part.extents (ends None) (omega arith))
-    by_mode Passthrough (Some c) dirty = omega (arith, longest_of-writes (Writing part) part None part.extents (ends (Some c)) (omega arith))
+    by_mode Passthrough (Some c) dirty = omega arith
+longest_of-work (Displacing part) place dirty = by_place place
+  where
+    ends : Option CBlock → List Want
+    ends was = Cell (Finish part.block) ∷ write_count was ∷ Cell (Release Owned part.block) ∷ []
+
+    by_place : (place : Option CBlock) → longest_of (OnBlock (Displacing part)) (work (Displacing part) place dirty) ≤ longest_work (Displacing part)
+    by_place None = omega (arith, longest_of-writes (Displacing part) part None part.extents (ends None) (omega arith))
+    by_place (Some c) = omega (arith, longest_of-writes (Displacing part) part None part.extents (ends (Some c)) (omega arith))
+longest_of-work (Invalidating part) None dirty = omega arith
+longest_of-work (Invalidating part) (Some c) dirty = omega arith
 longest_of-work (Migrating (Promote c) part) place dirty = omega (arith, longest_of-copies (Migrating (Promote c) part) part None (Some c) part.extents (ending (Promote c) part.block place) (omega arith))
 longest_of-work (Migrating Demote part) None dirty = omega arith
 longest_of-work (Migrating Demote part) (Some c) true = omega (arith, longest_of-copies (Migrating Demote part) part (Some c) None part.extents (ending Demote part.block (Some c)) (omega arith))
@@ -128,17 +138,23 @@ longest_of-work (Migrating Clean part) (Some c) false = omega arith
 some_work : (job : BlockJob) → 2 ≤ longest_work job
 some_work (Reading part) = omega arith
 some_work (Writing part) = omega arith
+some_work (Displacing part) = omega arith
+some_work (Invalidating part) = omega arith
 some_work (Migrating migration part) = omega arith
 
 -- a failure leaves a step and the answer, or the block, the order and the answer
 some_failing : (job : BlockJob) → 2 ≤ longest_failing (OnBlock job)
 some_failing (Reading part) = omega arith
 some_failing (Writing part) = omega arith
+some_failing (Displacing part) = omega arith
+some_failing (Invalidating part) = omega arith
 some_failing (Migrating migration part) = omega arith
 
 longest_of-parting : (job : BlockJob) → 1 + longest_of (OnBlock job) (gives_up job) ≤ longest_failing (OnBlock job)
 longest_of-parting (Reading part) = omega arith
 longest_of-parting (Writing part) = omega arith
+longest_of-parting (Displacing part) = omega arith
+longest_of-parting (Invalidating part) = omega arith
 longest_of-parting (Migrating migration part) = omega arith
 
 longest_of-orders : (job : TaskJob) (blocks : List OBlock) → longest_of job (release_orders blocks) ≡ length (release_orders blocks) + 1
@@ -149,8 +165,11 @@ longest_of-orders job (block ∷ blocks) = omega (arith, longest_of-orders job b
 longest_of-let_go : (job : TaskJob) → longest_of job (lets_go job) ≤ length (lets_go job) + 1
 longest_of-let_go (OnBlock (Reading part)) = omega arith
 longest_of-let_go (OnBlock (Writing part)) = omega arith
+longest_of-let_go (OnBlock (Displacing part)) = omega arith
+longest_of-let_go (OnBlock (Invalidating part)) = omega arith
 longest_of-let_go (OnBlock (Migrating migration part)) = omega arith
 longest_of-let_go (Flushing serves most) = omega (arith, longest_of-orders (Flushing serves most) serves)
+longest_of-let_go (Suspending blocks most) = omega arith
 longest_of-let_go (Opening left) = omega arith
 
 -- what is left after a fault on a device
@@ -162,6 +181,7 @@ longest_of-fault (OnBlock job) (ReadMetadata left) = omega (arith, some_failing 
 longest_of-fault (OnBlock job) (WriteNode number) = omega (arith, some_failing job)
 longest_of-fault (OnBlock job) WriteRoot = omega (arith, some_failing job)
 longest_of-fault (Flushing serves most) step = omega arith
+longest_of-fault (Suspending blocks most) step = omega arith
 longest_of-fault (Opening left) step = omega arith
 
 -- a commit, once it began
@@ -169,17 +189,28 @@ longest_of-nodes : (job : TaskJob) (nodes first : ℕ) (ws : List Want) → long
 longest_of-nodes job zero first ws h = omega arith
 longest_of-nodes job (suc nodes) first ws h = let more = longest_of-nodes job nodes (first + 1) ws h in omega (arith, more, h)
 
-longest_of-commit : (job : TaskJob) (nodes : ℕ) → longest_of job (commit_steps nodes) ≡ longest_commit job nodes
-longest_of-commit job nodes = let more = longest_of-nodes job nodes 0 root_steps (omega arith) in omega (arith, more)
+-- of a suspend the bit follows
+longest_of-closing : (blocks : List OBlock) (most nodes first : ℕ) → longest_of (Suspending blocks most) ((node_writes nodes first ++ root_steps) ++ Cell SetSuspended ∷ []) ≡ nodes + 6
+longest_of-closing blocks most zero first = omega arith
+longest_of-closing blocks most (suc nodes) first = omega (arith, longest_of-closing blocks most nodes (first + 1))
+
+longest_of-commit : (job : TaskJob) (nodes : ℕ) → longest_of job (begun_steps job nodes) ≡ longest_commit job nodes
+longest_of-commit (OnBlock job) nodes = let more = longest_of-nodes (OnBlock job) nodes 0 root_steps (omega arith) in omega (arith, more)
+longest_of-commit (Flushing serves most) nodes = let more = longest_of-nodes (Flushing serves most) nodes 0 root_steps (omega arith) in omega (arith, more)
+longest_of-commit (Suspending blocks most) nodes = omega (arith, longest_of-closing blocks most nodes 0)
+longest_of-commit (Opening left) nodes = let more = longest_of-nodes (Opening left) nodes 0 root_steps (omega arith) in omega (arith, more)
 
 -- a look leaves less
 falls_look : (job : TaskJob) (word : WordName) (ws : List Want) (a : Answer) (value : ℕ) → longest (after_look (record { job = job; steps = Cell (Look word) ∷ ws; answer = a }) (Cell (Look word)) value) < longest_of job (Cell (Look word) ∷ ws)
 falls_look job Fail ws a value = elim (value == 0) as (λ (b : Bool). longest (if b then (record { job = job; steps = ws; answer = a }) else (record { job = job; steps = []; answer = Refuses Failed })) < 1 + longest_of job ws) [ true ↦ omega arith | false ↦ omega (arith, longest_of-some job ws) ]
 falls_look (Flushing serves most) (LockWord block) ws a value = omega arith
+falls_look (Suspending blocks most) (LockWord block) ws a value = omega arith
 falls_look (Opening left) (LockWord block) ws a value = omega arith
 falls_look (Flushing serves most) (SealWord block) ws a value = omega arith
+falls_look (Suspending blocks most) (SealWord block) ws a value = omega arith
 falls_look (Opening left) (SealWord block) ws a value = omega arith
 falls_look (Flushing serves most) (Number block) ws a value = omega arith
+falls_look (Suspending blocks most) (Number block) ws a value = omega arith
 falls_look (Opening left) (Number block) ws a value = omega arith
 falls_look (OnBlock job) (LockWord block) ws a value = elim (may_take (OnBlock job) value) as (λ (b : Bool). longest (if b then (record { job = OnBlock job; steps = exchange (OnBlock job) value; answer = a }) else (record { job = OnBlock job; steps = []; answer = Refuses Busy })) < 4 + longest_work job) [ true ↦ omega arith | false ↦ omega arith ]
 falls_look (OnBlock job) (SealWord block) ws a value = omega (arith, longest_of-work job (place_in value) (dirty_in value), some_work job)

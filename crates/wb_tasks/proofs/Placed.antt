@@ -16,7 +16,7 @@ use Rattle.wb_words.specs.declared.step.CellStep.TheVariants.{Look, Take, Releas
 use Rattle.wb_words.specs.SharedWords.{Words, word_at, value_of, place_in, dirty_in, seal_word}
 use Rattle.wb_words.specs.Cards.{is_own_seal, looked}
 use Rattle.wb_words.specs.Effects.{result_of, card_after}
-use Rattle.wb_tasks.specs.Tables.{BlockJob, Reading, Writing, Migrating, OnBlock, TaskJob, access_of, work}
+use Rattle.wb_tasks.specs.Tables.{BlockJob, Reading, Writing, Displacing, Invalidating, Migrating, OnBlock, TaskJob, access_of, work}
 use Rattle.wb_tasks.specs.Plan.{Plan, table, want, after, after_fault_of, refused, got_of, exchange, gives_back, gives_up, may_take, is_worn, first_step, Fits}
 use Rattle.wb_tasks.specs.Run.{Leads}
 use Rattle.wb_tasks.specs.Ready.{AreFirst, Has, HasBlock, Suits, SuitsJob, IsOwnStep, IsAsked, MayMake, block_of, left_by}
@@ -84,16 +84,22 @@ own_seal hold access a b e f = ap (λ (h : Hold). is_own_seal h (SealWord b)) e 
 no_commit : (job : BlockJob) (clean : Bool) (most : ℕ) → IsAsked job (BeginCommit clean most) → ⊥
 no_commit (Reading part) clean most a = a
 no_commit (Writing part) clean most a = a
+no_commit (Displacing part) clean most a = a
+no_commit (Invalidating part) clean most a = a
 no_commit (Migrating migration part) clean most a = a
 
 no_end : (job : BlockJob) → IsAsked job EndCommit → ⊥
 no_end (Reading part) a = a
 no_end (Writing part) a = a
+no_end (Displacing part) a = a
+no_end (Invalidating part) a = a
 no_end (Migrating migration part) a = a
 
 gives_up_still : (job : BlockJob) → IsStill (gives_up job)
 gives_up_still (Reading part) = tt
 gives_up_still (Writing part) = tt
+gives_up_still (Displacing part) = tt
+gives_up_still (Invalidating part) = tt
 gives_up_still (Migrating migration part) = tt
 
 lets_go_still : (job : BlockJob) (step : DeviceStep) → IsStill (after_fault_of (OnBlock job) step)

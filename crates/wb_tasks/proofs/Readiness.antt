@@ -19,11 +19,11 @@ use Rattle.wb_words.specs.SharedWords.{word_at, value_of, place_in, dirty_in}
 use Rattle.wb_words.specs.Cards.{losing, holding, failing_at, is_own_number}
 use Rattle.wb_words.specs.Ready.{HasNext}
 use Rattle.wb_types.specs.declared.extent.Extent.{Extent}
-use Rattle.wb_tasks.specs.Tables.{BlockJob, Reading, Writing, Migrating, TaskJob, OnBlock, Flushing, Opening, is_write, access_of, work, place_read, read_step, read_count, write_count}
+use Rattle.wb_tasks.specs.Tables.{BlockJob, Reading, Writing, Displacing, Invalidating, Migrating, TaskJob, OnBlock, Flushing, Suspending, Opening, is_write, access_of, work, place_read, read_step, read_count, write_count}
 use Rattle.wb_tasks.proofs.Driving.{no_result}
 use Rattle.wb_tasks.proofs.Working.{Works, work_has}
-use Rattle.wb_tasks.specs.Ready.{MayTake, MayMake, block_of, HasBlock, KnowsNext, IsJobs, IsAsked, IsOwnStep, AreOwnSteps, IsParting, IsRest, Has, SuitsJob, Suits}
-use Rattle.wb_tasks.specs.Plan.{Plan, table, want, after, first_step, gives_back, gives_up, release_orders, node_writes, root_steps, commit_steps, lets_go, exchange, may_take, is_worn, Fits, got_of}
+use Rattle.wb_tasks.specs.Ready.{MayTake, MayMake, block_of, HasBlock, KnowsNext, IsJobs, IsAsked, IsOwnStep, AreOwnSteps, IsParting, IsRest, Has, AreBelow, SuitsJob, Suits}
+use Rattle.wb_tasks.specs.Plan.{Plan, table, want, after, first_step, gives_back, gives_up, release_orders, node_writes, root_steps, commit_steps, seal_looks, answer_at, lets_go, exchange, may_take, is_worn, Fits, got_of}
 use Rattle.wb_tasks.specs.declared.step.Answer.{Answer}
 use Rattle.wb_tasks.specs.declared.step.Answer.TheVariants.{Refused as Refuses}
 use Rattle.wb_tasks.specs.declared.step.DeskStep.TheVariants.{Map, Unmap, ReleaseOrder, BeginCommit, EndCommit}
@@ -55,11 +55,17 @@ rest_work job = work_has (λ place dirty ws. IsRest job true ws) job (by_job job
 
         last : (place : Option CBlock) (dirty : Bool) → IsRest (Reading part) true (read_count (place_read part.mode place) ∷ Cell (Release Shared part.block) ∷ [])
         last place dirty = counted (place_read part.mode place)
-    by_job (Writing part) = record { seal = λ c ws back r. (refl, refl, r); home = λ dirty e ws m r. (tt, r); cached = λ c dirty e ws sealed m r. (tt, r); through = λ c dirty e ws other m r. (tt, r); last = last }
+    by_job (Writing part) = record { seal = λ c ws back r. (refl, refl, r); home = λ dirty e ws m r. (tt, r); cached = λ c dirty e ws sealed m r. (tt, r); through = λ c dirty e ws other m r. (tt, r); defers = λ c dirty past. (refl, refl, tt); last = last }
       where
         last : (place : Option CBlock) (dirty : Bool) → IsRest (Writing part) true (Cell (Finish part.block) ∷ write_count place ∷ Cell (Release Owned part.block) ∷ [])
         last None dirty = (refl, refl, refl, (refl, refl, tt))
         last (Some c) dirty = (refl, refl, refl, (refl, refl, tt))
+    by_job (Displacing part) = record { drops = λ c dirty ws r. (refl, (refl, refl, r)); each = λ dirty e ws m r. (refl, r); last = last }
+      where
+        last : (was : Option CBlock) (dirty : Bool) → IsRest (Displacing part) true (Cell (Finish part.block) ∷ write_count was ∷ Cell (Release Owned part.block) ∷ [])
+        last None dirty = (refl, refl, refl, (refl, refl, tt))
+        last (Some c) dirty = (refl, refl, refl, (refl, refl, tt))
+    by_job (Invalidating part) = record { drops = λ c dirty ws r. (refl, (refl, refl, r)); last = λ dirty. (refl, refl, tt) }
     by_job (Migrating (Promote c) part) = record { each = λ place dirty e ws m r. (refl, (refl, r)); last = λ place dirty. ((refl, refl), (refl, refl, (refl, refl, tt))) }
     by_job (Migrating Demote part) = record { each = λ c e ws m r. (refl, (refl, r)); last = λ place dirty. ((refl, refl), (refl, refl, (refl, refl, tt))) }
     by_job (Migrating Clean part) = record { each = λ c e ws m r. (refl, (refl, r)); last = λ place dirty. (refl, refl, (refl, refl, refl)) }
@@ -90,11 +96,15 @@ either P false s t p q = q refl
 known : (job : BlockJob) (value : ℕ) → is_worn (OnBlock job) value ≡ false → KnowsNext job true (Some value)
 known (Reading part) value e = tt
 known (Migrating migration part) value e = tt
+known (Invalidating part) value e = tt
+known (Displacing part) value e = (value, refl, λ worn. absurd (true≢false (sym (eq-eqb value (2 ^ 64 - 1) worn) ∙ e)))
 known (Writing part) value e = (value, refl, λ worn. absurd (true≢false (sym (eq-eqb value (2 ^ 64 - 1) worn) ∙ e)))
 
 knows_less : (job : BlockJob) (known : Option ℕ) → KnowsNext job false known
 knows_less (Reading part) known = tt
 knows_less (Writing part) known = tt
+knows_less (Displacing part) known = tt
+knows_less (Invalidating part) known = tt
 knows_less (Migrating migration part) known = tt
 
 suits : (blocks : ℕ) (job : BlockJob) (card : Card) (ws : List Want) (answer : Answer) → (block_of job).0 < blocks → Has job card ws → Suits blocks (record { job = OnBlock job; steps = ws; answer = answer }) card
@@ -106,6 +116,8 @@ give_back blocks job card answer l h = suits blocks job card (gives_back (OnBloc
 parting : (job : BlockJob) → IsParting job (gives_up job)
 parting (Reading part) = tt
 parting (Writing part) = tt
+parting (Displacing part) = tt
+parting (Invalidating part) = tt
 parting (Migrating migration part) = refl
 
 let_go : (blocks : ℕ) (job : BlockJob) (card : Card) (answer : Answer) → (block_of job).0 < blocks → HasBlock job card → Suits blocks (record { job = OnBlock job; steps = lets_go (OnBlock job); answer = answer }) card
@@ -127,6 +139,8 @@ parted job card (End answer ∷ ws) p h = absurd p
 -- who writes owns its block
 writes_owned : (job : BlockJob) (device : Dev) (e : Extent) → IsJobs job (Write device e) → access_of job ≡ Owned
 writes_owned (Writing part) device e i = refl
+writes_owned (Displacing part) device e i = refl
+writes_owned (Invalidating part) device e i = absurd i
 writes_owned (Migrating migration part) device e i = refl
 writes_owned (Reading part) device e i = absurd i
 
@@ -141,6 +155,8 @@ reads_or_writes job (Read device e) i = tt
 reads_or_writes job (Write device e) i = tt
 reads_or_writes (Reading part) step i = absurd i
 reads_or_writes (Writing part) step i = absurd i
+reads_or_writes (Displacing part) step i = absurd i
+reads_or_writes (Invalidating part) step i = absurd i
 reads_or_writes (Migrating migration part) step i = absurd i
 
 -- and so does who enters or removes its block
@@ -148,11 +164,15 @@ maps_owned : (job : BlockJob) (block : OBlock) (place : CBlock) → IsAsked job 
 maps_owned (Migrating migration part) block place i = (refl, i.0)
 maps_owned (Reading part) block place i = absurd i
 maps_owned (Writing part) block place i = absurd i
+maps_owned (Displacing part) block place i = absurd i
+maps_owned (Invalidating part) block place i = absurd i
 
 unmaps_owned : (job : BlockJob) (block : OBlock) → IsAsked job (Unmap block) → (access_of job ≡ Owned) × (block ≡ block_of job)
 unmaps_owned (Migrating migration part) block i = (refl, i.0)
 unmaps_owned (Reading part) block i = absurd i
 unmaps_owned (Writing part) block i = absurd i
+unmaps_owned (Displacing part) block i = (refl, i)
+unmaps_owned (Invalidating part) block i = (refl, i)
 
 -- who looks at a number of its own block knows it then
 own_number : (access : Access) (a b : OBlock) (hold : Hold) → hold ≡ Held access a → b ≡ a → is_own_number hold (Number b) ≡ true
@@ -189,7 +209,7 @@ module _ (blocks : ℕ) (job : BlockJob) (card card' : Card) (answer : Answer) (
       (λ can. suits blocks job card' (exchange (OnBlock job) value) answer inside (hold, refl, refl, can, refl))
       (λ _. suits blocks job card' [] (Refuses Busy) inside hold)
   saw (SealWord b) ws value h made = let has : HasBlock job card' = ap (λ (c : Card). c.hold) made.2 ∙ h.0 in
-      suits blocks job card' (Cell (Look (Number b)) ∷ work job (place_in value) (dirty_in value)) answer inside (has, h.1, rest_work job (place_in value) (dirty_in value))
+      suits blocks job card' (Cell (Look (Number b)) ∷ work job (place_in value) (dirty_in value)) (answer_at job (place_in value) answer) inside (has, h.1, rest_work job (place_in value) (dirty_in value))
   saw (Number b) ws value h made = let has : HasBlock job card' = ap (λ (c : Card). c.hold) made.2 ∙ h.0 in
       let found : ℕ = value_of made.0 (Number b) in
       let learnt : card'.number ≡ Some value = ap (λ (c : Card). c.number) made.2 ∙ (ap (λ (t : Bool). cond t (Some found) card.number) (own_number (access_of job) (block_of job) b card.hold h.0 h.1) ∙ ap (λ z. Some z) (sym (word_is value found made.1))) in
@@ -297,6 +317,51 @@ flush_keeps blocks serves most card card' answer (Desk (Unmap b) ∷ ws) got h o
 flush_keeps blocks serves most card card' answer (End b ∷ ws) got h o f made = absurd (no_result b got f)
 flush_keeps blocks serves most card card' answer (w ∷ ws) got h o f made = absurd f
 
+-- so has a suspend
+looks_own : (all : List OBlock) (most : ℕ) (blocks : List OBlock) (ws : List Want) → ((b : OBlock) → Contains blocks b → Contains all b) → AreOwnSteps (Suspending all most) ws → AreOwnSteps (Suspending all most) (seal_looks blocks ++ ws)
+looks_own all most [] ws each o = o
+looks_own all most (b ∷ blocks) ws each o = (each b (Contains-first b blocks), looks_own all most blocks ws (λ x c. each x (Contains-behind b blocks x c)) o)
+
+closing_own : (all : List OBlock) (most nodes first : ℕ) → first + nodes ≤ most → AreOwnSteps (Suspending all most) ((node_writes nodes first ++ root_steps) ++ Cell SetSuspended ∷ [])
+closing_own all most zero first l = (tt, (tt, (tt, (tt, (tt, tt)))))
+closing_own all most (suc nodes) first l = (omega (arith, l), closing_own all most nodes (first + 1) (omega (arith, l)))
+
+suspend_keeps : (count : ℕ) (all : List OBlock) (most : ℕ) (card card' : Card) (answer : Answer) (ws : List Want) (got : Got) → card.hold ≡ Nothing → AreBelow count all → AreOwnSteps (Suspending all most) ws → Fits (first_step ws answer) got →
+    MayMake (first_step ws answer) got card card' → Suits count (after (record { job = Suspending all most; steps = ws; answer = answer }) got) card'
+suspend_keeps count all most card card' answer (Cell (Look Fail) ∷ ws) (Word value) h below o f made = let free : card'.hold ≡ Nothing = ap (λ (c : Card). c.hold) made.2 ∙ h in
+    one_of count (Suspending all most) card' (value == 0) ws answer (Refuses Failed) (free, below, o.1) (free, below, tt)
+suspend_keeps count all most card card' answer (Cell (Look (SealWord b)) ∷ ws) (Word value) h below o f made = (ap (λ (c : Card). c.hold) made.2 ∙ h, below, o.1)
+suspend_keeps count all most card card' answer (Cell SetFailed ∷ ws) Done h below o f made = (ap (λ (c : Card). c.hold) made.2 ∙ (ap (λ (z : Hold). (failing_at z card).hold) h ∙ h), below, o.1)
+suspend_keeps count all most card card' answer (Cell SetSuspended ∷ ws) Done h below o f made = (ap (λ (c : Card). c.hold) made.2 ∙ (ap (λ (z : Hold). (failing_at z card).hold) h ∙ h), below, o.1)
+suspend_keeps count all most card card' answer (Device (Sync device) ∷ ws) Done h below o f made = (ap (λ (c : Card). c.hold) made ∙ h, below, o.1)
+suspend_keeps count all most card card' answer (Device (Sync device) ∷ ws) Fault h below o f made = (ap (λ (c : Card). c.hold) made ∙ h, below, (tt, tt))
+suspend_keeps count all most card card' answer (Device (WriteNode number) ∷ ws) Done h below o f made = (ap (λ (c : Card). c.hold) made ∙ h, below, o.1)
+suspend_keeps count all most card card' answer (Device (WriteNode number) ∷ ws) Fault h below o f made = (ap (λ (c : Card). c.hold) made ∙ h, below, (tt, tt))
+suspend_keeps count all most card card' answer (Device WriteRoot ∷ ws) Done h below o f made = (ap (λ (c : Card). c.hold) made ∙ h, below, o.1)
+suspend_keeps count all most card card' answer (Device WriteRoot ∷ ws) Fault h below o f made = (ap (λ (c : Card). c.hold) made ∙ h, below, (tt, tt))
+suspend_keeps count all most card card' answer (Desk (BeginCommit clean nodes) ∷ ws) (Began n) h below o f made = (ap (λ (c : Card). c.hold) made ∙ h, below, (tt, (tt, closing_own all most n 0 (omega (arith, subst (λ (m : ℕ). n ≤ m) o.0.1 f)))))
+suspend_keeps count all most card card' answer (Desk (BeginCommit clean nodes) ∷ ws) (Refused Busy) h below o f made = (ap (λ (c : Card). c.hold) made ∙ h, below, tt)
+suspend_keeps count all most card card' answer (Desk (BeginCommit clean nodes) ∷ ws) (Refused Memory) h below o f made = (ap (λ (c : Card). c.hold) made ∙ h, below, tt)
+suspend_keeps count all most card card' answer (Desk (BeginCommit clean nodes) ∷ ws) (Refused GenerationEnd) h below o f made = (ap (λ (c : Card). c.hold) made ∙ h, below, tt)
+suspend_keeps count all most card card' answer (Desk EndCommit ∷ ws) Done h below o f made = (ap (λ (c : Card). c.hold) made ∙ h, below, o.1)
+suspend_keeps count all most card card' answer [] got h below o f made = absurd (no_result answer got f)
+suspend_keeps count all most card card' answer (Cell (Look (LockWord b)) ∷ ws) got h below o f made = absurd o.0
+suspend_keeps count all most card card' answer (Cell (Look (Number b)) ∷ ws) got h below o f made = absurd o.0
+suspend_keeps count all most card card' answer (Cell (Look (CountWord kind)) ∷ ws) got h below o f made = absurd o.0
+suspend_keeps count all most card card' answer (Cell (Take access b seen) ∷ ws) got h below o f made = absurd o.0
+suspend_keeps count all most card card' answer (Cell (Release access b) ∷ ws) got h below o f made = absurd o.0
+suspend_keeps count all most card card' answer (Cell (Seal b place dirty) ∷ ws) got h below o f made = absurd o.0
+suspend_keeps count all most card card' answer (Cell (Finish b) ∷ ws) got h below o f made = absurd o.0
+suspend_keeps count all most card card' answer (Cell (Count kind) ∷ ws) got h below o f made = absurd o.0
+suspend_keeps count all most card card' answer (Device (Read device e) ∷ ws) got h below o f made = absurd o.0
+suspend_keeps count all most card card' answer (Device (Write device e) ∷ ws) got h below o f made = absurd o.0
+suspend_keeps count all most card card' answer (Device (ReadMetadata left) ∷ ws) got h below o f made = absurd o.0
+suspend_keeps count all most card card' answer (Desk (Map b place) ∷ ws) got h below o f made = absurd o.0
+suspend_keeps count all most card card' answer (Desk (Unmap b) ∷ ws) got h below o f made = absurd o.0
+suspend_keeps count all most card card' answer (Desk (ReleaseOrder b) ∷ ws) got h below o f made = absurd o.0
+suspend_keeps count all most card card' answer (End b ∷ ws) got h below o f made = absurd (no_result b got f)
+suspend_keeps count all most card card' answer (w ∷ ws) got h below o f made = absurd f
+
 opening_keeps : (blocks left : ℕ) (card card' : Card) (answer : Answer) (ws : List Want) (got : Got) → card.hold ≡ Nothing → AreOwnSteps (Opening left) ws → Fits (first_step ws answer) got →
     MayMake (first_step ws answer) got card card' → Suits blocks (after (record { job = Opening left; steps = ws; answer = answer }) got) card'
 opening_keeps blocks left card card' answer (Device (Sync device) ∷ ws) Done h o f made = (ap (λ (c : Card). c.hold) made ∙ h, o.1)
@@ -322,6 +387,7 @@ keeps_ready blocks s card card' got h f made = by_job s.job s.steps s.answer h f
     by_job : (job : TaskJob) (ws : List Want) (answer : Answer) → SuitsJob blocks job card ws → Fits (first_step ws answer) got → MayMake (first_step ws answer) got card card' → Suits blocks (after (record { job = job; steps = ws; answer = answer }) got) card'
     by_job (OnBlock job) ws answer h f made = keeps_on blocks job card card' answer h.0 ws got h.1 f made
     by_job (Flushing serves most) ws answer h f made = flush_keeps blocks serves most card card' answer ws got h.0 h.1 f made
+    by_job (Suspending all most) ws answer h f made = suspend_keeps blocks all most card card' answer ws got h.0 h.1 h.2 f made
     by_job (Opening left) ws answer h f made = opening_keeps blocks left card card' answer ws got h.0 h.1 f made
 
 -- What comes next.
@@ -329,6 +395,9 @@ keeps_ready blocks s card card' got h f made = by_job s.job s.steps s.answer h f
 knows_next : (job : BlockJob) (next : Bool) (number : Option ℕ) → is_write job ≡ true → next ≡ true → KnowsNext job next number → (access_of job ≡ Owned) × HasNext number
 knows_next (Writing part) true number i n k = (refl, k)
 knows_next (Writing part) false number i n k = absurd (cc)
+knows_next (Displacing part) true number i n k = (refl, k)
+knows_next (Displacing part) false number i n k = absurd (cc)
+knows_next (Invalidating part) next number i n k = absurd (cc)
 knows_next (Reading part) next number i n k = absurd (cc)
 knows_next (Migrating migration part) next number i n k = absurd (cc)
 
@@ -371,6 +440,18 @@ free_for blocks serves most card (Desk (ReleaseOrder b) ∷ ws) answer h o = h
 free_for blocks serves most card (End a ∷ ws) answer h o = tt
 free_for blocks serves most card (w ∷ ws) answer h o = absurd o.0
 
+suspends_for : (count : ℕ) (all : List OBlock) (most : ℕ) (card : Card) (ws : List Want) (answer : Answer) → card.hold ≡ Nothing → AreBelow count all → AreOwnSteps (Suspending all most) ws → MayTake count card (first_step ws answer)
+suspends_for count all most card [] answer h below o = tt
+suspends_for count all most card (Cell (Look Fail) ∷ ws) answer h below o = tt
+suspends_for count all most card (Cell (Look (SealWord b)) ∷ ws) answer h below o = below b o.0
+suspends_for count all most card (Cell SetFailed ∷ ws) answer h below o = tt
+suspends_for count all most card (Cell SetSuspended ∷ ws) answer h below o = tt
+suspends_for count all most card (Device step ∷ ws) answer h below o = tt
+suspends_for count all most card (Desk (BeginCommit clean nodes) ∷ ws) answer h below o = h
+suspends_for count all most card (Desk EndCommit ∷ ws) answer h below o = h
+suspends_for count all most card (End a ∷ ws) answer h below o = tt
+suspends_for count all most card (w ∷ ws) answer h below o = absurd o.0
+
 opens_for : (blocks left : ℕ) (card : Card) (ws : List Want) (answer : Answer) → AreOwnSteps (Opening left) ws → MayTake blocks card (first_step ws answer)
 opens_for blocks left card [] answer o = tt
 opens_for blocks left card (Device step ∷ ws) answer o = tt
@@ -384,6 +465,7 @@ is_ready blocks s card h = by_job s.job h
     by_job : (job : TaskJob) → SuitsJob blocks job card s.steps → MayTake blocks card (first_step s.steps s.answer)
     by_job (OnBlock job) h = ready_for blocks job card s.steps s.answer h.0 h.1
     by_job (Flushing serves most) h = free_for blocks serves most card s.steps s.answer h.0 h.1
+    by_job (Suspending all most) h = suspends_for blocks all most card s.steps s.answer h.0 h.1 h.2
     by_job (Opening left) h = opens_for blocks left card s.steps s.answer h.1
 
 -- each step on a device or the desk is one of the job's own
@@ -408,6 +490,7 @@ is_own_step blocks s card h = by_job s.job h
     by_job : (job : TaskJob) → SuitsJob blocks job card s.steps → IsOwnStep job (first_step s.steps s.answer)
     by_job (OnBlock job) h = own_step job card s.steps s.answer h.1
     by_job (Flushing serves most) h = own_first (Flushing serves most) s.steps s.answer tt h.1
+    by_job (Suspending all most) h = own_first (Suspending all most) s.steps s.answer tt h.2
     by_job (Opening left) h = own_first (Opening left) s.steps s.answer tt h.1
 
 -- no result turns a task to another job
@@ -461,6 +544,9 @@ job_stays s got = job_stays_on s.job s.steps s.answer got
 pub flush_begins : (blocks : ℕ) (serves : List OBlock) (most : ℕ) (card : Card) → card.hold ≡ Nothing → Suits blocks (table (Flushing serves most)) card
 flush_begins blocks serves most card h = (h, (tt, ((refl, refl), tt)))
 
+pub suspend_begins : (count : ℕ) (blocks : List OBlock) (most : ℕ) (card : Card) → AreBelow count blocks → card.hold ≡ Nothing → Suits count (table (Suspending blocks most)) card
+suspend_begins count blocks most card below h = (h, below, (tt, looks_own blocks most blocks _ (λ b c. c) ((refl, refl), tt)))
+
 pub opening_begins : (blocks left : ℕ) (card : Card) → card.hold ≡ Nothing → Suits blocks (table (Opening left)) card
 opening_begins blocks left card h = (h, (tt, (tt, (tt, (tt, (tt, (tt, tt)))))))
 
@@ -481,4 +567,5 @@ ends_holding_nothing blocks s card end h e = by_job s.job h
     by_job : (job : TaskJob) → SuitsJob blocks job card s.steps → card.hold ≡ Nothing
     by_job (OnBlock job) h = ended job card s.steps s.answer end h.1 e
     by_job (Flushing serves most) h = h.0
+    by_job (Suspending blocks most) h = h.0
     by_job (Opening left) h = h.0

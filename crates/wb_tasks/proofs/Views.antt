@@ -11,12 +11,13 @@ use Rattle.wb_types.specs.declared.refusal.Refusal.TheVariants.{Io}
 use Rattle.wb_words.specs.declared.grip.GripStage.{GripStage}
 use Rattle.wb_words.specs.declared.grip.GripStage.TheVariants.{LookFail, LookLock, Exchange, LookSeal, LookNumber}
 use Rattle.wb_tasks.specs.Tables.{BlockRange, OnBlock, device_at, cache_extent, places_written, read_step, write_step, writes}
-use Rattle.wb_tasks.specs.Plan.{Plan, want, after, first_step, later_steps, Fits}
-use Rattle.wb_tasks.specs.Phases.{job_on_block, write_end, steps_in, left_in, has_order}
+use Rattle.wb_tasks.specs.Plan.{Plan, want, after, after_look, first_step, later_steps, Fits}
+use Rattle.wb_tasks.specs.Phases.{job_on_block, acquiring, after_seeing, write_end, written_mode, steps_in, left_in, has_order}
+use Rattle.wb_tasks.specs.declared.acquire.Seen.{Seen}
 use Rattle.wb_tasks.specs.declared.block.Work.{Work}
-use Rattle.wb_tasks.specs.declared.block.Work.TheVariants.{Read as ToRead, Write as ToWrite, Migrate as ToMigrate}
+use Rattle.wb_tasks.specs.declared.block.Work.TheVariants.{Read as ToRead, Write as ToWrite, Displace as ToDisplace, Invalidate as ToInvalidate, Migrate as ToMigrate}
 use Rattle.wb_tasks.specs.declared.block.Phase.{Phase}
-use Rattle.wb_tasks.specs.declared.block.Phase.TheVariants.{Acquires, Dirties, Reads, Writes, Mirrors, Counts, Copies, Puts, Seals, Releases, GivesUp, SetsFailed, Ended}
+use Rattle.wb_tasks.specs.declared.block.Phase.TheVariants.{Acquires, Dirties, Drops, SealsHome, Reads, Writes, Mirrors, Counts, Copies, Puts, Seals, Releases, GivesUp, SetsFailed, Ended}
 use Rattle.wb_tasks.specs.declared.step.Migration.TheVariants.{Promote, Demote, Clean}
 use Rattle.wb_tasks.specs.declared.step.DeskStep.TheVariants.{BeginCommit}
 use Rattle.wb_tasks.specs.declared.step.DeviceStep.TheVariants.{Write, ReadMetadata}
@@ -30,13 +31,21 @@ use Rattle.wb_tasks.specs.declared.step.Got.TheVariants.{Word, Fault, Refused, B
 pub by_view : (v old new : Plan) (got : Got) → v ≡ old → Fits (want old) got → (Fits (want v) got → new ≡ after v got) → new ≡ after old got
 by_view v old new got e h f = f (subst (λ (s : Plan). Fits (want s) got) (sym e) h) ∙ ap (λ s. after s got) e
 
+-- a job that has its block stands where what it saw leaves it
+pub left_by_look : (work : Work) (part : BlockRange) (now left : Phase) (stage : GripStage) (extents : List Extent) (old : Plan) (word : ℕ) (seen : Seen) → now ≡ Acquires stage → left_in work part now extents ≡ old → Fits (want old) (Word word) →
+    (Fits (want (acquiring (job_on_block work part) stage)) (Word word) → after_seeing (job_on_block work part) seen ≡ after_look (acquiring (job_on_block work part) stage) (want (acquiring (job_on_block work part) stage)) word) →
+    left_in work part left part.extents ≡ after_seeing (job_on_block work part) seen → left_in work part left part.extents ≡ after_look old (want old) word
+left_by_look work part now left stage extents old word seen e is f saw stands =
+    let at : acquiring (job_on_block work part) stage ≡ old = ap (λ (p : Phase). left_in work part p extents) (sym e) ∙ is in
+    stands ∙ saw (subst (λ (s : Plan). Fits (want s) (Word word)) (sym at) f) ∙ ap (λ (s : Plan). after_look s (want s) word) at
+
 -- where a write puts an extent of a block at this place first, and that it puts it at that place then
-abbrev pub IsWritten : BlockRange → Option CBlock → Option CBlock → Bool → Type 0
-IsWritten part place to again = places_written part.mode place ≡ to ∷ (if again then place ∷ [] else [])
+abbrev pub IsWritten : Work → BlockRange → Option CBlock → Option CBlock → Bool → Type 0
+IsWritten work part place to again = places_written (written_mode work part.mode) place ≡ to ∷ (if again then place ∷ [] else [])
 
 -- the steps of a write, with an extent before those that are left, where that is put at these places
 abbrev writes_at : Work → BlockRange → Option CBlock → Extent → List Extent → List (Option CBlock) → List Want
-writes_at work part place e extents places = (map (λ to. write_step part to e) places ++ writes part (places_written part.mode place) extents) ++ write_end work part place
+writes_at work part place e extents places = (map (λ to. write_step part to e) places ++ writes part (places_written (written_mode work part.mode) place) extents) ++ write_end work part place
 
 -- What holds of every write of an extent holds of one at a place, and of the next step of a write that has an extent left.
 at_place : (part : BlockRange) (place : Option CBlock) (e : Extent) (Q : Want → Type 0) → ((device : Dev) (x : Extent) → Q (Device (Write device x))) → Q (write_step part place e)
@@ -56,6 +65,10 @@ after_failed_read ToRead part None e ws extents = refl
 after_failed_read ToRead part (Some c) e ws extents = refl
 after_failed_read ToWrite part None e ws extents = refl
 after_failed_read ToWrite part (Some c) e ws extents = refl
+after_failed_read ToDisplace part None e ws extents = refl
+after_failed_read ToDisplace part (Some c) e ws extents = refl
+after_failed_read ToInvalidate part None e ws extents = refl
+after_failed_read ToInvalidate part (Some c) e ws extents = refl
 after_failed_read (ToMigrate migration) part None e ws extents = refl
 after_failed_read (ToMigrate migration) part (Some c) e ws extents = refl
 
@@ -68,7 +81,7 @@ after_failed_write work part (Some c) e ws extents = refl
 abbrev pub FailsTo : Work → BlockRange → Phase → Phase → Type 0
 FailsTo work part (Reads place) left = left ≡ Releases (has_order work) (Refuses (Io (device_at place)))
 FailsTo work part (Copies from to) left = left ≡ Releases (has_order work) (Refuses (Io (device_at from)))
-FailsTo work part (Writes place) left = (to : Option CBlock) × (again : Bool) × IsWritten part place to again × (left ≡ SetsFailed (device_at to))
+FailsTo work part (Writes place) left = (to : Option CBlock) × (again : Bool) × IsWritten work part place to again × (left ≡ SetsFailed (device_at to))
 FailsTo work part (Mirrors place e) left = left ≡ SetsFailed (device_at place)
 FailsTo work part (Puts from to e) left = left ≡ SetsFailed (device_at to)
 FailsTo work part phase left = ⊥
@@ -79,6 +92,8 @@ after_failed work part (Reads (Some c)) left [] f h = absurd h
 after_failed work part (Reads place) left (e ∷ extents) f h = rw f (after_failed_read work part place e (later_steps (steps_in work part (Reads place) (e ∷ extents))) (e ∷ extents))
 after_failed ToRead part (Copies from to) left [] f h = absurd h
 after_failed ToWrite part (Copies from to) left [] f h = absurd h
+after_failed ToDisplace part (Copies from to) left [] f h = absurd h
+after_failed ToInvalidate part (Copies from to) left [] f h = absurd h
 after_failed (ToMigrate (Promote c)) part (Copies from to) left [] f h = absurd h
 after_failed (ToMigrate Demote) part (Copies from to) left [] f h = absurd h
 after_failed (ToMigrate Clean) part (Copies from to) left [] f h = absurd h
@@ -104,6 +119,8 @@ after_refused_entry (ToMigrate Demote) part (Copies from to) [] refusal h = absu
 after_refused_entry (ToMigrate Clean) part (Copies from to) [] refusal h = absurd h
 after_refused_entry ToRead part (Copies from to) [] refusal h = absurd h
 after_refused_entry ToWrite part (Copies from to) [] refusal h = absurd h
+after_refused_entry ToDisplace part (Copies from to) [] refusal h = absurd h
+after_refused_entry ToInvalidate part (Copies from to) [] refusal h = absurd h
 after_refused_entry work part (Copies None to) (e ∷ extents) refusal h = absurd h
 after_refused_entry work part (Copies (Some c) to) (e ∷ extents) refusal h = absurd h
 after_refused_entry work part (Acquires LookFail) extents refusal h = absurd h
@@ -112,12 +129,14 @@ after_refused_entry work part (Acquires (Exchange seen)) extents refusal h = abs
 after_refused_entry work part (Acquires LookSeal) extents refusal h = absurd h
 after_refused_entry work part (Acquires (LookNumber seal)) extents refusal h = absurd h
 after_refused_entry work part (Dirties c) extents refusal h = absurd h
+after_refused_entry work part (Drops c) extents refusal h = absurd h
+after_refused_entry work part (SealsHome c) extents refusal h = absurd h
 after_refused_entry work part (Reads None) [] refusal h = absurd h
 after_refused_entry work part (Reads (Some c)) [] refusal h = absurd h
 after_refused_entry work part (Reads None) (e ∷ extents) refusal h = absurd h
 after_refused_entry work part (Reads (Some c)) (e ∷ extents) refusal h = absurd h
 after_refused_entry work part (Writes place) [] refusal h = absurd h
-after_refused_entry work part (Writes place) (e ∷ extents) refusal h = absurd (at_first part part.mode place e _ (write_end work part place) (λ (w : Want). Fits w (Refused refusal) → ⊥) (λ device x k. k) h)
+after_refused_entry work part (Writes place) (e ∷ extents) refusal h = absurd (at_first part (written_mode work part.mode) place e _ (write_end work part place) (λ (w : Want). Fits w (Refused refusal) → ⊥) (λ device x k. k) h)
 after_refused_entry work part (Mirrors None e) extents refusal h = absurd h
 after_refused_entry work part (Mirrors (Some c) e) extents refusal h = absurd h
 after_refused_entry work part (Counts None) extents refusal h = absurd h
@@ -139,6 +158,8 @@ IsAside want = Unit {0}
 aside : (work : Work) (part : BlockRange) (phase : Phase) (extents : List Extent) → IsAside (want (left_in work part phase extents))
 aside ToRead part (Copies from to) [] = tt
 aside ToWrite part (Copies from to) [] = tt
+aside ToDisplace part (Copies from to) [] = tt
+aside ToInvalidate part (Copies from to) [] = tt
 aside (ToMigrate (Promote c)) part (Copies from to) [] = tt
 aside (ToMigrate Demote) part (Copies from to) [] = tt
 aside (ToMigrate Clean) part (Copies from to) [] = tt
@@ -150,12 +171,14 @@ aside work part (Acquires (Exchange seen)) extents = tt
 aside work part (Acquires LookSeal) extents = tt
 aside work part (Acquires (LookNumber seal)) extents = tt
 aside work part (Dirties c) extents = tt
+aside work part (Drops c) extents = tt
+aside work part (SealsHome c) extents = tt
 aside work part (Reads None) [] = tt
 aside work part (Reads (Some c)) [] = tt
 aside work part (Reads None) (e ∷ extents) = tt
 aside work part (Reads (Some c)) (e ∷ extents) = tt
 aside work part (Writes place) [] = tt
-aside work part (Writes place) (e ∷ extents) = at_first part part.mode place e _ (write_end work part place) IsAside (λ device x. tt)
+aside work part (Writes place) (e ∷ extents) = at_first part (written_mode work part.mode) place e _ (write_end work part place) IsAside (λ device x. tt)
 aside work part (Mirrors None e) extents = tt
 aside work part (Mirrors (Some c) e) extents = tt
 aside work part (Counts None) extents = tt
@@ -188,18 +211,22 @@ pub looks_first : (work : Work) (part : BlockRange) (phase : Phase) (extents : L
 looks_first work part (Acquires stage) extents word n h = n stage refl
 looks_first ToRead part (Copies from to) [] word n h = h
 looks_first ToWrite part (Copies from to) [] word n h = h
+looks_first ToDisplace part (Copies from to) [] word n h = h
+looks_first ToInvalidate part (Copies from to) [] word n h = h
 looks_first (ToMigrate (Promote c)) part (Copies from to) [] word n h = h
 looks_first (ToMigrate Demote) part (Copies from to) [] word n h = h
 looks_first (ToMigrate Clean) part (Copies from to) [] word n h = h
 looks_first work part (Copies None to) (e ∷ extents) word n h = h
 looks_first work part (Copies (Some c) to) (e ∷ extents) word n h = h
 looks_first work part (Dirties c) extents word n h = h
+looks_first work part (Drops c) extents word n h = h
+looks_first work part (SealsHome c) extents word n h = h
 looks_first work part (Reads None) [] word n h = h
 looks_first work part (Reads (Some c)) [] word n h = h
 looks_first work part (Reads None) (e ∷ extents) word n h = h
 looks_first work part (Reads (Some c)) (e ∷ extents) word n h = h
 looks_first work part (Writes place) [] word n h = h
-looks_first work part (Writes place) (e ∷ extents) word n h = at_first part part.mode place e _ (write_end work part place) (λ (w : Want). Fits w (Word word) → ⊥) (λ device x k. k) h
+looks_first work part (Writes place) (e ∷ extents) word n h = at_first part (written_mode work part.mode) place e _ (write_end work part place) (λ (w : Want). Fits w (Word word) → ⊥) (λ device x k. k) h
 looks_first work part (Mirrors None e) extents word n h = h
 looks_first work part (Mirrors (Some c) e) extents word n h = h
 looks_first work part (Counts None) extents word n h = h

@@ -7,19 +7,20 @@ use Rattle.wb_types.specs.declared.mode.Mode.TheVariants.{Writeback, Writethroug
 use Rattle.wb_types.specs.declared.number.CBlock.{CBlock}
 use Rattle.wb_words.specs.declared.word.Access.TheVariants.{Shared, Owned}
 use Rattle.wb_words.specs.declared.step.CellStep.TheVariants.{Release, Seal, Finish}
-use Rattle.wb_tasks.specs.Tables.{BlockRange, BlockJob, Reading, Writing, Migrating, place_read, places_written, dirtying, read_step, write_step, read_count, write_count, writes, copies, ending, work}
+use Rattle.wb_tasks.specs.Tables.{BlockRange, BlockJob, Reading, Writing, Displacing, Invalidating, Migrating, place_read, dirtying, read_step, write_step, read_count, write_count, writes, writing, copies, ending, work}
+use Rattle.wb_tasks.specs.declared.step.DeskStep.TheVariants.{Unmap}
 use Rattle.wb_tasks.specs.declared.step.Migration.{Migration}
 use Rattle.wb_tasks.specs.declared.step.Migration.TheVariants.{Promote, Demote, Clean}
 use Rattle.wb_tasks.specs.declared.step.Want.{Want}
-use Rattle.wb_tasks.specs.declared.step.Want.TheVariants.{Cell}
+use Rattle.wb_tasks.specs.declared.step.Want.TheVariants.{Cell, Desk}
 
 -- Of steps, where the block stands at this place, its copy in the cache being dirty or not.
 abbrev pub OfSteps : Type 1
 OfSteps = Option CBlock → Bool → List Want → Type 0
 
 -- It holds of what a read or write ends with, and with each extent before that. In write-back a clean copy is sealed dirty before the
--- first, and so a copy in the cache is written where it is dirty alone; in the other modes a mapped block is written on the origin too,
--- or on it alone.
+-- first, and so a copy in the cache is written where it is dirty alone; in write-through a mapped block is written on the origin too, and
+-- in passthrough it is given back.
 pub record Reads (R : OfSteps) (part : BlockRange) : Type 0 where
   pub each : (place : Option CBlock) (dirty : Bool) (e : Extent) (ws : List Want) → Contains part.extents e → R place dirty ws → R place dirty (read_step part (place_read part.mode place) e ∷ ws)
   pub last : (place : Option CBlock) (dirty : Bool) → R place dirty (read_count (place_read part.mode place) ∷ Cell (Release Shared part.block) ∷ [])
@@ -29,7 +30,22 @@ pub record Writes (R : OfSteps) (part : BlockRange) : Type 0 where
   pub home : (dirty : Bool) (e : Extent) (ws : List Want) → Contains part.extents e → R None dirty ws → R None dirty (write_step part None e ∷ ws)
   pub cached : (c : CBlock) (dirty : Bool) (e : Extent) (ws : List Want) → (part.mode ≡ Writeback → dirty ≡ true) → Contains part.extents e → R (Some c) dirty ws → R (Some c) dirty (write_step part (Some c) e ∷ ws)
   pub through : (c : CBlock) (dirty : Bool) (e : Extent) (ws : List Want) → part.mode ≢ Writeback → Contains part.extents e → R (Some c) dirty ws → R (Some c) dirty (write_step part None e ∷ ws)
+  pub defers : (c : CBlock) (dirty : Bool) → part.mode ≡ Passthrough → R (Some c) dirty (Cell (Release Owned part.block) ∷ [])
   pub last : (place : Option CBlock) (dirty : Bool) → R place dirty (Cell (Finish part.block) ∷ write_count place ∷ Cell (Release Owned part.block) ∷ [])
+
+-- and of what comes after a mapped block was taken out of the cache, and so with that before: a write on the origin, which counts by
+-- where the block was, or nothing more
+abbrev pub Drops : OfSteps → BlockRange → Type 0
+Drops R part = (c : CBlock) (dirty : Bool) (ws : List Want) → R None false ws → R (Some c) dirty (Desk (Unmap part.block) ∷ Cell (Seal part.block None false) ∷ ws)
+
+pub record Displaces (R : OfSteps) (part : BlockRange) : Type 0 where
+  pub drops : Drops R part
+  pub each : (dirty : Bool) (e : Extent) (ws : List Want) → Contains part.extents e → R None dirty ws → R None dirty (write_step part None e ∷ ws)
+  pub last : (was : Option CBlock) (dirty : Bool) → R None dirty (Cell (Finish part.block) ∷ write_count was ∷ Cell (Release Owned part.block) ∷ [])
+
+pub record Invalidates (R : OfSteps) (part : BlockRange) : Type 0 where
+  pub drops : Drops R part
+  pub last : (dirty : Bool) → R None dirty (Cell (Release Owned part.block) ∷ [])
 
 -- and of what a migration ends with, and with the copy of each extent before that: into the cache, or from a dirty copy home
 pub record Fills (R : OfSteps) (part : BlockRange) (c : CBlock) : Type 0 where
@@ -43,6 +59,8 @@ pub record Returns (R : OfSteps) (migration : Migration) (part : BlockRange) : T
 abbrev pub Works : OfSteps → BlockJob → Type 0
 Works R (Reading part) = Reads R part
 Works R (Writing part) = Writes R part
+Works R (Displacing part) = Displaces R part
+Works R (Invalidating part) = Invalidates R part
 Works R (Migrating (Promote c) part) = Fills R part c
 Works R (Migrating Demote part) = Returns R Demote part
 Works R (Migrating Clean part) = Returns R Clean part
@@ -73,8 +91,7 @@ work_has R (Writing part) w place dirty = by_mode part.mode refl place dirty
     back : part.mode ≡ Writeback → (c : CBlock) → R (Some c) true (writes part (Some c ∷ []) part.extents ++ Cell (Finish part.block) ∷ write_count (Some c) ∷ Cell (Release Owned part.block) ∷ [])
     back is c = written_on (R (Some c) true) part.extents part (Some c ∷ []) part.extents _ (λ e m. m) (λ e us m r. w.cached c true e us (λ _. refl) m r) (w.last (Some c) true)
 
-    by_mode : (mode : Mode) → part.mode ≡ mode → (place : Option CBlock) (dirty : Bool) →
-        R place dirty (dirtying mode part.block place dirty ++ writes part (places_written mode place) part.extents ++ Cell (Finish part.block) ∷ write_count place ∷ Cell (Release Owned part.block) ∷ [])
+    by_mode : (mode : Mode) → part.mode ≡ mode → (place : Option CBlock) (dirty : Bool) → R place dirty (writing mode part place dirty)
     by_mode Writeback is None dirty = written_on (R None dirty) part.extents part (None ∷ []) part.extents _ (λ e m. m) (w.home dirty) (w.last None dirty)
     by_mode Writeback is (Some c) true = back is c
     by_mode Writeback is (Some c) false = w.seal c _ is (back is c)
@@ -82,7 +99,18 @@ work_has R (Writing part) w place dirty = by_mode part.mode refl place dirty
     by_mode Writethrough is (Some c) dirty = written_on (R (Some c) dirty) part.extents part (None ∷ Some c ∷ []) part.extents _ (λ e m. m)
         (λ e us m r. w.through c dirty e _ (other Writethrough is (λ q. cc)) m (w.cached c dirty e us (λ q. absurd (other Writethrough is (λ z. cc) q)) m r)) (w.last (Some c) dirty)
     by_mode Passthrough is None dirty = written_on (R None dirty) part.extents part (None ∷ []) part.extents _ (λ e m. m) (w.home dirty) (w.last None dirty)
-    by_mode Passthrough is (Some c) dirty = written_on (R (Some c) dirty) part.extents part (None ∷ []) part.extents _ (λ e m. m) (λ e us m r. w.through c dirty e us (other Passthrough is (λ q. cc)) m r) (w.last (Some c) dirty)
+    by_mode Passthrough is (Some c) dirty = w.defers c dirty is
+work_has R (Displacing part) w place dirty = by_place place
+  where
+    -- on the origin
+    home : (was : Option CBlock) (dirty : Bool) → R None dirty (writes part (None ∷ []) part.extents ++ Cell (Finish part.block) ∷ write_count was ∷ Cell (Release Owned part.block) ∷ [])
+    home was dirty = written_on (R None dirty) part.extents part (None ∷ []) part.extents _ (λ e m. m) (w.each dirty) (w.last was dirty)
+
+    by_place : (place : Option CBlock) → R place dirty (work (Displacing part) place dirty)
+    by_place None = home None dirty
+    by_place (Some c) = w.drops c dirty _ (home (Some c) false)
+work_has R (Invalidating part) w None dirty = w.last dirty
+work_has R (Invalidating part) w (Some c) dirty = w.drops c dirty _ (w.last false)
 work_has R (Migrating (Promote c) part) w place dirty = copied_on (R place dirty) part.extents part None (Some c) part.extents _ (λ e m. m) (w.each place dirty) (w.last place dirty)
 work_has R (Migrating Demote part) w None dirty = w.last None dirty
 work_has R (Migrating Demote part) w (Some c) false = w.last (Some c) false
@@ -102,5 +130,5 @@ read_work_back part back place dirty = ap (λ (mode : Mode). map (read_step part
 pub write_work_back : (part : BlockRange) → part.mode ≡ Writeback → (place : Option CBlock) (dirty : Bool) →
     work (Writing part) place dirty ≡ dirtying Writeback part.block place dirty ++ map (write_step part place) part.extents ++ Cell (Finish part.block) ∷ write_count place ∷ Cell (Release Owned part.block) ∷ []
 write_work_back part back place dirty =
-    ap (λ (mode : Mode). dirtying mode part.block place dirty ++ writes part (places_written mode place) part.extents ++ Cell (Finish part.block) ∷ write_count place ∷ Cell (Release Owned part.block) ∷ []) back
+    ap (λ (mode : Mode). writing mode part place dirty) back
     ∙ ap (λ (ws : List Want). dirtying Writeback part.block place dirty ++ ws ++ Cell (Finish part.block) ∷ write_count place ∷ Cell (Release Owned part.block) ∷ []) (writes_back part place part.extents)

@@ -1,25 +1,27 @@
 -- For what a job may be refused.
 use Rattle.std.specs.Prelude.{◌≡◌, ◌≢◌, ◌⊎◌, true, false, List, [], ◌∷◌}
 use Rattle.wb_types.specs.declared.refusal.Refusal.{Refusal}
-use Rattle.wb_types.specs.declared.refusal.Refusal.TheVariants.{Busy, Failed, Memory, Worn, NotFormatted, Damaged, Mismatch, NotClean, GenerationEnd, Io}
-use Rattle.wb_words.specs.declared.word.Word.TheVariants.{Cell as LockWord, Number, Fail}
+use Rattle.wb_types.specs.declared.refusal.Refusal.TheVariants.{Busy, Defer, Failed, Memory, Worn, NotFormatted, Damaged, Mismatch, NotClean, GenerationEnd, Io}
+use Rattle.wb_words.specs.declared.word.Word.TheVariants.{Cell as LockWord, Seal as SealWord, Number, Fail}
 use Rattle.wb_words.specs.declared.step.CellStep.TheVariants.{Look, Take}
 use Rattle.wb_tasks.specs.Tables.{TaskJob}
-use Rattle.wb_tasks.specs.Plan.{may_take, is_worn, device_of}
+use Rattle.wb_tasks.specs.Plan.{may_take, answer_seeing, is_worn, device_of}
+use Rattle.wb_tasks.specs.declared.step.Answer.TheVariants.{Done as Finished, Refused as Refuses}
 use Rattle.wb_tasks.specs.declared.step.Want.{Want}
 use Rattle.wb_tasks.specs.declared.step.Want.TheVariants.{Cell, Device, Desk}
 use Rattle.wb_tasks.specs.declared.step.Got.{Got}
 use Rattle.wb_tasks.specs.declared.step.Got.TheVariants.{Word, Lost, Fault, Refused}
 
 -- What a step has to give for a job to answer with a refusal: a fault of that device; a lock word that rules the exchange
--- out, a lost exchange, or a commit that is running; a fail word that is set; a desk, or a reading, without memory; a
--- number that is used up, where one is wanted; metadata that were read and hold no mapping that can be opened; a generation
+-- out, a lost exchange, or a commit that is running; a seal by which the desk is needed first; a fail word that is set; a desk, or a
+-- reading, without memory; a number that is used up, where one is wanted; metadata that were read and hold no mapping that can be opened; a generation
 -- that has no next one.
 abbrev pub Causes : TaskJob → Refusal → Want → Got → Type 0
 Causes job (Io device) (Device step) Fault = device_of step ≡ device
 Causes job Busy (Cell (Look (LockWord block))) (Word word) = may_take job word ≡ false
 Causes job Busy (Cell (Take taken block seen)) Lost = Unit {0}
 Causes job Busy (Desk step) (Refused given) = given ≡ Busy
+Causes job Defer (Cell (Look (SealWord block))) (Word word) = answer_seeing job word Finished ≡ Refuses Defer
 Causes job Failed (Cell (Look Fail)) (Word word) = word ≢ 0
 Causes job Memory (Desk step) (Refused given) = given ≡ Memory
 Causes job Memory (Device step) (Refused given) = given ≡ Memory

@@ -3,7 +3,7 @@ use Rattle.std.specs.Prelude.{◌+◌, ◌*◌, ℕ, List, [], ◌∷◌, length
 use Rattle.wb_types.specs.declared.mode.Mode.{Mode}
 use Rattle.wb_types.specs.declared.mode.Mode.TheVariants.{Writethrough}
 use Rattle.wb_words.specs.declared.word.Word.TheVariants.{Cell as LockWord, Seal as SealWord, Number}
-use Rattle.wb_tasks.specs.Tables.{BlockJob, Reading, Writing, Migrating, TaskJob, OnBlock, Flushing, Opening}
+use Rattle.wb_tasks.specs.Tables.{BlockJob, Reading, Writing, Displacing, Invalidating, Migrating, TaskJob, OnBlock, Flushing, Suspending, Opening}
 use Rattle.wb_tasks.specs.Plan.{Plan, lets_go}
 use Rattle.wb_words.specs.declared.step.CellStep.TheVariants.{Look}
 use Rattle.wb_tasks.specs.declared.step.DeviceStep.TheVariants.{ReadMetadata}
@@ -20,6 +20,8 @@ most_written mode = 1
 abbrev pub longest_work : BlockJob → ℕ
 longest_work (Reading part) = length part.extents + 3
 longest_work (Writing part) = most_written part.mode * length part.extents + 5
+longest_work (Displacing part) = length part.extents + 6
+longest_work (Invalidating part) = 4
 longest_work (Migrating migration part) = 2 * length part.extents + 4
 
 abbrev pub longest_work_of : TaskJob → ℕ
@@ -30,23 +32,36 @@ longest_work_of job = 2
 abbrev pub longest_failing_on : BlockJob → ℕ
 longest_failing_on (Reading part) = 2
 longest_failing_on (Writing part) = 2
+longest_failing_on (Displacing part) = 2
+longest_failing_on (Invalidating part) = 2
 longest_failing_on (Migrating migration part) = 3
 
 abbrev pub longest_failing : TaskJob → ℕ
 longest_failing (OnBlock job) = longest_failing_on job
 longest_failing (Flushing serves most) = 2
+longest_failing (Suspending blocks most) = 2
 longest_failing (Opening left) = 1
+
+-- from the end of a commit on: it, the bit of a suspend, and the answer
+abbrev pub longest_ending : TaskJob → ℕ
+longest_ending (Suspending blocks most) = 3
+longest_ending job = 2
 
 -- a commit of an image of so many nodes
 abbrev pub longest_commit : TaskJob → ℕ → ℕ
-longest_commit job most = most + 5 + max (longest_failing job) 2
+longest_commit job most = most + 5 + max (longest_failing job) (longest_ending job)
+
+-- what comes of a look at a seal: on a block the number and the work, else the steps that take so long
+abbrev pub longest_seeing : TaskJob → ℕ → ℕ
+longest_seeing (OnBlock job) later = 1 + longest_work job
+longest_seeing job later = later
 
 -- The most steps of a job with these steps to come, its answer counted. The lock word leaves the exchange and the
--- seal, the seal the number and the work.
+-- seal.
 abbrev pub longest_of : TaskJob → List Want → ℕ
 longest_of job [] = 1
 longest_of job (Cell (Look (LockWord block)) ∷ ws) = 4 + longest_work_of job
-longest_of job (Cell (Look (SealWord block)) ∷ ws) = 2 + longest_work_of job
+longest_of job (Cell (Look (SealWord block)) ∷ ws) = 1 + longest_seeing job (longest_of job ws)
 longest_of job (Cell (Look (Number block)) ∷ ws) = 1 + max 2 (longest_of job ws)
 longest_of job (Device (ReadMetadata left) ∷ ws) = left + 1 + max (longest_failing job) (longest_of job ws)
 longest_of job (Device step ∷ ws) = 1 + max (longest_failing job) (longest_of job ws)

@@ -1,16 +1,19 @@
 -- The plan of a task: what is left of it after each result; the plans of commits and openings.
-use Rattle.std.specs.Prelude.{◌+◌, ◌-◌, ◌^◌, ◌≤◌, ◌==◌, ◌&&◌, ℕ, zero, suc, Bool, false, List, [], ◌∷◌, ◌++◌, if◌then◌else◌}
+use Rattle.std.specs.Prelude.{◌+◌, ◌-◌, ◌^◌, ◌≤◌, ◌==◌, ◌&&◌, ℕ, zero, suc, Bool, true, false, List, [], ◌∷◌, ◌++◌, Option, Some, if◌then◌else◌}
+use Rattle.wb_types.specs.declared.mode.Mode.{Mode}
+use Rattle.wb_types.specs.declared.mode.Mode.TheVariants.{Passthrough}
 use Rattle.wb_types.specs.declared.mode.Dev.{Dev}
 use Rattle.wb_types.specs.declared.mode.Dev.TheVariants.{Metadata, Cache, Origin}
 use Rattle.wb_types.specs.declared.number.OBlock.{OBlock}
+use Rattle.wb_types.specs.declared.number.CBlock.{CBlock}
 use Rattle.wb_types.specs.declared.refusal.Refusal.{Refusal}
-use Rattle.wb_types.specs.declared.refusal.Refusal.TheVariants.{Busy, Failed, Memory, Worn, NotFormatted, Damaged, Mismatch, NotClean, GenerationEnd, Io}
+use Rattle.wb_types.specs.declared.refusal.Refusal.TheVariants.{Busy, Defer, Failed, Memory, Worn, NotFormatted, Damaged, Mismatch, NotClean, GenerationEnd, Io}
 use Rattle.wb_words.specs.declared.word.Word.TheVariants.{Cell as LockWord, Seal as SealWord, Number, Fail}
 use Rattle.wb_words.specs.SharedWords.{can_take, place_in, dirty_in}
-use Rattle.wb_tasks.specs.Tables.{BlockJob, Reading, Writing, Migrating, TaskJob, OnBlock, Flushing, Opening, is_write, range_of, access_of, acquire, taking, work}
+use Rattle.wb_tasks.specs.Tables.{BlockJob, Reading, Writing, Displacing, Invalidating, Migrating, TaskJob, OnBlock, Flushing, Suspending, Opening, is_write, range_of, access_of, acquire, taking, work}
 use Rattle.wb_words.specs.declared.step.CellResult.{CellResult}
 use Rattle.wb_words.specs.declared.step.CellResult.TheVariants.{Done as CellDone, Word as Found, Lost as CellLost}
-use Rattle.wb_words.specs.declared.step.CellStep.TheVariants.{Look, Take, Release, SetFailed}
+use Rattle.wb_words.specs.declared.step.CellStep.TheVariants.{Look, Take, Release, SetFailed, SetSuspended}
 use Rattle.wb_tasks.specs.declared.step.DeviceStep.{DeviceStep}
 use Rattle.wb_tasks.specs.declared.step.DeviceStep.TheVariants.{Read, Write, Sync, ReadMetadata, WriteNode, WriteRoot}
 use Rattle.wb_tasks.specs.declared.step.DeskStep.TheVariants.{Map, ReleaseOrder, BeginCommit, EndCommit}
@@ -23,7 +26,7 @@ use Rattle.wb_tasks.specs.declared.step.Got.TheVariants.{Begin, Done, Word, Lost
 
 -- What is left of a task: the job that it is on, the steps to come, as far as they are known, and the answer
 -- after them. The exchange is known once
--- the lock word was seen, the work once the seal was.
+-- the lock word was seen, the work once the seal was, and so is whether a write is to be deferred.
 pub record Plan : Type 0 where
   pub job : TaskJob
   pub steps : List Want
@@ -42,11 +45,23 @@ root_steps = Device (Sync Metadata) ∷ Device WriteRoot ∷ Device (Sync Metada
 abbrev pub commit_steps : ℕ → List Want
 commit_steps nodes = Device (Sync Cache) ∷ Device (Sync Origin) ∷ (node_writes nodes 0 ++ root_steps)
 
--- The steps of a job, as far as they are known before it begins. An opening makes everything durable, reads the metadata,
+-- what a commit is followed by: that of a suspend by the bit that says so
+abbrev pub begun_steps : TaskJob → ℕ → List Want
+begun_steps (Suspending blocks most) nodes = commit_steps nodes ++ Cell SetSuspended ∷ []
+begun_steps job nodes = commit_steps nodes
+
+-- the seals of these blocks, one after the other
+abbrev pub seal_looks : List OBlock → List Want
+seal_looks [] = []
+seal_looks (block ∷ blocks) = Cell (Look (SealWord block)) ∷ seal_looks blocks
+
+-- The steps of a job, as far as they are known before it begins. A suspend asks for a commit whose root is marked clean, once it has seen
+-- which blocks are dirty. An opening makes everything durable, reads the metadata,
 -- and writes a root that no longer says that the metadata are clean.
 abbrev pub first_steps : TaskJob → List Want
 first_steps (OnBlock job) = acquire (range_of job).block
 first_steps (Flushing serves most) = Cell (Look Fail) ∷ Desk (BeginCommit false most) ∷ []
+first_steps (Suspending blocks most) = Cell (Look Fail) ∷ (seal_looks blocks ++ Desk (BeginCommit true most) ∷ [])
 first_steps (Opening left) = Device (Sync Metadata) ∷ Device (Sync Cache) ∷ Device (Sync Origin) ∷ Device (ReadMetadata left) ∷ Device WriteRoot ∷ Device (Sync Metadata) ∷ []
 
 -- a job that has not begun
@@ -82,10 +97,12 @@ abbrev pub gives_back : TaskJob → List Want
 gives_back (OnBlock job) = release job ∷ []
 gives_back job = []
 
--- a migration gives up its order; a read or write has none
+-- a migration gives up its order; no other job on a block has one
 abbrev pub gives_up : BlockJob → List Want
 gives_up (Reading part) = []
 gives_up (Writing part) = []
+gives_up (Displacing part) = []
+gives_up (Invalidating part) = []
 gives_up (Migrating migration part) = Desk (ReleaseOrder part.block) ∷ []
 
 -- the orders of these blocks
@@ -98,6 +115,7 @@ release_orders (block ∷ blocks) = Desk (ReleaseOrder block) ∷ release_orders
 abbrev pub lets_go : TaskJob → List Want
 lets_go (OnBlock job) = release job ∷ gives_up job
 lets_go (Flushing serves most) = release_orders serves
+lets_go (Suspending blocks most) = []
 lets_go (Opening left) = []
 
 -- a job that takes a block may find that it can't
@@ -115,6 +133,25 @@ abbrev pub work_of : TaskJob → ℕ → List Want
 work_of (OnBlock job) seal = work job (place_in seal) (dirty_in seal)
 work_of job seal = []
 
+-- After its block's seal was seen a job on a block looks at the number, and then does its work; a suspend goes on to these.
+abbrev pub steps_seeing : TaskJob → OBlock → ℕ → List Want → List Want
+steps_seeing (OnBlock job) block seal steps = Cell (Look (Number block)) ∷ work_of (OnBlock job) seal
+steps_seeing job block seal steps = steps
+
+-- in passthrough a write needs the desk first, where its block is mapped
+abbrev pub deferring : Mode → Option CBlock → Answer → Answer
+deferring Passthrough (Some c) answer = Refuses Defer
+deferring mode place answer = answer
+
+-- what a job whose block stands at this place answers, where else it would answer so
+abbrev pub answer_at : BlockJob → Option CBlock → Answer → Answer
+answer_at (Writing part) place answer = deferring part.mode place answer
+answer_at job place answer = answer
+
+abbrev pub answer_seeing : TaskJob → ℕ → Answer → Answer
+answer_seeing (OnBlock job) seal answer = answer_at job (place_in seal) answer
+answer_seeing job seal answer = answer
+
 -- a write needs a number for itself
 abbrev pub is_worn : TaskJob → ℕ → Bool
 is_worn (OnBlock job) number = is_write job && (number == 2 ^ 64 - 1)
@@ -124,7 +161,7 @@ is_worn job number = false
 abbrev pub after_look : Plan → Want → ℕ → Plan
 after_look s (Cell (Look Fail)) word = if word == 0 then onward s else refused s [] Failed
 after_look s (Cell (Look (LockWord block))) word = if may_take s.job word then record s { steps = exchange s.job word } else refused s [] Busy
-after_look s (Cell (Look (SealWord block))) word = record s { steps = Cell (Look (Number block)) ∷ work_of s.job word }
+after_look s (Cell (Look (SealWord block))) word = record s { steps = steps_seeing s.job block word (later_steps s.steps); answer = answer_seeing s.job word s.answer }
 after_look s (Cell (Look (Number block))) word = if is_worn s.job word then refused s (gives_back s.job) Worn else onward s
 after_look s w word = onward s
 
@@ -143,6 +180,7 @@ abbrev pub after_fault_of : TaskJob → DeviceStep → List Want
 after_fault_of (OnBlock job) (Read device e) = release job ∷ gives_up job
 after_fault_of (OnBlock job) step = Cell SetFailed ∷ []
 after_fault_of (Flushing serves most) step = Cell SetFailed ∷ []
+after_fault_of (Suspending blocks most) step = Cell SetFailed ∷ []
 after_fault_of (Opening left) step = []
 
 abbrev pub after_fault : Plan → Want → Plan
@@ -173,7 +211,7 @@ after s (Word word) = after_look s (want s) word
 after s Lost = refused s [] Busy
 after s Fault = after_fault s (want s)
 after s (Refused refusal) = after_refusal s (want s) refusal
-after s (Began nodes) = record s { steps = commit_steps nodes }
+after s (Began nodes) = record s { steps = begun_steps s.job nodes }
 after s More = after_more s (want s)
 
 -- what a step on a shared word gave, as a task is told it

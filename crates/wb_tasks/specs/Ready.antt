@@ -8,11 +8,11 @@ use Rattle.wb_words.specs.declared.word.Access.TheVariants.{Owned}
 use Rattle.wb_words.specs.declared.word.Word.TheVariants.{Cell as LockWord, Seal as SealWord, Number, Fail}
 use Rattle.wb_words.specs.declared.card.Hold.TheVariants.{Nothing, Held}
 use Rattle.wb_words.specs.declared.card.Card.{Card}
-use Rattle.wb_words.specs.declared.step.CellStep.TheVariants.{Look, Take, Release, Seal, Finish, Count, SetFailed}
+use Rattle.wb_words.specs.declared.step.CellStep.TheVariants.{Look, Take, Release, Seal, Finish, Count, SetFailed, SetSuspended}
 use Rattle.wb_words.specs.SharedWords.{Words, can_take}
 use Rattle.wb_words.specs.Effects.{result_of, card_after}
 use Rattle.wb_words.specs.Ready.{IsReady, HasNext}
-use Rattle.wb_tasks.specs.Tables.{BlockJob, Reading, Writing, Migrating, TaskJob, OnBlock, Flushing, Opening, is_write, range_of, access_of}
+use Rattle.wb_tasks.specs.Tables.{BlockJob, Reading, Writing, Displacing, Invalidating, Migrating, TaskJob, OnBlock, Flushing, Suspending, Opening, is_write, range_of, access_of}
 use Rattle.wb_tasks.specs.Plan.{Plan, want, after, Fits, IsStep, got_of}
 use Rattle.wb_tasks.specs.Run.{Leads}
 use Rattle.wb_tasks.specs.declared.step.DeviceStep.{DeviceStep}
@@ -54,6 +54,8 @@ abbrev pub KnowsNext : BlockJob → Bool → Option ℕ → Type 0
 KnowsNext (Reading part) next known = Unit {0}
 KnowsNext (Writing part) true known = HasNext known
 KnowsNext (Writing part) false known = Unit {0}
+KnowsNext (Displacing part) true known = HasNext known
+KnowsNext (Displacing part) false known = Unit {0}
 KnowsNext job next known = Unit {0}
 
 -- where blocks stand
@@ -73,18 +75,21 @@ target_of (Promote c) = Cache
 target_of Demote = Origin
 target_of Clean = Origin
 
--- A step on a device that a job may take: a read reads and a write writes, where the block stands; a promotion copies from
--- the origin to the cache, a demotion or write-back from the cache to the origin.
+-- A step on a device that a job may take: a read reads and a write writes, where the block stands; a write that displaces its block
+-- writes the origin; a promotion copies from the origin to the cache, a demotion or write-back from the cache to the origin.
 abbrev pub IsJobs : BlockJob → DeviceStep → Type 0
 IsJobs (Reading part) (Read device e) = HoldsBlocks device
 IsJobs (Writing part) (Write device e) = HoldsBlocks device
+IsJobs (Displacing part) (Write device e) = device ≡ Origin
 IsJobs (Migrating migration part) (Read device e) = device ≡ source_of migration
 IsJobs (Migrating migration part) (Write device e) = device ≡ target_of migration
 IsJobs job step = ⊥
 
 -- What a job may ask of the desk: a promotion maps its block, a demotion unmaps it, and each migration may give up its
--- order; a read or write asks nothing.
+-- order; who takes a block out of the cache without an order unmaps it; a read or write asks nothing.
 abbrev pub IsAsked : BlockJob → DeskStep → Type 0
+IsAsked (Displacing part) (Unmap block) = block ≡ part.block
+IsAsked (Invalidating part) (Unmap block) = block ≡ part.block
 IsAsked (Migrating migration part) (ReleaseOrder block) = block ≡ part.block
 IsAsked (Migrating migration part) (Map block place) = (block ≡ part.block) × (migration ≡ Promote place)
 IsAsked (Migrating migration part) (Unmap block) = (block ≡ part.block) × (migration ≡ Demote)
@@ -104,6 +109,21 @@ IsFlushs serves most (Desk (ReleaseOrder block)) = Contains serves block
 IsFlushs serves most (End answer) = Unit {0}
 IsFlushs serves most next = ⊥
 
+-- A suspend looks at the fail word and at the seals of its blocks, asks the desk for a commit whose root is marked clean, syncs each
+-- device, writes nodes and a root, and sets the suspended bit, or the failed one.
+abbrev pub IsSuspends : List OBlock → ℕ → Want → Type 0
+IsSuspends blocks most (Cell (Look Fail)) = Unit {0}
+IsSuspends blocks most (Cell (Look (SealWord block))) = Contains blocks block
+IsSuspends blocks most (Cell SetFailed) = Unit {0}
+IsSuspends blocks most (Cell SetSuspended) = Unit {0}
+IsSuspends blocks most (Device (Sync device)) = Unit {0}
+IsSuspends blocks most (Device (WriteNode number)) = number < most
+IsSuspends blocks most (Device WriteRoot) = Unit {0}
+IsSuspends blocks most (Desk (BeginCommit clean nodes)) = (clean ≡ true) × (nodes ≡ most)
+IsSuspends blocks most (Desk EndCommit) = Unit {0}
+IsSuspends blocks most (End answer) = Unit {0}
+IsSuspends blocks most next = ⊥
+
 -- An opening syncs each device, reads metadata and writes a root; it touches no word and asks nothing of a desk, which
 -- is not there yet.
 abbrev pub IsOpenings : Want → Type 0
@@ -119,6 +139,7 @@ IsOwnStep (OnBlock job) (Device step) = IsJobs job step
 IsOwnStep (OnBlock job) (Desk step) = IsAsked job step
 IsOwnStep (OnBlock job) next = Unit {0}
 IsOwnStep (Flushing serves most) next = IsFlushs serves most next
+IsOwnStep (Suspending blocks most) next = IsSuspends blocks most next
 IsOwnStep (Opening left) next = IsOpenings next
 
 abbrev pub AreOwnSteps : TaskJob → List Want → Type 0
@@ -154,11 +175,16 @@ Has job card (Desk (ReleaseOrder block) ∷ ws) = (card.hold ≡ Nothing) × IsA
 Has job card (Cell SetFailed ∷ ws) = (card.hold ≡ Held Owned (block_of job)) × (ws ≡ [])
 Has job card ws = HasBlock job card × ((next : Bool) × IsRest job next ws × KnowsNext job next card.number)
 
--- An actor with this card has what it needs for what is left of its task, where there are so many blocks. A flush or an
+-- these blocks are there
+abbrev pub AreBelow : ℕ → List OBlock → Type 0
+AreBelow count blocks = (block : OBlock) → Contains blocks block → block.0 < count
+
+-- An actor with this card has what it needs for what is left of its task, where there are so many blocks. A flush, a suspend or an
 -- opening holds no block.
 abbrev pub SuitsJob : ℕ → TaskJob → Card → List Want → Type 0
 SuitsJob blocks (OnBlock job) card steps = ((block_of job).0 < blocks) × Has job card steps
 SuitsJob blocks (Flushing serves most) card steps = (card.hold ≡ Nothing) × AreOwnSteps (Flushing serves most) steps
+SuitsJob count (Suspending blocks most) card steps = (card.hold ≡ Nothing) × AreBelow count blocks × AreOwnSteps (Suspending blocks most) steps
 SuitsJob blocks (Opening left) card steps = (card.hold ≡ Nothing) × AreOwnSteps (Opening left) steps
 
 abbrev pub Suits : ℕ → Plan → Card → Type 0

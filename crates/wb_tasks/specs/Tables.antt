@@ -31,33 +31,44 @@ pub record BlockRange : Type 0 where
 abbrev pub whole_block : ℕ → OBlock → Extent
 whole_block block_sectors block = record { first = block.0 * block_sectors; count = block_sectors }
 
--- What a task does with one block: it reads or writes sectors of it, or migrates the whole.
+-- What a task does with one block: it reads or writes sectors of it, or migrates the whole. Two jobs of passthrough take a mapped
+-- block out of the cache by the desk, without a copy, and under no order: a write that may ask the desk, and an invalidation. They do
+-- not look at the mode.
 pub data BlockJob : Type 0 where
   Reading : BlockRange → BlockJob
   Writing : BlockRange → BlockJob
+  Displacing : BlockRange → BlockJob
+  Invalidating : BlockRange → BlockJob
   Migrating : Migration → BlockRange → BlockJob
 
 -- What a task is to do. A flush may serve replacements, whose orders are those of these blocks, and its image has at most
--- so many nodes. An opening reads a metadata sector, and at most so many more.
+-- so many nodes. A suspend looks at the seals of these blocks, which are those that are mapped, in this order, and its image has at
+-- most so many nodes. An opening reads a metadata sector, and at most so many more.
 pub data TaskJob : Type 0 where
   OnBlock : BlockJob → TaskJob
   Flushing : (serves : List OBlock) → (most : ℕ) → TaskJob
+  Suspending : (blocks : List OBlock) → (most : ℕ) → TaskJob
   Opening : (left : ℕ) → TaskJob
 
 abbrev pub range_of : BlockJob → BlockRange
 range_of (Reading part) = part
 range_of (Writing part) = part
+range_of (Displacing part) = part
+range_of (Invalidating part) = part
 range_of (Migrating migration part) = part
 
--- a read shares its block, a write and every migration owns it
+-- a read shares its block, all others own it
 abbrev pub access_of : BlockJob → Access
 access_of (Reading part) = Shared
 access_of (Writing part) = Owned
+access_of (Displacing part) = Owned
+access_of (Invalidating part) = Owned
 access_of (Migrating migration part) = Owned
 
--- of all jobs a write alone is numbered
+-- of all jobs the two that write what they are given are numbered
 abbrev pub is_write : BlockJob → Bool
 is_write (Writing part) = true
+is_write (Displacing part) = true
 is_write job = false
 
 -- ---- the route
@@ -92,8 +103,6 @@ places_written Writethrough (Some c) = None ∷ Some c ∷ []
 places_written mode place = None ∷ []
 
 -- In write-back a mapped block is sealed dirty before the first write to its clean copy. Write-through keeps the dirty bit as it is.
--- In passthrough a mapped block's entry is to be removed here, which no request may ask of a desk: by a job of its own kind, under
--- the desk's lock, which unmaps the block and seals it to the origin before this write begins.
 abbrev pub dirtying : Mode → OBlock → Option CBlock → Bool → List Want
 dirtying Writeback block (Some c) false = Cell (Seal block (Some c) true) ∷ []
 dirtying mode block place dirty = []
@@ -118,6 +127,11 @@ abbrev pub writes : BlockRange → List (Option CBlock) → List Extent → List
 writes part places [] = []
 writes part places (e ∷ extents) = map (λ place. write_step part place e) places ++ writes part places extents
 
+-- A mapped block leaves the cache without a copy: its entry is removed, and it is sealed to the origin.
+abbrev pub dropping : OBlock → Option CBlock → List Want
+dropping block None = []
+dropping block (Some c) = Desk (Unmap block) ∷ Cell (Seal block None false) ∷ []
+
 -- ---- the step tables, for any cut of the sectors into extents
 
 -- acquiring a block: the fail word, then the lock word; what comes after it is known once it was seen
@@ -141,8 +155,16 @@ copying (Promote c) part place dirty = copies part None (Some c) part.extents
 copying migration part (Some c) true = copies part (Some c) None part.extents
 copying migration part place dirty = []
 
+-- What a write does in each mode once it has its block, which stands at this place. In passthrough a mapped block's entry is to be
+-- removed first, which a request may not ask of a desk: it gives its block back, and its answer says so.
+abbrev pub writing : Mode → BlockRange → Option CBlock → Bool → List Want
+writing Passthrough part (Some c) dirty = Cell (Release Owned part.block) ∷ []
+writing mode part place dirty = dirtying mode part.block place dirty ++ writes part (places_written mode place) part.extents ++ Cell (Finish part.block) ∷ write_count place ∷ Cell (Release Owned part.block) ∷ []
+
 -- what a job does once it has its block, which stands at this place
 abbrev pub work : BlockJob → Option CBlock → Bool → List Want
 work (Reading part) place dirty = map (read_step part (place_read part.mode place)) part.extents ++ read_count (place_read part.mode place) ∷ Cell (Release Shared part.block) ∷ []
-work (Writing part) place dirty = dirtying part.mode part.block place dirty ++ writes part (places_written part.mode place) part.extents ++ Cell (Finish part.block) ∷ write_count place ∷ Cell (Release Owned part.block) ∷ []
+work (Writing part) place dirty = writing part.mode part place dirty
+work (Displacing part) place dirty = dropping part.block place ++ writes part (None ∷ []) part.extents ++ Cell (Finish part.block) ∷ write_count place ∷ Cell (Release Owned part.block) ∷ []
+work (Invalidating part) place dirty = dropping part.block place ++ Cell (Release Owned part.block) ∷ []
 work (Migrating migration part) place dirty = copying migration part place dirty ++ ending migration part.block place

@@ -1,8 +1,11 @@
-//! A job on one block: a read or write of sectors of it, or a migration of the whole. One task walks every table of such a job:
+//! A job on one block: a read or write of sectors of it, its invalidation, or a migration of the whole. One task walks every table of
+//! such a job:
 //!
 //! 1. acquire the block, a read to share it, all others to own it: fail word, lock word, exchange, seal, number;
-//! 2. where a write finds no number left, give the block back and answer `Worn`;
-//! 3. in write-back a write seals a clean copy in the cache dirty;
+//! 2. where a write finds no number left, give the block back and answer `Worn`; where it finds its block mapped in passthrough, give it
+//!    back and answer `Defer`: then a write that may ask the desk has to take the block out of the cache;
+//! 3. in write-back a write seals a clean copy in the cache dirty; such a write of passthrough, or an invalidation, removes the entry of a
+//!    mapped block and seals it to the origin;
 //! 4. move each extent: a read or write on the device that the seal names, but in passthrough on the origin, and in write-through a
 //!    write of a mapped block on the origin and then in the cache; a migration reads it at one place of the block and writes it at the
 //!    other, a demotion or write-back where the cache's copy is dirty alone;
@@ -14,12 +17,12 @@
 //! After a fault on a read, or where the desk has no memory for an entry: give the block back, a migration then its order, and
 //! answer. After a fault on a write: set the failed bit, keep block and order for good, and answer `Io`.
 
-ghost use Rattle.std.specs.Prelude.{◌≡◌, ◌+◌, ◌*◌, ◌<◌, ◌≤◌, ◌^◌, []};
+ghost use Rattle.std.specs.Prelude.{◌≡◌, ◌+◌, ◌*◌, ◌<◌, ◌≤◌, ◌^◌, Bool, [], ◌∷◌, if◌then◌else◌};
 ghost use Rattle.wb_types.specs.Extents.{pieces};
-ghost use Rattle.wb_types.specs.declared.mode.Mode.TheVariants.{Writeback};
-ghost use Rattle.wb_tasks.specs.Tables.{BlockRange, OnBlock, Writing, Migrating, access_of, is_write, whole_block};
+ghost use Rattle.wb_types.specs.declared.mode.Mode.TheVariants.{Writeback, Passthrough};
+ghost use Rattle.wb_tasks.specs.Tables.{BlockRange, OnBlock, Writing, Displacing, Invalidating, Migrating, places_written, access_of, is_write, whole_block};
 ghost use Rattle.wb_tasks.specs.Plan.{Plan, want, after, refused, table, Fits};
-ghost use Rattle.wb_tasks.specs.Phases.{job_on_block, has_order, left_in, after_seeing};
+ghost use Rattle.wb_tasks.specs.Phases.{job_on_block, has_order, written_mode, left_in, after_seeing};
 
 use crate::acquire::{self, Seen};
 use crate::cut::split;
@@ -38,8 +41,13 @@ pub enum Work {
     Read,
     /// It owns the block, is finished, and counts as a hit where the block is mapped. In write-back it seals a clean copy in the cache
     /// dirty, and writes where the newest copy stands; in write-through it writes each extent on the origin, and then in the cache
-    /// where the block is mapped; in passthrough on the origin alone.
+    /// where the block is mapped; in passthrough on the origin alone, and where the block is mapped, it answers `Defer`.
     Write,
+    /// A write of passthrough that may ask the desk: it takes a mapped block out of the cache, without a copy, and writes on the origin
+    /// alone. It owns the block, is finished, and counts as a hit where the block was mapped. It does not look at the mode.
+    Displace,
+    /// It owns the block, and takes it out of the cache, without a copy, where it is mapped: see `BlockTask::invalidate`.
+    Invalidate,
     /// It owns the block, and copies its sectors: see `BlockTask::migrate`.
     Migrate(Migration),
 }
@@ -50,6 +58,10 @@ enum Phase {
     Acquires(GripStage),
     /// The block stands in this cache block, whose copy is still sealed clean.
     Dirties(CBlock),
+    /// The block stands in this cache block, and its entry is removed. Then it is sealed to the origin.
+    Drops(CBlock),
+    /// The block's entry, of this cache block, was removed.
+    SealsHome(CBlock),
     /// The next extent is read at this place. When its sectors are read, it is counted.
     Reads(Option<CBlock>),
     /// The block stands at this place. When its sectors are written, the write is finished.
@@ -71,7 +83,7 @@ enum Phase {
     Ended(Answer),
 }
 
-/// A read or write of some sectors of a block, or a migration of the whole, extent by extent, rising.
+/// A read or write of some sectors of a block, its invalidation, or a migration of the whole, extent by extent, rising.
 #[derive(Drop)]
 pub struct BlockTask {
     work: Work,
@@ -151,6 +163,23 @@ impl BlockTask {
         )
     }
 
+    /// An invalidation of a block: where it is mapped it leaves the cache without a copy, so nothing of it may be dirty there, as in
+    /// passthrough. It runs under no order.
+    pub fn invalidate(block_sectors: u32, block: OBlock) -> BlockTask
+        requires { 0 < block_sectors }
+        ensures { result ≡ table (OnBlock (Invalidating (record { mode = Passthrough; block_sectors = block_sectors; block = block; extents = [] }))) }
+    {
+        let none = Extent { first: 0, count: 0 };
+        BlockTask::new(
+            Work::Invalidate,
+            Mode::Passthrough,
+            block_sectors,
+            block,
+            none,
+            1,
+        )
+    }
+
     /// The next step, or the answer.
     pub fn want(&self) -> Want
         ensures { result ≡ want self.now }
@@ -158,6 +187,8 @@ impl BlockTask {
         match self.phase {
             Phase::Acquires(stage) => acquire::want(access_of(self.work), self.block, stage),
             Phase::Dirties(c) => Want::Cell(CellStep::Seal(self.block, Some(c), true)),
+            Phase::Drops(_) => Want::Desk(DeskStep::Unmap(self.block)),
+            Phase::SealsHome(_) => Want::Cell(CellStep::Seal(self.block, None, false)),
             Phase::Reads(place) if self.left.count > 0 => {
                 let (first, _) = split(self.left, self.longest);
                 let (device, extent) = route(self.block_sectors, place, first);
@@ -167,7 +198,7 @@ impl BlockTask {
             Phase::Reads(Some(_)) => Want::Cell(CellStep::Count(Kind::ReadHit)),
             Phase::Writes(place) if self.left.count > 0 => {
                 let (first, _) = split(self.left, self.longest);
-                let (to, _) = written(self.mode, place);
+                let (to, _) = written_by(self.work, self.mode, place);
                 let (device, extent) = route(self.block_sectors, to, first);
                 Want::Device(DeviceStep::Write(device, extent))
             }
@@ -185,8 +216,10 @@ impl BlockTask {
                 Work::Migrate(Migration::Clean) => {
                     Want::Cell(CellStep::Seal(self.block, from, false))
                 }
-                // No request copies.
-                Work::Read | Work::Write => Want::End(Answer::Done),
+                // No other job copies.
+                Work::Read | Work::Write | Work::Displace | Work::Invalidate => {
+                    Want::End(Answer::Done)
+                }
             },
             Phase::Puts(_, to, extent) | Phase::Mirrors(to, extent) => {
                 let (device, there) = route(self.block_sectors, to, extent);
@@ -215,6 +248,8 @@ impl BlockTask {
                 Seen::Holds(place, dirty) => match (self.work, place) {
                     (Work::Read, _) => self.phase = Phase::Reads(place_read(self.mode, place)),
                     (Work::Write, _) => self.phase = writing(self.mode, place, dirty),
+                    (Work::Displace, _) => self.phase = displacing(place),
+                    (Work::Invalidate, _) => self.phase = invalidating(place),
                     (Work::Migrate(Migration::Promote(c)), _) => {
                         self.phase = Phase::Copies(None, Some(c));
                     }
@@ -241,6 +276,15 @@ impl BlockTask {
             // Only the exchange can have been done.
             Phase::Acquires(_) => self.phase = Phase::Acquires(GripStage::LookSeal),
             Phase::Dirties(c) => self.phase = Phase::Writes(Some(c)),
+            Phase::Drops(c) => self.phase = Phase::SealsHome(c),
+            Phase::SealsHome(c) => match self.work {
+                Work::Displace => self.phase = Phase::Writes(Some(c)),
+                Work::Invalidate => self.phase = Phase::Releases(false, Answer::Done),
+                // No other job takes its block out of the cache without a copy.
+                Work::Read | Work::Write | Work::Migrate(_) => {
+                    self.phase = Phase::Ended(Answer::Done);
+                }
+            },
             Phase::Reads(_) if self.left.count > 0 => {
                 let (_, left) = split(self.left, self.longest);
                 self.left = left;
@@ -248,7 +292,7 @@ impl BlockTask {
             Phase::Writes(place) if self.left.count > 0 => {
                 let (extent, left) = split(self.left, self.longest);
                 self.left = left;
-                let (_, again) = written(self.mode, place);
+                let (_, again) = written_by(self.work, self.mode, place);
                 if again {
                     self.phase = Phase::Mirrors(place, extent);
                 }
@@ -269,7 +313,7 @@ impl BlockTask {
                 }
                 Work::Migrate(Migration::Promote(c)) => self.phase = Phase::Seals(Some(c)),
                 Work::Migrate(Migration::Demote) => self.phase = Phase::Seals(None),
-                Work::Read | Work::Write => {}
+                Work::Read | Work::Write | Work::Displace | Work::Invalidate => {}
             },
             Phase::Puts(from, to, _) => self.phase = Phase::Copies(from, to),
             Phase::Releases(true, answer) => self.phase = Phase::GivesUp(answer),
@@ -293,7 +337,7 @@ impl BlockTask {
                 self.phase = Phase::Releases(has_order(self.work), answer);
             }
             Phase::Writes(place) => {
-                let (to, _) = written(self.mode, place);
+                let (to, _) = written_by(self.work, self.mode, place);
                 self.phase = Phase::SetsFailed(device_at(to));
             }
             Phase::Puts(_, place, _) | Phase::Mirrors(place, _) => {
@@ -350,7 +394,7 @@ fn access_of(work: Work) -> Access
 {
     match work {
         Work::Read => Access::Shared,
-        Work::Write | Work::Migrate(_) => Access::Owned,
+        Work::Write | Work::Displace | Work::Invalidate | Work::Migrate(_) => Access::Owned,
     }
 }
 
@@ -358,17 +402,49 @@ fn access_of(work: Work) -> Access
 fn is_write(work: Work) -> bool
     ensures { (part : BlockRange) → result ≡ is_write (job_on_block work part) }
 {
-    matches!(work, Work::Write)
+    matches!(work, Work::Write | Work::Displace)
+}
+
+/// Where a write, or one that displaces its block, puts an extent of a block at this place first, and whether it puts it at that place
+/// then.
+fn written_by(work: Work, mode: Mode, place: Option<CBlock>) -> (Option<CBlock>, bool)
+    ensures { places_written (written_mode work mode) place ≡ result.0 ∷ (if result.1 then place ∷ [] else []) }
+{
+    match work {
+        Work::Displace => written(Mode::Passthrough, place),
+        Work::Read | Work::Write | Work::Invalidate | Work::Migrate(_) => { written(mode, place) }
+    }
 }
 
 /// Where a write stands once it knows where its block stands, and whether that copy is dirty: in write-back alone a clean copy in the
-/// cache is sealed dirty first.
+/// cache is sealed dirty first, and in passthrough alone a mapped block keeps it from going on.
 fn writing(mode: Mode, place: Option<CBlock>, dirty: bool) -> Phase
     ensures { (part : BlockRange) → part.mode ≡ mode → left_in Work.Write part result part.extents ≡ after_seeing (Writing part) (Seen.Holds place dirty) }
 {
     match (mode, place) {
         (Mode::Writeback, Some(c)) if !dirty => Phase::Dirties(c),
+        (Mode::Passthrough, Some(_)) => Phase::Releases(false, Answer::Refused(Refusal::Defer)),
         _ => Phase::Writes(place),
+    }
+}
+
+/// Where a write that displaces its block stands once it knows where that stands.
+fn displacing(place: Option<CBlock>) -> Phase
+    ensures { (part : BlockRange) (dirty : Bool) → left_in Work.Displace part result part.extents ≡ after_seeing (Displacing part) (Seen.Holds place dirty) }
+{
+    match place {
+        Some(c) => Phase::Drops(c),
+        None => Phase::Writes(None),
+    }
+}
+
+/// Where an invalidation stands once it knows where its block stands.
+fn invalidating(place: Option<CBlock>) -> Phase
+    ensures { (part : BlockRange) (dirty : Bool) → left_in Work.Invalidate part result part.extents ≡ after_seeing (Invalidating part) (Seen.Holds place dirty) }
+{
+    match place {
+        Some(c) => Phase::Drops(c),
+        None => Phase::Releases(false, Answer::Done),
     }
 }
 

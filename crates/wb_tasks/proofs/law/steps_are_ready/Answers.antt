@@ -1,4 +1,4 @@
-use Rattle.wb_tasks.proofs.Readiness.{begins_ready, flush_begins, opening_begins, is_ready, is_own_step, job_stays, keeps_ready}
+use Rattle.wb_tasks.proofs.Readiness.{begins_ready, flush_begins, suspend_begins, opening_begins, is_ready, is_own_step, job_stays, keeps_ready}
 use Rattle.wb_tasks.proofs.law.steps_are_ready.Goals as goal
 
 pub returns-clause-begins : goal.returns-clause-begins
@@ -18,6 +18,9 @@ returns-clause-same c = job_stays
 
 pub returns-clause-begins_flush : goal.returns-clause-begins_flush
 returns-clause-begins_flush c = flush_begins
+
+pub returns-clause-begins_suspend : goal.returns-clause-begins_suspend
+returns-clause-begins_suspend c = suspend_begins
 
 pub returns-clause-begins_opening : goal.returns-clause-begins_opening
 returns-clause-begins_opening c = opening_begins

@@ -12,7 +12,7 @@ pub returns-in-Writes : goal.returns-in-Writes
 returns-in-Writes c =
     let t = c.self.inside in
     let part : BlockRange = record { mode = t.mode; block_sectors = t.block_sectors; block = t.block; extents = pieces t.longest t.sectors } in
-    let fails : FailsTo t.work part (Writes c.in-Writes.place) _ = (c.written-to.result.0, c.written-to.result.1, c.written-to.ensures, ap (λ (device : Dev). SetsFailed device) c.device_at.ensures) in
+    let fails : FailsTo t.work part (Writes c.in-Writes.place) _ = (c.written_by-to.result.0, c.written_by-to.result.1, c.written_by-to.ensures, ap (λ (device : Dev). SetsFailed device) c.device_at.ensures) in
     left_by_fault t.work part t.phase (Writes c.in-Writes.place) _ (pieces t.longest t.left) _ c.in-Writes.is c.self.view_is fails c.requires
 
 pub returns-in-Puts : goal.returns-in-Puts
