@@ -1,1 +1,3 @@
+pub mod Commits
 pub mod Flushes
+pub mod Suspends

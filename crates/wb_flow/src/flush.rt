@@ -3,10 +3,7 @@
 //! 1. look at the fail word;
 //! 2. begin a commit; where another one runs, answer `Busy`; where the desk refuses it for want of memory or of
 //!    generations, give up the orders of the replacements that it serves, and answer so;
-//! 3. sync the cache, then the origin;
-//! 4. write each node of the image, and sync the metadata;
-//! 5. write the root, and sync the metadata;
-//! 6. end the commit, and answer done.
+//! 3. the steps of the commit: see `Commit`; answer done.
 //!
 //! After a fault: set the failed bit, and answer `Io`.
 
@@ -15,8 +12,9 @@ ghost use Rattle.wb_tasks.specs.Tables.{Flushing};
 ghost use Rattle.wb_tasks.specs.Plan.{Plan, want, after, table, Fits};
 ghost use Rattle.wb_flow.specs.Phases.{IsOther};
 
+use crate::commit::Commit;
 use std::marker::Model;
-use wb_tasks::{Answer, CellStep, DeskStep, DeviceStep, Got, Task, Want};
+use wb_tasks::{Answer, CellStep, DeskStep, Got, Task, Want};
 use wb_types::{Dev, OBlock, Refusal};
 use wb_words::Word;
 
@@ -25,13 +23,7 @@ use wb_words::Word;
 enum Phase {
     LooksAtFail,
     Begins,
-    SyncsCache,
-    SyncsOrigin,
-    /// Writes the nodes that are left, and then syncs the metadata.
-    WritesNodes,
-    WritesRoot,
-    SyncsRoot,
-    EndsCommit,
+    Commits(Commit),
     /// Gives up the orders that are left, and then answers this refusal.
     GivesUp(Refusal),
     /// A step on this device failed.
@@ -49,22 +41,19 @@ pub struct FlushTask {
     given: usize,
     /// How many nodes its image has at most.
     most: u32,
-    /// The node that is written next, and how many are left with it.
-    node: u32,
-    left: u32,
 }
 
 impl Model for FlushTask {
-    ghost use Rattle.std.specs.Prelude.{◌+◌, ◌<◌, ◌^◌, drop};
+    ghost use Rattle.std.specs.Prelude.{drop};
     ghost use Rattle.wb_tasks.specs.Plan.{Plan};
 
     ghost Value = { Plan };
 
-    ghost use Rattle.wb_flow.specs.Phases.{flush_left};
+    ghost use Rattle.wb_flow.specs.Phases.{flush_left, IsFlushInRange};
 
-    ghost view = { λ t. flush_left t.serves.items t.most t.phase (drop t.given t.serves.items) t.node t.left };
+    ghost view = { λ t. flush_left t.serves.items t.most t.phase (drop t.given t.serves.items) };
 
-    ghost invariant = { λ t. t.node + t.left < 2 ^ 32 };
+    ghost invariant = { λ t. IsFlushInRange t.phase };
 }
 
 impl FlushTask {
@@ -78,8 +67,6 @@ impl FlushTask {
             serves,
             given: 0,
             most,
-            node: 0,
-            left: 0,
         }
     }
 
@@ -90,16 +77,7 @@ impl FlushTask {
         match self.phase {
             Phase::LooksAtFail => Want::Cell(CellStep::Look(Word::Fail)),
             Phase::Begins => Want::Desk(DeskStep::BeginCommit(false, self.most)),
-            Phase::SyncsCache => Want::Device(DeviceStep::Sync(Dev::Cache)),
-            Phase::SyncsOrigin => Want::Device(DeviceStep::Sync(Dev::Origin)),
-            Phase::WritesNodes if self.left > 0 => {
-                Want::Device(DeviceStep::WriteNode(self.node))
-            }
-            Phase::WritesNodes | Phase::SyncsRoot => {
-                Want::Device(DeviceStep::Sync(Dev::Metadata))
-            }
-            Phase::WritesRoot => Want::Device(DeviceStep::WriteRoot),
-            Phase::EndsCommit => Want::Desk(DeskStep::EndCommit),
+            Phase::Commits(commit) => commit.want(),
             Phase::GivesUp(refusal) => match self.serves.get(self.given) {
                 Some(block) => Want::Desk(DeskStep::ReleaseOrder(*block)),
                 None => Want::End(Answer::Refused(refusal)),
@@ -127,16 +105,10 @@ impl FlushTask {
         ensures { self.new ≡ after self.old Got.Done }
     {
         match self.phase {
-            Phase::SyncsCache => self.phase = Phase::SyncsOrigin,
-            Phase::SyncsOrigin => self.phase = Phase::WritesNodes,
-            Phase::WritesNodes if self.left > 0 => {
-                self.node += 1;
-                self.left -= 1;
-            }
-            Phase::WritesNodes => self.phase = Phase::WritesRoot,
-            Phase::WritesRoot => self.phase = Phase::SyncsRoot,
-            Phase::SyncsRoot => self.phase = Phase::EndsCommit,
-            Phase::EndsCommit => self.phase = Phase::Ended(Answer::Done),
+            Phase::Commits(commit) => match commit.advanced() {
+                Some(next) => self.phase = Phase::Commits(next),
+                None => self.phase = Phase::Ended(Answer::Done),
+            },
             Phase::GivesUp(_) if self.given < self.serves.as_slice().len() => self.given += 1,
             Phase::SetsFailed(device) => {
                 self.phase = Phase::Ended(Answer::Refused(Refusal::Io(device)));
@@ -151,10 +123,8 @@ impl FlushTask {
         requires { Fits (want self.old) Got.Fault }
         ensures { self.new ≡ after self.old Got.Fault }
     {
-        match self.phase {
-            Phase::SyncsCache => self.phase = Phase::SetsFailed(Dev::Cache),
-            Phase::SyncsOrigin => self.phase = Phase::SetsFailed(Dev::Origin),
-            _ => self.phase = Phase::SetsFailed(Dev::Metadata),
+        if let Phase::Commits(commit) = self.phase {
+            self.phase = Phase::SetsFailed(commit.device());
         }
     }
 
@@ -175,9 +145,7 @@ impl FlushTask {
         requires { Fits (want self.old) (Got.Began nodes) }
         ensures { self.new ≡ after self.old (Got.Began nodes) }
     {
-        self.node = 0;
-        self.left = nodes;
-        self.phase = Phase::SyncsCache;
+        self.phase = Phase::Commits(Commit::begun(nodes));
     }
 
     /// No step of a flush is lost or reads metadata.

@@ -7,4 +7,4 @@ use Rattle.wb_flow.proofs.flush.FlushTask.after_done.Goals as goal
 
 pub returns-in-GivesUp : goal.returns-in-GivesUp
 returns-in-GivesUp c = let t = c.self.inside in
-    gave_up t.serves.items t.most t.phase c.in-GivesUp.field-0 (drop t.given t.serves.items) (drop (t.given + 1) t.serves.items) _ t.node t.left c.in-GivesUp.is (drop_more t.serves.items t.given (record { 0 = 0 }) (subst (λ (xs : List OBlock). t.given < length xs) c.as_slice.ensures.value c.if-self-as_slice.true)) ∙ ap onward c.self.view_is
+    gave_up t.serves.items t.most t.phase c.in-GivesUp.field-0 (drop t.given t.serves.items) (drop (t.given + 1) t.serves.items) _ c.in-GivesUp.is (drop_more t.serves.items t.given (record { 0 = 0 }) (subst (λ (xs : List OBlock). t.given < length xs) c.as_slice.ensures.value c.if-self-as_slice.true)) ∙ ap onward c.self.view_is
