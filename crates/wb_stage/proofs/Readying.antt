@@ -2,7 +2,7 @@
 use Rattle.std.proofs.Common.{◌≡◌, ◌∙◌, ℕ, true, false, List, [], ◌∷◌, refl}
 use Rattle.wb_words.specs.declared.card.Card.{Card}
 use Rattle.wb_words.specs.declared.card.Hold.TheVariants.{Nothing}
-use Rattle.wb_tasks.specs.Tables.{BlockJob, TaskJob, Reading, Writing, Migrating, OnBlock, Flushing, Opening}
+use Rattle.wb_tasks.specs.Tables.{BlockJob, TaskJob, Reading, Writing, Displacing, Invalidating, Migrating, OnBlock, Flushing, Suspending, Opening}
 use Rattle.wb_tasks.specs.Ready.{IsOwnStep, Suits, left_by}
 use Rattle.wb_tasks.specs.Plan.{Plan, table, after}
 use Rattle.wb_tasks.specs.declared.step.DeviceStep.TheVariants.{Read, Write, Sync, ReadMetadata, WriteNode, WriteRoot}
@@ -25,6 +25,8 @@ on_block job (Device (WriteNode number)) o = tt
 on_block job (Device WriteRoot) o = tt
 on_block (Reading part) (Device (ReadMetadata left)) o = o
 on_block (Writing part) (Device (ReadMetadata left)) o = o
+on_block (Displacing part) (Device (ReadMetadata left)) o = o
+on_block (Invalidating part) (Device (ReadMetadata left)) o = o
 on_block (Migrating migration part) (Device (ReadMetadata left)) o = o
 on_block job (Desk (Map block place)) o = tt
 on_block job (Desk (Unmap block)) o = tt
@@ -33,6 +35,8 @@ on_block job (Desk EndCommit) o = tt
 on_block job (Desk (BeginCommit false most)) o = tt
 on_block (Reading part) (Desk (BeginCommit true most)) o = o
 on_block (Writing part) (Desk (BeginCommit true most)) o = o
+on_block (Displacing part) (Desk (BeginCommit true most)) o = o
+on_block (Invalidating part) (Desk (BeginCommit true most)) o = o
 on_block (Migrating migration part) (Desk (BeginCommit true most)) o = o
 
 in_flush : (serves : List _) (most : ℕ) (w : Want) → IsOwnStep (Flushing serves most) w → IsServed w
@@ -54,11 +58,13 @@ in_flush serves most (Desk (BeginCommit true nodes)) o = absurd cc
 pub served : (blocks : ℕ) (job : TaskJob) (w : Want) → MayRun blocks job → IsOwnStep job w → IsServed w
 served blocks (OnBlock job) w r o = on_block job w o
 served blocks (Flushing serves most) w r o = in_flush serves most w o
+served blocks (Suspending all most) w r o = absurd r
 served blocks (Opening left) w r o = absurd r
 
 pub begins : (blocks : ℕ) (job : TaskJob) (card : Card) → MayRun blocks job → card.hold ≡ Nothing → Suits blocks (table job) card
 begins blocks (OnBlock job) card r idle = begins_ready blocks job card r idle
 begins blocks (Flushing serves most) card r idle = flush_begins blocks serves most card idle
+begins blocks (Suspending all most) card r idle = absurd r
 begins blocks (Opening left) card r idle = absurd r
 
 -- a task stays on its job

@@ -1,12 +1,12 @@
 //! Steps on the desk, each by one call of it. What the desk cannot be asked now is not done.
 
-ghost use Rattle.std.specs.Prelude.{◌≡◌, ◌≤◌, false, length, IfOk, IfErr, OnOk, OnErr};
+ghost use Rattle.std.specs.Prelude.{◌≡◌, ◌≤◌, true, false, length, IfOk, IfErr, OnOk, OnErr};
 ghost use Rattle.wb_tasks.specs.Plan.{Fits, MayBeRefused};
 ghost use Rattle.wb_tasks.specs.declared.step.Want.TheVariants.{Desk as AskDesk};
 ghost use Rattle.wb_tasks.specs.declared.step.DeskStep.TheVariants.{Map, BeginCommit};
 ghost use Rattle.wb_meta.specs.declared.commit_steps.CommitSteps.TheVariants.{NodesWritten};
-ghost use Rattle.wb_stage.specs.Asking.{DidMap, DidUnmap, DidRelease, HasBegun, IsUnbegun, is_of, order_of, ended};
-ghost use Rattle.wb_stage.specs.Stages.{DidAsk, DidBegin, EndsWith, IsServed, is_all_done};
+ghost use Rattle.wb_stage.specs.Asking.{DidMap, DidUnmap, DidRelease, HasBegun, HasBegunClean, IsUnbegun, is_of, order_of, ended};
+ghost use Rattle.wb_stage.specs.Stages.{DidAsk, DidBegin, DidBeginClean, EndsWith, IsServed, is_all_done};
 
 use std::alloc::Global;
 use wb_desk::Desk;
@@ -42,6 +42,29 @@ pub fn ask<P: Policy>(
             end_commit(desk, commit);
             Got::Done
         }
+    }
+}
+
+/// Begins the commit of a suspend, of at most so many nodes, whose root is marked clean, with these dirty bits, by cache block, as the
+/// seals told them; for who runs this commit, if any.
+pub fn ask_clean<P: Policy>(
+    alloc: Global,
+    desk: &mut Desk<P>,
+    commit: &mut Option<RunningCommit>,
+    seen: &[bool],
+    most: u32,
+) -> Got
+    requires { length seen.now ≡ desk.old.geometry.cache_blocks }
+    ensures kind { Fits (AskDesk (BeginCommit true most)) result }
+    ensures did { DidBeginClean P.hint_of seen.now most result desk.old commit.old desk.new commit.new }
+{
+    match begin_clean(alloc, desk, seen, most) {
+        Ok(begun) => {
+            let nodes = begun.nodes() as u32;
+            *commit = Some(begun);
+            Got::Began(nodes)
+        }
+        Err(refusal) => Got::Refused(refusal),
     }
 }
 
@@ -97,6 +120,28 @@ pub fn begin<P: Policy>(
         return Err(Refusal::Memory);
     }
     let image = desk.begin_commit(alloc, None)?;
+    Ok(RunningCommit::new(image))
+}
+
+/// As `begin`, of a clean image: its root is marked clean, and its entries have these dirty bits, by cache block, and the policy's
+/// hints.
+pub fn begin_clean<P: Policy>(
+    alloc: Global,
+    desk: &mut Desk<P>,
+    seen: &[bool],
+    most: u32,
+) -> Result<RunningCommit, Refusal>
+    requires { length seen.now ≡ desk.old.geometry.cache_blocks }
+    ensures begun { IfOk result (λ commit. HasBegunClean P.hint_of seen.now desk.old commit.image desk.new) }
+    ensures steps { IfOk result (λ commit. commit.steps ≡ NodesWritten 0) }
+    ensures few { IfOk result (λ commit. length commit.image.nodes.items ≤ most) }
+    ensures refused { IfErr result (λ refusal. IsUnbegun desk.old most refusal desk.new) }
+    ensures kind { IfErr result (MayBeRefused (AskDesk (BeginCommit true most))) }
+{
+    if desk.most_nodes() > most {
+        return Err(Refusal::Memory);
+    }
+    let image = desk.begin_commit(alloc, Some(seen))?;
     Ok(RunningCommit::new(image))
 }
 
