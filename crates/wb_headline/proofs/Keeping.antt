@@ -18,7 +18,7 @@ use Rattle.wb_words.specs.declared.card.Hold.{Hold}
 use Rattle.wb_words.specs.declared.card.Hold.TheVariants.{Nothing, Held}
 use Rattle.wb_words.specs.declared.card.Card.{Card}
 use Rattle.wb_words.specs.declared.step.CellStep.{CellStep}
-use Rattle.wb_words.specs.declared.step.CellStep.TheVariants.{Look, Take, Seal, Count, SetFailed}
+use Rattle.wb_words.specs.declared.step.CellStep.TheVariants.{Look, Take, Seal, Count, SetFailed, SetSuspended}
 use Rattle.wb_words.specs.declared.word.Kind.TheVariants.{ReadHit, ReadMiss, WriteHit, WriteMiss}
 use Rattle.wb_words.specs.SharedWords.{Words, word_at, place_in, seal_word}
 use Rattle.wb_words.specs.Cards.{failing_at}
@@ -35,7 +35,7 @@ use Rattle.wb_desk.specs.Entries.{entry_of, mapped, MayMap, Removes, is_replacem
 use Rattle.wb_desk.proofs.Entering.{entrance, named_inside}
 use Rattle.wb_desk.proofs.Leaving.{mapped_within}
 use Rattle.wb_stage.specs.Asking.{DidRelease, DidUnmap, IsGivenUp, is_of, order_of as order_found}
-use Rattle.wb_tasks.specs.Tables.{BlockJob, Reading, Writing, Migrating, OnBlock, Flushing, Opening, TaskJob, access_of, range_of}
+use Rattle.wb_tasks.specs.Tables.{BlockJob, Reading, Writing, Displacing, Invalidating, Migrating, OnBlock, Flushing, Suspending, Opening, TaskJob, access_of, range_of}
 use Rattle.wb_tasks.specs.Plan.{Plan, want, after, after_fault, after_fault_of, after_refusal, first_step, later_steps, lets_go, got_of}
 use Rattle.wb_tasks.specs.Ready.{Has, MayTake, Suits, SuitsJob, IsOwnStep, IsJobs, block_of}
 use Rattle.wb_tasks.proofs.Readiness.{is_own_step, is_ready}
@@ -263,6 +263,12 @@ module _ (P A : Type 0) (shape : Shape) (images : Images) (t : Target P) (commit
           of_flush SetFailed serves m o h = ap (λ (v : Hold). (failing_at v x.card).hold) h ∙ h
           of_flush s serves m o h = absurd o
 
+          of_suspend : (s : CellStep) (blocks : List OBlock) (m : ℕ) → IsOwnStep (Suspending blocks m) (Cell s) → x.card.hold ≡ Nothing → (card_after t.words s x.card).hold ≡ Nothing
+          of_suspend (Look word) blocks m o h = h
+          of_suspend SetFailed blocks m o h = ap (λ (v : Hold). (failing_at v x.card).hold) h ∙ h
+          of_suspend SetSuspended blocks m o h = ap (λ (v : Hold). (failing_at v x.card).hold) h ∙ h
+          of_suspend s blocks m o h = absurd o
+
           by : (q : TaskJob) → plan.job ≡ q → RightWhere (place_of t.desk.tree.entries) (card_after t.words step x.card) (after plan (got_of (result_of t.words step))).steps
           by (OnBlock j) is =
               let same : plan ≡ record { job = OnBlock j; steps = Cell step ∷ first.0; answer = plan.answer } = (λ i. record { job = is i; steps = first.1 i; answer = plan.answer }) in
@@ -272,6 +278,9 @@ module _ (P A : Type 0) (shape : Shape) (images : Images) (t : Target P) (commit
           by (Flushing serves m) is =
               let none = (subst (λ (q : TaskJob). SuitsJob shape.geometry.origin_blocks q x.card plan.steps) is suits).0 in
               idle x.card none (of_flush step serves m (own (Flushing serves m) (Cell step) is e) none)
+          by (Suspending blocks m) is =
+              let none = (subst (λ (q : TaskJob). SuitsJob shape.geometry.origin_blocks q x.card plan.steps) is suits).0 in
+              idle x.card none (of_suspend step blocks m (own (Suspending blocks m) (Cell step) is e) none)
           by (Opening left) is = absurd (own (Opening left) (Cell step) is e)
 
       -- what it seals is told by the seal
@@ -358,6 +367,8 @@ module _ (P A : Type 0) (shape : Shape) (images : Images) (t : Target P) (commit
           failed j (WriteExtent d ext) here i = tt
           failed (Reading part) s here i = absurd i
           failed (Writing part) s here i = absurd i
+          failed (Displacing part) s here i = absurd i
+          failed (Invalidating part) s here i = absurd i
           failed (Migrating m part) s here i = absurd i
 
           of_block : (j : BlockJob) → plan.job ≡ OnBlock j → (got ≡ Done) ⊎ (got ≡ Fault) → RightWhere (place_of t.desk.tree.entries) x.card (after plan got).steps

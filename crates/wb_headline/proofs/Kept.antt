@@ -16,7 +16,7 @@ use Rattle.std.proofs.lemmas.List.Elements.{Contains-append_left, Contains-appen
 use Rattle.std.proofs.lemmas.Option.{get_or_from_slice_get}
 use Rattle.wb_desk.specs.Desks.{DeskState, MayReserve}
 use Rattle.wb_desk.specs.Commits.{commit_ended}
-use Rattle.wb_tasks.specs.Tables.{BlockJob, Reading, Writing, Migrating, OnBlock}
+use Rattle.wb_tasks.specs.Tables.{BlockJob, Reading, Writing, Displacing, Invalidating, Migrating, OnBlock}
 use Rattle.wb_tasks.specs.Plan.{Plan, want}
 use Rattle.wb_tasks.specs.Ready.{IsJobs}
 use Rattle.wb_tasks.specs.declared.step.DeviceStep.{DeviceStep}
@@ -97,6 +97,8 @@ gives_done P A shape w x job j (ReadExtent d e) got read chosen i g = absurd g
 gives_done P A shape w x job j (WriteExtent d e) got read chosen i g = absurd g
 gives_done P A shape w x job (Reading part) step got read chosen i g = absurd i
 gives_done P A shape w x job (Writing part) step got read chosen i g = absurd i
+gives_done P A shape w x job (Displacing part) step got read chosen i g = absurd i
+gives_done P A shape w x job (Invalidating part) step got read chosen i g = absurd i
 gives_done P A shape w x job (Migrating m part) step got read chosen i g = absurd i
 
 module _ (P A : Type 0) (shape : Shape) (images : Images) (t : Target P) (commit : Option RunningCommit) (devices : Devices (List History)) (actors : List Actor) (n : Notes) (known : MetadataKept {P = P} {A = A} shape.geometry images (Stands t) commit devices.metadata)

@@ -19,7 +19,7 @@ use Rattle.wb_words.specs.Cards.{owners, sharers, owns, shares}
 use Rattle.wb_words.specs.Effects.{result_of, card_after}
 use Rattle.wb_words.specs.Rule.{LockRule}
 use Rattle.wb_words.proofs.Totals.{total_at, total_two}
-use Rattle.wb_tasks.specs.Tables.{BlockRange, BlockJob, Reading, Writing, Migrating, OnBlock, place_read, read_step, read_count, write_count, copies, ending, work}
+use Rattle.wb_tasks.specs.Tables.{BlockRange, BlockJob, Reading, Writing, Displacing, Invalidating, Migrating, OnBlock, place_read, read_step, read_count, write_count, copies, ending, work}
 use Rattle.wb_tasks.proofs.Working.{work_has}
 use Rattle.wb_tasks.specs.Plan.{Plan, after, refused, got_of, gives_back, gives_up, is_worn}
 use Rattle.wb_tasks.specs.Ready.{Has, block_of}
@@ -71,11 +71,22 @@ module _ (here : Option ℕ) (part : BlockRange) where
 
   writing_right : (place : Option CBlock) (dirty : Bool) → number_of place ≡ here → SealsRight here (work (Writing part) place dirty)
   writing_right = work_has (λ place dirty ws. number_of place ≡ here → SealsRight here ws) (Writing part)
-      (record { seal = λ c ws back r e. (e, r e); home = λ dirty x ws m r. r; cached = λ c dirty x ws sealed m r. r; through = λ c dirty x ws other m r. r; last = last })
+      (record { seal = λ c ws back r e. (e, r e); home = λ dirty x ws m r. r; cached = λ c dirty x ws sealed m r. r; through = λ c dirty x ws other m r. r; defers = λ c dirty past e. tt; last = last })
     where
       last : (place : Option CBlock) (dirty : Bool) → number_of place ≡ here → SealsRight here (Cell (Finish part.block) ∷ write_count place ∷ Cell (Release Owned part.block) ∷ [])
       last None dirty e = tt
       last (Some c) dirty e = tt
+
+  -- or was taken out of the cache
+  displacing_right : (place : Option CBlock) (dirty : Bool) → SealsRight (number_of place) (work (Displacing part) place dirty)
+  displacing_right = work_has (λ place dirty ws. SealsRight (number_of place) ws) (Displacing part) (record { drops = λ c dirty ws r. ((refl, refl), (refl, r)); each = λ dirty x ws m r. r; last = last })
+    where
+      last : (was : Option CBlock) (dirty : Bool) → SealsRight None (Cell (Finish part.block) ∷ write_count was ∷ Cell (Release Owned part.block) ∷ [])
+      last None dirty = tt
+      last (Some c) dirty = tt
+
+  invalidating_right : (place : Option CBlock) (dirty : Bool) → SealsRight (number_of place) (work (Invalidating part) place dirty)
+  invalidating_right = work_has (λ place dirty ws. SealsRight (number_of place) ws) (Invalidating part) (record { drops = λ c dirty ws r. ((refl, refl), (refl, r)); last = λ dirty. tt })
 
   ending_right : (m : Migration) (place : Option CBlock) → number_of place ≡ here → SealsRight here (ending m part.block place)
   ending_right (Promote c) place e = ((refl, refl), (refl, tt))
@@ -91,12 +102,16 @@ module _ (here : Option ℕ) (part : BlockRange) where
 work_right : (here : Option ℕ) (job : BlockJob) (place : Option CBlock) (dirty : Bool) → number_of place ≡ here → SealsRight here (work job place dirty)
 work_right here (Reading part) place dirty e = reading_right here part place dirty
 work_right here (Writing part) place dirty e = writing_right here part place dirty e
+work_right here (Displacing part) place dirty e = subst (λ (h : Option ℕ). SealsRight h (work (Displacing part) place dirty)) e (displacing_right here part place dirty)
+work_right here (Invalidating part) place dirty e = subst (λ (h : Option ℕ). SealsRight h (work (Invalidating part) place dirty)) e (invalidating_right here part place dirty)
 work_right here (Migrating m part) place dirty e = migrating_right here part m place dirty e
 
 -- what a job lets go seals nothing
 pub lets_go_right : (here : Option ℕ) (job : BlockJob) (access : Access) (b : OBlock) → SealsRight here (Cell (Release access b) ∷ gives_up job)
 lets_go_right here (Reading part) access b = tt
 lets_go_right here (Writing part) access b = tt
+lets_go_right here (Displacing part) access b = tt
+lets_go_right here (Invalidating part) access b = tt
 lets_go_right here (Migrating m part) access b = tt
 
 -- ---- a step on the words

@@ -23,7 +23,7 @@ use Rattle.wb_words.specs.Rule.{LockRule}
 use Rattle.wb_words.specs.Cards.{looked, holding, losing, finishing, counting, sealing}
 use Rattle.wb_words.specs.Effects.{result_of, words_after, card_after}
 use Rattle.wb_words.proofs.Totals.{at_slice}
-use Rattle.wb_tasks.specs.Tables.{BlockJob, BlockRange, Reading, Writing, Migrating, OnBlock, access_of, work, place_read, places_written, read_step, read_count, write_count, writes, dirtying, copies}
+use Rattle.wb_tasks.specs.Tables.{BlockJob, BlockRange, Reading, Writing, Displacing, Invalidating, Migrating, OnBlock, access_of, work, place_read, places_written, read_step, read_count, write_count, writes, dirtying, writing, copies}
 use Rattle.wb_tasks.specs.Plan.{Plan, after, got_of, may_take, exchange, is_worn, gives_back, work_of}
 use Rattle.wb_tasks.specs.Ready.{Has, IsRest, IsParting, block_of}
 use Rattle.wb_tasks.specs.declared.step.Answer.{Answer}
@@ -56,7 +56,7 @@ work_plain (Reading part) place dirty = by_extents part.extents (place_read part
     by_extents [] (Some c) = tt
     by_extents (e ∷ es) None = tt
     by_extents (e ∷ es) (Some c) = tt
-work_plain (Writing part) place dirty = by_mode part.mode part.extents place dirty
+work_plain (Writing part) place dirty = by_writing part.mode place dirty
   where
     by_mode : (mode : Mode) (es : List Extent) (place : Option CBlock) (dirty : Bool) → IsPlain (dirtying mode part.block place dirty ++ writes part (places_written mode place) es ++ Cell (Finish part.block) ∷ write_count place ∷ Cell (Release Owned part.block) ∷ [])
     by_mode Writeback [] None dirty = tt
@@ -69,6 +69,20 @@ work_plain (Writing part) place dirty = by_mode part.mode part.extents place dir
     by_mode Writethrough (e ∷ es) (Some c) dirty = tt
     by_mode Passthrough [] place dirty = tt
     by_mode Passthrough (e ∷ es) place dirty = tt
+
+    by_writing : (mode : Mode) (place : Option CBlock) (dirty : Bool) → IsPlain (writing mode part place dirty)
+    by_writing Writeback place dirty = by_mode Writeback part.extents place dirty
+    by_writing Writethrough place dirty = by_mode Writethrough part.extents place dirty
+    by_writing Passthrough None dirty = by_mode Passthrough part.extents None dirty
+    by_writing Passthrough (Some c) dirty = tt
+work_plain (Displacing part) (Some c) dirty = tt
+work_plain (Displacing part) None dirty = by_extents part.extents
+  where
+    by_extents : (es : List Extent) → IsPlain (writes part (None ∷ []) es ++ Cell (Finish part.block) ∷ write_count None ∷ Cell (Release Owned part.block) ∷ [])
+    by_extents [] = tt
+    by_extents (e ∷ es) = tt
+work_plain (Invalidating part) None dirty = tt
+work_plain (Invalidating part) (Some c) dirty = tt
 work_plain (Migrating (Promote c) part) place dirty = copies_plain part None (Some c) part.extents _ tt
 work_plain (Migrating Demote part) (Some c) true = copies_plain part (Some c) None part.extents _ tt
 work_plain (Migrating Clean part) (Some c) true = copies_plain part (Some c) None part.extents _ tt
@@ -151,7 +165,8 @@ module _ (role : Role) (job : BlockJob) (plays : Plays role job) (actors : List 
 
   -- the seal is looked at; the abstract actor sees it with the number
   looks_seal : (access : Access) (ws : List Want) → card.hold ≡ HoldsBlock access block → Goal (Look (SealWord block)) ws
-  looks_seal access ws h = still words (Cell (Look (Number block)) ∷ work_of (OnBlock job) (word_at words.seals block)) (looked (SealWord block) (word_at words.seals block) card) w (plays.steps (Look (SealWord block)) ws ∙ sym (plays.steps (Look (Number block)) _)) refl (word_at words.seals block, own_seal access block (word_at words.seals block) card h, refl)
+  looks_seal access ws h = subst (λ (told : Answer). DoesToo role actors a s (on (role.wants (Cell (Look (SealWord block)) ∷ ws)) (held_for (Cell (Look (SealWord block)) ∷ ws) card)) words (plan_of job (Cell (Look (Number block)) ∷ work_of (OnBlock job) (word_at words.seals block)) told) (looked (SealWord block) (word_at words.seals block) card))
+      (sym (plays.undeferred (word_at words.seals block) answer)) (still words (Cell (Look (Number block)) ∷ work_of (OnBlock job) (word_at words.seals block)) (looked (SealWord block) (word_at words.seals block) card) w (plays.steps (Look (SealWord block)) ws ∙ sym (plays.steps (Look (Number block)) _)) refl (word_at words.seals block, own_seal access block (word_at words.seals block) card h, refl))
 
   -- The number is looked at: a worn write gives its block back, which the abstract actor has not taken; else that takes it, and
   -- sees the seal.

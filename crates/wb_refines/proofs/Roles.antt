@@ -1,5 +1,6 @@
 -- Reads, writes and migrations play their roles.
 use Rattle.std.proofs.Common.{◌≡◌, ◌<◌, ◌∙◌, ℕ, Bool, false, List, [], ◌∷◌, Option, Some, None, refl, sym, ap, subst}
+use Rattle.wb_types.specs.declared.mode.Mode.{Mode}
 use Rattle.wb_types.specs.declared.mode.Mode.TheVariants.{Writeback}
 use Rattle.wb_types.specs.declared.number.CBlock.{CBlock}
 use Rattle.wb_types.specs.declared.refusal.Refusal.{Refusal}
@@ -7,9 +8,9 @@ use Rattle.wb_types.specs.declared.refusal.Refusal.TheVariants.{Busy}
 use Rattle.wb_disk.specs.Device.{Content}
 use Rattle.wb_words.specs.SharedWords.{place_in, dirty_in}
 use Rattle.wb_words.specs.declared.card.Card.{Card}
-use Rattle.wb_tasks.specs.Tables.{BlockJob, TaskJob, BlockRange, Reading, Writing, Migrating, OnBlock, range_of, access_of, work}
+use Rattle.wb_tasks.specs.Tables.{BlockJob, TaskJob, BlockRange, Reading, Writing, Displacing, Invalidating, Migrating, OnBlock, range_of, access_of, work}
 use Rattle.wb_tasks.specs.Ready.{block_of}
-use Rattle.wb_tasks.specs.Plan.{Plan}
+use Rattle.wb_tasks.specs.Plan.{Plan, deferring, answer_seeing}
 use Rattle.wb_tasks.specs.declared.step.Answer.{Answer}
 use Rattle.wb_tasks.specs.declared.step.Want.{Want}
 use Rattle.wb_tasks.specs.declared.step.Answer.TheVariants.{Refused as Refuses}
@@ -54,13 +55,14 @@ module _ (size : ℕ) (content : Content) (job : BlockJob) (sized : size ≡ (ra
   there n = job_for n content (OnBlock job)
 
   request_plays : abstract_acquire (there size) ≡ claim (access_of job) (block_of job) ∷ Look_seal (block_of job).0 ∷ [] → breaking (there size) ≡ Set_failed ∷ [] → job_alone (there size) ≡ false → AnsweredBusy ≡ answer_for (there size) (Refuses Busy) → ((d e : Bool) → work_there (there size) (record { location = None; dirty = d }) ≡ work_there (there size) (record { location = None; dirty = e })) →
-      ((place : Option CBlock) (dirty : Bool) → wants_of (range_of job).block_sectors (there (range_of job).block_sectors) (work job place dirty) ≡ work_there (there (range_of job).block_sectors) (record { location = number_of place; dirty = dirty })) → Plays (request_role size content job) job
-  request_plays begins breaks among busy any is = record {
+      ((word : ℕ) (answer : Answer) → answer_seeing (OnBlock job) word answer ≡ answer) → ((place : Option CBlock) (dirty : Bool) → wants_of (range_of job).block_sectors (there (range_of job).block_sectors) (work job place dirty) ≡ work_there (there (range_of job).block_sectors) (record { location = number_of place; dirty = dirty })) → Plays (request_role size content job) job
+  request_plays begins breaks among busy any undeferred is = record {
     begins = begins;
     steps = λ step later. refl;
     ends = refl;
     works = λ word seal f a. same_work (there size) (place_in word) (dirty_in word) seal (λ d. any d (dirty_in word)) a.location a.dirty
         ∙ subst (λ (n : ℕ). work_there (there n) (record { location = number_of (place_in word); dirty = dirty_in word }) ≡ wants_of n (there n) (work job (place_in word) (dirty_in word))) (sym sized) (sym (is (place_in word) (dirty_in word)));
+    undeferred = undeferred;
     breaks = breaks;
     among_others = among;
     failed = refl;
@@ -69,8 +71,10 @@ module _ (size : ℕ) (content : Content) (job : BlockJob) (sized : size ≡ (ra
   }
 
 pub requests_play : (size : ℕ) (content : Content) (job : BlockJob) → IsRequest job → (range_of job).mode ≡ Writeback → 0 < size → size ≡ (range_of job).block_sectors → Plays (request_role size content job) job
-requests_play size content (Reading part) r back some e = request_plays size content (Reading part) e refl refl refl refl (λ d e. refl) (read_work part (subst (λ v. 0 < v) e some) back content)
-requests_play size content (Writing part) r back some e = request_plays size content (Writing part) e refl refl refl refl (λ d e. refl) (write_work part (subst (λ v. 0 < v) e some) back content)
+requests_play size content (Reading part) r back some e = request_plays size content (Reading part) e refl refl refl refl (λ d e. refl) (λ word answer. refl) (read_work part (subst (λ v. 0 < v) e some) back content)
+requests_play size content (Writing part) r back some e = request_plays size content (Writing part) e refl refl refl refl (λ d e. refl) (λ word answer. ap (λ (mode : Mode). deferring mode (place_in word) answer) back) (write_work part (subst (λ v. 0 < v) e some) back content)
+requests_play size content (Displacing part) r back some e = absurd r
+requests_play size content (Invalidating part) r back some e = absurd r
 requests_play size content (Migrating migration part) r back some e = absurd r
 
 -- what a migration's work is hangs on no more of the seal than agrees
@@ -85,6 +89,7 @@ migrations_play part c next (Promote k) kept some fills = record {
   steps = λ step later. refl;
   ends = refl;
   works = λ word seal f a. same_there (Promote k) (order_on part c next) (offsets part.block_sectors part.extents) c word seal f a ∙ sym (works part c next (Promote k) (place_in word) (dirty_in word) some fills f);
+  undeferred = λ word answer. refl;
   breaks = refl;
   among_others = refl;
   failed = λ e. absurd (cc);
@@ -96,6 +101,7 @@ migrations_play part c next migration kept some fills = record {
   steps = λ step later. refl;
   ends = refl;
   works = λ word seal f a. same_there migration (order_on part c next) (offsets part.block_sectors part.extents) c word seal f a ∙ sym (works part c next migration (place_in word) (dirty_in word) some fills f);
+  undeferred = λ word answer. refl;
   breaks = refl;
   among_others = refl;
   failed = λ e. absurd (cc);

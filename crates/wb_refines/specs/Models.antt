@@ -13,7 +13,7 @@ use Rattle.wb_words.specs.declared.card.Hold.TheVariants.{Nothing as HoldsNothin
 use Rattle.wb_words.specs.declared.card.Card.{Card}
 use Rattle.wb_words.specs.SharedWords.{Words, word_at, place_in, dirty_in, flag, seal_word}
 use Rattle.wb_words.specs.Cards.{owners, sharers}
-use Rattle.wb_tasks.specs.Tables.{BlockJob, Migrating, OnBlock}
+use Rattle.wb_tasks.specs.Tables.{BlockJob, Reading, Writing, OnBlock}
 use Rattle.wb_tasks.specs.Plan.{Plan, work_of}
 use Rattle.wb_tasks.specs.declared.step.Answer.{Answer}
 use Rattle.wb_tasks.specs.declared.step.Want.{Want}
@@ -25,8 +25,9 @@ use Rattle.wb_refines.specs.Translation.{number_of, script_for}
 
 -- a read or a write
 abbrev pub IsRequest : BlockJob → Type 0
-IsRequest (Migrating migration part) = ⊥
-IsRequest job = Unit {0}
+IsRequest (Reading part) = Unit {0}
+IsRequest (Writing part) = Unit {0}
+IsRequest job = ⊥
 
 -- what is left of a job on a block
 abbrev pub plan_of : BlockJob → List Want → Answer → Plan

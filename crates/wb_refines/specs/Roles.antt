@@ -15,7 +15,7 @@ use Rattle.wb_words.specs.declared.word.Word.TheVariants.{Number}
 use Rattle.wb_words.specs.declared.step.CellStep.{CellStep}
 use Rattle.wb_words.specs.declared.step.CellStep.TheVariants.{Look}
 use Rattle.wb_tasks.specs.Tables.{BlockJob, OnBlock, range_of, access_of}
-use Rattle.wb_tasks.specs.Plan.{Plan, after, got_of, work_of}
+use Rattle.wb_tasks.specs.Plan.{Plan, after, got_of, answer_seeing, work_of}
 use Rattle.wb_tasks.specs.Ready.{Suits, block_of}
 use Rattle.wb_tasks.specs.declared.step.Answer.{Answer}
 use Rattle.wb_tasks.specs.declared.step.Answer.TheVariants.{Refused as Refuses}
@@ -53,13 +53,14 @@ abbrev pub claim : Access → OBlock → AbstractWant
 claim Sharing block = Share block.0
 claim Owned block = Own block.0
 
--- The role is this job's: it takes the same block in the same way, its steps on the words stand for what the translation says, and with the seal
--- that it sees it has the same work.
+-- The role is this job's: it takes the same block in the same way, its steps on the words stand for what the translation says, with the seal
+-- that it sees it has the same work, and no seal defers it.
 pub record Plays (role : Role) (job : BlockJob) : Type 0 where
   pub begins : abstract_acquire role.job ≡ claim (access_of job) (block_of job) ∷ Look_seal (block_of job).0 ∷ []
   pub steps : (step : CellStep) (later : List Want) → role.wants (Cell step ∷ later) ≡ cell_wants role.job step (role.wants later)
   pub ends : role.wants [] ≡ []
   pub works : (word : ℕ) (seal : Seal) → role.finds word → SealAgrees word seal → work_there role.job seal ≡ role.wants (work_of (OnBlock job) word)
+  pub undeferred : (word : ℕ) (answer : Answer) → answer_seeing (OnBlock job) word answer ≡ answer
   pub breaks : breaking role.job ≡ Set_failed ∷ []
   pub among_others : job_alone role.job ≡ false
   pub failed : role.alike (Refuses Failed) AnsweredFailed

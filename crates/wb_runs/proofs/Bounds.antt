@@ -19,9 +19,9 @@ use Rattle.wb_words.specs.SharedWords.{Words, word_at, place_in, dirty_in, seal_
 use Rattle.wb_words.specs.Effects.{words_after}
 use Rattle.wb_tasks.specs.declared.step.Migration.{Migration}
 use Rattle.wb_tasks.specs.declared.step.Migration.TheVariants.{Promote, Demote, Clean}
-use Rattle.wb_tasks.specs.Tables.{BlockRange, BlockJob, Reading, Writing, Migrating, TaskJob, OnBlock, Flushing, Opening, cache_extent, place_read, read_step, write_step, read_count, write_count, copies, ending, work}
+use Rattle.wb_tasks.specs.Tables.{BlockRange, BlockJob, Reading, Writing, Displacing, Invalidating, Migrating, TaskJob, OnBlock, Flushing, Suspending, Opening, cache_extent, place_read, read_step, write_step, read_count, write_count, copies, ending, work}
 use Rattle.wb_tasks.proofs.Working.{work_has}
-use Rattle.wb_tasks.specs.Plan.{Plan, want, after, after_look, after_fault, after_refusal, after_more, node_writes, root_steps, release_orders, lets_go, gives_up, may_take, exchange, is_worn, gives_back, work_of}
+use Rattle.wb_tasks.specs.Plan.{Plan, want, after, after_look, after_fault, after_refusal, after_more, node_writes, root_steps, begun_steps, steps_seeing, release_orders, lets_go, gives_up, may_take, exchange, is_worn, gives_back, work_of}
 use Rattle.wb_tasks.specs.declared.step.Answer.{Answer}
 use Rattle.wb_tasks.specs.declared.step.DeviceStep.{DeviceStep}
 use Rattle.wb_tasks.specs.declared.step.DeviceStep.TheVariants.{Read as ReadExtent, Write as WriteExtent, Sync, ReadMetadata, WriteNode, WriteRoot}
@@ -126,8 +126,11 @@ MigrationInside shape Clean = Unit {0}
 abbrev pub JobInside : Shape → TaskJob → Type 0
 JobInside shape (OnBlock (Reading part)) = PartInside shape part
 JobInside shape (OnBlock (Writing part)) = PartInside shape part
+JobInside shape (OnBlock (Displacing part)) = PartInside shape part
+JobInside shape (OnBlock (Invalidating part)) = Unit {0}
 JobInside shape (OnBlock (Migrating migration part)) = PartInside shape part × MigrationInside shape migration
 JobInside shape (Flushing serves most) = Unit {0}
+JobInside shape (Suspending blocks most) = Unit {0}
 JobInside shape (Opening left) = Unit {0}
 
 -- a sector in a block of the cache is one of the cache
@@ -188,7 +191,15 @@ module _ (shape : Shape) (part : BlockRange) (p : PartInside shape part) where
     home = λ dirty e ws m r l. (one_write None e tt (p.each e m), r l);
     cached = λ c dirty e ws sealed m r l. (one_write (Some c) e l (p.each e m), r l);
     through = λ c dirty e ws other m r l. (one_write None e tt (p.each e m), r l);
+    defers = λ c dirty past l. (tt, tt);
     last = λ place dirty l. write_ends place;
+  })
+
+  work_displaces : (place : Option CBlock) (dirty : Bool) → PlaceInside shape.geometry.cache_blocks place → AllInside shape (work (Displacing part) place dirty)
+  work_displaces = work_has (λ place dirty ws. PlaceInside shape.geometry.cache_blocks place → AllInside shape ws) (Displacing part) (record {
+    drops = λ c dirty ws r l. (tt, (tt, r tt));
+    each = λ dirty e ws m r l. (one_write None e tt (p.each e m), r l);
+    last = λ was dirty l. write_ends was;
   })
 
   work_migrates : (migration : Migration) (place : Option CBlock) (dirty : Bool) → MigrationInside shape migration → PlaceInside shape.geometry.cache_blocks place → AllInside shape (work (Migrating migration part) place dirty)
@@ -211,13 +222,25 @@ module _ (shape : Shape) where
   work_inside : (job : TaskJob) (seal : ℕ) → JobInside shape job → SealInside shape.geometry.cache_blocks seal → AllInside shape (work_of job seal)
   work_inside (OnBlock (Reading part)) seal j s = work_reads shape part j (place_in seal) (dirty_in seal) (place_inside shape.geometry.cache_blocks seal s)
   work_inside (OnBlock (Writing part)) seal j s = work_writes shape part j (place_in seal) (dirty_in seal) (place_inside shape.geometry.cache_blocks seal s)
+  work_inside (OnBlock (Displacing part)) seal j s = work_displaces shape part j (place_in seal) (dirty_in seal) (place_inside shape.geometry.cache_blocks seal s)
+  work_inside (OnBlock (Invalidating part)) seal j s = work_has (λ place dirty ws. AllInside shape ws) (Invalidating part) (record { drops = λ c dirty ws r. (tt, (tt, r)); last = λ dirty. (tt, tt) }) (place_in seal) (dirty_in seal)
   work_inside (OnBlock (Migrating migration part)) seal j s = work_migrates shape part j.0 migration (place_in seal) (dirty_in seal) j.1 (place_inside shape.geometry.cache_blocks seal s)
   work_inside (Flushing serves most) seal j s = tt
+  work_inside (Suspending blocks most) seal j s = tt
   work_inside (Opening left) seal j s = tt
+
+  -- what is left once the seal was looked at
+  seeing_inside : (job : TaskJob) (b : OBlock) (seal : ℕ) (ws : List Want) → JobInside shape job → SealInside shape.geometry.cache_blocks seal → AllInside shape ws → AllInside shape (steps_seeing job b seal ws)
+  seeing_inside (OnBlock job) b seal ws j s a = (tt, work_inside (OnBlock job) seal j s)
+  seeing_inside (Flushing serves most) b seal ws j s a = a
+  seeing_inside (Suspending blocks most) b seal ws j s a = a
+  seeing_inside (Opening left) b seal ws j s a = a
 
   gives_up_inside : (job : BlockJob) → AllInside shape (gives_up job)
   gives_up_inside (Reading part) = tt
   gives_up_inside (Writing part) = tt
+  gives_up_inside (Displacing part) = tt
+  gives_up_inside (Invalidating part) = tt
   gives_up_inside (Migrating migration part) = (tt, tt)
 
   orders_inside : (blocks : List OBlock) → AllInside shape (release_orders blocks)
@@ -227,21 +250,34 @@ module _ (shape : Shape) where
   lets_go_inside : (job : TaskJob) → AllInside shape (lets_go job)
   lets_go_inside (OnBlock job) = (tt, gives_up_inside job)
   lets_go_inside (Flushing serves most) = orders_inside serves
+  lets_go_inside (Suspending blocks most) = tt
   lets_go_inside (Opening left) = tt
 
   gives_back_inside : (job : TaskJob) → AllInside shape (gives_back job)
   gives_back_inside (OnBlock job) = (tt, tt)
   gives_back_inside (Flushing serves most) = tt
+  gives_back_inside (Suspending blocks most) = tt
   gives_back_inside (Opening left) = tt
 
   exchange_inside : (job : TaskJob) (seen : ℕ) → AllInside shape (exchange job seen)
   exchange_inside (OnBlock job) seen = (tt, (tt, tt))
   exchange_inside (Flushing serves most) seen = tt
+  exchange_inside (Suspending blocks most) seen = tt
   exchange_inside (Opening left) seen = tt
 
   nodes_inside : (count first : ℕ) → AllInside shape (node_writes count first ++ root_steps)
   nodes_inside zero first = (tt, (tt, (tt, (tt, tt))))
   nodes_inside (suc count) first = (tt, nodes_inside count (first + 1))
+
+  closing_inside : (count first : ℕ) → AllInside shape ((node_writes count first ++ root_steps) ++ Cell SetSuspended ∷ [])
+  closing_inside zero first = (tt, (tt, (tt, (tt, (tt, tt)))))
+  closing_inside (suc count) first = (tt, closing_inside count (first + 1))
+
+  begun_inside : (job : TaskJob) (nodes : ℕ) → AllInside shape (begun_steps job nodes)
+  begun_inside (OnBlock job) nodes = (tt, (tt, nodes_inside nodes 0))
+  begun_inside (Flushing serves most) nodes = (tt, (tt, nodes_inside nodes 0))
+  begun_inside (Suspending blocks most) nodes = (tt, (tt, closing_inside nodes 0))
+  begun_inside (Opening left) nodes = (tt, (tt, nodes_inside nodes 0))
 
   fault_inside : (job : TaskJob) (step : DeviceStep) → AllInside shape (Rattle.wb_tasks.specs.Plan.after_fault_of job step)
   fault_inside (OnBlock job) (ReadExtent d e) = (tt, gives_up_inside job)
@@ -251,6 +287,7 @@ module _ (shape : Shape) where
   fault_inside (OnBlock job) (WriteNode k) = (tt, tt)
   fault_inside (OnBlock job) WriteRoot = (tt, tt)
   fault_inside (Flushing serves most) step = (tt, tt)
+  fault_inside (Suspending blocks most) step = (tt, tt)
   fault_inside (Opening left) step = tt
 
   begin_refused : (job : TaskJob) (refusal : Refusal) → AllInside shape (Rattle.wb_tasks.specs.Plan.lets_go_unless_busy job refusal)
@@ -269,7 +306,7 @@ module _ (shape : Shape) where
       by_test : (t : Bool) → AllInside shape (if t then record (plan_of job (Cell (Look (LockWord b)) ∷ ws) answer) { steps = exchange job value } else Rattle.wb_tasks.specs.Plan.refused (plan_of job (Cell (Look (LockWord b)) ∷ ws) answer) [] Busy).steps
       by_test true = exchange_inside job value
       by_test false = tt
-  look_inside job (Cell (Look (SealWord b))) ws answer value j a s = (tt, work_inside job value j (s b refl))
+  look_inside job (Cell (Look (SealWord b))) ws answer value j a s = seeing_inside job b value ws j (s b refl) a.1
   look_inside job (Cell (Look (Number b))) ws answer value j a s = by_test (is_worn job value)
     where
       by_test : (t : Bool) → AllInside shape (if t then Rattle.wb_tasks.specs.Plan.refused (plan_of job (Cell (Look (Number b)) ∷ ws) answer) (gives_back job) Rattle.wb_types.specs.declared.refusal.Refusal.TheVariants.Worn else Rattle.wb_tasks.specs.Plan.onward (plan_of job (Cell (Look (Number b)) ∷ ws) answer)).steps
@@ -322,7 +359,7 @@ module _ (shape : Shape) where
   by_got job w ws answer Lost j a s = tt
   by_got job w ws answer Fault j a s = fault_of job w ws answer a
   by_got job w ws answer (GotRefused refusal) j a s = refusal_of job w ws answer refusal a
-  by_got job w ws answer (Began nodes) j a s = (tt, (tt, nodes_inside nodes 0))
+  by_got job w ws answer (Began nodes) j a s = begun_inside job nodes
   by_got job w ws answer More j a s = more_of job w ws answer a
 
   pub inside_after : (plan : Plan) (got : Got) → JobInside shape plan.job → AllInside shape plan.steps → ((b : OBlock) (v : ℕ) → want plan ≡ Cell (Look (SealWord b)) → got ≡ Word v → SealInside shape.geometry.cache_blocks v) → ((answer : Answer) → Rattle.std.proofs.Common.◌≢◌ (want plan) (End answer)) →

@@ -33,7 +33,7 @@ use Rattle.wb_desk.proofs.Kept.{found_at, takes_there}
 use Rattle.wb_stage.specs.Asking.{IsGivenUp, DidRelease, order_of}
 use Rattle.wb_words.specs.Effects.{result_of}
 use Rattle.wb_tasks.specs.Ready.{HoldsBlocks, IsOwnStep, source_of, target_of}
-use Rattle.wb_tasks.specs.Tables.{BlockRange, BlockJob, Reading, Writing, Migrating, OnBlock, Flushing, Opening}
+use Rattle.wb_tasks.specs.Tables.{BlockRange, BlockJob, Reading, Writing, Displacing, Invalidating, Migrating, OnBlock, Flushing, Opening}
 use Rattle.wb_tasks.specs.Plan.{Plan, want, got_of}
 use Rattle.wb_tasks.specs.declared.step.Answer.{Answer}
 use Rattle.wb_tasks.specs.declared.step.DeskStep.TheVariants.{Map, Unmap, ReleaseOrder, BeginCommit, EndCommit}
@@ -285,10 +285,13 @@ module _ (P A : Type 0) (shape : Shape) (devices : Devices (List History)) (comm
     pub block_falters : (job : BlockJob) (choice : Choice) (next : Want) → IsOwnStep (OnBlock job) next → Rattle.wb_promise.specs.Happenings.MayFailAt devices choice next → CanFalter w choice next
     block_falters (Reading part) choice (Device (ReadExtent d e)) i m = record { chosen = Plain; falters = (refl, i) }
     block_falters (Writing part) choice (Device (WriteExtent d e)) i m = record { chosen = Plain; falters = (refl, i) }
+    block_falters (Displacing part) choice (Device (WriteExtent d e)) i m = record { chosen = Plain; falters = (refl, subst HoldsBlocks (sym i) tt) }
     block_falters (Migrating migration part) choice (Device (ReadExtent d e)) i m = record { chosen = Plain; falters = (refl, subst HoldsBlocks (sym i) (source_holds migration)) }
     block_falters (Migrating migration part) choice (Device (WriteExtent d e)) i m = record { chosen = Plain; falters = (refl, subst HoldsBlocks (sym i) (target_holds migration)) }
     block_falters (Reading part) choice (Device (WriteExtent d e)) i m = absurd i
     block_falters (Writing part) choice (Device (ReadExtent d e)) i m = absurd i
+    block_falters (Displacing part) choice (Device (ReadExtent d e)) i m = absurd i
+    block_falters (Invalidating part) choice (Device step) i m = absurd i
     block_falters (Reading part) choice (Device (Sync d)) i m = absurd i
     block_falters (Reading part) choice (Device (ReadMetadata k)) i m = absurd i
     block_falters (Reading part) choice (Device (WriteNode k)) i m = absurd i
@@ -297,6 +300,10 @@ module _ (P A : Type 0) (shape : Shape) (devices : Devices (List History)) (comm
     block_falters (Writing part) choice (Device (ReadMetadata k)) i m = absurd i
     block_falters (Writing part) choice (Device (WriteNode k)) i m = absurd i
     block_falters (Writing part) choice (Device WriteRoot) i m = absurd i
+    block_falters (Displacing part) choice (Device (Sync d)) i m = absurd i
+    block_falters (Displacing part) choice (Device (ReadMetadata k)) i m = absurd i
+    block_falters (Displacing part) choice (Device (WriteNode k)) i m = absurd i
+    block_falters (Displacing part) choice (Device WriteRoot) i m = absurd i
     block_falters (Migrating migration part) choice (Device (Sync d)) i m = absurd i
     block_falters (Migrating migration part) choice (Device (ReadMetadata k)) i m = absurd i
     block_falters (Migrating migration part) choice (Device (WriteNode k)) i m = absurd i

@@ -11,7 +11,7 @@ use Rattle.wb_meta.specs.declared.read_steps.ReadSteps.{ReadSteps}
 use Rattle.wb_words.specs.declared.card.Card.{Card}
 use Rattle.wb_tasks.specs.Plan.{Plan, want, table, device_of}
 use Rattle.wb_tasks.specs.Ready.{Suits, IsOwnStep}
-use Rattle.wb_tasks.specs.Tables.{BlockJob, Reading, Writing, Migrating, TaskJob, OnBlock}
+use Rattle.wb_tasks.specs.Tables.{BlockJob, Reading, Writing, Displacing, Invalidating, Migrating, TaskJob, OnBlock}
 use Rattle.wb_tasks.proofs.Readiness.{is_own_step, job_stays}
 use Rattle.wb_tasks.specs.declared.step.Answer.TheVariants.{Done as Finished}
 use Rattle.wb_tasks.specs.declared.step.DeskStep.TheVariants.{Map, Unmap, ReleaseOrder, BeginCommit, EndCommit}
@@ -114,21 +114,33 @@ module _ (P A : Type 0) (shape : Shape) where
   same_commit t commit job (Desk (ReleaseOrder b)) got chosen i = refl
   same_commit t commit (Reading part) (Device (Sync d)) got chosen i = absurd i
   same_commit t commit (Writing part) (Device (Sync d)) got chosen i = absurd i
+  same_commit t commit (Displacing part) (Device (Sync d)) got chosen i = absurd i
+  same_commit t commit (Invalidating part) (Device (Sync d)) got chosen i = absurd i
   same_commit t commit (Migrating m part) (Device (Sync d)) got chosen i = absurd i
   same_commit t commit (Reading part) (Device (ReadMetadata k)) got chosen i = absurd i
   same_commit t commit (Writing part) (Device (ReadMetadata k)) got chosen i = absurd i
+  same_commit t commit (Displacing part) (Device (ReadMetadata k)) got chosen i = absurd i
+  same_commit t commit (Invalidating part) (Device (ReadMetadata k)) got chosen i = absurd i
   same_commit t commit (Migrating m part) (Device (ReadMetadata k)) got chosen i = absurd i
   same_commit t commit (Reading part) (Device (WriteNode k)) got chosen i = absurd i
   same_commit t commit (Writing part) (Device (WriteNode k)) got chosen i = absurd i
+  same_commit t commit (Displacing part) (Device (WriteNode k)) got chosen i = absurd i
+  same_commit t commit (Invalidating part) (Device (WriteNode k)) got chosen i = absurd i
   same_commit t commit (Migrating m part) (Device (WriteNode k)) got chosen i = absurd i
   same_commit t commit (Reading part) (Device WriteRoot) got chosen i = absurd i
   same_commit t commit (Writing part) (Device WriteRoot) got chosen i = absurd i
+  same_commit t commit (Displacing part) (Device WriteRoot) got chosen i = absurd i
+  same_commit t commit (Invalidating part) (Device WriteRoot) got chosen i = absurd i
   same_commit t commit (Migrating m part) (Device WriteRoot) got chosen i = absurd i
   same_commit t commit (Reading part) (Desk (BeginCommit clean most)) got chosen i = absurd i
   same_commit t commit (Writing part) (Desk (BeginCommit clean most)) got chosen i = absurd i
+  same_commit t commit (Displacing part) (Desk (BeginCommit clean most)) got chosen i = absurd i
+  same_commit t commit (Invalidating part) (Desk (BeginCommit clean most)) got chosen i = absurd i
   same_commit t commit (Migrating m part) (Desk (BeginCommit clean most)) got chosen i = absurd i
   same_commit t commit (Reading part) (Desk EndCommit) got chosen i = absurd i
   same_commit t commit (Writing part) (Desk EndCommit) got chosen i = absurd i
+  same_commit t commit (Displacing part) (Desk EndCommit) got chosen i = absurd i
+  same_commit t commit (Invalidating part) (Desk EndCommit) got chosen i = absurd i
   same_commit t commit (Migrating m part) (Desk EndCommit) got chosen i = absurd i
 
   -- a task of a block is at its own step

@@ -12,8 +12,8 @@ use Rattle.wb_words.specs.declared.step.CellResult.TheVariants.{Done as Won, Los
 use Rattle.wb_words.specs.declared.word.Word.TheVariants.{Cell as LockWord, Seal as SealWord, Number, Fail}
 use Rattle.wb_types.specs.declared.number.OBlock.{OBlock}
 use Rattle.wb_types.specs.declared.refusal.Refusal.TheVariants.{Failed, Worn, Busy}
-use Rattle.wb_tasks.specs.Tables.{TaskJob, BlockRange, Reading, Writing, Migrating, OnBlock, place_read, read_step, read_count, write_count, cache_extent, copies, ending, work}
-use Rattle.wb_tasks.specs.Plan.{work_of, after, got_of, onward, refused, may_take, exchange, is_worn, gives_back}
+use Rattle.wb_tasks.specs.Tables.{TaskJob, BlockRange, Reading, Writing, Migrating, OnBlock, Flushing, Suspending, Opening, place_read, read_step, read_count, write_count, cache_extent, copies, ending, work}
+use Rattle.wb_tasks.specs.Plan.{work_of, after, got_of, onward, refused, may_take, exchange, is_worn, gives_back, steps_seeing}
 use Rattle.wb_tasks.specs.declared.step.Answer.{Answer}
 use Rattle.wb_tasks.specs.declared.step.Migration.TheVariants.{Promote, Demote, Clean}
 use Rattle.wb_tasks.specs.declared.step.Migration.{Migration}
@@ -58,7 +58,7 @@ module _ (size : ℕ) (part : BlockRange) (is : IsPart size part) where
       last (Some c) = tt
 
   pub write_of_block : (seal : ℕ) → AreOfBlock size part.block.0 (work_of (OnBlock (Writing part)) seal)
-  write_of_block seal = work_has Of (Writing part) (record { seal = λ c ws back w t. (t true, w t); home = λ dirty e ws m w t. (on_origin e (is.each e m), w t); cached = λ c dirty e ws sealed m w t. (on_cache c e (is.each e m), w t); through = λ c dirty e ws other m w t. (on_origin e (is.each e m), w t); last = last })
+  write_of_block seal = work_has Of (Writing part) (record { seal = λ c ws back w t. (t true, w t); home = λ dirty e ws m w t. (on_origin e (is.each e m), w t); cached = λ c dirty e ws sealed m w t. (on_cache c e (is.each e m), w t); through = λ c dirty e ws other m w t. (on_origin e (is.each e m), w t); defers = λ c dirty past t. tt; last = last })
       (place_in seal) (dirty_in seal) (λ d. seal_tells seal d)
     where
       -- where a seal can tell that place
@@ -88,7 +88,13 @@ after_cell P job words (Look (LockWord b)) ws answer none stays exchanges works 
     by_test : (t : Bool) → P (if t then record (record { job = job; steps = Cell (Look (LockWord b)) ∷ ws; answer = answer }) { steps = exchange job (word_at words.cells b) } else refused (record { job = job; steps = Cell (Look (LockWord b)) ∷ ws; answer = answer }) [] Busy).steps
     by_test true = exchanges (word_at words.cells b)
     by_test false = none
-after_cell P job words (Look (SealWord b)) ws answer none stays exchanges works back = works b refl
+after_cell P job words (Look (SealWord b)) ws answer none stays exchanges works back = by_job job (works b refl)
+  where
+    by_job : (job : TaskJob) → P (Cell (Look (Number b)) ∷ work_of job (word_at words.seals b)) → P (steps_seeing job b (word_at words.seals b) ws)
+    by_job (OnBlock job) w = w
+    by_job (Flushing serves most) w = stays
+    by_job (Suspending blocks most) w = stays
+    by_job (Opening left) w = stays
 after_cell P job words (Look (Number b)) ws answer none stays exchanges works back = by_test (is_worn job (word_at words.numbers b))
   where
     by_test : (t : Bool) → P (if t then refused (record { job = job; steps = Cell (Look (Number b)) ∷ ws; answer = answer }) (gives_back job) Worn else onward (record { job = job; steps = Cell (Look (Number b)) ∷ ws; answer = answer })).steps

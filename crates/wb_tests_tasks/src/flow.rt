@@ -1,9 +1,9 @@
-//! Flushes and openings driven over a stage that notes what they want.
+//! Flushes, suspends and openings driven over a stage that notes what they want.
 
 mod rows;
 mod stage;
 
-use self::rows::{ROWS, Row};
+use self::rows::{ROWS, Row, SUSPENDS};
 use self::stage::{Noted, Task};
 use std::alloc::{AllocError, Global};
 use std::test::Fail;
@@ -11,7 +11,7 @@ use wb_flow::*;
 use wb_tasks::{Answer, Want, drive};
 use wb_types::{OBlock, Refusal};
 
-/// The blocks whose orders a row's flush serves.
+/// The blocks whose orders a row's flush serves, or that are mapped at its suspend.
 fn serves_of(alloc: Global, row: &Row) -> Result<Vec<OBlock>, AllocError> {
     let mut serves = Vec::with_capacity(alloc, row.serves.len())?;
     for block in row.serves {
@@ -26,6 +26,10 @@ fn play(alloc: Global, noted: &mut Noted, row: &Row) -> Result<Answer, AllocErro
         Task::Flush => {
             let serves = serves_of(alloc, row)?;
             Ok(drive(&mut FlushTask::new(serves, 3), noted))
+        }
+        Task::Suspend => {
+            let mapped = serves_of(alloc, row)?;
+            Ok(drive(&mut SuspendTask::new(mapped, 3), noted))
         }
         Task::Open => Ok(drive(&mut OpenTask::new(4), noted)),
     }
@@ -50,10 +54,10 @@ fn are_from(wants: &[Want], from: usize, wanted: &[Want]) -> bool {
     }
 }
 
-/// Whether a row's task ends at the step that fails; a flush that does fails the target.
+/// Whether a row's task ends at the step that fails; a flush or suspend that does fails the target.
 fn ends_at(alloc: Global, noted: &mut Noted, row: &Row, fails: u32) -> Result<bool, AllocError> {
     let answer = play(alloc, noted, row)?;
-    let sets = matches!(row.task, Task::Flush);
+    let sets = matches!(row.task, Task::Flush | Task::Suspend);
     Ok(
         matches!(answer, Answer::Refused(Refusal::Io(_)))
             && noted.moved == fails.saturating_add(1)
@@ -83,8 +87,16 @@ fn flushes_and_openings_take_the_steps_of_their_tables(rt: HostRuntime) -> Resul
 }
 
 #[test]
-fn each_fault_ends_a_flush_or_an_opening(rt: HostRuntime) -> Result<(), Fail> {
-    for row in &ROWS {
+fn suspends_take_the_steps_of_their_table(rt: HostRuntime) -> Result<(), Fail> {
+    for row in &SUSPENDS {
+        assert!(rt; is_so(rt.alloc(), row)?, "{}", row.name);
+    }
+    Ok(())
+}
+
+#[test]
+fn each_fault_ends_a_flush_a_suspend_or_an_opening(rt: HostRuntime) -> Result<(), Fail> {
+    for row in ROWS.iter().chain(SUSPENDS.iter()) {
         for fails in 0..row.device_steps {
             let row = Row {
                 fails: Some(fails),

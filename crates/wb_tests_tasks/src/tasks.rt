@@ -2,11 +2,13 @@
 
 mod bench;
 mod migrations;
+mod passthrough;
 mod requests;
 mod row;
 
 use self::bench::{BLOCK, BLOCK_SECTORS, Bench};
 use self::migrations::{CACHED, COPIES, DISOWN, GIVE_UP, HOME, PROMOTIONS, REFUSED, RETURNS};
+use self::passthrough::{DEFERRED, DISPLACING, INVALIDATIONS};
 use self::requests::{CACHED_SECTORS, IN_ONE_STEP, IN_OTHER_MODES, READS, SECTORS, WRITES};
 use self::row::{Job, Row};
 use std::alloc::Global;
@@ -28,6 +30,15 @@ fn play(bench: &mut Bench, row: &Row) -> Answer {
             SECTORS,
             longest,
         ),
+        Job::Displace => BlockTask::new(
+            Work::Displace,
+            row.mode,
+            BLOCK_SECTORS,
+            BLOCK,
+            SECTORS,
+            longest,
+        ),
+        Job::Invalidate => BlockTask::invalidate(BLOCK_SECTORS, BLOCK),
         Job::Migrate(migration) => BlockTask::migrate(migration, BLOCK_SECTORS, BLOCK, longest),
     };
     drive(&mut task, bench)
@@ -133,6 +144,21 @@ fn requests_take_an_extent_in_one_step(rt: HostRuntime) -> Result<(), Fail> {
 #[test]
 fn requests_take_the_steps_of_their_mode(rt: HostRuntime) -> Result<(), Fail> {
     compare(rt.alloc(), &IN_OTHER_MODES)
+}
+
+#[test]
+fn deferred_writes_take_the_steps_of_their_table(rt: HostRuntime) -> Result<(), Fail> {
+    compare(rt.alloc(), &DEFERRED)
+}
+
+#[test]
+fn displacing_writes_take_the_steps_of_their_table(rt: HostRuntime) -> Result<(), Fail> {
+    compare(rt.alloc(), &DISPLACING)
+}
+
+#[test]
+fn invalidations_take_the_steps_of_their_table(rt: HostRuntime) -> Result<(), Fail> {
+    compare(rt.alloc(), &INVALIDATIONS)
 }
 
 #[test]

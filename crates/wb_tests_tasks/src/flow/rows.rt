@@ -1,4 +1,4 @@
-//! Flushes and openings, what they meet, and what they want then.
+//! Flushes, suspends and openings, what they meet, and what they want then.
 
 use super::stage::Task;
 use wb_tasks::{Answer, CellStep, DeskStep, DeviceStep, Want};
@@ -9,7 +9,7 @@ use wb_words::Word;
 pub struct Row {
     pub name: &'static str,
     pub task: Task,
-    /// The blocks whose orders a flush serves.
+    /// The blocks whose orders a flush serves, or that are mapped at a suspend.
     pub serves: &'static [OBlock],
     /// The image's nodes, or those that an opening reads.
     pub nodes: u32,
@@ -40,6 +40,11 @@ const FLUSH: Row = Row {
     fail: 0,
 };
 
+const SUSPEND: Row = Row {
+    task: Task::Suspend,
+    ..FLUSH
+};
+
 const OPEN: Row = Row {
     name: "",
     task: Task::Open,
@@ -57,6 +62,10 @@ const OPEN: Row = Row {
 const LOOK: Want = Want::Cell(CellStep::Look(Word::Fail));
 
 const BEGIN: Want = Want::Desk(DeskStep::BeginCommit(false, 3));
+
+const BEGIN_CLEAN: Want = Want::Desk(DeskStep::BeginCommit(true, 3));
+
+const SET_SUSPENDED: Want = Want::Cell(CellStep::SetSuspended);
 
 const SYNC_CACHE: Want = Want::Device(DeviceStep::Sync(Dev::Cache));
 
@@ -178,5 +187,68 @@ pub const ROWS: [Row; 9] = [
         ],
         device_steps: 5,
         ..OPEN
+    },
+];
+
+pub const SUSPENDS: [Row; 5] = [
+    Row {
+        name: "a suspend looks at each seal, commits a clean root, and sets its bit last",
+        nodes: 1,
+        wants: &[
+            LOOK,
+            Want::Cell(CellStep::Look(Word::Seal(OBlock(5)))),
+            Want::Cell(CellStep::Look(Word::Seal(OBlock(7)))),
+            BEGIN_CLEAN,
+            SYNC_CACHE,
+            SYNC_ORIGIN,
+            Want::Device(DeviceStep::WriteNode(0)),
+            SYNC_METADATA,
+            WRITE_ROOT,
+            SYNC_METADATA,
+            END,
+            SET_SUSPENDED,
+        ],
+        device_steps: 6,
+        ..SUSPEND
+    },
+    Row {
+        name: "a suspend of an empty cache looks at no seal",
+        serves: &[],
+        wants: &[
+            LOOK,
+            BEGIN_CLEAN,
+            SYNC_CACHE,
+            SYNC_ORIGIN,
+            SYNC_METADATA,
+            WRITE_ROOT,
+            SYNC_METADATA,
+            END,
+            SET_SUSPENDED,
+        ],
+        device_steps: 5,
+        ..SUSPEND
+    },
+    Row {
+        name: "a failed or suspended target is not suspended",
+        answer: Answer::Refused(Refusal::Failed),
+        wants: &[LOOK],
+        fail: 2,
+        ..SUSPEND
+    },
+    Row {
+        name: "a suspend that meets a commit is busy",
+        refuses: Some(Refusal::Busy),
+        answer: Answer::Refused(Refusal::Busy),
+        from: 3,
+        wants: &[BEGIN_CLEAN],
+        ..SUSPEND
+    },
+    Row {
+        name: "a suspend without memory sets no bit",
+        refuses: Some(Refusal::Memory),
+        answer: Answer::Refused(Refusal::Memory),
+        from: 3,
+        wants: &[BEGIN_CLEAN],
+        ..SUSPEND
     },
 ];

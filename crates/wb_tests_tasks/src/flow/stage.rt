@@ -12,6 +12,7 @@ use wb_types::Refusal;
 #[derive(Clone, Copy)]
 pub enum Task {
     Flush,
+    Suspend,
     Open,
 }
 

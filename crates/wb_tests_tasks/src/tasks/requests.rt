@@ -11,7 +11,7 @@ pub const SECTORS: Extent = BOTH;
 
 pub const CACHED_SECTORS: Extent = CACHED_BOTH;
 
-const FREE: Row = Row {
+pub const FREE: Row = Row {
     name: "",
     job: Job::Read,
     mode: Mode::Writeback,
@@ -64,9 +64,9 @@ const CACHED_BOTH: Extent = Extent {
 
 const LEAVE: Want = Want::Cell(CellStep::Release(Access::Shared, BLOCK));
 
-const DISOWN: Want = Want::Cell(CellStep::Release(Access::Owned, BLOCK));
+pub const DISOWN: Want = Want::Cell(CellStep::Release(Access::Owned, BLOCK));
 
-const FINISH: Want = Want::Cell(CellStep::Finish(BLOCK));
+pub const FINISH: Want = Want::Cell(CellStep::Finish(BLOCK));
 
 pub const READS: [Row; 5] = [
     Row {
@@ -251,7 +251,7 @@ pub const IN_ONE_STEP: [Row; 3] = [
     },
 ];
 
-pub const IN_OTHER_MODES: [Row; 7] = [
+pub const IN_OTHER_MODES: [Row; 6] = [
     Row {
         name: "write-through writes each extent on the origin, and then in the cache",
         job: Job::Write,
@@ -344,23 +344,6 @@ pub const IN_OTHER_MODES: [Row; 7] = [
             Want::Cell(CellStep::Count(Kind::ReadMiss)),
             LEAVE,
         ],
-        is_mapped: true,
-        ..FREE
-    },
-    Row {
-        name: "a mapped block is written on the origin alone in passthrough, a hit",
-        job: Job::Write,
-        mode: Mode::Passthrough,
-        longest: 2,
-        mapped: Some(false),
-        wants: &[
-            Want::Device(DeviceStep::Write(Dev::Origin, BOTH)),
-            FINISH,
-            Want::Cell(CellStep::Count(Kind::WriteHit)),
-            DISOWN,
-        ],
-        words: &[(Word::Seal(BLOCK), 4)],
-        holds: Some((3, 2)),
         is_mapped: true,
         ..FREE
     },

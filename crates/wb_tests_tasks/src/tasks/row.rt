@@ -11,6 +11,9 @@ pub enum Job {
     Read,
     /// A write of two of its sectors.
     Write,
+    /// A write of two of its sectors that may ask the desk.
+    Displace,
+    Invalidate,
     Migrate(Migration),
 }
 
