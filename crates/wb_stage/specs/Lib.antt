@@ -1,3 +1,4 @@
 pub mod Asking
 pub mod Stages
 pub mod Jobs
+pub mod Seen

@@ -59,9 +59,9 @@ pub fn ask_clean<P: Policy>(
     ensures did { DidBeginClean P.hint_of seen.now most result desk.old commit.old desk.new commit.new }
 {
     match begin_clean(alloc, desk, seen, most) {
-        Ok(begun) => {
-            let nodes = begun.nodes() as u32;
-            *commit = Some(begun);
+        Ok(clean) => {
+            let nodes = clean.nodes() as u32;
+            *commit = Some(clean);
             Got::Began(nodes)
         }
         Err(refusal) => Got::Refused(refusal),
@@ -138,7 +138,7 @@ pub fn begin_clean<P: Policy>(
     ensures refused { IfErr result (λ refusal. IsUnbegun desk.old most refusal desk.new) }
     ensures kind { IfErr result (MayBeRefused (AskDesk (BeginCommit true most))) }
 {
-    if desk.most_nodes() > most {
+    if most < desk.most_nodes() {
         return Err(Refusal::Memory);
     }
     let image = desk.begin_commit(alloc, Some(seen))?;

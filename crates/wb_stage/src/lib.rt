@@ -3,3 +3,4 @@
 #![tactic(auto)]
 
 pub mod asking;
+pub mod seen;
