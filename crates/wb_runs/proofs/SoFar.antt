@@ -1,19 +1,22 @@
 -- What each request has read or entered so far, and what it has still to move.
-use Rattle.std.proofs.Common.{◌≡◌, ◌∙◌, ◌==◌, ◌+◌, ℕ, suc, Bool, true, false, List, [], ◌∷◌, ◌++◌, None, refl, sym, ap, subst, arith, length, map, if◌then◌else◌}
+use Rattle.std.proofs.Common.{◌≡◌, ◌∙◌, ◌==◌, ◌+◌, ℕ, suc, Bool, true, false, List, [], ◌∷◌, ◌++◌, Option, Some, None, refl, sym, ap, subst, arith, length, map, if◌then◌else◌}
 use Rattle.std.specs.Prelude.{IsPermutation}
 use Rattle.std.proofs.lemmas.List.{append_assoc, append-nil, map-append}
 use Rattle.wb_types.specs.declared.extent.Extent.{Extent}
 use Rattle.wb_types.specs.Extents.{rising, sectors_in, IsCutInto}
+use Rattle.wb_types.specs.declared.mode.Mode.{Mode}
+use Rattle.wb_types.specs.declared.mode.Mode.TheVariants.{Writeback, Writethrough, Passthrough}
+use Rattle.wb_types.specs.declared.number.CBlock.{CBlock}
 use Rattle.wb_types.specs.declared.refusal.Refusal.TheVariants.{Failed, Busy, Worn}
 use Rattle.wb_disk.specs.Device.{Content as Bytes, History}
 use Rattle.wb_words.specs.declared.word.Word.TheVariants.{Cell as LockWord, Seal as SealWord, Number, Count as CountWord, Fail}
 use Rattle.wb_words.specs.declared.step.CellStep.{CellStep}
 use Rattle.wb_words.specs.declared.step.CellStep.TheVariants.{Look, Take, Release, Seal, Finish, Count, SetFailed, SetSuspended}
 use Rattle.wb_words.specs.declared.card.Card.{Card}
-use Rattle.wb_words.specs.SharedWords.{Words}
+use Rattle.wb_words.specs.SharedWords.{Words, place_in}
 use Rattle.wb_words.specs.Effects.{result_of}
-use Rattle.wb_tasks.specs.Tables.{BlockJob, BlockRange, TaskJob, OnBlock}
-use Rattle.wb_tasks.specs.Plan.{Plan, want, after, after_look, after_fault, after_refusal, after_more, first_step, may_take, exchange, is_worn, gives_back, onward, refused, got_of}
+use Rattle.wb_tasks.specs.Tables.{BlockJob, BlockRange, TaskJob, OnBlock, Reading as ReadingPart, Writing, Displacing, Invalidating, Migrating, Flushing, Suspending, Opening}
+use Rattle.wb_tasks.specs.Plan.{Plan, want, after, after_look, after_fault, after_refusal, after_more, first_step, may_take, exchange, is_worn, gives_back, onward, refused, deferring, answer_seeing, got_of}
 use Rattle.wb_tasks.specs.Ready.{Has}
 use Rattle.wb_tasks.specs.declared.step.Answer.{Answer}
 use Rattle.wb_tasks.specs.declared.step.Answer.TheVariants.{Done as Finished}
@@ -33,6 +36,22 @@ use Rattle.wb_runs.proofs.Covering.{Covers, home, homes, extents_left, cell_cove
 
 -- ---- an answer once refused stays so
 
+seeing_was : (job : TaskJob) (seal : ℕ) (answer : Answer) → answer_seeing job seal answer ≡ Finished → answer ≡ Finished
+seeing_was (OnBlock (Writing part)) seal answer f = by_mode part.mode (place_in seal) f
+  where
+    by_mode : (mode : Mode) (place : Option CBlock) → deferring mode place answer ≡ Finished → answer ≡ Finished
+    by_mode Writeback place f = f
+    by_mode Writethrough place f = f
+    by_mode Passthrough None f = f
+    by_mode Passthrough (Some c) f = absurd (cc)
+seeing_was (OnBlock (ReadingPart part)) seal answer f = f
+seeing_was (OnBlock (Displacing part)) seal answer f = f
+seeing_was (OnBlock (Invalidating part)) seal answer f = f
+seeing_was (OnBlock (Migrating migration part)) seal answer f = f
+seeing_was (Flushing serves most) seal answer f = f
+seeing_was (Suspending blocks most) seal answer f = f
+seeing_was (Opening left) seal answer f = f
+
 look_was : (s : Plan) (v : Want) (x : ℕ) → (after_look s v x).answer ≡ Finished → s.answer ≡ Finished
 look_was s (Cell (Look Fail)) x f = by_test (x == 0) f
   where
@@ -49,7 +68,7 @@ look_was s (Cell (Look (Number b))) x f = by_test (is_worn s.job x) f
     by_test : (t : Bool) → (if t then refused s (gives_back s.job) Worn else onward s).answer ≡ Finished → s.answer ≡ Finished
     by_test true f = absurd (cc)
     by_test false f = f
-look_was s (Cell (Look (SealWord b))) x f = f
+look_was s (Cell (Look (SealWord b))) x f = seeing_was s.job x s.answer f
 look_was s (Cell (Look (CountWord kind))) x f = f
 look_was s (Cell (Take access b seen)) x f = f
 look_was s (Cell (Release access b)) x f = f
