@@ -1,9 +1,10 @@
 -- A run is made of its first step and the run of what is left after it.
-use Rattle.std.proofs.Common.{◌≡◌, ◌≢◌, ◌^◌, ◌-◌, ◌≤◌, ℕ, min, Bool, true, false, List, [], ◌∷◌, Option, Some, refl, sym, ap, subst, arith}
+use Rattle.std.proofs.Common.{◌≡◌, ◌≢◌, ◌^◌, ◌-◌, ◌≤◌, ℕ, min, Bool, true, false, List, [], ◌∷◌, ◌++◌, Option, Some, None, if◌then◌else◌, refl, sym, ap, ◌∙◌, subst, arith, append_assoc}
 use Rattle.std.proofs.lemmas.Bool.{ne_eqb}
 use Rattle.wb_types.specs.declared.extent.Extent.{Extent}
 use Rattle.wb_types.specs.Extents.{pieces}
-use Rattle.wb_types.specs.declared.mode.Mode.TheVariants.{Writeback}
+use Rattle.wb_types.specs.declared.mode.Mode.{Mode}
+use Rattle.wb_types.specs.declared.mode.Mode.TheVariants.{Writeback, Writethrough, Passthrough}
 use Rattle.wb_types.specs.declared.mode.Dev.{Dev}
 use Rattle.wb_types.specs.declared.number.CBlock.{CBlock}
 use Rattle.wb_types.specs.declared.number.OBlock.{OBlock}
@@ -11,7 +12,7 @@ use Rattle.wb_types.specs.declared.refusal.Refusal.TheVariants.{Busy, Failed, Wo
 use Rattle.wb_words.specs.SharedWords.{can_take}
 use Rattle.wb_words.specs.declared.word.Word.TheVariants.{Cell as LockWord, Number, Fail}
 use Rattle.wb_words.specs.declared.step.CellStep.TheVariants.{Look, Seal, SetFailed}
-use Rattle.wb_tasks.specs.Tables.{OnBlock, Reading, Writing, taking, work, read_step, write_step, read_count}
+use Rattle.wb_tasks.specs.Tables.{OnBlock, Reading, Writing, taking, work, dirtying, place_read, places_written, writes, read_step, write_step, read_count}
 use Rattle.wb_tasks.specs.declared.step.DeviceStep.TheVariants.{Read, Write}
 use Rattle.wb_tasks.specs.declared.step.Answer.TheVariants.{Done as Finished, Refused as Refuses}
 use Rattle.wb_tasks.specs.Ready.{StaysReady}
@@ -25,7 +26,7 @@ use Rattle.wb_tasks.specs.declared.step.Got.TheVariants.{Word, Fault}
 use Rattle.wb_tasks.proofs.Pieces.{first_piece}
 use Rattle.wb_port.specs.declared.moving.TheConstants.{LONGEST}
 use Rattle.wb_port.specs.Requests.{part_of}
-use Rattle.wb_port.specs.Straight.{ComesTo, access_by, giving_back, job_by, left, range_in, straight_written}
+use Rattle.wb_port.specs.Straight.{ComesTo, access_by, giving_back, job_by, left, range_in, straight_writing, straight_written}
 use Rattle.wb_port.specs.declared.straight.Part.{Part}
 use Rattle.wb_port.specs.declared.straight.Way.{Way}
 use Rattle.wb_port.specs.declared.straight.Way.TheVariants.{Reads, Writes}
@@ -72,7 +73,7 @@ after_failure Reads part found ne = rw (ne_eqb found 0 ne) refl
 after_failure Writes part found ne = rw (ne_eqb found 0 ne) refl
 
 -- a number, where the block is to be read
-pub after_number_read : (way : Way) (part : Part) (place place' : Option CBlock) (dirty : Bool) (number : ℕ) → way ≡ Reads → place' ≡ place
+pub after_number_read : (way : Way) (part : Part) (place place' : Option CBlock) (dirty : Bool) (number : ℕ) → way ≡ Reads → place' ≡ place_read part.mode place
     → after (left (job_by way part) (Cell (Look (Number part.block)) ∷ work (job_by way part) place dirty) Finished) (Word number) ≡ left (Reading (range_in part)) (read_step (range_in part) place' part.sectors ∷ read_count place' ∷ giving_back Reads part) Finished
 after_number_read Reads part place place' dirty number e p = rw p refl
 after_number_read Writes part place place' dirty number e p = absurd (cc)
@@ -88,10 +89,42 @@ pub after_last : (way : Way) (part : Part) (place : Option CBlock) (dirty : Bool
 after_last Reads part place dirty number e l = absurd (cc)
 after_last Writes part place dirty number e l = rw l refl
 
--- a clean copy in the cache is sealed first
-pub clean_first : (part : Part) (place : Option CBlock) (c : CBlock) (dirty : Bool) → place ≡ Some c → dirty ≡ false
-    → left (Writing (range_in part)) (work (Writing (range_in part)) place dirty) Finished ≡ left (Writing (range_in part)) (Cell (Seal part.block (Some c) true) ∷ write_step (range_in part) (Some c) part.sectors ∷ straight_written part (Some c)) Finished
-clean_first part place c dirty p d = rw (p, d) refl
+-- ---- a write
+
+written_so : (part : Part) (places : List (Option CBlock)) (place : Option CBlock) → writes (range_in part) places (part.sectors ∷ []) ++ straight_written part place ≡ straight_writing part places place
+written_so part [] place = refl
+written_so part (to ∷ places) place = ap (λ (ws : List Want). write_step (range_in part) to part.sectors ∷ ws) (written_so part places place)
+
+-- what it does with its block: the seal, where it is due, and then its sectors
+writing_is : (part : Part) (place : Option CBlock) (dirty : Bool) → work (Writing (range_in part)) place dirty ≡ dirtying part.mode part.block place dirty ++ straight_writing part (places_written part.mode place) place
+writing_is part place dirty = append_assoc (dirtying part.mode part.block place dirty) (writes (range_in part) (places_written part.mode place) (part.sectors ∷ [])) (straight_written part place)
+    ∙ ap (λ (ws : List Want). dirtying part.mode part.block place dirty ++ ws) (written_so part (places_written part.mode place) place)
+
+abbrev still_writing : Part → List Want → Plan
+still_writing part ws = left (Writing (range_in part)) ws Finished
+
+-- of a block that is not mapped no seal is due
+pub unmapped_first : (part : Part) (place : Option CBlock) (dirty : Bool) → place ≡ None → still_writing part (work (Writing (range_in part)) place dirty) ≡ still_writing part (straight_writing part (places_written part.mode None) None)
+unmapped_first part place dirty p = rw p (ap (still_writing part) (writing_is part None dirty ∙ ap (λ (ws : List Want). ws ++ straight_writing part (places_written part.mode None) None) (none_due part.mode)))
+  where
+    none_due : (mode : Mode) → dirtying mode part.block None dirty ≡ []
+    none_due Writeback = refl
+    none_due Writethrough = refl
+    none_due Passthrough = refl
+
+-- of one that is mapped it is, or is not
+pub mapped_first : (part : Part) (place : Option CBlock) (c : CBlock) (dirty due : Bool) → place ≡ Some c → dirtying part.mode part.block (Some c) dirty ≡ (if due then (Cell (Seal part.block (Some c) true) ∷ []) else [])
+    → still_writing part (work (Writing (range_in part)) place dirty) ≡ still_writing part ((if due then (Cell (Seal part.block (Some c) true) ∷ []) else []) ++ straight_writing part (places_written part.mode (Some c)) (Some c))
+mapped_first part place c dirty due p d = rw p (ap (still_writing part) (writing_is part (Some c) dirty ∙ ap (λ (ws : List Want). ws ++ straight_writing part (places_written part.mode (Some c)) (Some c)) d))
+
+-- the first place where it is written, and whether there is another
+pub written_first : (part : Part) (place first : Option CBlock) (again : Bool) → places_written part.mode place ≡ first ∷ (if again then (place ∷ []) else [])
+    → still_writing part (straight_writing part (places_written part.mode place) place) ≡ still_writing part (write_step (range_in part) first part.sectors ∷ straight_writing part (if again then (place ∷ []) else []) place)
+written_first part place first again e = ap (λ (places : List (Option CBlock)). still_writing part (straight_writing part places place)) e
+
+-- and what is left after it
+pub again_is : (part : Part) (place : Option CBlock) (again b : Bool) → again ≡ b → still_writing part (straight_writing part (if again then (place ∷ []) else []) place) ≡ still_writing part (straight_writing part (if b then (place ∷ []) else []) place)
+again_is part place again b e = ap (λ (x : Bool). still_writing part (straight_writing part (if x then (place ∷ []) else []) place)) e
 
 -- a read that failed, and a write
 pub after_failed_read : (part : Part) (w : Want) (device : Dev) (e : Extent) (ws : List Want) → Device (Read device e) ≡ w → after (left (Reading (range_in part)) (w ∷ ws) Finished) Fault ≡ left (Reading (range_in part)) (giving_back Reads part) (Refuses (Io device))
@@ -108,5 +141,5 @@ one_piece piece sectors p s few =
     let none : sectors.count - sectors.count ≡ 0 = omega arith in
     rw (first_piece piece sectors.first sectors.count p s, is, none) refl
 
-pub one_part : (block_sectors : ℕ) (block : OBlock) (sectors : Extent) → 1 ≤ sectors.count → sectors.count ≤ LONGEST → part_of block_sectors block sectors ≡ range_in (record { block_sectors = block_sectors; block = block; sectors = sectors })
-one_part block_sectors block sectors s few = ap (λ (es : List Extent). record { mode = Writeback; block_sectors = block_sectors; block = block; extents = es }) (one_piece LONGEST sectors (omega arith) s few)
+pub one_part : (mode : Mode) (block_sectors : ℕ) (block : OBlock) (sectors : Extent) → 1 ≤ sectors.count → sectors.count ≤ LONGEST → part_of mode block_sectors block sectors ≡ range_in (record { mode = mode; block_sectors = block_sectors; block = block; sectors = sectors })
+one_part mode block_sectors block sectors s few = ap (λ (es : List Extent). record { mode = mode; block_sectors = block_sectors; block = block; extents = es }) (one_piece LONGEST sectors (omega arith) s few)

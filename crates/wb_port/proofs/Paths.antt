@@ -1,5 +1,5 @@
 -- The way of a request that is answered done: each step gave the one result with which the table goes on.
-use Rattle.std.proofs.Common.{◌≡◌, ◌≤◌, ◌+◌, ◌-◌, ◌==◌, ℕ, zero, suc, min, Bool, true, false, List, [], ◌∷◌, ◌++◌, Option, map, refl, subst, ◌∙◌, if◌then◌else◌, arith}
+use Rattle.std.proofs.Common.{◌≡◌, ◌≤◌, ◌+◌, ◌-◌, ◌==◌, ℕ, zero, suc, min, Bool, true, false, List, [], ◌∷◌, ◌++◌, Option, map, refl, ap, subst, ◌∙◌, if◌then◌else◌, arith}
 use Rattle.std.proofs.lemmas.Bool.{eqb-true}
 use Rattle.wb_types.specs.declared.extent.Extent.{Extent}
 use Rattle.wb_types.specs.Extents.{pieces}
@@ -212,7 +212,7 @@ acquired_keeps led job old new part keeps a =
 
 -- ---- moving the extents
 
--- All pieces of the sectors were moved, one after the other; so much is known then, and the rest of the run.
+-- Some steps were done that move extents; so much is known then, and the rest of the run.
 pub record AllMoved {S : Type 0} (led : S → Want → Got → S → Type 0) (job : BlockJob) (ws : List Want) (Known : S → Type 0) (new : S) : Type 0 where
   pub mid : S
   pub rest : List (Want × Got)
@@ -220,11 +220,16 @@ pub record AllMoved {S : Type 0} (led : S → Want → Got → S → Type 0) (jo
   pub run : IsRunOf (going job ws) rest Finished
   pub leads : Leads led mid rest new
 
--- Where moving the next piece tells of so many sectors more, moving them all tells of all.
-module _ {S : Type 0} (led : S → Want → Got → S → Type 0) (job : BlockJob) (move : Extent → Want) (is_step : (e : Extent) → IsStep (move e)) (only : (e : Extent) (ws : List Want) → OnlyDone job (move e) ws)
-    (longest first count : ℕ) (some : 1 ≤ longest) (Known : ℕ → S → Type 0)
-    (more : (m j : ℕ) (s t : S) → 1 ≤ j → m + j ≤ count → Known m s → led s (move (record { first = first + m; count = j })) Done t → Known (m + j) t) where
-  pub all_moved : (fuel k m : ℕ) (ws : List Want) (steps : List (Want × Got)) (old new : S) → k ≤ fuel → m + k ≡ count → Known m old → IsRunOf (going job (map move (pieces longest (record { first = first + m; count = k })) ++ ws)) steps Finished → Leads led old steps new → AllMoved led job ws (Known count) new
+-- these steps for each extent, one after the other, before others
+abbrev pub each_moved : (Extent → List Want → List Want) → List Extent → List Want → List Want
+each_moved steps [] ws = ws
+each_moved steps (e ∷ es) ws = steps e (each_moved steps es ws)
+
+-- Where the steps of the next piece tell of so many sectors more, those of all tell of all.
+module _ {S : Type 0} (led : S → Want → Got → S → Type 0) (job : BlockJob) (steps_of : Extent → List Want → List Want) (longest first count : ℕ) (some : 1 ≤ longest) (Known : ℕ → S → Type 0)
+    (more : (m j : ℕ) (later : List Want) (steps : List (Want × Got)) (old new : S) → 1 ≤ j → m + j ≤ count → Known m old → IsRunOf (going job (steps_of (record { first = first + m; count = j }) later)) steps Finished → Leads led old steps new
+    → AllMoved led job later (Known (m + j)) new) where
+  pub all_moved : (fuel k m : ℕ) (ws : List Want) (steps : List (Want × Got)) (old new : S) → k ≤ fuel → m + k ≡ count → Known m old → IsRunOf (going job (each_moved steps_of (pieces longest (record { first = first + m; count = k })) ws)) steps Finished → Leads led old steps new → AllMoved led job ws (Known count) new
   all_moved fuel zero m ws steps old new b e known r l = record {
     mid = old;
     rest = steps;
@@ -236,10 +241,26 @@ module _ {S : Type 0} (led : S → Want → Got → S → Type 0) (job : BlockJo
   all_moved (suc fuel) (suc k) m ws steps old new b e known r l =
       let j : ℕ = min (suc k) longest in
       let left : ℕ = suc k - j in
-      let later : List Want = map move (pieces longest (record { first = (first + m) + j; count = left })) ++ ws in
+      let later : List Want = each_moved steps_of (pieces longest (record { first = (first + m) + j; count = left })) ws in
       let cut = first_piece longest (first + m) (suc k) some (omega arith) in
-      let run : IsRunOf (going job (move (record { first = first + m; count = j }) ∷ later)) steps Finished = subst (λ (es : List Extent). IsRunOf (going job (map move es ++ ws)) steps Finished) cut r in
-      let d = done led job (move (record { first = first + m; count = j })) later steps old new (is_step _) (only _ later) run l in
+      let run : IsRunOf (going job (steps_of (record { first = first + m; count = j }) later)) steps Finished = subst (λ (es : List Extent). IsRunOf (going job (each_moved steps_of es ws)) steps Finished) cut r in
+      let d = more m j later steps old new (omega (arith, some)) (omega (arith, e)) known run l in
       let here : (first + m) + j ≡ first + (m + j) = omega arith in
-      let rest : IsRunOf (going job (map move (pieces longest (record { first = first + (m + j); count = left })) ++ ws)) d.rest Finished = subst (λ (at : ℕ). IsRunOf (going job (map move (pieces longest (record { first = at; count = left })) ++ ws)) d.rest Finished) here d.run in
-      all_moved fuel left (m + j) ws d.rest d.mid new (omega (arith, some, b)) (omega (arith, e)) (more m j old d.mid (omega (arith, some)) (omega (arith, e)) known d.did) rest d.leads
+      let rest : IsRunOf (going job (each_moved steps_of (pieces longest (record { first = first + (m + j); count = left })) ws)) d.rest Finished = subst (λ (at : ℕ). IsRunOf (going job (each_moved steps_of (pieces longest (record { first = at; count = left })) ws)) d.rest Finished) here d.run in
+      all_moved fuel left (m + j) ws d.rest d.mid new (omega (arith, some, b)) (omega (arith, e)) d.known rest d.leads
+
+-- ---- an extent by one step
+
+abbrev pub by_one : (Extent → Want) → Extent → List Want → List Want
+by_one move e later = move e ∷ later
+
+pub mapped : (move : Extent → Want) (es : List Extent) (ws : List Want) → map move es ++ ws ≡ each_moved (by_one move) es ws
+mapped move [] ws = refl
+mapped move (e ∷ es) ws = ap (λ (later : List Want). move e ∷ later) (mapped move es ws)
+
+pub one_moved : {S : Type 0} (led : S → Want → Got → S → Type 0) (job : BlockJob) (move : Extent → Want) → ((e : Extent) → IsStep (move e)) → ((e : Extent) (ws : List Want) → OnlyDone job (move e) ws) → (Known : ℕ → S → Type 0) (first count : ℕ)
+    → ((m j : ℕ) (s t : S) → 1 ≤ j → m + j ≤ count → Known m s → led s (move (record { first = first + m; count = j })) Done t → Known (m + j) t)
+    → (m j : ℕ) (later : List Want) (steps : List (Want × Got)) (old new : S) → 1 ≤ j → m + j ≤ count → Known m old → IsRunOf (going job (by_one move (record { first = first + m; count = j }) later)) steps Finished → Leads led old steps new
+    → AllMoved led job later (Known (m + j)) new
+one_moved led job move is_step only Known first count more m j later steps old new some among known r l =
+    let d = done led job (move (record { first = first + m; count = j })) later steps old new (is_step _) (only _ later) r l in record { mid = d.mid; rest = d.rest; known = more m j old d.mid some among known d.did; run = d.run; leads = d.leads }

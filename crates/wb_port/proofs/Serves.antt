@@ -1,8 +1,10 @@
 -- A stage of a request is ready for each of its steps; and from its run to what is told of it.
-use Rattle.std.proofs.Common.{◌≡◌, ◌≤◌, ◌<◌, ◌+◌, ◌/◌, ◌%◌, ℕ, List, [], ◌∷◌, Result, Ok, Err, length, refl, sym, ap, ◌∙◌, subst}
+use Rattle.std.proofs.Common.{◌≡◌, ◌≢◌, ◌≤◌, ◌<◌, ◌+◌, ◌/◌, ◌%◌, ℕ, List, [], ◌∷◌, Result, Ok, Err, length, sym, ap, ◌∙◌, subst}
 use Rattle.std.specs.Prelude.{OnOk, IfErr}
 use Rattle.wb_types.specs.declared.extent.Extent.{Extent}
 use Rattle.wb_types.specs.declared.number.OBlock.{OBlock}
+use Rattle.wb_types.specs.declared.mode.Mode.{Mode}
+use Rattle.wb_types.specs.declared.mode.Mode.TheVariants.{Passthrough}
 use Rattle.wb_types.specs.declared.refusal.Refusal.{Refusal}
 use Rattle.wb_disk.specs.Device.{History}
 use Rattle.wb_words.specs.declared.card.Hold.TheVariants.{Nothing}
@@ -58,7 +60,7 @@ abbrev pub writing_at : {D : Type 0} → WriteStage D → WriteState D
 writing_at x = record { hand = x.hand.now; moved = x.moved }
 
 module _ {D : Type 0} (tells : Type 0) (size : D → ℕ) (contents : D → List History) (faults : D → ℕ) (block_sectors : ℕ) (block : OBlock) (sectors : Extent) (s : Plan) (steps : List (Want × Got)) where
-  module _ (old new : ReadStage D) (begun : s ≡ table (OnBlock (Reading (part_of block_sectors block sectors)))) (leads : Leads (ReadLed tells size contents faults) old steps new) where
+  module _ (old new : ReadStage D) (begun : s ≡ table (OnBlock (Reading (part_of old.hand.now.mode block_sectors block sectors)))) (leads : Leads (ReadLed tells size contents faults) old steps new) where
     pub read_same_hand : new.hand.ghost_name ≡ old.hand.ghost_name
     read_same_hand = kept_by (ReadLed tells size contents faults) (λ x. x.hand.ghost_name) (λ x w g y h. h.same_hand) old steps new leads
 
@@ -85,26 +87,30 @@ module _ {D : Type 0} (tells : Type 0) (size : D → ℕ) (contents : D → List
         many_read x y (Desk step) g h = ap length h.1
         many_read x y (End answer) g h = ap length h.1
 
+    pub read_mode : new.hand.now.mode ≡ old.hand.now.mode
+    read_mode = kept_by (ReadLed tells size contents faults) (λ x. x.hand.now.mode) (λ x w g y h. h.same_mode) old steps new leads
+
     pub read_size : new.hand.now.block_sectors ≡ old.hand.now.block_sectors
     read_size = kept_by (ReadLed tells size contents faults) (λ x. x.hand.now.block_sectors) (λ x w g y h. h.sized) old steps new leads
 
-    read_moves : 0 < block_sectors → sectors.first / block_sectors ≡ block.0 → sectors.first % block_sectors + sectors.count ≤ block_sectors → old.hand.now.block_sectors ≡ block_sectors → block.0 < old.cells.now.blocks → old.hand.now.pass.card.hold ≡ Nothing → AreFirst s steps → MayMove new.hand.now.block_sectors new.hand.now.pass.card (want (left_by s steps))
+    read_moves : 0 < block_sectors → sectors.first / block_sectors ≡ block.0 → sectors.first % block_sectors + sectors.count ≤ block_sectors → old.hand.now.block_sectors ≡ block_sectors → block.0 < old.cells.now.blocks → old.hand.now.pass.card.hold ≡ Nothing → AreFirst s steps → MayMove new.hand.now.mode new.hand.now.block_sectors new.hand.now.pass.card (want (left_by s steps))
     read_moves some of inside sized there idle f =
-        let part : BlockRange = part_of block_sectors block sectors in
-        subst (λ (n : ℕ). MayMove n new.hand.now.pass.card (want (left_by s steps))) (sym (read_size ∙ sized))
-        (may_read part _ _ (moves_there (MovesAt (Reading part)) (Reading part) (reads_there part some (part_in block_sectors block sectors of inside) refl) (ReadLed tells size contents faults) (λ x. x.hand.now.pass.card) (λ x w g y h. made_by_pass x.cells.now.blocks x.hand.now.pass y.hand.now.pass w g h.by_pass) old.cells.now.blocks s old begun there idle steps new f leads))
+        let part : BlockRange = part_of old.hand.now.mode block_sectors block sectors in
+        subst (λ (m : Mode). MayMove m new.hand.now.block_sectors new.hand.now.pass.card (want (left_by s steps))) (sym read_mode)
+        (subst (λ (n : ℕ). MayMove old.hand.now.mode n new.hand.now.pass.card (want (left_by s steps))) (sym (read_size ∙ sized))
+        (may_read part _ _ (moves_there (MovesAt (Reading part)) (Reading part) (reads_there part some (part_in old.hand.now.mode block_sectors block sectors of inside)) (ReadLed tells size contents faults) (λ x. x.hand.now.pass.card) (λ x w g y h. made_by_pass x.cells.now.blocks x.hand.now.pass y.hand.now.pass w g h.by_pass) old.cells.now.blocks s old begun there idle steps new f leads)))
 
     pub read_ready : 0 < block_sectors → sectors.first / block_sectors ≡ block.0 → sectors.first % block_sectors + sectors.count ≤ block_sectors → old.hand.now.block_sectors ≡ block_sectors → block.0 < old.cells.now.blocks → old.hand.now.pass.table ≡ old.cells.now.table → old.hand.now.pass.card.hold ≡ Nothing → AreFirst s steps → IsReadyToRead new (want (left_by s steps))
     read_ready some of inside sized there at idle f =
-        let both = ready_there (ReadLed tells size contents faults) (λ x. x.hand.now.pass.card) (λ x w g y h. made_by_pass x.cells.now.blocks x.hand.now.pass y.hand.now.pass w g h.by_pass) old.cells.now.blocks s (Reading (part_of block_sectors block sectors)) old begun there idle steps new f leads in
-        ((read_at ∙ (at ∙ ap (λ x. x.now.table) (sym read_cells)), subst (λ x. MayTake x.now.blocks new.hand.now.pass.card (want (left_by s steps))) (sym read_cells) both.0), own_reads (part_of block_sectors block sectors) (want (left_by s steps)) both.1, read_moves some of inside sized there idle f)
+        let both = ready_there (ReadLed tells size contents faults) (λ x. x.hand.now.pass.card) (λ x w g y h. made_by_pass x.cells.now.blocks x.hand.now.pass y.hand.now.pass w g h.by_pass) old.cells.now.blocks s (Reading (part_of old.hand.now.mode block_sectors block sectors)) old begun there idle steps new f leads in
+        ((read_at ∙ (at ∙ ap (λ x. x.now.table) (sym read_cells)), subst (λ x. MayTake x.now.blocks new.hand.now.pass.card (want (left_by s steps))) (sym read_cells) both.0), own_reads (part_of old.hand.now.mode block_sectors block sectors) (want (left_by s steps)) both.1, read_moves some of inside sized there idle f)
 
     pub read_idle : (answer : Answer) → block.0 < old.cells.now.blocks → old.hand.now.pass.card.hold ≡ Nothing → IsRunOf s steps answer → new.hand.now.pass.card.hold ≡ Nothing
-    read_idle answer there idle run = idle_again (ReadLed tells size contents faults) (λ x. x.hand.now.pass.card) (λ x w g y h. made_by_pass x.cells.now.blocks x.hand.now.pass y.hand.now.pass w g h.by_pass) old.cells.now.blocks s (Reading (part_of block_sectors block sectors)) old begun there idle steps answer new run leads
+    read_idle answer there idle run = idle_again (ReadLed tells size contents faults) (λ x. x.hand.now.pass.card) (λ x w g y h. made_by_pass x.cells.now.blocks x.hand.now.pass y.hand.now.pass w g h.by_pass) old.cells.now.blocks s (Reading (part_of old.hand.now.mode block_sectors block sectors)) old begun there idle steps answer new run leads
 
     read_stopped : {A : Type 0} (answer : Answer) (r : Result A Refusal) → IsRunOf s steps answer → IfErr r (λ refusal. answer ≡ Refuses refusal)
-        → IfErr r (λ refusal. WasRefused (ReadStep tells size contents faults old.cells.now.blocks) (Reading (part_of block_sectors block sectors)) (reading_at old) refusal (reading_at new))
-    read_stopped answer r run is = was_refused (ReadStep tells size contents faults old.cells.now.blocks) (Reading (part_of block_sectors block sectors)) s steps answer r (reading_at old) (reading_at new) begun run (plainly old steps leads) is
+        → IfErr r (λ refusal. WasRefused (ReadStep tells size contents faults old.cells.now.blocks) (Reading (part_of old.hand.now.mode block_sectors block sectors)) (reading_at old) refusal (reading_at new))
+    read_stopped answer r run is = was_refused (ReadStep tells size contents faults old.cells.now.blocks) (Reading (part_of old.hand.now.mode block_sectors block sectors)) s steps answer r (reading_at old) (reading_at new) begun run (plainly old steps leads) is
       where
         plainly : (x : ReadStage D) (done : List (Want × Got)) → Leads (ReadLed tells size contents faults) x done new → Leads (ReadStep tells size contents faults x.cells.now.blocks) (reading_at x) done (reading_at new)
         plainly x [] e = ap (λ (y : ReadStage D). reading_at y) e
@@ -113,16 +119,16 @@ module _ {D : Type 0} (tells : Type 0) (size : D → ℕ) (contents : D → List
     pub read_err : {A : Type 0} (answer : Answer) (r : Result A Refusal) → IsRunOf s steps answer → IfErr r (λ refusal. answer ≡ Refuses refusal)
         → old.moved ≡ 0 → IfErr r (λ refusal. ReadRefused tells size contents faults old.cells.now.blocks block_sectors block sectors old.hand.now old.out.now refusal new.hand.now new.out.now)
     read_err {A} answer (Ok x) run is unmoved = tt
-    read_err {A} answer (Err x) run is unmoved = record { moved = new.moved; was = subst (λ (n : ℕ). WasRefused (ReadStep tells size contents faults old.cells.now.blocks) (Reading (part_of block_sectors block sectors)) (record { hand = old.hand.now; out = old.out.now; moved = n }) x (reading_at new)) unmoved (read_stopped {A = A} answer (Err x) run is) }
+    read_err {A} answer (Err x) run is unmoved = record { moved = new.moved; same_mode = read_mode; was = subst (λ (n : ℕ). WasRefused (ReadStep tells size contents faults old.cells.now.blocks) (Reading (part_of old.hand.now.mode block_sectors block sectors)) (record { hand = old.hand.now; out = old.out.now; moved = n }) x (reading_at new)) unmoved (read_stopped {A = A} answer (Err x) run is) }
 
     pub read_ok : {A : Type 0} (answer : Answer) (r : Result A Refusal) → old.moved ≡ 0 → length old.out.now ≡ sectors.count → sectors.first % block_sectors + sectors.count ≤ block_sectors → IsRunOf s steps answer → OnOk r (answer ≡ Finished)
         → OnOk r (WasRead tells size contents faults block_sectors block sectors new.out.now old.hand.now new.hand.now)
     read_ok answer (Err x) unmoved fits inside run is = tt
     read_ok answer (Ok x) unmoved fits inside run is =
         read_whole tells size contents faults block_sectors block sectors steps old new unmoved fits inside
-        (subst (λ (a : Answer). IsRunOf (table (OnBlock (Reading (part_of block_sectors block sectors)))) steps a) is (subst (λ (t : Plan). IsRunOf t steps answer) begun run)) leads
+        (subst (λ (a : Answer). IsRunOf (table (OnBlock (Reading (part_of old.hand.now.mode block_sectors block sectors)))) steps a) is (subst (λ (t : Plan). IsRunOf t steps answer) begun run)) leads
 
-  module _ (old new : WriteStage D) (begun : s ≡ table (OnBlock (Writing (part_of block_sectors block sectors)))) (leads : Leads (WriteLed tells size contents faults) old steps new) where
+  module _ (old new : WriteStage D) (begun : s ≡ table (OnBlock (Writing (part_of old.hand.now.mode block_sectors block sectors)))) (leads : Leads (WriteLed tells size contents faults) old steps new) where
     pub write_same_hand : new.hand.ghost_name ≡ old.hand.ghost_name
     write_same_hand = kept_by (WriteLed tells size contents faults) (λ x. x.hand.ghost_name) (λ x w g y h. h.same_hand) old steps new leads
 
@@ -132,26 +138,30 @@ module _ {D : Type 0} (tells : Type 0) (size : D → ℕ) (contents : D → List
     pub write_at : new.hand.now.pass.table ≡ old.hand.now.pass.table
     write_at = kept_by (WriteLed tells size contents faults) (λ x. x.hand.now.pass.table) (λ x w g y h. same_table x.cells.now.blocks x.hand.now.pass y.hand.now.pass w g h.by_pass) old steps new leads
 
+    pub write_mode : new.hand.now.mode ≡ old.hand.now.mode
+    write_mode = kept_by (WriteLed tells size contents faults) (λ x. x.hand.now.mode) (λ x w g y h. h.same_mode) old steps new leads
+
     pub write_size : new.hand.now.block_sectors ≡ old.hand.now.block_sectors
     write_size = kept_by (WriteLed tells size contents faults) (λ x. x.hand.now.block_sectors) (λ x w g y h. h.sized) old steps new leads
 
-    write_moves : 0 < block_sectors → sectors.first / block_sectors ≡ block.0 → sectors.first % block_sectors + sectors.count ≤ block_sectors → old.hand.now.block_sectors ≡ block_sectors → block.0 < old.cells.now.blocks → old.hand.now.pass.card.hold ≡ Nothing → AreFirst s steps → MayMove new.hand.now.block_sectors new.hand.now.pass.card (want (left_by s steps))
-    write_moves some of inside sized there idle f =
-        let part : BlockRange = part_of block_sectors block sectors in
-        subst (λ (n : ℕ). MayMove n new.hand.now.pass.card (want (left_by s steps))) (sym (write_size ∙ sized))
-        (may_write part _ _ (moves_there (MovesAt (Writing part)) (Writing part) (writes_there part some (part_in block_sectors block sectors of inside) refl) (WriteLed tells size contents faults) (λ x. x.hand.now.pass.card) (λ x w g y h. made_by_pass x.cells.now.blocks x.hand.now.pass y.hand.now.pass w g h.by_pass) old.cells.now.blocks s old begun there idle steps new f leads))
+    write_moves : old.hand.now.mode ≢ Passthrough → 0 < block_sectors → sectors.first / block_sectors ≡ block.0 → sectors.first % block_sectors + sectors.count ≤ block_sectors → old.hand.now.block_sectors ≡ block_sectors → block.0 < old.cells.now.blocks → old.hand.now.pass.card.hold ≡ Nothing → AreFirst s steps → MayMove new.hand.now.mode new.hand.now.block_sectors new.hand.now.pass.card (want (left_by s steps))
+    write_moves served some of inside sized there idle f =
+        let part : BlockRange = part_of old.hand.now.mode block_sectors block sectors in
+        subst (λ (m : Mode). MayMove m new.hand.now.block_sectors new.hand.now.pass.card (want (left_by s steps))) (sym write_mode)
+        (subst (λ (n : ℕ). MayMove old.hand.now.mode n new.hand.now.pass.card (want (left_by s steps))) (sym (write_size ∙ sized))
+        (may_write part _ _ (moves_there (MovesAt (Writing part)) (Writing part) (writes_there part some (part_in old.hand.now.mode block_sectors block sectors of inside) served) (WriteLed tells size contents faults) (λ x. x.hand.now.pass.card) (λ x w g y h. made_by_pass x.cells.now.blocks x.hand.now.pass y.hand.now.pass w g h.by_pass) old.cells.now.blocks s old begun there idle steps new f leads)))
 
-    pub write_ready : 0 < block_sectors → sectors.first / block_sectors ≡ block.0 → sectors.first % block_sectors + sectors.count ≤ block_sectors → old.hand.now.block_sectors ≡ block_sectors → block.0 < old.cells.now.blocks → old.hand.now.pass.table ≡ old.cells.now.table → old.hand.now.pass.card.hold ≡ Nothing → AreFirst s steps → IsReadyToWrite new (want (left_by s steps))
-    write_ready some of inside sized there at idle f =
-        let both = ready_there (WriteLed tells size contents faults) (λ x. x.hand.now.pass.card) (λ x w g y h. made_by_pass x.cells.now.blocks x.hand.now.pass y.hand.now.pass w g h.by_pass) old.cells.now.blocks s (Writing (part_of block_sectors block sectors)) old begun there idle steps new f leads in
-        ((write_at ∙ (at ∙ ap (λ x. x.now.table) (sym write_cells)), subst (λ x. MayTake x.now.blocks new.hand.now.pass.card (want (left_by s steps))) (sym write_cells) both.0), own_writes (part_of block_sectors block sectors) (want (left_by s steps)) both.1, write_moves some of inside sized there idle f)
+    pub write_ready : old.hand.now.mode ≢ Passthrough → 0 < block_sectors → sectors.first / block_sectors ≡ block.0 → sectors.first % block_sectors + sectors.count ≤ block_sectors → old.hand.now.block_sectors ≡ block_sectors → block.0 < old.cells.now.blocks → old.hand.now.pass.table ≡ old.cells.now.table → old.hand.now.pass.card.hold ≡ Nothing → AreFirst s steps → IsReadyToWrite new (want (left_by s steps))
+    write_ready served some of inside sized there at idle f =
+        let both = ready_there (WriteLed tells size contents faults) (λ x. x.hand.now.pass.card) (λ x w g y h. made_by_pass x.cells.now.blocks x.hand.now.pass y.hand.now.pass w g h.by_pass) old.cells.now.blocks s (Writing (part_of old.hand.now.mode block_sectors block sectors)) old begun there idle steps new f leads in
+        ((write_at ∙ (at ∙ ap (λ x. x.now.table) (sym write_cells)), subst (λ x. MayTake x.now.blocks new.hand.now.pass.card (want (left_by s steps))) (sym write_cells) both.0), own_writes (part_of old.hand.now.mode block_sectors block sectors) (want (left_by s steps)) both.1, write_moves served some of inside sized there idle f)
 
     pub write_idle : (answer : Answer) → block.0 < old.cells.now.blocks → old.hand.now.pass.card.hold ≡ Nothing → IsRunOf s steps answer → new.hand.now.pass.card.hold ≡ Nothing
-    write_idle answer there idle run = idle_again (WriteLed tells size contents faults) (λ x. x.hand.now.pass.card) (λ x w g y h. made_by_pass x.cells.now.blocks x.hand.now.pass y.hand.now.pass w g h.by_pass) old.cells.now.blocks s (Writing (part_of block_sectors block sectors)) old begun there idle steps answer new run leads
+    write_idle answer there idle run = idle_again (WriteLed tells size contents faults) (λ x. x.hand.now.pass.card) (λ x w g y h. made_by_pass x.cells.now.blocks x.hand.now.pass y.hand.now.pass w g h.by_pass) old.cells.now.blocks s (Writing (part_of old.hand.now.mode block_sectors block sectors)) old begun there idle steps answer new run leads
 
     write_stopped : {A : Type 0} (answer : Answer) (r : Result A Refusal) → IsRunOf s steps answer → IfErr r (λ refusal. answer ≡ Refuses refusal)
-        → IfErr r (λ refusal. WasRefused (WriteStep tells size contents faults old.cells.now.blocks old.from.now) (Writing (part_of block_sectors block sectors)) (writing_at old) refusal (writing_at new))
-    write_stopped answer r run is = was_refused (WriteStep tells size contents faults old.cells.now.blocks old.from.now) (Writing (part_of block_sectors block sectors)) s steps answer r (writing_at old) (writing_at new) begun run (plainly old steps leads) is
+        → IfErr r (λ refusal. WasRefused (WriteStep tells size contents faults old.cells.now.blocks old.from.now) (Writing (part_of old.hand.now.mode block_sectors block sectors)) (writing_at old) refusal (writing_at new))
+    write_stopped answer r run is = was_refused (WriteStep tells size contents faults old.cells.now.blocks old.from.now) (Writing (part_of old.hand.now.mode block_sectors block sectors)) s steps answer r (writing_at old) (writing_at new) begun run (plainly old steps leads) is
       where
         plainly : (x : WriteStage D) (done : List (Want × Got)) → Leads (WriteLed tells size contents faults) x done new → Leads (WriteStep tells size contents faults x.cells.now.blocks x.from.now) (writing_at x) done (writing_at new)
         plainly x [] e = ap (λ (y : WriteStage D). writing_at y) e
@@ -165,11 +175,11 @@ module _ {D : Type 0} (tells : Type 0) (size : D → ℕ) (contents : D → List
     pub write_err : {A : Type 0} (answer : Answer) (r : Result A Refusal) → IsRunOf s steps answer → IfErr r (λ refusal. answer ≡ Refuses refusal)
         → old.moved ≡ 0 → IfErr r (λ refusal. WriteRefused tells size contents faults old.cells.now.blocks block_sectors block sectors old.from.now old.hand.now refusal new.hand.now)
     write_err {A} answer (Ok x) run is unmoved = tt
-    write_err {A} answer (Err x) run is unmoved = record { moved = new.moved; was = subst (λ (n : ℕ). WasRefused (WriteStep tells size contents faults old.cells.now.blocks old.from.now) (Writing (part_of block_sectors block sectors)) (record { hand = old.hand.now; moved = n }) x (writing_at new)) unmoved (write_stopped {A = A} answer (Err x) run is) }
+    write_err {A} answer (Err x) run is unmoved = record { moved = new.moved; same_mode = write_mode; was = subst (λ (n : ℕ). WasRefused (WriteStep tells size contents faults old.cells.now.blocks old.from.now) (Writing (part_of old.hand.now.mode block_sectors block sectors)) (record { hand = old.hand.now; moved = n }) x (writing_at new)) unmoved (write_stopped {A = A} answer (Err x) run is) }
 
     pub write_ok : {A : Type 0} (answer : Answer) (r : Result A Refusal) → old.moved ≡ 0 → length old.from.now ≡ sectors.count → sectors.first % block_sectors + sectors.count ≤ block_sectors → IsRunOf s steps answer → OnOk r (answer ≡ Finished)
         → OnOk r (WasWritten tells size contents faults block_sectors block sectors old.from.now old.hand.now new.hand.now)
     write_ok answer (Err x) unmoved fits inside run is = tt
     write_ok answer (Ok x) unmoved fits inside run is =
         write_whole tells size contents faults block_sectors block sectors steps old new unmoved fits inside
-        (subst (λ (a : Answer). IsRunOf (table (OnBlock (Writing (part_of block_sectors block sectors)))) steps a) is (subst (λ (t : Plan). IsRunOf t steps answer) begun run)) leads
+        (subst (λ (a : Answer). IsRunOf (table (OnBlock (Writing (part_of old.hand.now.mode block_sectors block sectors)))) steps a) is (subst (λ (t : Plan). IsRunOf t steps answer) begun run)) leads

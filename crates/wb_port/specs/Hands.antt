@@ -1,7 +1,10 @@
 -- What a step of a read or write does to a client's hand, and to the caller's slice.
 use Rattle.std.specs.Prelude.{◌≡◌, ◌+◌, ◌-◌, ℕ, List, length, take, drop, min}
 use Rattle.wb_types.specs.declared.extent.Extent.{Extent}
+use Rattle.wb_types.specs.declared.mode.Mode.{Mode}
+use Rattle.wb_types.specs.declared.mode.Mode.TheVariants.{Writethrough}
 use Rattle.wb_types.specs.declared.mode.Dev.{Dev}
+use Rattle.wb_types.specs.declared.mode.Dev.TheVariants.{Cache}
 use Rattle.wb_disk.specs.Device.{History, Content as Bytes}
 use Rattle.wb_words.specs.declared.word.Word.TheVariants.{Fail}
 use Rattle.wb_words.specs.declared.step.CellResult.{CellResult}
@@ -90,13 +93,14 @@ ReadStep tells size contents faults blocks s want got t =
     × ReadsInto tells size contents faults s.hand.devices s.out s.moved want got t.hand.devices t.out t.moved
 
 abbrev pub IsReadyToRead : {D : Type 0} → ReadStage D → Want → Type 0
-IsReadyToRead stage want = IsReadyOn stage.cells.now stage.hand.now.pass want × IsReads want × MayMove stage.hand.now.block_sectors stage.hand.now.pass.card want
+IsReadyToRead stage want = IsReadyOn stage.cells.now stage.hand.now.pass want × IsReads want × MayMove stage.hand.now.mode stage.hand.now.block_sectors stage.hand.now.pass.card want
 
 pub record ReadLed {D : Type 0} (tells : Type 0) (size : D → ℕ) (contents : D → List History) (faults : D → ℕ) (old : ReadStage D) (want : Want) (got : Got) (new : ReadStage D) : Type 0 where
   pub cells : new.cells ≡ old.cells
   pub same_hand : new.hand.ghost_name ≡ old.hand.ghost_name
   pub same_slice : new.out.ghost_name ≡ old.out.ghost_name
   pub sized : new.hand.now.block_sectors ≡ old.hand.now.block_sectors
+  pub same_mode : new.hand.now.mode ≡ old.hand.now.mode
   pub by_pass : DoneByPass old.cells.now.blocks old.hand.now.pass want got new.hand.now.pass
   pub into : ReadsInto tells size contents faults old.hand.now.devices old.out.now old.moved want got new.hand.now.devices new.out.now new.moved
 
@@ -108,23 +112,30 @@ IsWrites (Device step) = ⊥
 IsWrites (Desk step) = ⊥
 IsWrites want = Unit {0}
 
-abbrev pub WritesFrom : {D : Type 0} → Type 0 → (D → ℕ) → (D → List History) → (D → ℕ) → List Bytes → Devices D → ℕ → Want → Got → Devices D → ℕ → Type 0
-WritesFrom tells size contents faults from old moved (Device (Write device e)) got new moved' = DidWriteFrom tells size contents faults device e got from old moved new moved'
-WritesFrom tells size contents faults from old moved want got new moved' = (new ≡ old) × (moved' ≡ moved)
+-- Where in the slice a write of so many sectors begins: behind what was written before it. But in write-through the cache is written what the
+-- origin was written just before.
+abbrev pub begins_at : Mode → Dev → ℕ → ℕ → ℕ
+begins_at Writethrough Cache count moved = moved - count
+begins_at mode device count moved = moved
+
+abbrev pub WritesFrom : {D : Type 0} → Type 0 → (D → ℕ) → (D → List History) → (D → ℕ) → Mode → List Bytes → Devices D → ℕ → Want → Got → Devices D → ℕ → Type 0
+WritesFrom tells size contents faults mode from old moved (Device (Write device e)) got new moved' = DidWriteFrom tells size contents faults device e got from old (begins_at mode device e.count moved) new moved'
+WritesFrom tells size contents faults mode from old moved want got new moved' = (new ≡ old) × (moved' ≡ moved)
 
 -- what a step of a write of this slice does
 abbrev pub WriteStep : {D : Type 0} → Type 0 → (D → ℕ) → (D → List History) → (D → ℕ) → ℕ → List Bytes → WriteState D → Want → Got → WriteState D → Type 0
 WriteStep tells size contents faults blocks from s want got t =
     DoneByPass blocks s.hand.pass want got t.hand.pass
-    × WritesFrom tells size contents faults from s.hand.devices s.moved want got t.hand.devices t.moved
+    × WritesFrom tells size contents faults s.hand.mode from s.hand.devices s.moved want got t.hand.devices t.moved
 
 abbrev pub IsReadyToWrite : {D : Type 0} → WriteStage D → Want → Type 0
-IsReadyToWrite stage want = IsReadyOn stage.cells.now stage.hand.now.pass want × IsWrites want × MayMove stage.hand.now.block_sectors stage.hand.now.pass.card want
+IsReadyToWrite stage want = IsReadyOn stage.cells.now stage.hand.now.pass want × IsWrites want × MayMove stage.hand.now.mode stage.hand.now.block_sectors stage.hand.now.pass.card want
 
 pub record WriteLed {D : Type 0} (tells : Type 0) (size : D → ℕ) (contents : D → List History) (faults : D → ℕ) (old : WriteStage D) (want : Want) (got : Got) (new : WriteStage D) : Type 0 where
   pub cells : new.cells ≡ old.cells
   pub same_hand : new.hand.ghost_name ≡ old.hand.ghost_name
   pub same_slice : new.from ≡ old.from
   pub sized : new.hand.now.block_sectors ≡ old.hand.now.block_sectors
+  pub same_mode : new.hand.now.mode ≡ old.hand.now.mode
   pub by_pass : DoneByPass old.cells.now.blocks old.hand.now.pass want got new.hand.now.pass
-  pub from : WritesFrom tells size contents faults old.from.now old.hand.now.devices old.moved want got new.hand.now.devices new.moved
+  pub from : WritesFrom tells size contents faults old.hand.now.mode old.from.now old.hand.now.devices old.moved want got new.hand.now.devices new.moved

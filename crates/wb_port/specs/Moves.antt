@@ -1,6 +1,8 @@
 -- Which extents a client may move: those of the block that its pass has, where that block stands.
-use Rattle.std.specs.Prelude.{◌≡◌, ◌≤◌, ◌+◌, ◌*◌, ℕ, Bool, true, List, [], All, Option, Some, None}
+use Rattle.std.specs.Prelude.{◌≡◌, ◌≤◌, ◌+◌, ◌*◌, ◌⊎◌, ℕ, Bool, true, List, [], ◌∷◌, All, Option, Some, None}
 use Rattle.wb_types.specs.declared.extent.Extent.{Extent}
+use Rattle.wb_types.specs.declared.mode.Mode.{Mode}
+use Rattle.wb_types.specs.declared.mode.Mode.TheVariants.{Writeback}
 use Rattle.wb_types.specs.declared.mode.Dev.{Dev}
 use Rattle.wb_types.specs.declared.mode.Dev.TheVariants.{Cache, Origin}
 use Rattle.wb_types.specs.declared.number.OBlock.{OBlock}
@@ -13,6 +15,7 @@ use Rattle.wb_words.specs.SharedWords.{place_in, dirty_in}
 use Rattle.wb_disk.specs.Device.{History}
 use Rattle.wb_devices.specs.declared.devices.Devices.{Devices}
 use Rattle.wb_devices.specs.declared.running.RunningCommit.{RunningCommit}
+use Rattle.wb_tasks.specs.Tables.{place_read, places_written}
 use Rattle.wb_tasks.specs.declared.step.DeviceStep.{DeviceStep}
 use Rattle.wb_tasks.specs.declared.step.DeviceStep.TheVariants.{Read, Write, WriteNode, WriteRoot}
 use Rattle.wb_tasks.specs.declared.step.Migration.{Migration}
@@ -31,15 +34,20 @@ LiesAt size block None Origin e = LiesIn (block.0 * size) size e
 LiesAt size block (Some c) Cache e = LiesIn (c.0 * size) size e
 LiesAt size block place device e = ⊥
 
+-- it lies so where it stands at one of these places
+abbrev pub LiesAmong : ℕ → OBlock → List (Option CBlock) → Dev → Extent → Type 0
+LiesAmong size block [] device e = ⊥
+LiesAmong size block (place ∷ places) device e = LiesAt size block place device e ⊎ LiesAmong size block places device e
+
 -- The pass shares or owns a block, of so many sectors, and has seen its seal since; the extent is in that block, where the
--- seal tells.
-pub record MayRead (size : ℕ) (card : Card) (device : Dev) (e : Extent) : Type 0 where
+-- seal tells, but in passthrough on the origin.
+pub record MayRead (mode : Mode) (size : ℕ) (card : Card) (device : Dev) (e : Extent) : Type 0 where
   pub access : Access
   pub block : OBlock
   pub seal : ℕ
   pub held : card.hold ≡ Held access block
   pub seen : card.seal ≡ Some seal
-  pub at : LiesAt size block (place_in seal) device e
+  pub at : LiesAt size block (place_read mode (place_in seal)) device e
 
 -- a copy on this device is sealed dirty
 abbrev pub IfCache : Dev → Bool → Type 0
@@ -50,14 +58,20 @@ abbrev pub IfOrigin : Dev → Bool → Type 0
 IfOrigin Origin dirty = dirty ≡ true
 IfOrigin device dirty = Unit {0}
 
--- And it owns it; a copy in the cache is sealed dirty before it is written.
-pub record MayWrite (size : ℕ) (card : Card) (device : Dev) (e : Extent) : Type 0 where
+-- in write-back a copy in the cache is sealed dirty before it is written
+abbrev pub IfDirtied : Mode → Dev → Bool → Type 0
+IfDirtied Writeback device dirty = IfCache device dirty
+IfDirtied mode device dirty = Unit {0}
+
+-- And it owns it; the extent is where the mode has it written, the block standing where the seal tells: in write-through of a mapped
+-- block on the origin, and in its cache block.
+pub record MayWrite (mode : Mode) (size : ℕ) (card : Card) (device : Dev) (e : Extent) : Type 0 where
   pub block : OBlock
   pub seal : ℕ
   pub owned : card.hold ≡ Held Owned block
   pub seen : card.seal ≡ Some seal
-  pub dirty : IfCache device (dirty_in seal)
-  pub at : LiesAt size block (place_in seal) device e
+  pub dirty : IfDirtied mode device (dirty_in seal)
+  pub at : LiesAmong size block (places_written mode (place_in seal)) device e
 
 -- ---- copies
 
@@ -121,7 +135,7 @@ MayPerform tells contents size card devices commit step = Unit {0}
 -- ---- requests
 
 -- the same of any step: one that moves no extent asks for no block
-abbrev pub MayMove : ℕ → Card → Want → Type 0
-MayMove size card (Device (Read device e)) = MayRead size card device e
-MayMove size card (Device (Write device e)) = MayWrite size card device e
-MayMove size card next = Unit {0}
+abbrev pub MayMove : Mode → ℕ → Card → Want → Type 0
+MayMove mode size card (Device (Read device e)) = MayRead mode size card device e
+MayMove mode size card (Device (Write device e)) = MayWrite mode size card device e
+MayMove mode size card next = Unit {0}

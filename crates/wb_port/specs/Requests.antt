@@ -1,5 +1,6 @@
 -- What a read or write of sectors of one block did to a client's hand.
-use Rattle.std.specs.Prelude.{◌≡◌, ◌<◌, ◌+◌, ◌*◌, ◌%◌, ◌⊎◌, ℕ, Bool, true, false, List, Option, Some, None}
+use Rattle.std.specs.Prelude.{◌≡◌, ◌<◌, ◌+◌, ◌*◌, ◌%◌, ◌⊎◌, ℕ, Bool, true, false, List, [], ◌∷◌, Option, Some, None}
+use Rattle.wb_types.specs.declared.mode.Mode.{Mode}
 use Rattle.wb_types.specs.declared.mode.Mode.TheVariants.{Writeback}
 use Rattle.wb_types.specs.declared.extent.Extent.{Extent}
 use Rattle.wb_types.specs.declared.number.OBlock.{OBlock}
@@ -19,7 +20,7 @@ use Rattle.wb_words.specs.declared.card.Card.{Card}
 use Rattle.wb_words.specs.SharedWords.{place_in, dirty_in, seal_word}
 use Rattle.wb_words.specs.Cards.{looked, holding, sealing, finishing, counting}
 use Rattle.wb_words.specs.Looks.{SawAtMost}
-use Rattle.wb_tasks.specs.Tables.{BlockRange, BlockJob, Reading, Writing, OnBlock, device_at}
+use Rattle.wb_tasks.specs.Tables.{BlockRange, BlockJob, Reading, Writing, OnBlock, device_at, place_read, places_written}
 use Rattle.wb_tasks.specs.Plan.{table}
 use Rattle.wb_tasks.specs.Run.{IsRunOf, Leads}
 use Rattle.wb_tasks.specs.Causes.{GaveCause}
@@ -27,6 +28,7 @@ use Rattle.wb_tasks.specs.declared.step.Answer.TheVariants.{Refused as Refuses}
 use Rattle.wb_tasks.specs.declared.step.Want.{Want}
 use Rattle.wb_tasks.specs.declared.step.Got.{Got}
 use Rattle.wb_devices.specs.Moving.{OthersStay, device_in}
+use Rattle.wb_devices.specs.declared.devices.Devices.{Devices}
 use Rattle.wb_port.specs.declared.moving.TheConstants.{LONGEST}
 use Rattle.wb_port.specs.declared.hand.Hand.{Hand}
 use Rattle.wb_port.specs.Hands.{ReadStep, WriteStep}
@@ -37,9 +39,9 @@ IsRequest (Reading part) = Unit {0}
 IsRequest (Writing part) = Unit {0}
 IsRequest job = ⊥
 
--- sectors of one block, cut into extents of at most the longest that a step takes, in write-back mode
-abbrev pub part_of : ℕ → OBlock → Extent → BlockRange
-part_of block_sectors block sectors = record { mode = Writeback; block_sectors = block_sectors; block = block; extents = pieces LONGEST sectors }
+-- sectors of one block, cut into extents of at most the longest that a step takes, in this mode
+abbrev pub part_of : Mode → ℕ → OBlock → Extent → BlockRange
+part_of mode block_sectors block sectors = record { mode = mode; block_sectors = block_sectors; block = block; extents = pieces LONGEST sectors }
 
 -- A block that stands at this place has this sector of the origin from here on, on the device of the place.
 abbrev pub first_at : ℕ → Option CBlock → ℕ → ℕ
@@ -61,48 +63,65 @@ abbrev pub taking_card : Access → OBlock → ℕ → ℕ → ℕ → Card → 
 taking_card access block lock seal number card =
     looked (Number block) number (looked (SealWord block) seal (holding (Held access block) (looked (LockWord block) lock (looked Fail 0 card))))
 
--- a read counts, and gives its block back
-abbrev pub read_card : OBlock → ℕ → ℕ → ℕ → Card → Card
-read_card block lock seal number card = holding Nothing (counting (read_kind (place_in seal)) (taking_card Shared block lock seal number card))
+-- a read counts by where its sectors are taken from, and gives its block back
+abbrev pub read_card : Mode → OBlock → ℕ → ℕ → ℕ → Card → Card
+read_card mode block lock seal number card = holding Nothing (counting (read_kind (place_read mode (place_in seal))) (taking_card Shared block lock seal number card))
 
--- before the first write to a clean copy its block is sealed dirty
-abbrev pub dirtied : OBlock → Option CBlock → Bool → Card → Card
-dirtied block (Some c) false card = sealing block (seal_word (Some c) true) card
-dirtied block place dirty card = card
+-- in write-back a block is sealed dirty before the first write to its clean copy
+abbrev pub dirtied : Mode → OBlock → Option CBlock → Bool → Card → Card
+dirtied Writeback block (Some c) false card = sealing block (seal_word (Some c) true) card
+dirtied mode block place dirty card = card
 
 -- A write finishes one write more on its block, counts, and gives its block back.
-abbrev pub write_card : OBlock → ℕ → ℕ → ℕ → Card → Card
-write_card block lock seal number card =
-    holding Nothing (counting (write_kind (place_in seal)) (finishing block (dirtied block (place_in seal) (dirty_in seal) (taking_card Owned block lock seal number card))))
+abbrev pub write_card : Mode → OBlock → ℕ → ℕ → ℕ → Card → Card
+write_card mode block lock seal number card =
+    holding Nothing (counting (write_kind (place_in seal)) (finishing block (dirtied mode block (place_in seal) (dirty_in seal) (taking_card Owned block lock seal number card))))
 
 -- ---- what was done
 
--- A read: what the slice has is what the device gave on which the block stood, by the seal that was seen; no device changed,
--- and none failed. The block's number is no less than any that the pass has seen of it.
+-- where a hand reads a block with this seal
+abbrev pub read_at : {D : Type 0} → Hand D → ℕ → Option CBlock
+read_at hand seal = place_read hand.mode (place_in seal)
+
+-- A read: what the slice has is what the device gave on which the block stood, by the seal that was seen, but in passthrough the
+-- origin; no device changed, and none failed. The block's number is no less than any that the pass has seen of it.
 pub record WasRead {D : Type 0} (tells : Type 0) (size : D → ℕ) (contents : D → List History) (faults : D → ℕ) (block_sectors : ℕ) (block : OBlock) (sectors : Extent) (out : List Bytes) (old new : Hand D) : Type 0 where
   pub lock : ℕ
   pub seal : ℕ
   pub number : ℕ
-  pub pass_is : new.pass ≡ record old.pass { card = read_card block lock seal number old.pass.card }
+  pub same_mode : new.mode ≡ old.mode
+  pub pass_is : new.pass ≡ record old.pass { card = read_card old.mode block lock seal number old.pass.card }
   pub least : SawAtMost block number old.pass.card.saw
-  pub others : OthersStay (device_at (place_in seal)) old.devices new.devices
-  pub sized : size (device_in (device_at (place_in seal)) new.devices) ≡ size (device_in (device_at (place_in seal)) old.devices)
-  pub given : tells → GivesEach (contents (device_in (device_at (place_in seal)) old.devices)) (first_at block_sectors (place_in seal) sectors.first) out
-  pub same : tells → contents (device_in (device_at (place_in seal)) new.devices) ≡ contents (device_in (device_at (place_in seal)) old.devices)
-  pub no_fault : tells → faults (device_in (device_at (place_in seal)) new.devices) ≡ faults (device_in (device_at (place_in seal)) old.devices)
+  pub others : OthersStay (device_at (read_at old seal)) old.devices new.devices
+  pub sized : size (device_in (device_at (read_at old seal)) new.devices) ≡ size (device_in (device_at (read_at old seal)) old.devices)
+  pub given : tells → GivesEach (contents (device_in (device_at (read_at old seal)) old.devices)) (first_at block_sectors (read_at old seal) sectors.first) out
+  pub same : tells → contents (device_in (device_at (read_at old seal)) new.devices) ≡ contents (device_in (device_at (read_at old seal)) old.devices)
+  pub no_fault : tells → faults (device_in (device_at (read_at old seal)) new.devices) ≡ faults (device_in (device_at (read_at old seal)) old.devices)
 
--- A write: the device on which the block stood, by the seal that was seen, was written the slice, and did not fail; no other
--- device changed.
+-- Sectors of a block that stands at this place were written the slice there, from this sector of the origin on, and the device did not fail;
+-- no other device changed.
+pub record WrittenAt {D : Type 0} (tells : Type 0) (size : D → ℕ) (contents : D → List History) (faults : D → ℕ) (block_sectors first : ℕ) (from : List Bytes) (place : Option CBlock) (old new : Devices D) : Type 0 where
+  pub others : OthersStay (device_at place) old new
+  pub sized : size (device_in (device_at place) new) ≡ size (device_in (device_at place) old)
+  pub written : tells → contents (device_in (device_at place) new) ≡ written_each (contents (device_in (device_at place) old)) (first_at block_sectors place first) from
+  pub no_fault : tells → faults (device_in (device_at place) new) ≡ faults (device_in (device_at place) old)
+
+-- so at each of these places
+abbrev pub WrittenAtEach : {D : Type 0} → Type 0 → (D → ℕ) → (D → List History) → (D → ℕ) → ℕ → ℕ → List Bytes → List (Option CBlock) → Devices D → Devices D → Type 0
+WrittenAtEach tells size contents faults block_sectors first from [] old new = new ≡ old
+WrittenAtEach {D} tells size contents faults block_sectors first from (place ∷ places) old new =
+    (mid : Devices D) × WrittenAt tells size contents faults block_sectors first from place old mid × WrittenAtEach tells size contents faults block_sectors first from places mid new
+
+-- A write: each place where the mode has it written was written the slice, the block standing where the seal tells that was seen: one device, or in
+-- write-through of a mapped block origin and cache.
 pub record WasWritten {D : Type 0} (tells : Type 0) (size : D → ℕ) (contents : D → List History) (faults : D → ℕ) (block_sectors : ℕ) (block : OBlock) (sectors : Extent) (from : List Bytes) (old new : Hand D) : Type 0 where
   pub lock : ℕ
   pub seal : ℕ
   pub number : ℕ
-  pub pass_is : new.pass ≡ record old.pass { card = write_card block lock seal number old.pass.card }
+  pub same_mode : new.mode ≡ old.mode
+  pub pass_is : new.pass ≡ record old.pass { card = write_card old.mode block lock seal number old.pass.card }
   pub least : SawAtMost block number old.pass.card.saw
-  pub others : OthersStay (device_at (place_in seal)) old.devices new.devices
-  pub sized : size (device_in (device_at (place_in seal)) new.devices) ≡ size (device_in (device_at (place_in seal)) old.devices)
-  pub written : tells → contents (device_in (device_at (place_in seal)) new.devices) ≡ written_each (contents (device_in (device_at (place_in seal)) old.devices)) (first_at block_sectors (place_in seal) sectors.first) from
-  pub no_fault : tells → faults (device_in (device_at (place_in seal)) new.devices) ≡ faults (device_in (device_at (place_in seal)) old.devices)
+  pub written : WrittenAtEach tells size contents faults block_sectors sectors.first from (places_written old.mode (place_in seal)) old.devices new.devices
 
 -- A request was refused: its steps were a run of its table that refuses so, they led from the stage before to the one after, and
 -- one of them gave the cause.
@@ -115,12 +134,14 @@ pub record WasRefused {S : Type 0} (led : S → Want → Got → S → Type 0) (
 -- A read of sectors of one block was refused, by words of so many blocks.
 pub record ReadRefused {D : Type 0} (tells : Type 0) (size : D → ℕ) (contents : D → List History) (faults : D → ℕ) (blocks block_sectors : ℕ) (block : OBlock) (sectors : Extent) (old : Hand D) (out : List Bytes) (refusal : Refusal) (new : Hand D) (out' : List Bytes) : Type 0 where
   pub moved : ℕ
-  pub was : WasRefused (ReadStep tells size contents faults blocks) (Reading (part_of block_sectors block sectors)) (record { hand = old; out = out; moved = 0 }) refusal (record { hand = new; out = out'; moved = moved })
+  pub same_mode : new.mode ≡ old.mode
+  pub was : WasRefused (ReadStep tells size contents faults blocks) (Reading (part_of old.mode block_sectors block sectors)) (record { hand = old; out = out; moved = 0 }) refusal (record { hand = new; out = out'; moved = moved })
 
 -- And a write of this slice.
 pub record WriteRefused {D : Type 0} (tells : Type 0) (size : D → ℕ) (contents : D → List History) (faults : D → ℕ) (blocks block_sectors : ℕ) (block : OBlock) (sectors : Extent) (from : List Bytes) (old : Hand D) (refusal : Refusal) (new : Hand D) : Type 0 where
   pub moved : ℕ
-  pub was : WasRefused (WriteStep tells size contents faults blocks from) (Writing (part_of block_sectors block sectors)) (record { hand = old; moved = 0 }) refusal (record { hand = new; moved = moved })
+  pub same_mode : new.mode ≡ old.mode
+  pub was : WasRefused (WriteStep tells size contents faults blocks from) (Writing (part_of old.mode block_sectors block sectors)) (record { hand = old; moved = 0 }) refusal (record { hand = new; moved = moved })
 
 -- ---- requests that are refused before any step
 

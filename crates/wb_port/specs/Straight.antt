@@ -1,11 +1,10 @@
--- What is left of a read or a write whose sectors one step moves, at each step of its table in write-back mode.
+-- What is left of a read or a write whose sectors are one extent, at each step of its table.
 use Rattle.std.specs.Prelude.{List, [], ◌∷◌, Option}
-use Rattle.wb_types.specs.declared.mode.Mode.TheVariants.{Writeback}
 use Rattle.wb_types.specs.declared.number.CBlock.{CBlock}
 use Rattle.wb_words.specs.declared.word.Access.{Access}
 use Rattle.wb_words.specs.declared.word.Access.TheVariants.{Shared, Owned}
 use Rattle.wb_words.specs.declared.step.CellStep.TheVariants.{Release, Finish}
-use Rattle.wb_tasks.specs.Tables.{BlockRange, BlockJob, Reading, Writing, OnBlock, write_count}
+use Rattle.wb_tasks.specs.Tables.{BlockRange, BlockJob, Reading, Writing, OnBlock, write_step, write_count}
 use Rattle.wb_tasks.specs.Plan.{Plan}
 use Rattle.wb_tasks.specs.Run.{IsRunOf, Leads}
 use Rattle.wb_tasks.specs.declared.step.Answer.{Answer}
@@ -16,9 +15,9 @@ use Rattle.wb_port.specs.declared.straight.Part.{Part}
 use Rattle.wb_port.specs.declared.straight.Way.{Way}
 use Rattle.wb_port.specs.declared.straight.Way.TheVariants.{Reads, Writes}
 
--- its sectors are one extent, moved in write-back mode
+-- its sectors are one extent
 abbrev pub range_in : Part → BlockRange
-range_in part = record { mode = Writeback; block_sectors = part.block_sectors; block = part.block; extents = part.sectors ∷ [] }
+range_in part = record { mode = part.mode; block_sectors = part.block_sectors; block = part.block; extents = part.sectors ∷ [] }
 
 abbrev pub job_by : Way → Part → BlockJob
 job_by Reads part = Reading (range_in part)
@@ -38,6 +37,11 @@ giving_back way part = Cell (Release (access_by way) part.block) ∷ []
 -- the sectors are written, and the block stands at this place
 abbrev pub straight_written : Part → Option CBlock → List Want
 straight_written part place = Cell (Finish part.block) ∷ write_count place ∷ giving_back Writes part
+
+-- the sectors are to be written at these places, one after the other
+abbrev pub straight_writing : Part → List (Option CBlock) → Option CBlock → List Want
+straight_writing part [] place = straight_written part place
+straight_writing part (to ∷ places) place = write_step (range_in part) to part.sectors ∷ straight_writing part places place
 
 -- From such a state on, a run of what is left ends with this answer.
 abbrev pub ComesTo : {S : Type 0} → (S → Want → Got → S → Type 0) → Plan → S → Answer → S → Type 0

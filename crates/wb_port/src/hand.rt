@@ -14,7 +14,7 @@ use wb_cells::{Cells, Pass, Word};
 use wb_devices::{Devices, RunningCommit};
 use wb_disk::Disk;
 use wb_tasks::{CellResult, CellStep, DeviceStep, Got};
-use wb_types::{Content, Dev, Extent};
+use wb_types::{Content, Dev, Extent, Mode};
 
 /// What a client steps with: a pass, which knows what it has done to the shared words, and three devices of its own. Both are
 /// reached by its calls alone: a pass stays with its devices, and these move no extent but of a block that the pass has.
@@ -22,6 +22,8 @@ pub struct Hand<D> {
     pass: Pass,
     /// How many sectors a block has.
     block_sectors: u32,
+    /// In which mode blocks are read and written.
+    pub(crate) mode: Mode,
     devices: Devices<D>,
 }
 
@@ -30,6 +32,7 @@ impl<D: Drop> Drop for Hand<D> {
         let Hand {
             pass,
             block_sectors: _,
+            mode: _,
             devices,
         } = self;
         drop(pass);
@@ -38,16 +41,25 @@ impl<D: Drop> Drop for Hand<D> {
 }
 
 impl<D: Disk> Hand<D> {
-    pub fn new(block_sectors: u32, pass: Pass, devices: Devices<D>) -> Hand<D>
+    pub fn new(block_sectors: u32, mode: Mode, pass: Pass, devices: Devices<D>) -> Hand<D>
         ensures pass { result.pass ≡ pass }
         ensures size { result.block_sectors ≡ block_sectors }
+        ensures mode { result.mode ≡ mode }
         ensures devices { result.devices ≡ devices }
     {
         Hand {
             pass,
             block_sectors,
+            mode,
             devices,
         }
+    }
+
+    /// In which mode it reads and writes.
+    pub fn mode(&self) -> Mode
+        ensures { result ≡ self.now.mode }
+    {
+        self.mode
     }
 
     /// The pass and the devices.
@@ -58,18 +70,20 @@ impl<D: Disk> Hand<D> {
         let Hand {
             pass,
             block_sectors: _,
+            mode: _,
             devices,
         } = self;
         (pass, devices)
     }
 
-    /// Reads an extent of the block that the pass has, where the block stands, to the front of these contents.
+    /// Reads an extent of the block that the pass has, where its mode has it read, to the front of these contents.
     pub fn read(&mut self, device: Dev, extent: Extent, into: &mut [Content]) -> Got
-        requires held { MayRead self.old.block_sectors self.old.pass.card device extent }
+        requires held { MayRead self.old.mode self.old.block_sectors self.old.pass.card device extent }
         ensures kind { IsOutcome result }
         ensures many { length into.new ≡ length into.old }
         ensures pass { self.new.pass ≡ self.old.pass }
         ensures block { self.new.block_sectors ≡ self.old.block_sectors }
+        ensures mode { self.new.mode ≡ self.old.mode }
         ensures others { OthersStay device self.old.devices self.new.devices }
         ensures size { D.size (device_in device self.new.devices) ≡ D.size (device_in device self.old.devices) }
         ensures did { D.tells → DidRead extent result (D.size (device_in device self.old.devices)) (D.contents (device_in device self.old.devices)) (D.faults (device_in device self.old.devices)) into.new (D.contents (device_in device self.new.devices)) (D.faults (device_in device self.new.devices)) }
@@ -77,12 +91,13 @@ impl<D: Disk> Hand<D> {
         self.devices.read(device, extent, into)
     }
 
-    /// Writes an extent of the block that the pass owns, where the block stands, from the front of these contents.
+    /// Writes an extent of the block that the pass owns, where its mode has it written, from the front of these contents.
     pub fn write(&mut self, device: Dev, extent: Extent, from: &[Content]) -> Got
-        requires owned { MayWrite self.old.block_sectors self.old.pass.card device extent }
+        requires owned { MayWrite self.old.mode self.old.block_sectors self.old.pass.card device extent }
         ensures kind { IsOutcome result }
         ensures pass { self.new.pass ≡ self.old.pass }
         ensures block { self.new.block_sectors ≡ self.old.block_sectors }
+        ensures mode { self.new.mode ≡ self.old.mode }
         ensures others { OthersStay device self.old.devices self.new.devices }
         ensures size { D.size (device_in device self.new.devices) ≡ D.size (device_in device self.old.devices) }
         ensures did { D.tells → DidWrite extent result (D.size (device_in device self.old.devices)) from.now (D.contents (device_in device self.old.devices)) (D.faults (device_in device self.old.devices)) (D.contents (device_in device self.new.devices)) (D.faults (device_in device self.new.devices)) }
@@ -123,6 +138,7 @@ impl<D: Disk> Hand<D> {
         ensures kind { IsOutcome result }
         ensures pass { self.new.pass ≡ self.old.pass }
         ensures block { self.new.block_sectors ≡ self.old.block_sectors }
+        ensures mode { self.new.mode ≡ self.old.mode }
         ensures others { OthersStay (device_of step) self.old.devices self.new.devices }
         ensures size { D.size (device_in (device_of step) self.new.devices) ≡ D.size (device_in (device_of step) self.old.devices) }
         ensures buffer { BufferStays step buffer.old buffer.new }

@@ -8,9 +8,9 @@ use crate::hand::Hand;
 use crate::moving::{ReadStage, WriteStage};
 use wb_cells::Cells;
 use wb_disk::Disk;
-use wb_types::{Content, Extent, OBlock, Refusal};
+use wb_types::{Content, Extent, Mode, OBlock, Refusal};
 
-/// Reads sectors of this block into a slice, by steps of at most `LONGEST` sectors: a run of the table of a read, whose
+/// Reads sectors of this block into a slice in the hand's mode, by steps of at most `LONGEST` sectors: a run of the table of a read, whose
 /// answer this is. `Busy` where the block is owned, or the word changed; `Failed` where the fail word is set; `Io` where a step
 /// failed. After a refusal the slice may hold any contents.
 pub fn read_part<'a, D: Disk>(
@@ -37,6 +37,7 @@ pub fn read_part<'a, D: Disk>(
     ensures at { hand.new.pass.table ≡ hand.old.pass.table }
     ensures idle { hand.new.pass.card.hold ≡ Nothing }
     ensures size { hand.new.block_sectors ≡ hand.old.block_sectors }
+    ensures mode { hand.new.mode ≡ hand.old.mode }
 {
     let mut stage = ReadStage {
         cells,
@@ -54,7 +55,7 @@ pub fn read_part<'a, D: Disk>(
     result
 }
 
-/// Writes a slice to sectors of this block, by steps of at most `LONGEST` sectors: a run of the table of a write, whose answer
+/// Writes a slice to sectors of this block in the hand's mode, which is not passthrough, by steps of at most `LONGEST` sectors: a run of the table of a write, whose answer
 /// this is. `Busy` where the block is owned or shared, or the word changed; `Failed` where the fail word is set; `Worn` where the
 /// block's number is used up; `Io` where a step failed, and then the target has failed, and the block stays owned.
 pub fn write_part<'a, D: Disk>(
@@ -74,12 +75,14 @@ pub fn write_part<'a, D: Disk>(
     requires at { hand.old.pass.table ≡ cells.now.table }
     requires idle { hand.old.pass.card.hold ≡ Nothing }
     requires fits { length from.now ≡ sectors.count }
+    requires served { hand.old.mode ≢ Mode.Passthrough }
     ensures written { OnOk result (WasWritten D.tells D.size D.contents D.faults block_sectors block sectors from.now hand.old hand.new) }
     ensures refused { IfErr result (λ refusal. WriteRefused D.tells D.size D.contents D.faults cells.now.blocks block_sectors block sectors from.now hand.old refusal hand.new) }
     ensures never_range { IfErr result (λ refusal. refusal ≢ Refusal.Range) }
     ensures at { hand.new.pass.table ≡ hand.old.pass.table }
     ensures idle { hand.new.pass.card.hold ≡ Nothing }
     ensures size { hand.new.block_sectors ≡ hand.old.block_sectors }
+    ensures mode { hand.new.mode ≡ hand.old.mode }
 {
     let mut stage = WriteStage {
         cells,

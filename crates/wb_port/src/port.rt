@@ -13,7 +13,7 @@ use std::sync::Arc;
 use wb_cells::{Cells, Word};
 use wb_devices::{Devices, RunningCommit};
 use wb_disk::Disk;
-use wb_types::{Content, Geometry, OBlock};
+use wb_types::{Content, Geometry, Mode, OBlock};
 
 /// How many accesses a client has unsettled at most.
 pub const UNSETTLED: usize = 32;
@@ -56,13 +56,14 @@ impl<D: Drop> Drop for Port<D> {
 }
 
 impl<D: Disk + Drop> Port<D> {
-    /// A port with a seat and devices of its own; both are handed back where there is no memory.
+    /// A port in this mode, with a seat and devices of its own; both are handed back where there is no memory.
     pub fn new(
         alloc: Global,
         seat: Seat,
+        mode: Mode,
         devices: Devices<D>,
     ) -> Result<Port<D>, (Seat, Devices<D>)>
-        ensures hand { IfOk result (λ port. port.hand ≡ record { pass = seat.pass; block_sectors = seat.geometry.block; devices = devices }) }
+        ensures hand { IfOk result (λ port. port.hand ≡ record { pass = seat.pass; block_sectors = seat.geometry.block; mode = mode; devices = devices }) }
         ensures geometry { IfOk result (λ port. port.geometry ≡ seat.geometry) }
         ensures cells { IfOk result (λ port. port.cells ≡ seat.cells) }
         ensures unsettled { IfOk result (λ port. port.accesses.items ≡ []) }
@@ -75,7 +76,7 @@ impl<D: Disk + Drop> Port<D> {
         Ok(Port {
             geometry,
             cells,
-            hand: Hand::new(geometry.block, pass, devices),
+            hand: Hand::new(geometry.block, mode, pass, devices),
             accesses,
             buffer: Vec::new(alloc),
             commit: None,

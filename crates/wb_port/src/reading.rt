@@ -17,13 +17,14 @@ use wb_types::{Content, Dev, Extent};
 impl<'a, D: Disk> ReadStage<'a, D> {
     /// Reads an extent by one call, behind what was read before it.
     fn read(&mut self, device: Dev, extent: Extent) -> Got
-        requires held { MayRead self.old.hand.now.block_sectors self.old.hand.now.pass.card device extent }
+        requires held { MayRead self.old.hand.now.mode self.old.hand.now.block_sectors self.old.hand.now.pass.card device extent }
         ensures kind { Fits (Device (Read device extent)) result }
         ensures cells { self.new.cells ≡ self.old.cells }
         ensures hand { self.new.hand.ghost_name ≡ self.old.hand.ghost_name }
         ensures out { self.new.out.ghost_name ≡ self.old.out.ghost_name }
         ensures pass { self.new.hand.now.pass ≡ self.old.hand.now.pass }
         ensures size { self.new.hand.now.block_sectors ≡ self.old.hand.now.block_sectors }
+        ensures mode { self.new.hand.now.mode ≡ self.old.hand.now.mode }
         ensures did { DidReadInto D.tells D.size D.contents D.faults device extent result self.old.hand.now.devices self.old.out.now self.old.moved self.new.hand.now.devices self.new.out.now self.new.moved }
     {
         let got = read_behind(self.hand, device, extent, self.out, self.moved);
@@ -58,12 +59,13 @@ fn read_behind<D: Disk>(
     moved: usize,
 ) -> Got
     requires within { moved ≤ length out.old }
-    requires held { MayRead hand.old.block_sectors hand.old.pass.card device extent }
+    requires held { MayRead hand.old.mode hand.old.block_sectors hand.old.pass.card device extent }
     ensures kind { IsOutcome result }
     ensures before { take moved out.new ≡ take moved out.old }
     ensures many { length out.new ≡ length out.old }
     ensures pass { hand.new.pass ≡ hand.old.pass }
     ensures block { hand.new.block_sectors ≡ hand.old.block_sectors }
+    ensures mode { hand.new.mode ≡ hand.old.mode }
     ensures others { OthersStay device hand.old.devices hand.new.devices }
     ensures sized { D.size (device_in device hand.new.devices) ≡ D.size (device_in device hand.old.devices) }
     ensures did { D.tells → DidRead extent result (D.size (device_in device hand.old.devices)) (D.contents (device_in device hand.old.devices)) (D.faults (device_in device hand.old.devices)) (drop moved out.new) (D.contents (device_in device hand.new.devices)) (D.faults (device_in device hand.new.devices)) }

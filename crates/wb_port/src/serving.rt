@@ -41,8 +41,10 @@ impl<'a, D: Disk> ReadStage<'a, D> {
         ensures at { self.new.hand.now.pass.table ≡ self.old.hand.now.pass.table }
         ensures idle { self.new.hand.now.pass.card.hold ≡ Nothing }
         ensures size { self.new.hand.now.block_sectors ≡ self.old.hand.now.block_sectors }
+        ensures mode { self.new.hand.now.mode ≡ self.old.hand.now.mode }
     {
-        answered(read_all(self, block_sectors, block, sectors))
+        let mode = self.hand.mode;
+        answered(read_all(self, mode, block_sectors, block, sectors))
     }
 }
 
@@ -64,6 +66,7 @@ impl<'a, D: Disk> WriteStage<'a, D> {
         requires idle { self.old.hand.now.pass.card.hold ≡ Nothing }
         requires unmoved { self.old.moved ≡ 0 }
         requires fits { length self.old.from.now ≡ sectors.count }
+        requires served { self.old.hand.now.mode ≢ Mode.Passthrough }
         ensures same_hand { self.new.hand.ghost_name ≡ self.old.hand.ghost_name }
         ensures written { OnOk result (WasWritten D.tells D.size D.contents D.faults block_sectors block sectors self.old.from.now self.old.hand.now self.new.hand.now) }
         ensures refused { IfErr result (λ refusal. WriteRefused D.tells D.size D.contents D.faults self.old.cells.now.blocks block_sectors block sectors self.old.from.now self.old.hand.now refusal self.new.hand.now) }
@@ -71,62 +74,64 @@ impl<'a, D: Disk> WriteStage<'a, D> {
         ensures at { self.new.hand.now.pass.table ≡ self.old.hand.now.pass.table }
         ensures idle { self.new.hand.now.pass.card.hold ≡ Nothing }
         ensures size { self.new.hand.now.block_sectors ≡ self.old.hand.now.block_sectors }
+        ensures mode { self.new.hand.now.mode ≡ self.old.hand.now.mode }
     {
-        answered(write_all(self, block_sectors, block, sectors))
+        let mode = self.hand.mode;
+        answered(write_all(self, mode, block_sectors, block, sectors))
     }
 }
 
 /// Performs a read up to its answer, on a stage that is ready for each of its steps: where one step moves all sectors,
 /// without asking a task for each step.
-fn read_all<S: Stage>(stage: &mut S, block_sectors: u32, block: OBlock, sectors: Extent) -> Answer
+fn read_all<S: Stage>(
+    stage: &mut S,
+    mode: Mode,
+    block_sectors: u32,
+    block: OBlock,
+    sectors: Extent,
+) -> Answer
     requires some { 0 < block_sectors }
     requires range { sectors.first + sectors.count < 2 ^ 64 }
-    requires stays { StaysReady S.ready S.led (table (OnBlock (Reading (part_of block_sectors block sectors)))) stage.old }
-    ensures { ComesTo S.led (table (OnBlock (Reading (part_of block_sectors block sectors)))) stage.old result stage.new }
+    requires stays { StaysReady S.ready S.led (table (OnBlock (Reading (part_of mode block_sectors block sectors)))) stage.old }
+    ensures { ComesTo S.led (table (OnBlock (Reading (part_of mode block_sectors block sectors)))) stage.old result stage.new }
 {
     if 1 <= sectors.count && sectors.count <= LONGEST {
         let part = Part {
+            mode,
             block_sectors,
             block,
             sectors,
         };
         return request(stage, Way::Reads, part);
     }
-    let mut task = BlockTask::new(
-        Work::Read,
-        Mode::Writeback,
-        block_sectors,
-        block,
-        sectors,
-        LONGEST,
-    );
+    let mut task = BlockTask::new(Work::Read, mode, block_sectors, block, sectors, LONGEST);
     drive(&mut task, stage)
 }
 
 /// Performs a write up to its answer, on a stage that is ready for each of its steps: where one step moves all sectors,
 /// without asking a task for each step.
-fn write_all<S: Stage>(stage: &mut S, block_sectors: u32, block: OBlock, sectors: Extent) -> Answer
+fn write_all<S: Stage>(
+    stage: &mut S,
+    mode: Mode,
+    block_sectors: u32,
+    block: OBlock,
+    sectors: Extent,
+) -> Answer
     requires some { 0 < block_sectors }
     requires range { sectors.first + sectors.count < 2 ^ 64 }
-    requires stays { StaysReady S.ready S.led (table (OnBlock (Writing (part_of block_sectors block sectors)))) stage.old }
-    ensures { ComesTo S.led (table (OnBlock (Writing (part_of block_sectors block sectors)))) stage.old result stage.new }
+    requires stays { StaysReady S.ready S.led (table (OnBlock (Writing (part_of mode block_sectors block sectors)))) stage.old }
+    ensures { ComesTo S.led (table (OnBlock (Writing (part_of mode block_sectors block sectors)))) stage.old result stage.new }
 {
     if 1 <= sectors.count && sectors.count <= LONGEST {
         let part = Part {
+            mode,
             block_sectors,
             block,
             sectors,
         };
         return request(stage, Way::Writes, part);
     }
-    let mut task = BlockTask::new(
-        Work::Write,
-        Mode::Writeback,
-        block_sectors,
-        block,
-        sectors,
-        LONGEST,
-    );
+    let mut task = BlockTask::new(Work::Write, mode, block_sectors, block, sectors, LONGEST);
     drive(&mut task, stage)
 }
 

@@ -1,30 +1,31 @@
-//! A read or a write whose sectors one step moves, step after step as its table in write-back mode has them.
+//! A read or a write whose sectors are one extent, step after step as its table has them in each mode.
 //!
 //! `drive` asks a task for each next step; here what comes next is where the code stands. So such a request
 //! costs a fraction of the instructions.
 
-ghost use Rattle.std.specs.Prelude.{◌≡◌, ◌<◌, [], ◌∷◌, Some};
+ghost use Rattle.std.specs.Prelude.{◌≡◌, ◌<◌, [], ◌∷◌, Some, true, if◌then◌else◌};
 ghost use Rattle.std.specs.Bool.{OnTrue};
 ghost use Rattle.wb_types.specs.declared.refusal.Refusal.TheVariants.{Io};
 ghost use Rattle.wb_words.specs.SharedWords.{place_in as place_of_seal, dirty_in};
 ghost use Rattle.wb_words.specs.declared.word.Word.TheVariants.{Cell as LockWord, Seal as SealWord, Number};
 ghost use Rattle.wb_words.specs.declared.step.CellStep.TheVariants.{Look, Count as Counting, SetFailed, Seal as Sealing};
 ghost use Rattle.wb_tasks.specs.Ready.{StaysReady};
-ghost use Rattle.wb_tasks.specs.Tables.{OnBlock, Reading, Writing, taking, work, read_step, write_step, read_count, write_count};
+ghost use Rattle.wb_tasks.specs.Tables.{OnBlock, Reading, Writing, taking, work, dirtying, place_read, places_written, read_step, write_step, read_count, write_count};
 ghost use Rattle.wb_tasks.specs.Plan.{table};
 ghost use Rattle.wb_tasks.specs.declared.step.Answer.TheVariants.{Done as Finished, Refused as Refuses};
 ghost use Rattle.wb_tasks.specs.declared.step.Want.TheVariants.{Cell, Device};
 ghost use Rattle.wb_tasks.specs.declared.step.DeviceStep.TheVariants.{Read, Write};
-ghost use Rattle.wb_port.specs.Straight.{ComesTo, access_by, giving_back, job_by, left, range_in, straight_written};
+ghost use Rattle.wb_port.specs.Straight.{ComesTo, access_by, giving_back, job_by, left, range_in, straight_writing, straight_written};
 
 use crate::stepping::{change, look, take, transfer};
 use wb_tasks::{Answer, CellStep, DeviceStep, Stage};
-use wb_types::{CBlock, Dev, Extent, OBlock, Refusal};
+use wb_types::{CBlock, Dev, Extent, Mode, OBlock, Refusal};
 use wb_words::{Access, Kind, Word, can_take, is_dirty, place_in};
 
-/// Sectors of one block, which one step moves.
+/// Sectors of one block, which are moved as one extent.
 #[derive(Clone, Copy)]
 pub(crate) struct Part {
+    pub(crate) mode: Mode,
     pub(crate) block_sectors: u32,
     pub(crate) block: OBlock,
     pub(crate) sectors: Extent,
@@ -98,7 +99,7 @@ fn number<S: Stage>(stage: &mut S, way: Way, part: Part, seal: u64) -> Answer
     let number = look(stage, Word::Number(part.block));
     let place = place_in(seal);
     match way {
-        Way::Reads => read(stage, part, place),
+        Way::Reads => read(stage, part, place_read(part.mode, place)),
         Way::Writes => {
             if number == u64::MAX {
                 return give_back(stage, Way::Writes, part, Answer::Refused(Refusal::Worn));
@@ -108,7 +109,7 @@ fn number<S: Stage>(stage: &mut S, way: Way, part: Part, seal: u64) -> Answer
     }
 }
 
-/// The reading of a block that is held.
+/// The reading of a block that is held, from where it stands at this place.
 #[inline(always)]
 fn read<S: Stage>(stage: &mut S, part: Part, place: Option<CBlock>) -> Answer
     requires some { 0 < part.block_sectors }
@@ -128,7 +129,7 @@ fn read<S: Stage>(stage: &mut S, part: Part, place: Option<CBlock>) -> Answer
     count(stage, Way::Reads, part, kind)
 }
 
-/// The writing of a block that is held: a clean copy in the cache is sealed dirty first.
+/// The writing of a block that is held: in write-back a clean copy in the cache is sealed dirty first.
 #[inline(always)]
 fn dirty<S: Stage>(stage: &mut S, part: Part, place: Option<CBlock>, dirty: bool) -> Answer
     requires some { 0 < part.block_sectors }
@@ -138,7 +139,7 @@ fn dirty<S: Stage>(stage: &mut S, part: Part, place: Option<CBlock>, dirty: bool
     match place {
         None => write(stage, part, None),
         Some(c) => {
-            if dirty {
+            if !is_due(part.mode, dirty) {
                 return write(stage, part, Some(c));
             }
             change(stage, CellStep::Seal(part.block, Some(c), true));
@@ -151,8 +152,26 @@ fn dirty<S: Stage>(stage: &mut S, part: Part, place: Option<CBlock>, dirty: bool
 #[inline(always)]
 fn write<S: Stage>(stage: &mut S, part: Part, place: Option<CBlock>) -> Answer
     requires some { 0 < part.block_sectors }
-    requires stays { StaysReady S.ready S.led (left (Writing (range_in part)) (write_step (range_in part) place part.sectors ∷ straight_written part place) Finished) stage.old }
-    ensures { ComesTo S.led (left (Writing (range_in part)) (write_step (range_in part) place part.sectors ∷ straight_written part place) Finished) stage.old result stage.new }
+    requires stays { StaysReady S.ready S.led (left (Writing (range_in part)) (straight_writing part (places_written part.mode place) place) Finished) stage.old }
+    ensures { ComesTo S.led (left (Writing (range_in part)) (straight_writing part (places_written part.mode place) place) Finished) stage.old result stage.new }
+{
+    let (first, again) = written(part.mode, place);
+    let (device, extent) = route(part, first);
+    if !transfer(stage, DeviceStep::Write(device, extent)) {
+        return fail(stage, part, Answer::Refused(Refusal::Io(device)));
+    }
+    if again {
+        return mirror(stage, part, place);
+    }
+    finish(stage, part, place)
+}
+
+/// From the second write on, which is where the block stands.
+#[inline(always)]
+fn mirror<S: Stage>(stage: &mut S, part: Part, place: Option<CBlock>) -> Answer
+    requires some { 0 < part.block_sectors }
+    requires stays { StaysReady S.ready S.led (left (Writing (range_in part)) (straight_writing part (place ∷ []) place) Finished) stage.old }
+    ensures { ComesTo S.led (left (Writing (range_in part)) (straight_writing part (place ∷ []) place) Finished) stage.old result stage.new }
 {
     let (device, extent) = route(part, place);
     if !transfer(stage, DeviceStep::Write(device, extent)) {
@@ -233,6 +252,40 @@ fn write_kind(place: Option<CBlock>) -> Kind
     match place {
         None => Kind::WriteMiss,
         Some(_) => Kind::WriteHit,
+    }
+}
+
+/// Where a read takes the sectors of a block at this place from.
+#[inline(always)]
+fn place_read(mode: Mode, place: Option<CBlock>) -> Option<CBlock>
+    ensures { result ≡ place_read mode place }
+{
+    match mode {
+        Mode::Passthrough => None,
+        Mode::Writeback | Mode::Writethrough => place,
+    }
+}
+
+/// Whether a mapped block is sealed dirty before it is written.
+#[inline(always)]
+fn is_due(mode: Mode, dirty: bool) -> bool
+    ensures { (block : _) (c : _) → dirtying mode block (Some c) dirty ≡ (if result then Cell (Sealing block (Some c) true) ∷ [] else []) }
+{
+    match mode {
+        Mode::Writeback => !dirty,
+        Mode::Writethrough | Mode::Passthrough => false,
+    }
+}
+
+/// Where a write puts the sectors of a block at this place first, and whether it puts them at that place then.
+#[inline(always)]
+fn written(mode: Mode, place: Option<CBlock>) -> (Option<CBlock>, bool)
+    ensures { places_written mode place ≡ result.0 ∷ (if result.1 then place ∷ [] else []) }
+{
+    match mode {
+        Mode::Writeback => (place, false),
+        Mode::Writethrough => (None, place.is_some()),
+        Mode::Passthrough => (None, false),
     }
 }
 

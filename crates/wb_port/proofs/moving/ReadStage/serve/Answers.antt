@@ -1,6 +1,6 @@
 use Rattle.std.proofs.Common.{refl}
 use Rattle.wb_port.proofs.Ranging.{never_range}
-use Rattle.wb_port.proofs.Serves.{read_same_hand, read_same_slice, read_at, read_size, read_ready, read_many, read_idle, read_ok, read_err}
+use Rattle.wb_port.proofs.Serves.{read_same_hand, read_same_slice, read_at, read_size, read_mode, read_ready, read_many, read_idle, read_ok, read_err}
 use Rattle.wb_port.proofs.moving.ReadStage.serve.Goals as goal
 
 pub read_all-requires-clause-stays : goal.read_all-requires-clause-stays
@@ -32,3 +32,6 @@ returns-clause-many g c = let run = c.read_all.ensures in read_many g.D.Disk.tel
 
 pub returns-clause-never_range : goal.returns-clause-never_range
 returns-clause-never_range g c = let run = c.read_all.ensures in never_range _ _ run.0 c.read_all.result c.answered.result refl run.1 c.answered.ensures.refused
+
+pub returns-clause-mode : goal.returns-clause-mode
+returns-clause-mode g c = let run = c.read_all.ensures in read_mode g.D.Disk.tells g.D.Disk.size g.D.Disk.contents g.D.Disk.faults c.args.block_sectors c.args.block c.args.sectors _ run.0 c.args.self.now c.read_all.new.stage refl run.2
