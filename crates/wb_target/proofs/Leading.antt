@@ -11,19 +11,20 @@ use Rattle.wb_tasks.specs.declared.step.Got.TheVariants.{Fault}
 use Rattle.wb_devices.specs.OpeningLed.{LedOpening}
 use Rattle.wb_devices.specs.Openings.{MayGoOn}
 use Rattle.wb_devices.specs.declared.opening_stage.OpeningStage.{OpeningStage}
-use Rattle.std.specs.Prelude.{Result, Ok, Err, IfErr, OnOk}
+use Rattle.std.specs.Prelude.{Result, Ok, Err, IfOk, IfErr, OnOk}
 
-pub led_on : {D : Type 0} (Made : Type 0) (tells : Type 0) (size : D → ℕ) (contents : D → List History) (faults : D → ℕ) (old before new : OpeningStage D) (want : Want) (got : Got)
+pub led_on : {D : Type 0} (Same Made : Type 0) (tells : Type 0) (size : D → ℕ) (contents : D → List History) (faults : D → ℕ) (old before new : OpeningStage D) (want : Want) (got : Got)
     → before.devices ≡ old.devices → before.opening.commit ≡ old.opening.commit → before.opening.geometry ≡ old.opening.geometry
-    → LedOpening tells size contents faults before want got new → Made
+    → LedOpening tells size contents faults before want got new → Same → Made
     → MayGoOn (size new.devices.metadata) new.opening
+    × Same
     × (((mid : OpeningStage D) × (mid.devices ≡ old.devices) × (mid.opening.commit ≡ old.opening.commit)
     × (mid.opening.geometry ≡ old.opening.geometry) × LedOpening tells size contents faults mid want got new × Made)
     ⊎ ((got ≡ Fault) × (new.devices ≡ old.devices)))
-led_on Made tells size contents faults old before new (Device step) got d c g led made = (led.3, inl (before, d, c, g, led, made))
-led_on Made tells size contents faults old before new (Cell step) got d c g led made = absurd led
-led_on Made tells size contents faults old before new (Desk step) got d c g led made = absurd led
-led_on Made tells size contents faults old before new (End answer) got d c g led made = absurd led
+led_on Same Made tells size contents faults old before new (Device step) got d c g led same made = (led.3, same, inl (before, d, c, g, led, made))
+led_on Same Made tells size contents faults old before new (Cell step) got d c g led same made = absurd led
+led_on Same Made tells size contents faults old before new (Desk step) got d c g led same made = absurd led
+led_on Same Made tells size contents faults old before new (End answer) got d c g led same made = absurd led
 
 -- what holds of every refusal holds of the one that there is
 pub err_anyway : {T E : Type 0} (r : Result T E) (Q : E → Type 0) → ((e : E) → Q e) → IfErr r Q
@@ -34,3 +35,8 @@ err_anyway (Err e) Q f = f e
 pub answered_if : {T E : Type 0} (r : Result T E) (b : Bool) (P Q : Type 0) → b ≡ is_ok r → (P → Q) → OnOk r P → OnTrue b Q
 answered_if (Ok x) b P Q is f p = OnTrue_from b Q (λ yes. f p)
 answered_if (Err e) b P Q is f p = OnTrue_from b Q (λ yes. absurd (let no : false ≡ true = sym is ∙ yes in cc))
+
+-- what a call made is of the mode that it was handed
+pub ok_as : {T E C : Type 0} (r : Result T E) (part : T → C) (x y : C) → x ≡ y → IfOk r (λ t. part t ≡ x) → IfOk r (λ t. part t ≡ y)
+ok_as (Ok t) part x y same is = is ∙ same
+ok_as (Err e) part x y same is = tt

@@ -10,6 +10,7 @@ use Rattle.std.specs.contracts.alloc.Global as Heap
 use Rattle.std.specs.contracts.impls.GlobalAllocator.TheImpl.{ghosts}
 use Rattle.wb_types.proofs.geometry.Geometry.TheSendSync as geometry
 use Rattle.wb_types.proofs.mode.Mode.TheSendSync as mode
+use Rattle.wb_types.proofs.mode.Mode.TheSendSync as mode
 use Rattle.wb_types.proofs.number.CBlock.TheSendSync as cache_block
 use Rattle.wb_bits.proofs.bit_set.BitSet.TheLaws.TheKnot.{crosses as bit_set}
 use Rattle.wb_tree.proofs.tree.node.Node.TheLaws.TheKnot.{crosses as node}
@@ -93,4 +94,4 @@ office_sent P g s = declared_send (Office.the_type P g) (desk_sent P g s, (Vec-s
 -- what clients on threads share
 pub target_shared : (P : RattleType) (g : Ghosts P.Denot) → IsSend P → IsSync (Target.the_row P g)
 target_shared P g s =
-    declared_sync (Target.the_type P g) (heap.the_sync, (geometry.the_sync, (search (sendable, as_row_sync, crosses, office_sent P g s), (search (sendable, as_row_sync, crosses) depth 12, tt))))
+    declared_sync (Target.the_type P g) (heap.the_sync, (geometry.the_sync, (mode.the_sync, (search (sendable, as_row_sync, crosses, office_sent P g s), (search (sendable, as_row_sync, crosses) depth 12, tt)))))

@@ -49,6 +49,9 @@ module _ {R D P G : Type 0} (tells : Type 0) (size : D → ℕ) (contents : D �
   pub same_size : new.hand.now.block_sectors ≡ old.hand.now.block_sectors
   same_size = kept_by led (λ x. x.hand.now.block_sectors) (λ x w g y h. h.sized) old steps new leads
 
+  same_mode : new.hand.now.mode ≡ old.hand.now.mode
+  same_mode = kept_by led (λ x. x.hand.now.mode) (λ x w g y h. h.same_mode) old steps new leads
+
   moves : MayRun old.cells.now.blocks job → MayMigrate old.hand.now.block_sectors old.held.now job → old.hand.now.pass.card.hold ≡ Nothing → AreFirst s steps → MayWork new.hand.now.block_sectors new.held.now new.hand.now.pass.card (want (left_by s steps))
   moves may migrates idle f =
       subst (λ (n : ℕ). MayWork n new.held.now new.hand.now.pass.card (want (left_by s steps))) (sym same_size)
@@ -77,7 +80,7 @@ module _ {R D P G : Type 0} (tells : Type 0) (size : D → ℕ) (contents : D �
   idle_then answer may idle run = work_idle led (λ x. x.hand.now.pass.card) (λ x w g y h. made_by_pass x.cells.now.blocks x.hand.now.pass y.hand.now.pass w g h.by_pass) old.cells.now.blocks s job old begun may idle steps answer new run leads
 
   pub performed : (answer : Answer) → IsRunOf s steps answer → WasPerformed tells size contents faults (asked old.held.now) old.cells.now.blocks s (working_at old) answer (working_at new)
-  performed answer run = record { steps = steps; run = run; leads = plainly old steps leads }
+  performed answer run = record { steps = steps; run = run; leads = plainly old steps leads; same_mode = same_mode }
     where
       plainly : (x : WorkStage R D P G) (done : List (Want × Got)) → Leads led x done new → Leads (WorkStep tells size contents faults (asked x.held.now) x.cells.now.blocks) (working_at x) done (working_at new)
       plainly x [] e = ap (λ (y : WorkStage R D P G). working_at y) e

@@ -3,6 +3,7 @@ pub mod Works
 pub mod Told
 pub mod Carried
 pub mod Blocking
+pub mod Durable
 pub mod Making
 pub mod Workers
 pub mod Opening

@@ -61,16 +61,18 @@ MadeFirst with_setting making want = writes_root want ≡ true → IsMadeOfRead 
 abbrev pub MakingGoesOn : {D P : Type 0} → Type 0 → (D → ℕ) → (D → List History) → (D → ℕ) → (P → Key → ℕ → Option P) → MakingStage D P → Want → Got → MakingStage D P → Type 0
 MakingGoesOn {D} tells size contents faults with_setting old want got new =
     MayGoOn (size new.stage.devices.metadata) new.stage.opening
+    × (new.mode ≡ old.mode)
     × (((before : OpeningStage D) × (before.devices ≡ old.stage.devices) × (before.opening.commit ≡ old.stage.opening.commit)
     × (before.opening.geometry ≡ old.stage.opening.geometry) × LedOpening tells size contents faults before want got new.stage × MadeFirst with_setting old want)
     ⊎ ((got ≡ Fault) × (new.stage.devices ≡ old.stage.devices)))
 
--- An opening that had not begun was run over these devices, by its table up to this answer, and what its devices are then is handed back.
-pub record WasRun {D P : Type 0} (tells : Type 0) (size : D → ℕ) (contents : D → List History) (faults : D → ℕ) (with_setting : P → Key → ℕ → Option P) (devices : Devices D) (answer : Answer) (back : Devices D) : Type 0 where
+-- An opening in this mode that had not begun was run over these devices, by its table up to this answer, and what its devices are then is handed back.
+pub record WasRun {D P : Type 0} (tells : Type 0) (size : D → ℕ) (contents : D → List History) (faults : D → ℕ) (with_setting : P → Key → ℕ → Option P) (mode : Mode) (devices : Devices D) (answer : Answer) (back : Devices D) : Type 0 where
   pub left : ℕ
   pub first : MakingStage D P
   pub last : MakingStage D P
   pub over : first.stage.devices ≡ devices
+  pub in_mode : first.mode ≡ mode
   pub not_begun : HasNotBegun first.stage.opening
   pub steps : List (Want × Got)
   pub run : IsRunOf (table (OpeningJob left)) steps answer

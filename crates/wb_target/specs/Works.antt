@@ -84,6 +84,7 @@ pub record WasPerformed {D : Type 0} (tells : Type 0) (size : D → ℕ) (conten
   pub steps : List (Want × Got)
   pub run : IsRunOf plan steps answer
   pub leads : Leads (WorkStep tells size contents faults asked blocks) old steps new
+  pub same_mode : new.hand.mode ≡ old.hand.mode
 
 -- ---- what it may move
 
@@ -138,5 +139,6 @@ pub record WorkLed {R D P G : Type 0} (tells : Type 0) (size : D → ℕ) (conte
   pub same_buffer : new.buffer.ghost_name ≡ old.buffer.ghost_name
   pub same_commit : new.commit.ghost_name ≡ old.commit.ghost_name
   pub sized : new.hand.now.block_sectors ≡ old.hand.now.block_sectors
+  pub same_mode : new.hand.now.mode ≡ old.hand.now.mode
   pub by_pass : DoneByPass old.cells.now.blocks old.hand.now.pass want got new.hand.now.pass
   pub works : WorksOn tells size contents faults (told old.held.now) old.hand.now.devices old.buffer.now old.commit.now want got new.hand.now.devices new.buffer.now new.commit.now

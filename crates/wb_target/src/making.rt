@@ -1,6 +1,6 @@
 //! Where a target is opened: an opening of its devices that makes the target of what was read before it writes the root.
 
-ghost use Rattle.std.specs.Prelude.{◌≡◌, ℕ, List, OnOk};
+ghost use Rattle.std.specs.Prelude.{◌≡◌, ℕ, List, OnOk, IfOk};
 ghost use Rattle.wb_tasks.specs.Tables.{Opening as OpeningJob};
 ghost use Rattle.wb_tasks.specs.Plan.{table};
 ghost use Rattle.wb_tasks.specs.Run.{IsRunOf, Leads};
@@ -10,7 +10,8 @@ ghost use Rattle.wb_devices.specs.Openings.{MayGoOn, HasNotBegun};
 ghost use Rattle.wb_target.specs.Making.{IsReadyToMake, IsMadeOfRead, MakingGoesOn, writes_root};
 ghost use Rattle.std.specs.Bool.{OnTrue};
 
-use crate::opening::over;
+use crate::office::Office;
+use crate::opening::office_over;
 use crate::target::Target;
 use std::alloc::Global;
 use wb_devices::{Devices, OpeningStage};
@@ -29,8 +30,8 @@ pub(crate) struct MakingStage<'k, D, P: Policy> {
     alloc: Global,
     mode: Mode,
     keys: &'k [(Key, u64)],
-    /// The target, once it was to be made.
-    made: Option<Result<Target<P>, Refusal>>,
+    /// What lies under the target's lock, once it was to be made.
+    made: Option<Result<Office<P>, Refusal>>,
 }
 
 impl<'k, D: Disk + Drop, P: Policy> MakingStage<'k, D, P> {
@@ -45,6 +46,7 @@ impl<'k, D: Disk + Drop, P: Policy> MakingStage<'k, D, P> {
         ensures goes_on { MayGoOn (D.size result.stage.devices.metadata) result.stage.opening }
         ensures devices { result.stage.devices ≡ devices }
         ensures begins { HasNotBegun result.stage.opening }
+        ensures mode { result.mode ≡ mode }
     {
         let stage = OpeningStage::new(alloc, devices, geometry);
         MakingStage {
@@ -69,13 +71,21 @@ impl<'k, D: Disk + Drop, P: Policy> MakingStage<'k, D, P> {
     pub(crate) fn finish(self, answer: Answer) -> (Devices<D>, Result<Target<P>, Refusal>)
         ensures devices { result.0 ≡ self.entry.stage.devices }
         ensures done { OnOk result.1 (answer ≡ Answer.Done) }
+        ensures mode { IfOk result.1 (λ target. target.mode ≡ self.entry.mode) }
     {
-        let MakingStage { stage, made, .. } = self;
+        let MakingStage {
+            stage,
+            alloc,
+            mode,
+            keys: _,
+            made,
+        } = self;
+        let geometry = stage.opening.geometry;
         let (devices, _) = stage.finish();
         let opened = match made {
             Some(Err(refusal)) => Err(refusal),
-            Some(Ok(target)) => match answer {
-                Answer::Done => Ok(target),
+            Some(Ok(office)) => match answer {
+                Answer::Done => Ok(Target::new(alloc, geometry, mode, office)),
                 Answer::Refused(refusal) => Err(refusal),
             },
             None => match answer {
@@ -94,6 +104,7 @@ impl<'k, D: Disk + Drop, P: Policy> MakingStage<'k, D, P> {
         ensures geometry { self.new.stage.opening.geometry ≡ self.old.stage.opening.geometry }
         ensures goes_on { MayGoOn (D.size self.new.stage.devices.metadata) self.new.stage.opening }
         ensures made { OnTrue result (IsMadeOfRead P.with_setting self.old) }
+        ensures mode { self.new.mode ≡ self.old.mode }
     {
         let Some(commit) = &self.stage.opening.commit else {
             return false;
@@ -112,7 +123,7 @@ impl<'k, D: Disk + Drop, P: Policy> MakingStage<'k, D, P> {
             top: root.top,
         };
         let state = State { root, tree, used };
-        let made = over(self.alloc, state, was_clean, self.mode, self.keys);
+        let made = office_over(self.alloc, state, was_clean, self.mode, self.keys);
         let is_made = made.is_ok();
         self.made = Some(made);
         is_made

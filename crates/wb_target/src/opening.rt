@@ -1,6 +1,6 @@
 //! Opening a target over what three devices hold.
 
-ghost use Rattle.std.specs.Prelude.{◌≡◌, ◌≤◌, ◌<◌, ◌⊎◌, IfOk, IfErr, OnOk, length};
+ghost use Rattle.std.specs.Prelude.{◌≡◌, ◌≢◌, ◌≤◌, ◌<◌, ◌⊎◌, IfOk, IfErr, OnOk, length};
 ghost use Rattle.wb_tasks.specs.declared.step.Answer.{Answer as AnswerTerm};
 ghost use Rattle.wb_target.specs.Making.{IsMade, WasRun};
 ghost use Rattle.wb_words.specs.declared.card.Hold.TheVariants.{Nothing};
@@ -12,7 +12,6 @@ use crate::making::MakingStage;
 use crate::office::Office;
 use crate::target::{CLIENTS, Target};
 use std::alloc::Global;
-use std::sync::{Condvar, Mutex};
 use wb_cells::{Cells, Pass};
 use wb_desk::Desk;
 use wb_devices::Devices;
@@ -28,8 +27,8 @@ use wb_types::{CBlock, Entry, Geometry, Key, Mode, Refusal};
 impl<P: Policy> Target<P> {
     /// Opens a cache over three devices, which are handed back: all three are synced, the newest root and its tree are read, the
     /// policy is made and told its keys, and a root of the next generation without the clean flag is durable before the target is
-    /// there. Without the clean flag each mapped block counts as dirty (the kernel's device-mapper/cache.rst). Write-back is the one mode
-    /// that is served, so that no other can be asked for.
+    /// there. Without the clean flag each mapped block counts as dirty, in every mode (the kernel's device-mapper/cache.rst). Passthrough is not
+    /// served, so that it cannot be asked for.
     ///
     /// `Geometry` for sizes outside the limits; `NotFormatted`, `Mismatch`, `Damaged`, `GenerationEnd` and `Memory` as the
     /// metadata are read; then `Memory` where there is none for the target, and `BadMessage` for a key's value that is out of its
@@ -41,9 +40,10 @@ impl<P: Policy> Target<P> {
         mode: Mode,
         keys: &[(Key, u64)],
     ) -> (Devices<D>, Result<Target<P>, Refusal>)
-        requires served { mode ≡ Mode.Writeback }
-        ensures opened { OnOk result.1 (WasRun D.tells D.size D.contents D.faults P.with_setting devices Answer.Done result.0) }
-        ensures refused { IfErr result.1 (λ refusal. ((refusal ≡ Refusal.Geometry) × (result.0 ≡ devices)) ⊎ ((answer : AnswerTerm) × WasRun D.tells D.size D.contents D.faults P.with_setting devices answer result.0)) }
+        requires served { mode ≢ Mode.Passthrough }
+        ensures mode { IfOk result.1 (λ target. target.mode ≡ mode) }
+        ensures opened { OnOk result.1 (WasRun D.tells D.size D.contents D.faults P.with_setting mode devices Answer.Done result.0) }
+        ensures refused { IfErr result.1 (λ refusal. ((refusal ≡ Refusal.Geometry) × (result.0 ≡ devices)) ⊎ ((answer : AnswerTerm) × WasRun D.tells D.size D.contents D.faults P.with_setting mode devices answer result.0)) }
     {
         let geometry = match measure(&devices, block) {
             Ok(geometry) => geometry,
@@ -72,14 +72,14 @@ fn measure<D: Disk>(devices: &Devices<D>, block: u64) -> Result<Geometry, Refusa
     )
 }
 
-/// A target over what was read, by the root that is to be written.
-pub(crate) fn over<P: Policy>(
+/// What lies under the lock of a target over what was read, by the root that is to be written.
+pub(crate) fn office_over<P: Policy>(
     alloc: Global,
     state: State<Global>,
     clean: bool,
     mode: Mode,
     keys: &[(Key, u64)],
-) -> Result<Target<P>, Refusal>
+) -> Result<Office<P>, Refusal>
     requires { FitsDevice state.root.geometry.meta_sectors state.root state.tree state.used.items }
     ensures made { OnOk result (IsMade P.with_setting state.root.geometry state.root.generation state.tree state.used.items mode keys.now) }
 {
@@ -91,16 +91,11 @@ pub(crate) fn over<P: Policy>(
     seal_all(&lent.cells, &mut lent.pass, &geometry, entries.as_slice())?;
     let desk = Desk::new(alloc, state, mode, policy, keys)?;
     let (seats, watch) = seats_of(alloc, seat)?;
-    Ok(Target {
-        alloc,
-        geometry,
-        office: Mutex::new(Office {
-            desk,
-            seats,
-            watch,
-            failed: false,
-        }),
-        bell: Condvar::new(),
+    Ok(Office {
+        desk,
+        seats,
+        watch,
+        failed: false,
     })
 }
 

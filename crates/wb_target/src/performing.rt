@@ -72,6 +72,7 @@ impl<'a, R: Wait, D: Disk, P: Policy, G: Gate> WorkStage<'a, R, D, P, G> {
         ensures same_buffer { self.new.buffer.ghost_name ≡ self.old.buffer.ghost_name }
         ensures pass { self.new.hand.now.pass ≡ self.old.hand.now.pass }
         ensures block { self.new.hand.now.block_sectors ≡ self.old.hand.now.block_sectors }
+        ensures mode { self.new.hand.now.mode ≡ self.old.hand.now.mode }
         ensures others { OthersStay (device_of step) self.old.hand.now.devices self.new.hand.now.devices }
         ensures size { D.size (device_in (device_of step) self.new.hand.now.devices) ≡ D.size (device_in (device_of step) self.old.hand.now.devices) }
         ensures buffer { BufferStays step self.old.buffer.now self.new.buffer.now }

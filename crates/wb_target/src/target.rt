@@ -17,7 +17,7 @@ use wb_disk::Disk;
 use wb_policy::{Order, Policy};
 use wb_port::Port;
 use wb_table::status_text;
-use wb_types::{Geometry, OBlock, Refusal};
+use wb_types::{Geometry, Mode, OBlock, Refusal};
 
 /// How many clients a target has at most.
 pub const CLIENTS: usize = 64;
@@ -26,6 +26,8 @@ pub const CLIENTS: usize = 64;
 pub struct Target<P: Policy> {
     pub(crate) alloc: Global,
     pub(crate) geometry: Geometry,
+    /// In which mode its clients read and write.
+    pub(crate) mode: Mode,
     pub(crate) office: Mutex<Office<P>>,
     pub(crate) bell: Condvar,
 }
@@ -35,6 +37,7 @@ impl<P: Policy> Drop for Target<P> {
         let Target {
             alloc: _,
             geometry: _,
+            mode: _,
             office,
             bell,
         } = self;
@@ -44,7 +47,20 @@ impl<P: Policy> Drop for Target<P> {
 }
 
 impl<P: Policy> Target<P> {
-    /// A client with these devices, which are the target's. `Busy` where 64 are out, `Failed` where the target has failed,
+    /// A target of these sizes, in this mode, over what is to lie under its lock.
+    pub(crate) fn new(alloc: Global, geometry: Geometry, mode: Mode, office: Office<P>) -> Target<P>
+        ensures { result.mode ≡ mode }
+    {
+        Target {
+            alloc,
+            geometry,
+            mode,
+            office: Mutex::new(office),
+            bell: Condvar::new(),
+        }
+    }
+
+    /// A client with these devices, which are the target's, in its mode. `Busy` where 64 are out, `Failed` where the target has failed,
     /// `Memory` where there is none; then the devices are handed back.
     pub fn client<R: Wait, D: Disk + Drop>(
         &self,
@@ -53,6 +69,7 @@ impl<P: Policy> Target<P> {
     ) -> Result<Client<'_, D, P>, (Devices<D>, Refusal)>
         ensures devices { IfOk result (λ client. client.port.hand.devices ≡ devices) }
         ensures unsettled { IfOk result (λ client. client.port.accesses.items ≡ []) }
+        ensures mode { IfOk result (λ client. client.port.hand.mode ≡ self.now.mode) }
         ensures back { IfErr result (λ back. back.0 ≡ devices) }
         ensures refused { IfErr result (λ back. (back.1 ≡ Refusal.Busy) ⊎ (back.1 ≡ Refusal.Failed) ⊎ (back.1 ≡ Refusal.Memory)) }
     {
@@ -60,7 +77,7 @@ impl<P: Policy> Target<P> {
         let Some(seat) = seat else {
             return Err((devices, Refusal::Busy));
         };
-        match Port::new(self.alloc, seat, devices) {
+        match Port::new(self.alloc, seat, self.mode, devices) {
             Ok(mut port) => {
                 if port.has_failed() {
                     return Err((self.take_back(rt, port), Refusal::Failed));

@@ -5,13 +5,13 @@ use Rattle.wb_target.proofs.Leading.{answered_if}
 use Rattle.wb_target.proofs.Written.{fits_written}
 use Rattle.wb_target.proofs.making.MakingStage.make.Goals as goal
 
-pub over-made-requires : goal.over-made-requires
-over-made-requires g c = fits_written _ _ c.in-Some-Done.state _ (sym c.take.ensures.value ∙ c.in-Some-Done.is ∙ ap Some c.in-Some-Done.field-0-is) c.requires refl
+pub office_over-made-requires : goal.office_over-made-requires
+office_over-made-requires g c = fits_written _ _ c.in-Some-Done.state _ (sym c.take.ensures.value ∙ c.in-Some-Done.is ∙ ap Some c.in-Some-Done.field-0-is) c.requires refl
 
 pub returns-clause-made : goal.returns-clause-made
 returns-clause-made g c =
     let state = c.in-Some-Done.state in
-    answered_if c.over-made.result c.is_ok-is_made.result _ (IsMadeOfRead g.P.Policy.with_setting c.args.self.now) c.is_ok-is_made.ensures.value
+    answered_if c.office_over-made.result c.is_ok-is_made.result _ (IsMadeOfRead g.P.Policy.with_setting c.args.self.now) c.is_ok-is_made.ensures.value
     (λ made. record {
       state = state;
       next = c.in-Some.commit;
@@ -19,4 +19,4 @@ returns-clause-made g c =
       commit_is = c.in-Some.is;
       made = subst (λ (image : Image). IsMade g.P.Policy.with_setting state.root.geometry image.root.generation state.tree state.used.items c.args.self.now.mode c.args.self.now.keys.now) c.image.ensures made;
     })
-    c.over-made.ensures.made
+    c.office_over-made.ensures.made

@@ -1,3 +1,4 @@
+use Rattle.std.proofs.Common.{refl}
 use Rattle.wb_target.proofs.making.MakingStage.new.Goals as goal
 
 pub returns : goal.returns
@@ -5,4 +6,5 @@ returns g c = record {
   goes_on = c.new-stage.ensures.goes_on (g.D.Disk.size c.new-stage.result.devices.metadata);
   devices = c.new-stage.ensures.devices;
   begins = c.new-stage.ensures.begins;
+  mode = refl;
 }

@@ -1,17 +1,18 @@
-use Rattle.std.proofs.Common.{◌≡◌, ◌-◌, subst, inr}
+use Rattle.std.proofs.Common.{◌≡◌, ◌∙◌, ◌-◌, subst, inr}
 use Rattle.std.proofs.lemmas.Result.{on_ok_weaker}
 use Rattle.wb_tasks.specs.Plan.{Plan}
 use Rattle.wb_tasks.specs.Run.{IsRunOf}
 use Rattle.wb_tasks.specs.declared.step.Answer.{Answer}
 use Rattle.wb_tasks.specs.declared.step.Answer.TheVariants.{Done}
-use Rattle.wb_target.specs.Making.{WasRun}
-use Rattle.wb_target.proofs.Leading.{err_anyway}
+use Rattle.wb_target.specs.Making.{MakingGoesOn, WasRun}
+use Rattle.wb_target.proofs.Leading.{err_anyway, ok_as}
+use Rattle.wb_port.proofs.Readying.{kept_by}
 use Rattle.wb_target.proofs.target.Target.open.Given.{Over}
 use Rattle.wb_target.proofs.target.Target.open.Goals as goal
 
 module _ (g : Over) (c : goal.After-finish g) where
   abbrev Tried : Answer → Type 0
-  Tried answer = WasRun g.D.Disk.tells g.D.Disk.size g.D.Disk.contents g.D.Disk.faults g.P.Policy.with_setting c.args.devices answer c.finish.result.0
+  Tried answer = WasRun g.D.Disk.tells g.D.Disk.size g.D.Disk.contents g.D.Disk.faults g.P.Policy.with_setting c.args.mode c.args.devices answer c.finish.result.0
 
   tried : Tried c.run-answer.result
   tried = let run = c.run-answer.ensures.run in record {
@@ -19,6 +20,7 @@ module _ (g : Over) (c : goal.After-finish g) where
     first = c.new-stage.result;
     last = c.run-answer.new.self;
     over = c.new-stage.ensures.devices;
+    in_mode = c.new-stage.ensures.mode;
     not_begun = c.new-stage.ensures.begins;
     steps = run.0;
     run = subst (λ (s : Plan). IsRunOf s run.0 c.run-answer.result) c.new-task.ensures run.1;
@@ -31,3 +33,9 @@ returns-clause-opened g c = on_ok_weaker c.finish.result.1 (λ (done : c.run-ans
 
 pub returns-clause-refused : goal.returns-clause-refused
 returns-clause-refused g c = err_anyway c.finish.result.1 _ (λ refusal. inr (c.run-answer.result, tried g c))
+
+pub returns-clause-mode : goal.returns-clause-mode
+returns-clause-mode g c =
+    let run = c.run-answer.ensures.run in
+    let same = kept_by (MakingGoesOn g.D.Disk.tells g.D.Disk.size g.D.Disk.contents g.D.Disk.faults g.P.Policy.with_setting) (λ x. x.mode) (λ x w got y h. h.1) c.new-stage.result run.0 c.run-answer.new.self run.2 in
+    ok_as c.finish.result.1 (λ target. target.mode) c.run-answer.new.self.mode c.args.mode (same ∙ c.new-stage.ensures.mode) c.finish.ensures.mode

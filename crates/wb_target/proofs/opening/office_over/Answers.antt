@@ -3,7 +3,7 @@ use Rattle.wb_tree.specs.Mapping.{IsMapping}
 use Rattle.wb_policy.specs.Law.{origins}
 use Rattle.wb_target.proofs.Hinting.{opened_is_mapping, same_origins}
 use Rattle.wb_target.proofs.Knowing.{known_mapping}
-use Rattle.wb_target.proofs.opening.over.Goals as goal
+use Rattle.wb_target.proofs.opening.office_over.Goals as goal
 
 pub new-requires-3-clause-knows : goal.new-requires-3-clause-knows
 new-requires-3-clause-knows g c =
