@@ -122,7 +122,7 @@ fn unwrapped(devices: Failing) -> (Memory, bool) {
 }
 
 /// Crashes devices, each sector at its oldest or its newest content.
-fn crashed(memory: &mut Memory, choice: &CrashChoice) -> bool {
+pub fn crashed(memory: &mut Memory, choice: &CrashChoice) -> bool {
     memory.metadata.stop(Dev::Metadata, choice)
         && memory.cache.stop(Dev::Cache, choice)
         && memory.origin.stop(Dev::Origin, choice)

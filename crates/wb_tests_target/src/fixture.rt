@@ -40,6 +40,12 @@ pub fn open_with(
     Ok((devices, target?))
 }
 
+/// One that writes through.
+pub fn open_through(alloc: Global, devices: Memory) -> Result<(Memory, Target<TinyLfu>), Refusal> {
+    let (devices, target) = Target::open(alloc, devices, 64, Mode::Writethrough, &[]);
+    Ok((devices, target?))
+}
+
 /// A client of it.
 pub fn client_of<'t>(
     rt: &impl Wait,

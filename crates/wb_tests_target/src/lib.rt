@@ -12,6 +12,8 @@ mod fixture;
 #[cfg(test)]
 mod memory;
 #[cfg(test)]
+mod modes;
+#[cfg(test)]
 mod opening;
 #[cfg(test)]
 mod questions;

@@ -3,6 +3,7 @@
 use crate::caching::{caches, caches_and_flushes, replaces, replaces_another};
 use crate::faults::{Rounds, shows_allowed};
 use crate::fixture::{Lent, Memory, client_of, formatted, open_with, shows, worked};
+use crate::modes::{writes_durably, writes_through};
 use crate::opening::{caches_at_the_third, tells_status, was_opened};
 use crate::requests::{defers, refuses, settles_all, settles_alone};
 use crate::retiring::writes_twice;
@@ -38,6 +39,10 @@ pub enum Question {
     WasOpened,
     /// Whether the first sector is written twice without a wait.
     WritesTwice,
+    /// Whether a cached block is written in write-through, and counted so.
+    WritesThrough,
+    /// Whether a write with FUA is done.
+    WritesDurably,
     /// Whether a block that is accessed four times gets this order.
     Orders(Order),
     /// Whether this order waits.
@@ -123,6 +128,8 @@ fn answer(
         Question::TellsStatus => tells_status(rt, alloc, target),
         Question::WasOpened => was_opened(rt, target),
         Question::WritesTwice => writes_twice(client),
+        Question::WritesThrough => writes_through(rt, alloc, target, client),
+        Question::WritesDurably => writes_durably(rt, client),
         Question::Finds(order) => worked(rt, client) == Some(order),
         Question::Orders(order) => orders(rt, client, order),
         Question::CountsDirty(blocks) => target.dirty(rt) == blocks,

@@ -1,0 +1,73 @@
+//! Writes that reach more than where the newest copy stands: in write-through, and with FUA.
+
+use crate::faults::crashed;
+use crate::fixture::{Lent, Memory, begun_with, formatted, open_through, worked, write_and_read};
+use crate::opening::tells;
+use crate::questions::{Question, answered_over, done_by};
+use std::alloc::Global;
+use std::sync::Wait;
+use std::test::Fail;
+use wb_disk::{Base, CrashChoice, Disk, MemDisk};
+use wb_policy::{Order, TinyLfu};
+use wb_target::{Flushed, Target};
+use wb_types::{CBlock, OBlock, Refusal, SECTOR_BYTES, Sector};
+
+/// Whether the first block, once it is cached, is written and counted as the status line of write-through says, with nothing dirty.
+pub fn writes_through(
+    rt: &impl Wait,
+    alloc: Global,
+    target: &Target<TinyLfu>,
+    client: &mut Lent<'_>,
+) -> bool {
+    write_and_read(rt, client, 0, 0x11)
+        && worked(rt, client) == Some(Order::Promote(OBlock(0), CBlock(0)))
+        && client.write(rt, Sector(0), &[begun_with(0x22)]).is_ok()
+        && tells(
+            rt,
+            alloc,
+            target,
+            "1 2/4 64 1/4 0 1 1 1 0 1 0 1 writethrough 2 migration_threshold 2048 tinylfu 2 promote_min 2 rw -",
+        )
+}
+
+/// Whether a device's first sector begins with this byte.
+fn holds(device: &mut MemDisk, byte: u8) -> bool {
+    let mut content = [0; SECTOR_BYTES];
+    device.read(0, &mut content).is_ok() && content[0] == byte
+}
+
+/// The devices of a target on which that was done, and whether it was.
+fn written_through(rt: &impl Wait, alloc: Global) -> Result<(Memory, bool), Refusal> {
+    let (devices, target) = open_through(alloc, formatted(alloc)?)?;
+    done_by(rt, alloc, &target, devices, Question::WritesThrough)
+}
+
+#[test]
+fn write_through_writes_a_cached_block_on_both_devices(rt: HostRuntime) -> Result<(), Fail> {
+    let (mut devices, done) = written_through(&rt, rt.alloc())?;
+    assert!(rt; done && holds(&mut devices.cache, 0x22) && holds(&mut devices.origin, 0x22));
+    Ok(())
+}
+
+/// Whether a write with FUA of two blocks is done.
+pub fn writes_durably(rt: &impl Wait, client: &mut Lent<'_>) -> bool {
+    let two = [begun_with(0x33), begun_with(0x44)];
+    client.write_fua(rt, Sector(63), &two) == Ok(Flushed::Led)
+}
+
+/// Whether it is found after a crash that leaves what was durable alone.
+fn is_durable(rt: &impl Wait, alloc: Global) -> Result<bool, Refusal> {
+    let (devices, target) = open_through(alloc, formatted(alloc)?)?;
+    let (mut devices, done) = done_by(rt, alloc, &target, devices, Question::WritesDurably)?;
+    let choice = CrashChoice::new(Base::Durable, Vec::new(alloc));
+    Ok(
+        done && crashed(&mut devices, &choice)
+            && answered_over(rt, alloc, devices, Question::Shows(64, 0x44))?,
+    )
+}
+
+#[test]
+fn a_write_with_fua_is_durable(rt: HostRuntime) -> Result<(), Fail> {
+    assert!(rt; is_durable(&rt, rt.alloc())?);
+    Ok(())
+}
