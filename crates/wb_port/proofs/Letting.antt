@@ -2,7 +2,7 @@
 use Rattle.std.proofs.Common.{◌≡◌, List, [], ◌∷◌, refl, subst}
 use Rattle.wb_types.specs.declared.refusal.Refusal.{Refusal}
 use Rattle.wb_words.specs.declared.step.CellStep.TheVariants.{Release, SetFailed}
-use Rattle.wb_tasks.specs.Tables.{BlockJob, Reading, Writing, Migrating, OnBlock}
+use Rattle.wb_tasks.specs.Tables.{BlockJob, Reading, Writing, Displacing, Invalidating, Migrating, OnBlock}
 use Rattle.wb_tasks.specs.Plan.{Plan, after, refused, after_fault_of, Fits}
 use Rattle.wb_tasks.specs.Run.{IsRunOf}
 use Rattle.wb_tasks.specs.declared.step.DeviceStep.{DeviceStep}
@@ -25,6 +25,8 @@ AreLettingGo (w ∷ ws) = ⊥
 pub lets_go_after : (job : BlockJob) (step : DeviceStep) → IsRequest job → AreLettingGo (after_fault_of (OnBlock job) step)
 lets_go_after (Reading part) (Read device e) q = tt
 lets_go_after (Writing part) (Read device e) q = tt
+lets_go_after (Displacing part) (Read device e) q = absurd q
+lets_go_after (Invalidating part) (Read device e) q = absurd q
 lets_go_after (Migrating migration part) (Read device e) q = absurd q
 lets_go_after job (Write device e) q = tt
 lets_go_after job (Sync device) q = tt

@@ -8,15 +8,15 @@ use Rattle.wb_types.specs.declared.mode.Mode.TheVariants.{Writeback, Writethroug
 use Rattle.wb_types.specs.declared.mode.Dev.{Dev}
 use Rattle.wb_types.specs.declared.number.CBlock.{CBlock}
 use Rattle.wb_types.specs.declared.number.OBlock.{OBlock}
-use Rattle.wb_types.specs.declared.refusal.Refusal.TheVariants.{Busy, Failed, Worn, Io}
+use Rattle.wb_types.specs.declared.refusal.Refusal.TheVariants.{Busy, Defer, Failed, Worn, Io}
 use Rattle.wb_words.specs.SharedWords.{can_take}
 use Rattle.wb_words.specs.declared.word.Word.TheVariants.{Cell as LockWord, Number, Fail}
 use Rattle.wb_words.specs.declared.step.CellStep.TheVariants.{Look, Seal, SetFailed}
-use Rattle.wb_tasks.specs.Tables.{OnBlock, Reading, Writing, taking, work, dirtying, place_read, places_written, writes, read_step, write_step, read_count}
+use Rattle.wb_tasks.specs.Tables.{OnBlock, Reading, Writing, taking, work, dirtying, place_read, places_written, writes, writing, read_step, write_step, read_count}
 use Rattle.wb_tasks.specs.declared.step.DeviceStep.TheVariants.{Read, Write}
 use Rattle.wb_tasks.specs.declared.step.Answer.TheVariants.{Done as Finished, Refused as Refuses}
 use Rattle.wb_tasks.specs.Ready.{StaysReady}
-use Rattle.wb_tasks.specs.Plan.{Plan, table, want, after, Fits, IsStep}
+use Rattle.wb_tasks.specs.Plan.{Plan, table, want, after, answer_at, deferring, Fits, IsStep}
 use Rattle.wb_tasks.specs.Run.{IsRunOf}
 use Rattle.wb_tasks.specs.declared.step.Answer.{Answer}
 use Rattle.wb_tasks.specs.declared.step.Want.{Want}
@@ -26,7 +26,7 @@ use Rattle.wb_tasks.specs.declared.step.Got.TheVariants.{Word, Fault}
 use Rattle.wb_tasks.proofs.Pieces.{first_piece}
 use Rattle.wb_port.specs.declared.moving.TheConstants.{LONGEST}
 use Rattle.wb_port.specs.Requests.{part_of}
-use Rattle.wb_port.specs.Straight.{ComesTo, access_by, giving_back, job_by, left, range_in, straight_writing, straight_written}
+use Rattle.wb_port.specs.Straight.{ComesTo, access_by, giving_back, is_deferred, job_by, left, range_in, straight_writing, straight_written}
 use Rattle.wb_port.specs.declared.straight.Part.{Part}
 use Rattle.wb_port.specs.declared.straight.Way.{Way}
 use Rattle.wb_port.specs.declared.straight.Way.TheVariants.{Reads, Writes}
@@ -72,40 +72,62 @@ pub after_failure : (way : Way) (part : Part) (found : ℕ) → found ≢ 0 → 
 after_failure Reads part found ne = rw (ne_eqb found 0 ne) refl
 after_failure Writes part found ne = rw (ne_eqb found 0 ne) refl
 
--- a number, where the block is to be read
+-- the sectors at each of these places, and then the end
+written_so : (part : Part) (places : List (Option CBlock)) (place : Option CBlock) → writes (range_in part) places (part.sectors ∷ []) ++ straight_written part place ≡ straight_writing part places place
+written_so part [] place = refl
+written_so part (to ∷ places) place = ap (λ (ws : List Want). write_step (range_in part) to part.sectors ∷ ws) (written_so part places place)
+
+writing_is : (part : Part) (mode : Mode) (place : Option CBlock) (dirty : Bool) → dirtying mode part.block place dirty ++ writes (range_in part) (places_written mode place) (part.sectors ∷ []) ++ straight_written part place
+    ≡ dirtying mode part.block place dirty ++ straight_writing part (places_written mode place) place
+writing_is part mode place dirty = append_assoc (dirtying mode part.block place dirty) (writes (range_in part) (places_written mode place) (part.sectors ∷ [])) (straight_written part place)
+    ∙ ap (λ (ws : List Want). dirtying mode part.block place dirty ++ ws) (written_so part (places_written mode place) place)
+
+-- a number, where the block is to be read; it answers done then, wherever the block stands
 pub after_number_read : (way : Way) (part : Part) (place place' : Option CBlock) (dirty : Bool) (number : ℕ) → way ≡ Reads → place' ≡ place_read part.mode place
-    → after (left (job_by way part) (Cell (Look (Number part.block)) ∷ work (job_by way part) place dirty) Finished) (Word number) ≡ left (Reading (range_in part)) (read_step (range_in part) place' part.sectors ∷ read_count place' ∷ giving_back Reads part) Finished
+    → after (left (job_by way part) (Cell (Look (Number part.block)) ∷ work (job_by way part) place dirty) (answer_at (job_by way part) place Finished)) (Word number) ≡ left (Reading (range_in part)) (read_step (range_in part) place' part.sectors ∷ read_count place' ∷ giving_back Reads part) Finished
 after_number_read Reads part place place' dirty number e p = rw p refl
 after_number_read Writes part place place' dirty number e p = absurd (cc)
 
--- one that has a next one, where it is to be written, and the last
-pub after_number_write : (way : Way) (part : Part) (place place' : Option CBlock) (dirty dirty' : Bool) (number : ℕ) → way ≡ Writes → place' ≡ place → dirty' ≡ dirty → number ≢ 2 ^ 64 - 1
-    → after (left (job_by way part) (Cell (Look (Number part.block)) ∷ work (job_by way part) place dirty) Finished) (Word number) ≡ left (Writing (range_in part)) (work (Writing (range_in part)) place' dirty') Finished
-after_number_write Reads part place place' dirty dirty' number e p d ne = absurd (cc)
-after_number_write Writes part place place' dirty dirty' number e p d ne = rw (p, d, ne_eqb number (2 ^ 64 - 1) ne) refl
+-- one that has a next one, where it is to be written: the block is given back, where the desk is needed first, or else written
+pub after_number_write : (way : Way) (part : Part) (place place' : Option CBlock) (dirty dirty' : Bool) (number : ℕ) → way ≡ Writes → place' ≡ place → dirty' ≡ dirty → number ≢ 2 ^ 64 - 1 → is_deferred part.mode place' ≡ false
+    → after (left (job_by way part) (Cell (Look (Number part.block)) ∷ work (job_by way part) place dirty) (answer_at (job_by way part) place Finished)) (Word number)
+    ≡ left (Writing (range_in part)) (dirtying part.mode part.block place' dirty' ++ straight_writing part (places_written part.mode place') place') Finished
+after_number_write Reads part place place' dirty dirty' number e p d ne u = absurd (cc)
+after_number_write Writes part place place' dirty dirty' number e p d ne u = rw (p, d, ne_eqb number (2 ^ 64 - 1) ne) (by_mode part.mode place (subst (λ (x : Option CBlock). is_deferred part.mode x ≡ false) p u))
+  where
+    by_mode : (mode : Mode) (place : Option CBlock) → is_deferred mode place ≡ false
+        → left (Writing (range_in part)) (writing mode (range_in part) place dirty) (deferring mode place Finished) ≡ left (Writing (range_in part)) (dirtying mode part.block place dirty ++ straight_writing part (places_written mode place) place) Finished
+    by_mode Writeback place u = ap (λ (ws : List Want). left (Writing (range_in part)) ws Finished) (writing_is part Writeback place dirty)
+    by_mode Writethrough place u = ap (λ (ws : List Want). left (Writing (range_in part)) ws Finished) (writing_is part Writethrough place dirty)
+    by_mode Passthrough None u = ap (λ (ws : List Want). left (Writing (range_in part)) ws Finished) (writing_is part Passthrough None dirty)
+    by_mode Passthrough (Some c) u = absurd (cc)
 
+pub after_deferred : (way : Way) (part : Part) (place place' : Option CBlock) (dirty : Bool) (number : ℕ) → way ≡ Writes → place' ≡ place → number ≢ 2 ^ 64 - 1 → is_deferred part.mode place' ≡ true
+    → after (left (job_by way part) (Cell (Look (Number part.block)) ∷ work (job_by way part) place dirty) (answer_at (job_by way part) place Finished)) (Word number) ≡ left (Writing (range_in part)) (giving_back Writes part) (Refuses Defer)
+after_deferred Reads part place place' dirty number e p ne u = absurd (cc)
+after_deferred Writes part place place' dirty number e p ne u = rw (ne_eqb number (2 ^ 64 - 1) ne) (by_mode part.mode place (subst (λ (x : Option CBlock). is_deferred part.mode x ≡ true) p u))
+  where
+    by_mode : (mode : Mode) (place : Option CBlock) → is_deferred mode place ≡ true → left (Writing (range_in part)) (writing mode (range_in part) place dirty) (deferring mode place Finished) ≡ left (Writing (range_in part)) (giving_back Writes part) (Refuses Defer)
+    by_mode Writeback place u = absurd (cc)
+    by_mode Writethrough place u = absurd (cc)
+    by_mode Passthrough None u = absurd (cc)
+    by_mode Passthrough (Some c) u = refl
+
+-- and the last
 pub after_last : (way : Way) (part : Part) (place : Option CBlock) (dirty : Bool) (number : ℕ) → way ≡ Writes → number ≡ 2 ^ 64 - 1
-    → after (left (job_by way part) (Cell (Look (Number part.block)) ∷ work (job_by way part) place dirty) Finished) (Word number) ≡ left (Writing (range_in part)) (giving_back Writes part) (Refuses Worn)
+    → after (left (job_by way part) (Cell (Look (Number part.block)) ∷ work (job_by way part) place dirty) (answer_at (job_by way part) place Finished)) (Word number) ≡ left (Writing (range_in part)) (giving_back Writes part) (Refuses Worn)
 after_last Reads part place dirty number e l = absurd (cc)
 after_last Writes part place dirty number e l = rw l refl
 
 -- ---- a write
 
-written_so : (part : Part) (places : List (Option CBlock)) (place : Option CBlock) → writes (range_in part) places (part.sectors ∷ []) ++ straight_written part place ≡ straight_writing part places place
-written_so part [] place = refl
-written_so part (to ∷ places) place = ap (λ (ws : List Want). write_step (range_in part) to part.sectors ∷ ws) (written_so part places place)
-
--- what it does with its block: the seal, where it is due, and then its sectors
-writing_is : (part : Part) (place : Option CBlock) (dirty : Bool) → work (Writing (range_in part)) place dirty ≡ dirtying part.mode part.block place dirty ++ straight_writing part (places_written part.mode place) place
-writing_is part place dirty = append_assoc (dirtying part.mode part.block place dirty) (writes (range_in part) (places_written part.mode place) (part.sectors ∷ [])) (straight_written part place)
-    ∙ ap (λ (ws : List Want). dirtying part.mode part.block place dirty ++ ws) (written_so part (places_written part.mode place) place)
-
 abbrev still_writing : Part → List Want → Plan
 still_writing part ws = left (Writing (range_in part)) ws Finished
 
 -- of a block that is not mapped no seal is due
-pub unmapped_first : (part : Part) (place : Option CBlock) (dirty : Bool) → place ≡ None → still_writing part (work (Writing (range_in part)) place dirty) ≡ still_writing part (straight_writing part (places_written part.mode None) None)
-unmapped_first part place dirty p = rw p (ap (still_writing part) (writing_is part None dirty ∙ ap (λ (ws : List Want). ws ++ straight_writing part (places_written part.mode None) None) (none_due part.mode)))
+pub unmapped_first : (part : Part) (place : Option CBlock) (dirty : Bool) → place ≡ None
+    → still_writing part (dirtying part.mode part.block place dirty ++ straight_writing part (places_written part.mode place) place) ≡ still_writing part (straight_writing part (places_written part.mode None) None)
+unmapped_first part place dirty p = rw p (ap (λ (ws : List Want). still_writing part (ws ++ straight_writing part (places_written part.mode None) None)) (none_due part.mode))
   where
     none_due : (mode : Mode) → dirtying mode part.block None dirty ≡ []
     none_due Writeback = refl
@@ -114,8 +136,9 @@ unmapped_first part place dirty p = rw p (ap (still_writing part) (writing_is pa
 
 -- of one that is mapped it is, or is not
 pub mapped_first : (part : Part) (place : Option CBlock) (c : CBlock) (dirty due : Bool) → place ≡ Some c → dirtying part.mode part.block (Some c) dirty ≡ (if due then (Cell (Seal part.block (Some c) true) ∷ []) else [])
-    → still_writing part (work (Writing (range_in part)) place dirty) ≡ still_writing part ((if due then (Cell (Seal part.block (Some c) true) ∷ []) else []) ++ straight_writing part (places_written part.mode (Some c)) (Some c))
-mapped_first part place c dirty due p d = rw p (ap (still_writing part) (writing_is part (Some c) dirty ∙ ap (λ (ws : List Want). ws ++ straight_writing part (places_written part.mode (Some c)) (Some c)) d))
+    → still_writing part (dirtying part.mode part.block place dirty ++ straight_writing part (places_written part.mode place) place)
+    ≡ still_writing part ((if due then (Cell (Seal part.block (Some c) true) ∷ []) else []) ++ straight_writing part (places_written part.mode (Some c)) (Some c))
+mapped_first part place c dirty due p d = rw p (ap (λ (ws : List Want). still_writing part (ws ++ straight_writing part (places_written part.mode (Some c)) (Some c))) d)
 
 -- the first place where it is written, and whether there is another
 pub written_first : (part : Part) (place first : Option CBlock) (again : Bool) → places_written part.mode place ≡ first ∷ (if again then (place ∷ []) else [])

@@ -4,17 +4,19 @@ use Rattle.wb_types.specs.declared.number.OBlock.{OBlock}
 use Rattle.wb_words.specs.declared.word.Access.{Access}
 use Rattle.wb_words.specs.declared.word.Word.{Word as WordName}
 use Rattle.wb_words.specs.declared.word.Word.TheVariants.{Cell as LockWord, Seal as SealWord, Number, Fail}
-use Rattle.wb_words.specs.declared.card.Hold.TheVariants.{Held}
+use Rattle.wb_words.specs.declared.card.Hold.{Hold}
+use Rattle.wb_words.specs.declared.card.Hold.TheVariants.{Nothing, Held}
 use Rattle.wb_words.specs.declared.card.Card.{Card}
 use Rattle.wb_words.specs.declared.step.CellStep.{CellStep}
-use Rattle.wb_words.specs.declared.step.CellStep.TheVariants.{Look, Take}
+use Rattle.wb_words.specs.declared.step.CellStep.TheVariants.{Look, Take, SetFailed, SetSuspended}
+use Rattle.wb_words.specs.declared.step.CellResult.{CellResult}
 use Rattle.wb_words.specs.declared.step.CellResult.TheVariants.{Done as CellDone, Word as Found, Lost as CellLost}
 use Rattle.wb_words.specs.SharedWords.{Words, value_of, word_at}
 use Rattle.wb_words.specs.Effects.{card_after}
-use Rattle.wb_words.specs.Cards.{looked, losing, holding}
+use Rattle.wb_words.specs.Cards.{looked, losing, holding, failing_at}
 use Rattle.wb_words.specs.Looks.{SawAtMost}
 use Rattle.wb_words.specs.declared.word.FailBit.{FailBit}
-use Rattle.wb_cells.specs.Passes.{PassState, IsFound, bits_after}
+use Rattle.wb_cells.specs.Passes.{PassState, StepsBy, IsFound, bits_after}
 use Rattle.wb_tasks.specs.Ready.{MayMake}
 use Rattle.wb_tasks.specs.Plan.{got_of}
 use Rattle.wb_tasks.specs.declared.step.Want.{Want}
@@ -22,6 +24,7 @@ use Rattle.wb_tasks.specs.declared.step.Want.TheVariants.{Cell, Device, Desk, En
 use Rattle.wb_tasks.specs.declared.step.Got.{Got}
 use Rattle.wb_tasks.specs.declared.step.Got.TheVariants.{Done, Word}
 use Rattle.wb_port.specs.Hands.{DoneByPass}
+use Rattle.wb_port.specs.Kinds.{IsFree}
 use Rattle.wb_port.specs.Requests.{taking_card}
 
 -- the same pass with another card
@@ -88,3 +91,13 @@ pub by_step : (blocks : ℕ) (pass pass' : PassState) (step : CellStep) (made : 
     → DoneByPass blocks pass (Cell step) Done pass' → pass' ≡ with_card pass (made pass.card)
 by_step blocks pass pass' step made is bits h =
     h.2.pass_is ∙ (ap (λ (c : Card). record pass { card = c; failed = bits_after step pass.failed }) (is h.2.words) ∙ ap (λ (f : List FailBit). record pass { card = made pass.card; failed = f }) bits)
+
+-- who has no block has none after a step by which none is taken
+pub free_then : (blocks : ℕ) (pass pass' : PassState) (step : CellStep) (result : CellResult) → IsFree step → StepsBy blocks pass step result pass' → pass.card.hold ≡ Nothing → pass'.card.hold ≡ Nothing
+free_then blocks pass pass' step result free h idle = ap (λ (p : PassState). p.card.hold) h.pass_is ∙ held step free
+  where
+    held : (step : CellStep) → IsFree step → (card_after h.words step pass.card).hold ≡ Nothing
+    held (Look word) f = idle
+    held SetFailed f = ap (λ (x : Hold). (failing_at x pass.card).hold) idle ∙ idle
+    held SetSuspended f = ap (λ (x : Hold). (failing_at x pass.card).hold) idle ∙ idle
+    held step f = absurd f

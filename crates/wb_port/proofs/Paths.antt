@@ -12,9 +12,10 @@ use Rattle.wb_words.specs.SharedWords.{place_in, dirty_in}
 use Rattle.wb_words.specs.declared.step.CellStep.{CellStep}
 use Rattle.wb_words.specs.declared.step.CellStep.TheVariants.{Look, Take, Release, Seal, Finish, Count}
 use Rattle.wb_tasks.specs.Tables.{BlockJob, OnBlock, range_of, access_of, work, taking}
-use Rattle.wb_tasks.specs.Plan.{Plan, table, after, after_look, refused, may_take, is_worn, gives_back, Fits, IsStep}
+use Rattle.wb_tasks.specs.Plan.{Plan, table, after, after_look, answer_at, refused, may_take, is_worn, gives_back, Fits, IsStep}
 use Rattle.wb_tasks.specs.Run.{IsRunOf, Leads}
 use Rattle.wb_tasks.specs.declared.step.DeviceStep.TheVariants.{Read, Write}
+use Rattle.wb_tasks.specs.declared.step.Answer.{Answer}
 use Rattle.wb_tasks.specs.declared.step.Answer.TheVariants.{Done as Finished}
 use Rattle.wb_tasks.specs.declared.step.Want.{Want}
 use Rattle.wb_tasks.specs.declared.step.Want.TheVariants.{Cell, Device, Desk, End}
@@ -24,9 +25,13 @@ use Rattle.wb_tasks.proofs.Pieces.{first_piece}
 use Rattle.wb_port.specs.Requests.{IsRequest}
 use Rattle.wb_port.proofs.Letting.{not_done, lets_go_after}
 
+-- these steps are left of a job, and this answer
+abbrev pub going_to : Answer → BlockJob → List Want → Plan
+going_to answer job ws = record { job = OnBlock job; steps = ws; answer = answer }
+
 -- what is left of a job that is to be answered done
 abbrev pub going : BlockJob → List Want → Plan
-going job ws = record { job = OnBlock job; steps = ws; answer = Finished }
+going job ws = going_to Finished job ws
 
 -- What the next step gave, and the rest of the run.
 pub record Peeled {S : Type 0} (led : S → Want → Got → S → Type 0) (s : Plan) (w : Want) (old new : S) : Type 0 where
@@ -38,12 +43,12 @@ pub record Peeled {S : Type 0} (led : S → Want → Got → S → Type 0) (s : 
   pub run : IsRunOf (after s got) rest Finished
   pub leads : Leads led mid rest new
 
-peel : {S : Type 0} (led : S → Want → Got → S → Type 0) (job : BlockJob) (w : Want) (ws : List Want) (steps : List (Want × Got)) (old new : S) → IsStep w → IsRunOf (going job (w ∷ ws)) steps Finished → Leads led old steps new → Peeled led (going job (w ∷ ws)) w old new
-peel led job (Cell c) ws [] old new i r l = absurd (cc)
-peel led job (Device d) ws [] old new i r l = absurd (cc)
-peel led job (Desk d) ws [] old new i r l = absurd (cc)
-peel led job (End a) ws steps old new i r l = absurd i
-peel led job w ws (step ∷ steps) old new i r l = record {
+peel : {S : Type 0} (led : S → Want → Got → S → Type 0) (answer : Answer) (job : BlockJob) (w : Want) (ws : List Want) (steps : List (Want × Got)) (old new : S) → IsStep w → IsRunOf (going_to answer job (w ∷ ws)) steps Finished → Leads led old steps new → Peeled led (going_to answer job (w ∷ ws)) w old new
+peel led answer job (Cell c) ws [] old new i r l = absurd (cc)
+peel led answer job (Device d) ws [] old new i r l = absurd (cc)
+peel led answer job (Desk d) ws [] old new i r l = absurd (cc)
+peel led answer job (End a) ws steps old new i r l = absurd i
+peel led answer job w ws (step ∷ steps) old new i r l = record {
   got = step.1;
   mid = l.0;
   rest = steps;
@@ -67,7 +72,7 @@ OnlyDone job w ws = (g : Got) (rest : List (Want × Got)) → Fits w g → IsRun
 
 pub done : {S : Type 0} (led : S → Want → Got → S → Type 0) (job : BlockJob) (w : Want) (ws : List Want) (steps : List (Want × Got)) (old new : S) → IsStep w → OnlyDone job w ws → IsRunOf (going job (w ∷ ws)) steps Finished → Leads led old steps new → WasDone led job w ws old new
 done led job w ws steps old new i only r l =
-    let p = peel led job w ws steps old new i r l in
+    let p = peel led Finished job w ws steps old new i r l in
     let o : p.got ≡ Done = only p.got p.rest p.fits p.run in record {
       mid = p.mid;
       rest = p.rest;
@@ -127,15 +132,15 @@ record Looked {S : Type 0} (led : S → Want → Got → S → Type 0) (s : Plan
   run : IsRunOf (after_look s (Cell (Look w)) found) rest Finished
   leads : Leads led mid rest new
 
-look : {S : Type 0} (led : S → Want → Got → S → Type 0) (job : BlockJob) (w : WordName) (ws : List Want) (steps : List (Want × Got)) (old new : S) → IsRunOf (going job (Cell (Look w) ∷ ws)) steps Finished → Leads led old steps new → Looked led (going job (Cell (Look w) ∷ ws)) w old new
-look led job w ws steps old new r l =
-    let p = peel led job (Cell (Look w)) ws steps old new tt r l in
+look : {S : Type 0} (led : S → Want → Got → S → Type 0) (answer : Answer) (job : BlockJob) (w : WordName) (ws : List Want) (steps : List (Want × Got)) (old new : S) → IsRunOf (going_to answer job (Cell (Look w) ∷ ws)) steps Finished → Leads led old steps new → Looked led (going_to answer job (Cell (Look w) ∷ ws)) w old new
+look led answer job w ws steps old new r l =
+    let p = peel led answer job (Cell (Look w)) ws steps old new tt r l in
     let o = only_word w p.got p.fits in record {
       found = o.0;
       mid = p.mid;
       rest = p.rest;
       did = subst (λ (g : Got). led old (Cell (Look w)) g p.mid) o.1 p.did;
-      run = subst (λ (g : Got). IsRunOf (after (going job (Cell (Look w) ∷ ws)) g) p.rest Finished) o.1 p.run;
+      run = subst (λ (g : Got). IsRunOf (after (going_to answer job (Cell (Look w) ∷ ws)) g) p.rest Finished) o.1 p.run;
       leads = p.leads;
     }
 
@@ -151,10 +156,10 @@ past_lock job b ws x rest r =
     let on = going job (taking (access_of job) (range_of job).block x) in
     (elim (may_take (OnBlock job) x) as (λ (t : Bool). IsRunOf (if t then on else (refused s [] Busy)) rest Finished → IsRunOf on rest Finished) [ true ↦ (λ h. h) | false ↦ (λ h. absurd (not_done s [] Busy tt rest h)) ]) r
 
-past_number : (job : BlockJob) (b : OBlock) (ws : List Want) (x : ℕ) (rest : List (Want × Got)) → IsRunOf (after_look (going job (Cell (Look (Number b)) ∷ ws)) (Cell (Look (Number b))) x) rest Finished → IsRunOf (going job ws) rest Finished
-past_number job b ws x rest r =
-    let s = going job (Cell (Look (Number b)) ∷ ws) in
-    (elim (is_worn (OnBlock job) x) as (λ (t : Bool). IsRunOf (if t then (refused s (gives_back (OnBlock job)) Worn) else (going job ws)) rest Finished → IsRunOf (going job ws) rest Finished) [ true ↦ (λ h. absurd (not_done s (gives_back (OnBlock job)) Worn tt rest h)) | false ↦ (λ h. h) ]) r
+past_number : (answer : Answer) (job : BlockJob) (b : OBlock) (ws : List Want) (x : ℕ) (rest : List (Want × Got)) → IsRunOf (after_look (going_to answer job (Cell (Look (Number b)) ∷ ws)) (Cell (Look (Number b))) x) rest Finished → IsRunOf (going_to answer job ws) rest Finished
+past_number answer job b ws x rest r =
+    let s = going_to answer job (Cell (Look (Number b)) ∷ ws) in
+    (elim (is_worn (OnBlock job) x) as (λ (t : Bool). IsRunOf (if t then (refused s (gives_back (OnBlock job)) Worn) else (going_to answer job ws)) rest Finished → IsRunOf (going_to answer job ws) rest Finished) [ true ↦ (λ h. absurd (not_done s (gives_back (OnBlock job)) Worn tt rest h)) | false ↦ (λ h. h) ]) r
 
 -- The five steps that take the block, and the rest of the run.
 pub record Acquired {S : Type 0} (led : S → Want → Got → S → Type 0) (job : BlockJob) (old new : S) : Type 0 where
@@ -172,7 +177,7 @@ pub record Acquired {S : Type 0} (led : S → Want → Got → S → Type 0) (jo
   pub took : led s2 (Cell (Take (access_of job) (range_of job).block lock)) Done s3
   pub sealed : led s3 (Cell (Look (SealWord (range_of job).block))) (Word seal) s4
   pub numbered : led s4 (Cell (Look (Number (range_of job).block))) (Word number) s5
-  pub run : IsRunOf (going job (work job (place_in seal) (dirty_in seal))) rest Finished
+  pub run : IsRunOf (going_to (answer_at job (place_in seal) Finished) job (work job (place_in seal) (dirty_in seal))) rest Finished
   pub leads : Leads led s5 rest new
 
 pub acquired : {S : Type 0} (led : S → Want → Got → S → Type 0) (job : BlockJob) (steps : List (Want × Got)) (old new : S) → IsRunOf (table (OnBlock job)) steps Finished → Leads led old steps new → Acquired led job old new
@@ -180,13 +185,14 @@ acquired led job steps old new r l =
     let b : OBlock = (range_of job).block in
     let lock_look : List Want = Cell (Look (LockWord b)) ∷ [] in
     let seal_look : List Want = Cell (Look (SealWord b)) ∷ [] in
-    let f = look led job Fail lock_look steps old new r l in
+    let f = look led Finished job Fail lock_look steps old new r l in
     let clear = past_fail job lock_look f.found f.rest f.run in
-    let c = look led job (LockWord b) [] f.rest f.mid new clear.1 f.leads in
+    let c = look led Finished job (LockWord b) [] f.rest f.mid new clear.1 f.leads in
     let d = done led job (Cell (Take (access_of job) b c.found)) seal_look c.rest c.mid new tt (only_take job (access_of job) b c.found seal_look) (past_lock job b [] c.found c.rest c.run) c.leads in
-    let e = look led job (SealWord b) [] d.rest d.mid new d.run d.leads in
+    let e = look led Finished job (SealWord b) [] d.rest d.mid new d.run d.leads in
     let works : List Want = work job (place_in e.found) (dirty_in e.found) in
-    let g = look led job (Number b) works e.rest e.mid new e.run e.leads in record {
+    let answer : Answer = answer_at job (place_in e.found) Finished in
+    let g = look led answer job (Number b) works e.rest e.mid new e.run e.leads in record {
       lock = c.found;
       seal = e.found;
       number = g.found;
@@ -201,7 +207,7 @@ acquired led job steps old new r l =
       took = d.did;
       sealed = e.did;
       numbered = g.did;
-      run = past_number job b works g.found g.rest g.run;
+      run = past_number answer job b works g.found g.rest g.run;
       leads = g.leads;
     }
 

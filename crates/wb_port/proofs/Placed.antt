@@ -1,5 +1,5 @@
 -- Whatever a job on a block has still to move is of its block, where the seal tells that its pass has seen, or where it is copied to.
-use Rattle.std.proofs.Common.{◌≡◌, ◌∙◌, ◌≤◌, ◌<◌, ◌+◌, ◌-◌, ◌*◌, ◌/◌, ◌%◌, ◌⊎◌, inl, inr, ◌≢◌, ℕ, zero, suc, Bool, true, List, [], ◌∷◌, Option, Some, None, refl, sym, ap, subst, arith, mod-lt, Contains}
+use Rattle.std.proofs.Common.{◌≡◌, ◌∙◌, ◌≤◌, ◌<◌, ◌+◌, ◌-◌, ◌*◌, ◌/◌, ◌%◌, ◌⊎◌, inl, inr, ◌≢◌, ℕ, zero, suc, Bool, true, false, List, [], ◌∷◌, Option, Some, None, refl, sym, ap, subst, arith, mod-lt, Contains}
 use Rattle.std.specs.Prelude.{All}
 use Rattle.std.proofs.lemmas.Nat.{mod-mul-add, div-add-mod'}
 use Rattle.std.proofs.lemmas.Bool.{cases_lt}
@@ -15,8 +15,8 @@ use Rattle.wb_types.specs.declared.number.CBlock.{CBlock}
 use Rattle.wb_words.specs.declared.word.Access.TheVariants.{Shared, Owned}
 use Rattle.wb_words.specs.declared.card.Card.{Card}
 use Rattle.wb_words.specs.declared.step.CellStep.TheVariants.{Release, Finish}
-use Rattle.wb_words.specs.SharedWords.{dirty_in, seal_word}
-use Rattle.wb_tasks.specs.Tables.{BlockRange, BlockJob, Reading, Writing, Migrating, whole_block, cache_extent, place_read, places_written, read_step, read_count, write_count}
+use Rattle.wb_words.specs.SharedWords.{place_in, dirty_in, seal_word}
+use Rattle.wb_tasks.specs.Tables.{BlockRange, BlockJob, Reading, Writing, Displacing, Migrating, whole_block, cache_extent, place_read, places_written, read_step, read_count, write_count}
 use Rattle.wb_tasks.specs.declared.step.DeviceStep.TheVariants.{Read, Write}
 use Rattle.wb_tasks.specs.declared.step.Migration.{Migration}
 use Rattle.wb_tasks.specs.declared.step.Migration.TheVariants.{Promote, Demote, Clean}
@@ -93,6 +93,7 @@ cache_in size block c first count some l = (begins (c * size) (first % size), en
 abbrev pub MovesAt : BlockJob → Option CBlock → Bool → Want → Type 0
 MovesAt (Reading part) place dirty (Device (Read device e)) = LiesAt part.block_sectors part.block (place_read part.mode place) device e
 MovesAt (Writing part) place dirty (Device (Write device e)) = LiesAmong part.block_sectors part.block (places_written part.mode place) device e × IfDirtied part.mode device dirty
+MovesAt (Displacing part) place dirty (Device (Write device e)) = LiesAmong part.block_sectors part.block (places_written Passthrough place) device e
 MovesAt (Migrating migration part) place dirty (Device (Read device e)) = IsCopyAt part.block_sectors part.block device place e × IfCache device dirty
 MovesAt (Migrating migration part) place dirty (Device (Write device e)) = IsCopyAt part.block_sectors part.block device (copied_to migration) e × IfOrigin device dirty
 MovesAt job place dirty (Device step) = ⊥
@@ -123,15 +124,16 @@ module _ (part : BlockRange) (some : 0 < part.block_sectors) (are : AreIn (part.
   abbrev Lies : List (Option CBlock) → Dev → Extent → Type 0
   Lies places device e = LiesAmong part.block_sectors part.block places device e
 
-  pub writes_there : part.mode ≢ Passthrough → Works (Followed (MovesAt (Writing part))) (Writing part)
-  writes_there served = record {
+  pub writes_there : Works (Followed (MovesAt (Writing part))) (Writing part)
+  writes_there = record {
     seal = λ c ws is f t. (
       tt,
       subst (λ (place : Option CBlock). IsFollowed (MovesAt (Writing part)) place (dirty_in (seal_word (Some c) true)) ws) (sym (t true))
           (subst (λ (dirty : Bool). IsFollowed (MovesAt (Writing part)) (Some c) dirty ws) (sym (dirty_told (Some c))) (f t)),
     );
     home = λ dirty e ws m f t. ((home part.mode e (of e m), at_home part.mode dirty), f t);
-    cached = λ c dirty e ws sealed m f t. ((cached part.mode c (cache_extent part c e) served (copied c e m), at_cache part.mode dirty sealed), f t);
+    cached = λ c dirty e ws sealed m f t. ((cached part.mode c (cache_extent part c e) sealed.0 (copied c e m), at_cache part.mode dirty sealed.1), f t);
+    defers = λ c dirty is t. tt;
     through = λ c dirty e ws other m f t. ((through part.mode c e other (of e m), at_home part.mode dirty), f t);
     last = last;
   }
@@ -162,6 +164,22 @@ module _ (part : BlockRange) (some : 0 < part.block_sectors) (are : AreIn (part.
       through Passthrough c e other l = inl l
 
       last : (place : Option CBlock) (dirty : Bool) → Followed (MovesAt (Writing part)) place dirty (Cell (Finish part.block) ∷ write_count place ∷ Cell (Release Owned part.block) ∷ [])
+      last None dirty t = tt
+      last (Some c) dirty t = tt
+
+  -- a block that leaves the cache is sealed to the origin before its write
+  pub displaces_there : Works (Followed (MovesAt (Displacing part))) (Displacing part)
+  displaces_there = record {
+    drops = λ c dirty ws f t. (tt, f (λ d. none_told d));
+    each = λ dirty e ws m f t. (inl (of e m), f t);
+    last = last;
+  }
+    where
+      none_told : (d : Bool) → place_in (seal_word None d) ≡ None
+      none_told true = refl
+      none_told false = refl
+
+      last : (was : Option CBlock) (dirty : Bool) → Followed (MovesAt (Displacing part)) None dirty (Cell (Finish part.block) ∷ write_count was ∷ Cell (Release Owned part.block) ∷ [])
       last None dirty t = tt
       last (Some c) dirty t = tt
 

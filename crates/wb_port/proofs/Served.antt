@@ -5,6 +5,7 @@ use Rattle.wb_types.specs.declared.extent.Extent.{Extent}
 use Rattle.wb_types.specs.Extents.{pieces}
 use Rattle.wb_types.specs.declared.mode.Mode.{Mode}
 use Rattle.wb_types.specs.declared.mode.Mode.TheVariants.{Writeback, Writethrough, Passthrough}
+use Rattle.wb_types.specs.declared.refusal.Refusal.TheVariants.{Defer}
 use Rattle.wb_types.specs.declared.number.OBlock.{OBlock}
 use Rattle.wb_types.specs.declared.number.CBlock.{CBlock}
 use Rattle.wb_disk.specs.Device.{History, Content}
@@ -16,8 +17,8 @@ use Rattle.wb_words.specs.SharedWords.{place_in, dirty_in, seal_word}
 use Rattle.wb_words.specs.Cards.{holding, sealing, finishing, counting}
 use Rattle.wb_words.specs.declared.step.CellStep.TheVariants.{Release, Seal, Finish, Count}
 use Rattle.wb_cells.specs.Passes.{PassState}
-use Rattle.wb_tasks.specs.Tables.{BlockRange, BlockJob, OnBlock, Reading, Writing, device_at, read_step, write_step, place_read, places_written, read_count, write_count, writes, dirtying}
-use Rattle.wb_tasks.specs.Plan.{table, IsStep}
+use Rattle.wb_tasks.specs.Tables.{BlockRange, BlockJob, OnBlock, Reading, Writing, device_at, read_step, write_step, place_read, places_written, read_count, write_count, writes, writing, dirtying}
+use Rattle.wb_tasks.specs.Plan.{table, deferring, IsStep}
 use Rattle.wb_tasks.specs.Run.{IsRunOf, Leads}
 use Rattle.wb_tasks.specs.declared.step.Answer.TheVariants.{Done as Finished}
 use Rattle.wb_tasks.specs.declared.step.Want.{Want}
@@ -31,8 +32,9 @@ use Rattle.wb_port.specs.Hands.{ReadLed, WriteLed, begins_at}
 use Rattle.wb_port.specs.Requests.{part_of, first_at, read_kind, write_kind, taking_card, dirtied, WrittenAtEach, WasRead, WasWritten}
 use Rattle.wb_port.specs.declared.moving.ReadStage.{ReadStage}
 use Rattle.wb_port.specs.declared.moving.WriteStage.{WriteStage}
+use Rattle.wb_port.proofs.Letting.{not_done}
 use Rattle.wb_port.proofs.Readying.{kept_by}
-use Rattle.wb_port.proofs.Paths.{going, done, at_end, OnlyDone, only_release, only_seal, only_finish, only_count, only_read, only_write, acquired, acquired_keeps, each_moved, all_moved, by_one, mapped, one_moved}
+use Rattle.wb_port.proofs.Paths.{going, going_to, done, at_end, OnlyDone, only_release, only_seal, only_finish, only_count, only_read, only_write, acquired, acquired_keeps, each_moved, all_moved, by_one, mapped, one_moved}
 use Rattle.wb_port.proofs.Passing.{with_card, by_taking, by_step}
 use Rattle.wb_port.proofs.Moved.{ReadSoFar, read_more, WrittenThere, none_there, all_there, WrittenSoFar, write_more, ThroughSoFar, through_more, through_each, others-stay}
 
@@ -186,6 +188,26 @@ module _ {D : Type 0} (tells : Type 0) (size : D → ℕ) (contents : D → List
   dirties Writethrough place dirty ws steps old new r l = undirtied Writethrough place dirty ws steps old new refl r l
   dirties Passthrough place dirty ws steps old new r l = undirtied Passthrough place dirty ws steps old new refl r l
 
+  -- what a write ends with
+  abbrev written_tail : Option CBlock → List Want
+  written_tail place = Cell (Finish block) ∷ write_count place ∷ Cell (Release Owned block) ∷ []
+
+  -- a write that is answered done was not deferred
+  undeferred : (mode : Mode) (place : Option CBlock) (dirty : Bool) (rest : List (Want × Got)) → IsRunOf (going_to (deferring mode place Finished) (Writing (part mode)) (writing mode (part mode) place dirty)) rest Finished
+      → IsRunOf (going (Writing (part mode)) (dirtying mode block place dirty ++ (writes (part mode) (places_written mode place) (part mode).extents ++ Cell (Finish block) ∷ write_count place ∷ Cell (Release Owned block) ∷ []))) rest Finished
+  undeferred mode place dirty rest r = by_mode mode place r
+    where
+      on : (mode : Mode) (place : Option CBlock) → IsRunOf (going (Writing (part mode)) (dirtying mode block place dirty ++ writes (part mode) (places_written mode place) (part mode).extents ++ written_tail place)) rest Finished
+          → IsRunOf (going (Writing (part mode)) (dirtying mode block place dirty ++ (writes (part mode) (places_written mode place) (part mode).extents ++ written_tail place))) rest Finished
+      on mode place r = subst (λ (ws : List Want). IsRunOf (going (Writing (part mode)) ws) rest Finished) (append_assoc (dirtying mode block place dirty) (writes (part mode) (places_written mode place) (part mode).extents) (written_tail place)) r
+
+      by_mode : (mode : Mode) (place : Option CBlock) → IsRunOf (going_to (deferring mode place Finished) (Writing (part mode)) (writing mode (part mode) place dirty)) rest Finished
+          → IsRunOf (going (Writing (part mode)) (dirtying mode block place dirty ++ (writes (part mode) (places_written mode place) (part mode).extents ++ written_tail place))) rest Finished
+      by_mode Writeback place r = on Writeback place r
+      by_mode Writethrough place r = on Writethrough place r
+      by_mode Passthrough None r = on Passthrough None r
+      by_mode Passthrough (Some c) r = absurd (not_done (going (Writing (part Passthrough)) []) (Cell (Release Owned block) ∷ []) Defer tt rest r)
+
   -- The sectors were written at each of these places.
   record AllWritten (mode : Mode) (places : List (Option CBlock)) (ws : List Want) (old new : WriteStage D) : Type 0 where
     mid : WriteStage D
@@ -279,7 +301,7 @@ module _ {D : Type 0} (tells : Type 0) (size : D → ℕ) (contents : D → List
       let release : List Want = Cell (Release Owned block) ∷ [] in
       let tail : List Want = Cell (Finish block) ∷ write_count place ∷ release in
       let d = dirties mode place dirty (writes (part mode) (places_written mode place) (part mode).extents ++ tail) a.rest a.s5 new
-      (subst (λ (ws : List Want). IsRunOf (going job ws) a.rest Finished) (append_assoc (dirtying mode block place dirty) (writes (part mode) (places_written mode place) (part mode).extents) tail) a.run) a.leads in
+      (undeferred mode place dirty a.rest a.run) a.leads in
       let ds = d.devices ∙ devices in
       let same_slice : d.mid.from ≡ old.from = d.slice ∙ slice in
       let all = written_all tail d.rest d.mid new (d.moved ∙ (moved ∙ unmoved)) (ap (λ f. length f.now) same_slice ∙ fits) inside d.leads mode place (d.same_mode ∙ kept) d.run in

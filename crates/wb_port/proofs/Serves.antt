@@ -1,10 +1,9 @@
 -- A stage of a request is ready for each of its steps; and from its run to what is told of it.
-use Rattle.std.proofs.Common.{◌≡◌, ◌≢◌, ◌≤◌, ◌<◌, ◌+◌, ◌/◌, ◌%◌, ℕ, List, [], ◌∷◌, Result, Ok, Err, length, sym, ap, ◌∙◌, subst}
+use Rattle.std.proofs.Common.{◌≡◌, ◌≤◌, ◌<◌, ◌+◌, ◌/◌, ◌%◌, ℕ, List, [], ◌∷◌, Result, Ok, Err, length, sym, ap, ◌∙◌, subst}
 use Rattle.std.specs.Prelude.{OnOk, IfErr}
 use Rattle.wb_types.specs.declared.extent.Extent.{Extent}
 use Rattle.wb_types.specs.declared.number.OBlock.{OBlock}
 use Rattle.wb_types.specs.declared.mode.Mode.{Mode}
-use Rattle.wb_types.specs.declared.mode.Mode.TheVariants.{Passthrough}
 use Rattle.wb_types.specs.declared.refusal.Refusal.{Refusal}
 use Rattle.wb_disk.specs.Device.{History}
 use Rattle.wb_words.specs.declared.card.Hold.TheVariants.{Nothing}
@@ -144,17 +143,17 @@ module _ {D : Type 0} (tells : Type 0) (size : D → ℕ) (contents : D → List
     pub write_size : new.hand.now.block_sectors ≡ old.hand.now.block_sectors
     write_size = kept_by (WriteLed tells size contents faults) (λ x. x.hand.now.block_sectors) (λ x w g y h. h.sized) old steps new leads
 
-    write_moves : old.hand.now.mode ≢ Passthrough → 0 < block_sectors → sectors.first / block_sectors ≡ block.0 → sectors.first % block_sectors + sectors.count ≤ block_sectors → old.hand.now.block_sectors ≡ block_sectors → block.0 < old.cells.now.blocks → old.hand.now.pass.card.hold ≡ Nothing → AreFirst s steps → MayMove new.hand.now.mode new.hand.now.block_sectors new.hand.now.pass.card (want (left_by s steps))
-    write_moves served some of inside sized there idle f =
+    write_moves : 0 < block_sectors → sectors.first / block_sectors ≡ block.0 → sectors.first % block_sectors + sectors.count ≤ block_sectors → old.hand.now.block_sectors ≡ block_sectors → block.0 < old.cells.now.blocks → old.hand.now.pass.card.hold ≡ Nothing → AreFirst s steps → MayMove new.hand.now.mode new.hand.now.block_sectors new.hand.now.pass.card (want (left_by s steps))
+    write_moves some of inside sized there idle f =
         let part : BlockRange = part_of old.hand.now.mode block_sectors block sectors in
         subst (λ (m : Mode). MayMove m new.hand.now.block_sectors new.hand.now.pass.card (want (left_by s steps))) (sym write_mode)
         (subst (λ (n : ℕ). MayMove old.hand.now.mode n new.hand.now.pass.card (want (left_by s steps))) (sym (write_size ∙ sized))
-        (may_write part _ _ (moves_there (MovesAt (Writing part)) (Writing part) (writes_there part some (part_in old.hand.now.mode block_sectors block sectors of inside) served) (WriteLed tells size contents faults) (λ x. x.hand.now.pass.card) (λ x w g y h. made_by_pass x.cells.now.blocks x.hand.now.pass y.hand.now.pass w g h.by_pass) old.cells.now.blocks s old begun there idle steps new f leads)))
+        (may_write part _ _ (moves_there (MovesAt (Writing part)) (Writing part) (writes_there part some (part_in old.hand.now.mode block_sectors block sectors of inside)) (WriteLed tells size contents faults) (λ x. x.hand.now.pass.card) (λ x w g y h. made_by_pass x.cells.now.blocks x.hand.now.pass y.hand.now.pass w g h.by_pass) old.cells.now.blocks s old begun there idle steps new f leads)))
 
-    pub write_ready : old.hand.now.mode ≢ Passthrough → 0 < block_sectors → sectors.first / block_sectors ≡ block.0 → sectors.first % block_sectors + sectors.count ≤ block_sectors → old.hand.now.block_sectors ≡ block_sectors → block.0 < old.cells.now.blocks → old.hand.now.pass.table ≡ old.cells.now.table → old.hand.now.pass.card.hold ≡ Nothing → AreFirst s steps → IsReadyToWrite new (want (left_by s steps))
-    write_ready served some of inside sized there at idle f =
+    pub write_ready : 0 < block_sectors → sectors.first / block_sectors ≡ block.0 → sectors.first % block_sectors + sectors.count ≤ block_sectors → old.hand.now.block_sectors ≡ block_sectors → block.0 < old.cells.now.blocks → old.hand.now.pass.table ≡ old.cells.now.table → old.hand.now.pass.card.hold ≡ Nothing → AreFirst s steps → IsReadyToWrite new (want (left_by s steps))
+    write_ready some of inside sized there at idle f =
         let both = ready_there (WriteLed tells size contents faults) (λ x. x.hand.now.pass.card) (λ x w g y h. made_by_pass x.cells.now.blocks x.hand.now.pass y.hand.now.pass w g h.by_pass) old.cells.now.blocks s (Writing (part_of old.hand.now.mode block_sectors block sectors)) old begun there idle steps new f leads in
-        ((write_at ∙ (at ∙ ap (λ x. x.now.table) (sym write_cells)), subst (λ x. MayTake x.now.blocks new.hand.now.pass.card (want (left_by s steps))) (sym write_cells) both.0), own_writes (part_of old.hand.now.mode block_sectors block sectors) (want (left_by s steps)) both.1, write_moves served some of inside sized there idle f)
+        ((write_at ∙ (at ∙ ap (λ x. x.now.table) (sym write_cells)), subst (λ x. MayTake x.now.blocks new.hand.now.pass.card (want (left_by s steps))) (sym write_cells) both.0), own_writes (part_of old.hand.now.mode block_sectors block sectors) (want (left_by s steps)) both.1, write_moves some of inside sized there idle f)
 
     pub write_idle : (answer : Answer) → block.0 < old.cells.now.blocks → old.hand.now.pass.card.hold ≡ Nothing → IsRunOf s steps answer → new.hand.now.pass.card.hold ≡ Nothing
     write_idle answer there idle run = idle_again (WriteLed tells size contents faults) (λ x. x.hand.now.pass.card) (λ x w g y h. made_by_pass x.cells.now.blocks x.hand.now.pass y.hand.now.pass w g h.by_pass) old.cells.now.blocks s (Writing (part_of old.hand.now.mode block_sectors block sectors)) old begun there idle steps answer new run leads

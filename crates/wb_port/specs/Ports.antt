@@ -1,8 +1,6 @@
 -- Which requests a client's port refuses, and why.
 use Rattle.std.specs.Prelude.{◌≡◌, ◌≤◌, ◌/◌, ◌⊎◌, ℕ, List, length}
 use Rattle.wb_types.specs.declared.geometry.Geometry.{Geometry}
-use Rattle.wb_types.specs.declared.mode.Mode.{Mode}
-use Rattle.wb_types.specs.declared.mode.Mode.TheVariants.{Passthrough}
 use Rattle.wb_types.specs.declared.number.OBlock.{OBlock}
 use Rattle.wb_types.specs.declared.refusal.Refusal.{Refusal}
 use Rattle.wb_types.specs.declared.refusal.Refusal.TheVariants.{Range, Crosses as CrossesBlocks, Defer}
@@ -22,11 +20,6 @@ IsTryRefused geometry unsettled first count CrossesBlocks = Crosses geometry fir
 IsTryRefused geometry unsettled first count Defer = UNSETTLED ≤ unsettled
 IsTryRefused geometry unsettled first count refusal = ⊥
 
--- In passthrough a write goes by the desk.
-abbrev pub IsDeferred : Mode → Refusal → Type 0
-IsDeferred Passthrough Defer = Unit {0}
-IsDeferred mode refusal = ⊥
-
 -- Either so, and nothing changed, or by a run of the table of a read.
 abbrev pub TryReadRefused : {D : Type 0} → Type 0 → (D → ℕ) → (D → List History) → (D → ℕ) → Port D → ℕ → List Bytes → Refusal → Port D → List Bytes → Type 0
 TryReadRefused tells size contents faults port first out refusal port' out' =
@@ -35,5 +28,5 @@ TryReadRefused tells size contents faults port first out refusal port' out' =
 
 abbrev pub TryWriteRefused : {D : Type 0} → Type 0 → (D → ℕ) → (D → List History) → (D → ℕ) → Port D → ℕ → List Bytes → Refusal → Port D → Type 0
 TryWriteRefused tells size contents faults port first from refusal port' =
-    ((IsTryRefused port.geometry (length port.accesses.items) first (length from) refusal ⊎ IsDeferred port.hand.mode refusal) × (port'.hand ≡ port.hand))
+    (IsTryRefused port.geometry (length port.accesses.items) first (length from) refusal × (port'.hand ≡ port.hand))
     ⊎ WriteRefused tells size contents faults port.cells.value.blocks port.geometry.block (block_at port.geometry first) (record { first = first; count = length from }) from port.hand refusal port'.hand

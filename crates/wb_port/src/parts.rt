@@ -8,7 +8,7 @@ use crate::hand::Hand;
 use crate::moving::{ReadStage, WriteStage};
 use wb_cells::Cells;
 use wb_disk::Disk;
-use wb_types::{Content, Extent, Mode, OBlock, Refusal};
+use wb_types::{Content, Extent, OBlock, Refusal};
 
 /// Reads sectors of this block into a slice in the hand's mode, by steps of at most `LONGEST` sectors: a run of the table of a read, whose
 /// answer this is. `Busy` where the block is owned, or the word changed; `Failed` where the fail word is set; `Io` where a step
@@ -55,9 +55,9 @@ pub fn read_part<'a, D: Disk>(
     result
 }
 
-/// Writes a slice to sectors of this block in the hand's mode, which is not passthrough, by steps of at most `LONGEST` sectors: a run of the table of a write, whose answer
+/// Writes a slice to sectors of this block in the hand's mode, by steps of at most `LONGEST` sectors: a run of the table of a write, whose answer
 /// this is. `Busy` where the block is owned or shared, or the word changed; `Failed` where the fail word is set; `Worn` where the
-/// block's number is used up; `Io` where a step failed, and then the target has failed, and the block stays owned.
+/// block's number is used up; `Defer` in passthrough, where the block is mapped; `Io` where a step failed, and then the target has failed, and the block stays owned.
 pub fn write_part<'a, D: Disk>(
     cells: &'a Cells,
     hand: &'a mut Hand<D>,
@@ -75,7 +75,6 @@ pub fn write_part<'a, D: Disk>(
     requires at { hand.old.pass.table ≡ cells.now.table }
     requires idle { hand.old.pass.card.hold ≡ Nothing }
     requires fits { length from.now ≡ sectors.count }
-    requires served { hand.old.mode ≢ Mode.Passthrough }
     ensures written { OnOk result (WasWritten D.tells D.size D.contents D.faults block_sectors block sectors from.now hand.old hand.new) }
     ensures refused { IfErr result (λ refusal. WriteRefused D.tells D.size D.contents D.faults cells.now.blocks block_sectors block sectors from.now hand.old refusal hand.new) }
     ensures never_range { IfErr result (λ refusal. refusal ≢ Refusal.Range) }

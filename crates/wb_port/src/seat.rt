@@ -4,11 +4,15 @@ ghost use Rattle.std.specs.Prelude.{◌≡◌, IfOk, IfErr};
 ghost use Rattle.wb_words.specs.declared.card.Hold.TheVariants.{Nothing};
 ghost use Rattle.wb_words.specs.SharedWords.{IsWord};
 ghost use Rattle.wb_words.specs.Cards.{looked};
+ghost use Rattle.wb_words.specs.Ready.{IsReady};
+ghost use Rattle.wb_cells.specs.Passes.{StepsBy};
+ghost use Rattle.wb_port.specs.Kinds.{IsFree};
 
 use std::alloc::Global;
 use std::sync::Arc;
 use wb_cells::{Cells, Pass, Word};
 use wb_types::{Geometry, Refusal};
+use wb_words::{CellResult, CellStep};
 
 /// The shared words of a target of these sizes, and a pass of them that has no block.
 pub struct Seat {
@@ -65,6 +69,18 @@ impl Seat {
         ensures pass { self.new.pass ≡ record self.old.pass { card = looked word result self.old.pass.card } }
     {
         self.cells.look(&mut self.pass, word)
+    }
+
+    /// One step of the pass by which no block is taken or let go.
+    #[tactic(auto, using(crate::proofs::Passing::free_then))]
+    pub fn step(&mut self, step: CellStep) -> CellResult
+        requires free { IsFree step }
+        requires ready { IsReady self.old.geometry.origin_blocks self.old.pass.card step }
+        ensures geometry { self.new.geometry ≡ self.old.geometry }
+        ensures cells { self.new.cells ≡ self.old.cells }
+        ensures step { StepsBy self.old.geometry.origin_blocks self.old.pass step result self.new.pass }
+    {
+        self.cells.step(&mut self.pass, step)
     }
 
     /// Two seats of one; `Memory` where the words have as many owners as can be counted, and then the seat is lost.

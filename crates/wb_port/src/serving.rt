@@ -66,7 +66,6 @@ impl<'a, D: Disk> WriteStage<'a, D> {
         requires idle { self.old.hand.now.pass.card.hold ≡ Nothing }
         requires unmoved { self.old.moved ≡ 0 }
         requires fits { length self.old.from.now ≡ sectors.count }
-        requires served { self.old.hand.now.mode ≢ Mode.Passthrough }
         ensures same_hand { self.new.hand.ghost_name ≡ self.old.hand.ghost_name }
         ensures written { OnOk result (WasWritten D.tells D.size D.contents D.faults block_sectors block sectors self.old.from.now self.old.hand.now self.new.hand.now) }
         ensures refused { IfErr result (λ refusal. WriteRefused D.tells D.size D.contents D.faults self.old.cells.now.blocks block_sectors block sectors self.old.from.now self.old.hand.now refusal self.new.hand.now) }

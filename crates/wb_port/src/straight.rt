@@ -3,7 +3,7 @@
 //! `drive` asks a task for each next step; here what comes next is where the code stands. So such a request
 //! costs a fraction of the instructions.
 
-ghost use Rattle.std.specs.Prelude.{◌≡◌, ◌<◌, [], ◌∷◌, Some, true, if◌then◌else◌};
+ghost use Rattle.std.specs.Prelude.{◌≡◌, ◌<◌, [], ◌∷◌, ◌++◌, Some, true, if◌then◌else◌};
 ghost use Rattle.std.specs.Bool.{OnTrue};
 ghost use Rattle.wb_types.specs.declared.refusal.Refusal.TheVariants.{Io};
 ghost use Rattle.wb_words.specs.SharedWords.{place_in as place_of_seal, dirty_in};
@@ -11,11 +11,11 @@ ghost use Rattle.wb_words.specs.declared.word.Word.TheVariants.{Cell as LockWord
 ghost use Rattle.wb_words.specs.declared.step.CellStep.TheVariants.{Look, Count as Counting, SetFailed, Seal as Sealing};
 ghost use Rattle.wb_tasks.specs.Ready.{StaysReady};
 ghost use Rattle.wb_tasks.specs.Tables.{OnBlock, Reading, Writing, taking, work, dirtying, place_read, places_written, read_step, write_step, read_count, write_count};
-ghost use Rattle.wb_tasks.specs.Plan.{table};
+ghost use Rattle.wb_tasks.specs.Plan.{table, answer_at};
 ghost use Rattle.wb_tasks.specs.declared.step.Answer.TheVariants.{Done as Finished, Refused as Refuses};
 ghost use Rattle.wb_tasks.specs.declared.step.Want.TheVariants.{Cell, Device};
 ghost use Rattle.wb_tasks.specs.declared.step.DeviceStep.TheVariants.{Read, Write};
-ghost use Rattle.wb_port.specs.Straight.{ComesTo, access_by, giving_back, job_by, left, range_in, straight_writing, straight_written};
+ghost use Rattle.wb_port.specs.Straight.{ComesTo, access_by, giving_back, is_deferred, job_by, left, range_in, straight_writing, straight_written};
 
 use crate::stepping::{change, look, take, transfer};
 use wb_tasks::{Answer, CellStep, DeviceStep, Stage};
@@ -89,12 +89,12 @@ fn seal<S: Stage>(stage: &mut S, way: Way, part: Part) -> Answer
     number(stage, way, part, seal)
 }
 
-/// From the look at the number on: a block that is to be written needs one more.
+/// From the look at the number on: a block that is to be written needs one more, and a mapped one in passthrough the desk.
 #[inline(always)]
 fn number<S: Stage>(stage: &mut S, way: Way, part: Part, seal: u64) -> Answer
     requires some { 0 < part.block_sectors }
-    requires stays { StaysReady S.ready S.led (left (job_by way part) (Cell (Look (Number part.block)) ∷ work (job_by way part) (place_of_seal seal) (dirty_in seal)) Finished) stage.old }
-    ensures { ComesTo S.led (left (job_by way part) (Cell (Look (Number part.block)) ∷ work (job_by way part) (place_of_seal seal) (dirty_in seal)) Finished) stage.old result stage.new }
+    requires stays { StaysReady S.ready S.led (left (job_by way part) (Cell (Look (Number part.block)) ∷ work (job_by way part) (place_of_seal seal) (dirty_in seal)) (answer_at (job_by way part) (place_of_seal seal) Finished)) stage.old }
+    ensures { ComesTo S.led (left (job_by way part) (Cell (Look (Number part.block)) ∷ work (job_by way part) (place_of_seal seal) (dirty_in seal)) (answer_at (job_by way part) (place_of_seal seal) Finished)) stage.old result stage.new }
 {
     let number = look(stage, Word::Number(part.block));
     let place = place_in(seal);
@@ -103,6 +103,9 @@ fn number<S: Stage>(stage: &mut S, way: Way, part: Part, seal: u64) -> Answer
         Way::Writes => {
             if number == u64::MAX {
                 return give_back(stage, Way::Writes, part, Answer::Refused(Refusal::Worn));
+            }
+            if is_deferred(part.mode, place) {
+                return give_back(stage, Way::Writes, part, Answer::Refused(Refusal::Defer));
             }
             dirty(stage, part, place, is_dirty(seal))
         }
@@ -133,8 +136,8 @@ fn read<S: Stage>(stage: &mut S, part: Part, place: Option<CBlock>) -> Answer
 #[inline(always)]
 fn dirty<S: Stage>(stage: &mut S, part: Part, place: Option<CBlock>, dirty: bool) -> Answer
     requires some { 0 < part.block_sectors }
-    requires stays { StaysReady S.ready S.led (left (Writing (range_in part)) (work (Writing (range_in part)) place dirty) Finished) stage.old }
-    ensures { ComesTo S.led (left (Writing (range_in part)) (work (Writing (range_in part)) place dirty) Finished) stage.old result stage.new }
+    requires stays { StaysReady S.ready S.led (left (Writing (range_in part)) (dirtying part.mode part.block place dirty ++ straight_writing part (places_written part.mode place) place) Finished) stage.old }
+    ensures { ComesTo S.led (left (Writing (range_in part)) (dirtying part.mode part.block place dirty ++ straight_writing part (places_written part.mode place) place) Finished) stage.old result stage.new }
 {
     match place {
         None => write(stage, part, None),
@@ -263,6 +266,17 @@ fn place_read(mode: Mode, place: Option<CBlock>) -> Option<CBlock>
     match mode {
         Mode::Passthrough => None,
         Mode::Writeback | Mode::Writethrough => place,
+    }
+}
+
+/// Whether a write of a block at this place needs the desk first.
+#[inline(always)]
+fn is_deferred(mode: Mode, place: Option<CBlock>) -> bool
+    ensures { result ≡ is_deferred mode place }
+{
+    match mode {
+        Mode::Passthrough => place.is_some(),
+        Mode::Writeback | Mode::Writethrough => false,
     }
 }
 

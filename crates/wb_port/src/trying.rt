@@ -8,7 +8,7 @@ ghost use Rattle.wb_port.specs.Ports.{block_at, IsTryRefused, TryReadRefused, Tr
 use crate::parts::{read_part, write_part};
 use crate::port::{Port, UNSETTLED};
 use wb_disk::Disk;
-use wb_types::{Content, Extent, Mode, OBlock, Refusal, Sector};
+use wb_types::{Content, Extent, OBlock, Refusal, Sector};
 
 impl<D: Disk> Port<D> {
     /// Reads neighbouring sectors, from `at` on, into a slice.
@@ -45,7 +45,7 @@ impl<D: Disk> Port<D> {
 
     /// Writes a slice to neighbouring sectors, from `at` on.
     ///
-    /// `Range`, `Crosses` and `Defer` as `try_read`; `Defer` in passthrough, too; and what `write_part` refuses.
+    /// `Range`, `Crosses` and `Defer` as `try_read`; and what `write_part` refuses.
     pub fn try_write(&mut self, at: Sector, from: &[Content]) -> Result<(), Refusal>
         ensures written { OnOk result (WasWritten D.tells D.size D.contents D.faults self.old.geometry.block (block_at self.old.geometry at.0) (record { first = at.0; count = length from.now }) from.now self.old.hand self.new.hand) }
         ensures noted { OnOk result (self.new.accesses.items ≡ self.old.accesses.items ++ block_at self.old.geometry at.0 ∷ []) }
@@ -61,9 +61,6 @@ impl<D: Disk> Port<D> {
             count: from.len() as u64,
         };
         let block = self.block_of(sectors)?;
-        if let Mode::Passthrough = self.hand.mode {
-            return Err(Refusal::Defer);
-        }
         write_part(
             &self.cells,
             &mut self.hand,

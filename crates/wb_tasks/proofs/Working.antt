@@ -28,7 +28,7 @@ pub record Reads (R : OfSteps) (part : BlockRange) : Type 0 where
 pub record Writes (R : OfSteps) (part : BlockRange) : Type 0 where
   pub seal : (c : CBlock) (ws : List Want) → part.mode ≡ Writeback → R (Some c) true ws → R (Some c) false (Cell (Seal part.block (Some c) true) ∷ ws)
   pub home : (dirty : Bool) (e : Extent) (ws : List Want) → Contains part.extents e → R None dirty ws → R None dirty (write_step part None e ∷ ws)
-  pub cached : (c : CBlock) (dirty : Bool) (e : Extent) (ws : List Want) → (part.mode ≡ Writeback → dirty ≡ true) → Contains part.extents e → R (Some c) dirty ws → R (Some c) dirty (write_step part (Some c) e ∷ ws)
+  pub cached : (c : CBlock) (dirty : Bool) (e : Extent) (ws : List Want) → (part.mode ≢ Passthrough) × (part.mode ≡ Writeback → dirty ≡ true) → Contains part.extents e → R (Some c) dirty ws → R (Some c) dirty (write_step part (Some c) e ∷ ws)
   pub through : (c : CBlock) (dirty : Bool) (e : Extent) (ws : List Want) → part.mode ≢ Writeback → Contains part.extents e → R (Some c) dirty ws → R (Some c) dirty (write_step part None e ∷ ws)
   pub defers : (c : CBlock) (dirty : Bool) → part.mode ≡ Passthrough → R (Some c) dirty (Cell (Release Owned part.block) ∷ [])
   pub last : (place : Option CBlock) (dirty : Bool) → R place dirty (Cell (Finish part.block) ∷ write_count place ∷ Cell (Release Owned part.block) ∷ [])
@@ -87,9 +87,12 @@ work_has R (Writing part) w place dirty = by_mode part.mode refl place dirty
     other : (mode : Mode) → part.mode ≡ mode → mode ≢ Writeback → part.mode ≢ Writeback
     other mode is n back = n (sym is ∙ back)
 
+    unlike : (mode : Mode) → part.mode ≡ mode → mode ≢ Passthrough → part.mode ≢ Passthrough
+    unlike mode is n pass = n (sym is ∙ pass)
+
     -- in write-back where the newest copy stands
     back : part.mode ≡ Writeback → (c : CBlock) → R (Some c) true (writes part (Some c ∷ []) part.extents ++ Cell (Finish part.block) ∷ write_count (Some c) ∷ Cell (Release Owned part.block) ∷ [])
-    back is c = written_on (R (Some c) true) part.extents part (Some c ∷ []) part.extents _ (λ e m. m) (λ e us m r. w.cached c true e us (λ _. refl) m r) (w.last (Some c) true)
+    back is c = written_on (R (Some c) true) part.extents part (Some c ∷ []) part.extents _ (λ e m. m) (λ e us m r. w.cached c true e us (unlike Writeback is (λ q. cc), λ _. refl) m r) (w.last (Some c) true)
 
     by_mode : (mode : Mode) → part.mode ≡ mode → (place : Option CBlock) (dirty : Bool) → R place dirty (writing mode part place dirty)
     by_mode Writeback is None dirty = written_on (R None dirty) part.extents part (None ∷ []) part.extents _ (λ e m. m) (w.home dirty) (w.last None dirty)
@@ -97,7 +100,7 @@ work_has R (Writing part) w place dirty = by_mode part.mode refl place dirty
     by_mode Writeback is (Some c) false = w.seal c _ is (back is c)
     by_mode Writethrough is None dirty = written_on (R None dirty) part.extents part (None ∷ []) part.extents _ (λ e m. m) (w.home dirty) (w.last None dirty)
     by_mode Writethrough is (Some c) dirty = written_on (R (Some c) dirty) part.extents part (None ∷ Some c ∷ []) part.extents _ (λ e m. m)
-        (λ e us m r. w.through c dirty e _ (other Writethrough is (λ q. cc)) m (w.cached c dirty e us (λ q. absurd (other Writethrough is (λ z. cc) q)) m r)) (w.last (Some c) dirty)
+        (λ e us m r. w.through c dirty e _ (other Writethrough is (λ q. cc)) m (w.cached c dirty e us (unlike Writethrough is (λ q. cc), λ q. absurd (other Writethrough is (λ z. cc) q)) m r)) (w.last (Some c) dirty)
     by_mode Passthrough is None dirty = written_on (R None dirty) part.extents part (None ∷ []) part.extents _ (λ e m. m) (w.home dirty) (w.last None dirty)
     by_mode Passthrough is (Some c) dirty = w.defers c dirty is
 work_has R (Displacing part) w place dirty = by_place place

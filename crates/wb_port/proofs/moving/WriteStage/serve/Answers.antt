@@ -4,7 +4,7 @@ use Rattle.wb_port.proofs.Serves.{write_same_hand, write_at, write_size, write_m
 use Rattle.wb_port.proofs.moving.WriteStage.serve.Goals as goal
 
 pub write_all-requires-clause-stays : goal.write_all-requires-clause-stays
-write_all-requires-clause-stays g c steps mid first leads step = write_ready g.D.Disk.tells g.D.Disk.size g.D.Disk.contents g.D.Disk.faults c.args.block_sectors c.args.block c.args.sectors _ steps c.args.self.now mid refl leads c.requires.served c.requires.some c.requires.of c.requires.inside c.requires.size c.requires.block c.requires.at c.requires.idle first
+write_all-requires-clause-stays g c steps mid first leads step = write_ready g.D.Disk.tells g.D.Disk.size g.D.Disk.contents g.D.Disk.faults c.args.block_sectors c.args.block c.args.sectors _ steps c.args.self.now mid refl leads c.requires.some c.requires.of c.requires.inside c.requires.size c.requires.block c.requires.at c.requires.idle first
 
 pub returns-clause-same_hand : goal.returns-clause-same_hand
 returns-clause-same_hand g c = let run = c.write_all.ensures in write_same_hand g.D.Disk.tells g.D.Disk.size g.D.Disk.contents g.D.Disk.faults c.args.block_sectors c.args.block c.args.sectors _ run.0 c.args.self.now c.write_all.new.stage refl run.2
