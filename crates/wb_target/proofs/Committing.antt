@@ -6,7 +6,7 @@ use Rattle.wb_types.specs.declared.refusal.Refusal.TheVariants.{Busy, Failed, Me
 use Rattle.wb_disk.specs.Device.{History, Content as Bytes}
 use Rattle.wb_words.specs.declared.word.Word.TheVariants.{Fail}
 use Rattle.wb_words.specs.declared.step.CellStep.TheVariants.{Look, SetFailed}
-use Rattle.wb_tasks.specs.Tables.{BlockJob, OnBlock, Reading, Writing, Migrating, Flushing}
+use Rattle.wb_tasks.specs.Tables.{BlockJob, OnBlock, Reading, Writing, Displacing, Invalidating, Migrating, Flushing}
 use Rattle.wb_tasks.specs.Plan.{Plan, want, after, first_step, refused, release_orders, node_writes, root_steps, Fits}
 use Rattle.wb_tasks.specs.Run.{Leads}
 use Rattle.wb_tasks.specs.Ready.{AreFirst, IsFlushs, IsOwnStep, left_by}
@@ -168,7 +168,11 @@ block_commits tells contents devices commit job (Device (Sync device)) o = tt
 block_commits tells contents devices commit job (Device (ReadMetadata left)) o = tt
 block_commits tells contents devices commit (Reading part) (Device (WriteNode number)) o = absurd o
 block_commits tells contents devices commit (Writing part) (Device (WriteNode number)) o = absurd o
+block_commits tells contents devices commit (Displacing part) (Device (WriteNode number)) o = absurd o
+block_commits tells contents devices commit (Invalidating part) (Device (WriteNode number)) o = absurd o
 block_commits tells contents devices commit (Migrating migration part) (Device (WriteNode number)) o = absurd o
 block_commits tells contents devices commit (Reading part) (Device WriteRoot) o = absurd o
 block_commits tells contents devices commit (Writing part) (Device WriteRoot) o = absurd o
+block_commits tells contents devices commit (Displacing part) (Device WriteRoot) o = absurd o
+block_commits tells contents devices commit (Invalidating part) (Device WriteRoot) o = absurd o
 block_commits tells contents devices commit (Migrating migration part) (Device WriteRoot) o = absurd o

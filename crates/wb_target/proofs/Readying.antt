@@ -12,7 +12,7 @@ use Rattle.wb_port.specs.Moves.{copied_to}
 use Rattle.wb_tasks.proofs.Placed.{moves_there}
 use Rattle.wb_port.proofs.Placed.{AreIn, IsMoving, MovesAt, whole_in, copies_there}
 use Rattle.wb_target.specs.Works.{IsOrdered, MayWork, MayMigrate}
-use Rattle.wb_tasks.specs.Tables.{TaskJob, BlockRange, OnBlock, Reading, Writing, Migrating, Flushing, Opening}
+use Rattle.wb_tasks.specs.Tables.{TaskJob, BlockRange, OnBlock, Reading, Writing, Displacing, Invalidating, Migrating, Flushing, Suspending, Opening}
 use Rattle.wb_tasks.specs.Ready.{AreFirst, MayTake, MayMake, IsOwnStep, Suits, left_by}
 use Rattle.wb_tasks.specs.Plan.{Plan, table, want}
 use Rattle.wb_tasks.specs.Run.{IsRunOf, Leads}
@@ -78,6 +78,9 @@ module _ {S : Type 0} (led : S → Want → Got → S → Type 0) (card : S → 
             (moves_there (MovesAt (Migrating migration part)) (Migrating migration part) (copies_there part is.1 (subst (λ (es : List Extent). AreIn (part.block.0 * part.block_sectors) part.block_sectors es) (sym is.2) (whole_in part.block_sectors part.block)) migration) led card makes blocks s old b m idle steps mid f l))
         by_job (OnBlock (Reading part)) b m never = absurd never
         by_job (OnBlock (Writing part)) b m never = absurd never
+        by_job (OnBlock (Displacing part)) b m never = absurd never
+        by_job (OnBlock (Invalidating part)) b m never = absurd never
+        by_job (Suspending all most) b m free = absurd m
         by_job (Flushing serves most) b m free =
             let suits = suits_there led card makes blocks s old steps mid (subst (λ (t : Plan). Suits blocks t (card old)) (sym b) (begins blocks (Flushing serves most) (card old) m idle)) f l in
             flush_moves serves most size held (card mid) (want (left_by s steps)) (subst (λ (j : TaskJob). IsOwnStep j (want (left_by s steps))) (same_job s steps ∙ ap (λ (t : Plan). t.job) b) (is_own_step blocks (left_by s steps) (card mid) suits))

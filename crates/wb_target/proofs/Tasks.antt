@@ -3,7 +3,7 @@ use Rattle.std.proofs.Common.{◌≡◌, ℕ, Bool, List, [], ◌∷◌, sym, ap
 use Rattle.wb_disk.specs.Device.{History}
 use Rattle.wb_words.specs.declared.card.Hold.TheVariants.{Nothing}
 use Rattle.wb_port.specs.Moves.{IsSynced}
-use Rattle.wb_tasks.specs.Tables.{TaskJob, OnBlock, Flushing, Opening}
+use Rattle.wb_tasks.specs.Tables.{TaskJob, OnBlock, Flushing, Suspending, Opening}
 use Rattle.wb_tasks.specs.Ready.{AreFirst, MayTake, IsOwnStep, left_by}
 use Rattle.wb_tasks.specs.Plan.{Plan, table, want}
 use Rattle.wb_tasks.specs.Run.{IsRunOf, Leads}
@@ -69,6 +69,7 @@ module _ {R D P G : Type 0} (tells : Type 0) (size : D → ℕ) (contents : D �
       by_job (Flushing serves most) b m =
           commits_there tells size contents faults (λ (x : WorkStage R D P G). asked x.held.now) (λ (x : WorkStage R D P G). x.hand.now.devices) (λ x. x.buffer.now) (λ x. x.commit.now) led (λ x w g y h. h.works) serves most s old steps new (ap (λ (t : Plan). t.job) b) (own (Flushing serves most) b m)
           (subst (λ (t : Plan). CommitsFrom (tells → IsSynced (contents old.hand.now.devices.cache)) (tells → IsSynced (contents old.hand.now.devices.origin)) (IsRunning old.commit.now) t.steps) (sym b) tt) f leads
+      by_job (Suspending all most) b m = absurd m
       by_job (Opening left) b m = absurd m
 
   pub ready : MayRun old.cells.now.blocks job → MayMigrate old.hand.now.block_sectors old.held.now job → old.hand.now.pass.table ≡ old.cells.now.table → old.hand.now.pass.card.hold ≡ Nothing → AreFirst s steps → IsReadyToWork tells contents new (want (left_by s steps))

@@ -1,11 +1,11 @@
 -- What a try of one part comes to, where its request is inside and no access is unsettled.
-use Rattle.std.proofs.Common.{◌≡◌, ◌≢◌, ◌≤◌, ◌+◌, ◌%◌, ◌⊎◌, inl, inr, ℕ, List, Some, None, length, refl, sym, subst, arith}
+use Rattle.std.proofs.Common.{◌≡◌, ◌≢◌, ◌≤◌, ◌+◌, ◌%◌, inl, inr, ℕ, List, Some, None, length, refl, sym, subst, arith}
 use Rattle.wb_types.specs.declared.extent.Extent.{Extent}
 use Rattle.wb_types.specs.declared.geometry.Geometry.{Geometry}
 use Rattle.wb_types.specs.declared.refusal.Refusal.{Refusal}
 use Rattle.wb_types.specs.declared.refusal.Refusal.TheVariants.{Range, Crosses as CrossesBlocks, Defer}
 use Rattle.wb_disk.specs.Device.{History, Content}
-use Rattle.wb_port.specs.Ports.{block_at, IsTryRefused, IsDeferred, TryReadRefused, TryWriteRefused}
+use Rattle.wb_port.specs.Ports.{block_at, IsTryRefused, TryReadRefused, TryWriteRefused}
 use Rattle.wb_port.specs.Requests.{IsOutside, ReadRefused, WriteRefused, WasRead, WasWritten}
 use Rattle.wb_port.specs.declared.port.Port.{Port}
 use Rattle.wb_target.specs.Blocking.{IsInsideOrigin, ReadCame, WriteCame}
@@ -41,15 +41,11 @@ module _ {D : Type 0} (tells : Type 0) (size : D → ℕ) (contents : D → List
       (subst (λ (n : ℕ). ReadRefused tells size contents faults port.cells.value.blocks port.geometry.block (block_at port.geometry first) (at n) port.hand out refusal port'.hand out') many h))
 
   pub write_refused : (from : List Content) (refusal : Refusal) → length from ≡ count → TryWriteRefused tells size contents faults port first from refusal port' → WriteCame tells size contents faults geometry (Some refusal) (at count) (port.hand, from) (port'.hand, from)
-  write_refused from refusal many (inl h) = by_cause h.0
-    where
-      by_cause : IsTryRefused port.geometry (length port.accesses.items) first (length from) refusal ⊎ IsDeferred port.hand.mode refusal → WriteCame tells size contents faults geometry (Some refusal) (at count) (port.hand, from) (port'.hand, from)
-      by_cause (inl t) = absurd (not_before refusal (subst (λ (n : ℕ). IsTryRefused port.geometry (length port.accesses.items) first n refusal) many t))
-      by_cause (inr d) = (inr (d, h.1), refl)
+  write_refused from refusal many (inl h) = absurd (not_before refusal (subst (λ (n : ℕ). IsTryRefused port.geometry (length port.accesses.items) first n refusal) many h.0))
   write_refused from refusal many (inr h) = (
-    inl (subst (λ (g : Geometry). WriteRefused tells size contents faults g.origin_blocks g.block (block_at g first) (at count) from port.hand refusal port'.hand) same
+    subst (λ (g : Geometry). WriteRefused tells size contents faults g.origin_blocks g.block (block_at g first) (at count) from port.hand refusal port'.hand) same
         (subst (λ (n : ℕ). WriteRefused tells size contents faults n port.geometry.block (block_at port.geometry first) (at count) from port.hand refusal port'.hand) sized
-        (subst (λ (n : ℕ). WriteRefused tells size contents faults port.cells.value.blocks port.geometry.block (block_at port.geometry first) (at n) from port.hand refusal port'.hand) many h))),
+        (subst (λ (n : ℕ). WriteRefused tells size contents faults port.cells.value.blocks port.geometry.block (block_at port.geometry first) (at n) from port.hand refusal port'.hand) many h)),
     refl,
   )
 

@@ -5,7 +5,7 @@ use Rattle.wb_types.specs.declared.geometry.Geometry.{Geometry}
 use Rattle.wb_types.specs.declared.refusal.Refusal.{Refusal}
 use Rattle.wb_types.specs.declared.refusal.Refusal.TheVariants.{Busy, Range}
 use Rattle.wb_disk.specs.Device.{History, Content as Bytes}
-use Rattle.wb_port.specs.Ports.{block_at, IsDeferred}
+use Rattle.wb_port.specs.Ports.{block_at}
 use Rattle.wb_port.specs.Requests.{WasRead, WasWritten, ReadRefused, WriteRefused, IsOutside}
 use Rattle.wb_port.specs.declared.hand.Hand.{Hand}
 use Rattle.wb_target.specs.Tries.{EndedAfter}
@@ -20,7 +20,7 @@ ReadCame tells size contents faults geometry (Some refusal) part s t = ReadRefus
 
 abbrev pub WriteCame : {D : Type 0} → Type 0 → (D → ℕ) → (D → List History) → (D → ℕ) → Geometry → Option Refusal → Extent → Hand D × List Bytes → Hand D × List Bytes → Type 0
 WriteCame tells size contents faults geometry None part s t = WasWritten tells size contents faults geometry.block (block_at geometry part.first) part s.1 s.0 t.0 × (t.1 ≡ s.1)
-WriteCame tells size contents faults geometry (Some refusal) part s t = (WriteRefused tells size contents faults geometry.origin_blocks geometry.block (block_at geometry part.first) part s.1 s.0 refusal t.0 ⊎ (IsDeferred s.0.mode refusal × (t.0 ≡ s.0))) × (t.1 ≡ s.1)
+WriteCame tells size contents faults geometry (Some refusal) part s t = WriteRefused tells size contents faults geometry.origin_blocks geometry.block (block_at geometry part.first) part s.1 s.0 refusal t.0 × (t.1 ≡ s.1)
 
 -- A part came to its end: tries of it that were refused as busy, and one that was not.
 abbrev pub CameTo : {S : Type 0} → (Option Refusal → Extent → S → S → Type 0) → Option Refusal → Extent → S → S → Type 0
