@@ -1,6 +1,15 @@
 -- The grammar of a constructor line.
-use Rattle.std.specs.Prelude.{◌≡◌, ◌≤◌, ◌%◌, ℕ, List, [], ◌∷◌, codes}
+use Rattle.std.specs.Prelude.{◌≡◌, ◌≤◌, ◌%◌, ◌++◌, ◌⊎◌, ℕ, List, [], ◌∷◌, Some, None, length, codes}
+use Rattle.wb_types.specs.declared.message.Key.{Key}
+use Rattle.wb_types.specs.declared.message.Key.TheVariants.{MigrationThreshold, PromoteMin}
+use Rattle.wb_types.specs.declared.mode.Mode.{Mode}
+use Rattle.wb_types.specs.declared.mode.Mode.TheVariants.{Writeback}
 use Rattle.wb_table.specs.Numbers.{SpellsNumber}
+use Rattle.wb_table.specs.Status.{mode_name}
+use Rattle.wb_table.specs.declared.table.Table.{Table}
+use Rattle.wb_table.specs.declared.table.Keys.{Keys}
+use Rattle.wb_table.specs.declared.table.PolicyName.{PolicyName}
+use Rattle.wb_table.specs.declared.table.PolicyName.TheVariants.{TinyLfu, Cleaner}
 
 -- A word spells the size of a block: 64 to 2,097,152 sectors, a multiple of 64.
 pub record IsBlockSize (word : List ℕ) (block : ℕ) : Type 0 where
@@ -9,9 +18,57 @@ pub record IsBlockSize (word : List ℕ) (block : ℕ) : Type 0 where
   pub most : block ≤ 2097152
   pub step : block % 64 ≡ 0
 
--- Words are a constructor line, `cache <metadata> <cache> <origin> <size> 0 tinylfu 0`, that names these three
--- files and this size of a block in sectors.
-pub record IsTable (words : List (List ℕ)) (metadata cache origin : List ℕ) (block : ℕ) : Type 0 where
+-- Features choose a mode: the one that is named, once; none of them means write-back.
+abbrev pub ChoosesMode : List (List ℕ) → Mode → Type 0
+ChoosesMode [] mode = mode ≡ Writeback
+ChoosesMode (feature ∷ []) mode = feature ≡ mode_name mode
+ChoosesMode features mode = ⊥
+
+-- Words are the number of features and then these, which choose a mode.
+abbrev pub SpellsFeatures : List (List ℕ) → Mode → Type 0
+SpellsFeatures [] mode = ⊥
+SpellsFeatures (number ∷ features) mode = SpellsNumber number (length features) × ChoosesMode features mode
+
+-- A word names a policy; `default` names TinyLFU, too.
+abbrev pub NamesPolicy : List ℕ → PolicyName → Type 0
+NamesPolicy word TinyLfu = (word ≡ codes "tinylfu") ⊎ (word ≡ codes "default")
+NamesPolicy word Cleaner = word ≡ codes "cleaner"
+
+-- A word names a key that can be given under a policy: the threshold under each, the least estimate under TinyLFU alone.
+abbrev pub NamesKey : PolicyName → List ℕ → Key → Type 0
+NamesKey policy word MigrationThreshold = word ≡ codes "migration_threshold"
+NamesKey TinyLfu word PromoteMin = word ≡ codes "promote_min"
+NamesKey Cleaner word PromoteMin = ⊥
+
+-- no key is given
+abbrev pub no_keys : Keys
+no_keys = record { migration_threshold = None; promote_min = None }
+
+-- what is given, and then this key
+abbrev pub with_key : Keys → Key → ℕ → Keys
+with_key given MigrationThreshold value = record given { migration_threshold = Some value }
+with_key given PromoteMin value = record given { promote_min = Some value }
+
+-- Words are keys, each with its value behind it, and give them in turn: so the last value of a key counts.
+abbrev pub GivesKeys : PolicyName → Keys → List (List ℕ) → Keys → Type 0
+GivesKeys policy before [] after = after ≡ before
+GivesKeys policy before (word ∷ []) after = ⊥
+GivesKeys policy before (word ∷ number ∷ words) after =
+    (key : Key) × (value : ℕ) × NamesKey policy word key × SpellsNumber number value × GivesKeys policy (with_key before key value) words after
+
+-- Words are the number of a policy's arguments and then these, which give keys.
+abbrev pub SpellsArguments : PolicyName → List (List ℕ) → Keys → Type 0
+SpellsArguments policy [] keys = ⊥
+SpellsArguments policy (number ∷ arguments) keys = SpellsNumber number (length arguments) × GivesKeys policy no_keys arguments keys
+
+-- Words are the constructor line of a table: `cache <metadata> <cache> <origin> <block size> <#features> <feature>* <policy> <#arguments> [<key> <value>]*`.
+pub record IsTable (words : List (List ℕ)) (table : Table) : Type 0 where
   pub size : List ℕ
-  pub spelled : words ≡ codes "cache" ∷ metadata ∷ cache ∷ origin ∷ size ∷ codes "0" ∷ codes "tinylfu" ∷ codes "0" ∷ []
-  pub block_size : IsBlockSize size block
+  pub features : List (List ℕ)
+  pub policy : List ℕ
+  pub arguments : List (List ℕ)
+  pub spelled : words ≡ codes "cache" ∷ table.metadata.now ∷ table.cache.now ∷ table.origin.now ∷ size ∷ (features ++ policy ∷ arguments)
+  pub block_size : IsBlockSize size table.block
+  pub mode : SpellsFeatures features table.mode
+  pub named : NamesPolicy policy table.policy
+  pub keys : SpellsArguments table.policy arguments table.keys

@@ -6,11 +6,13 @@ mod number;
 mod sectors;
 mod status;
 mod table;
+mod table_fault;
 mod words;
 
 pub use comment::is_comment;
 pub use number::{read_byte, read_number};
 pub use sectors::{read_fill, read_sectors};
 pub use status::{Fields, status_text};
-pub use table::{Table, TableFault, find_table_fault, read_table};
+pub use table::{Keys, PolicyName, Table, read_table};
+pub use table_fault::{TableFault, find_table_fault};
 pub use words::SplitSpaces;

@@ -1,58 +1,113 @@
 //! The constructor line of a target.
 
-ghost use Rattle.std.specs.Prelude.{◌≡◌, ℕ, List, IfOk, IfErr, IfSome, IfNone};
-ghost use Rattle.wb_table.specs.Table.{IsTable, IsBlockSize};
+ghost use Rattle.std.specs.Prelude.{◌≡◌, ◌++◌, ℕ, List, IfOk, IfErr, IfSome, IfNone};
+ghost use Rattle.wb_types.specs.declared.message.Key.{Key as KeyName};
+ghost use Rattle.wb_types.specs.declared.mode.Mode.{Mode as ModeTerm};
+ghost use Rattle.wb_table.specs.Table.{IsTable, IsBlockSize, SpellsFeatures, SpellsArguments, NamesPolicy, NamesKey, no_keys, with_key};
+ghost use Rattle.wb_table.specs.Status.{mode_name};
 ghost use Rattle.wb_table.specs.Words.{words_of};
+ghost use Rattle.wb_table.specs.declared.table.Keys.{Keys as KeysTerm};
+ghost use Rattle.wb_table.specs.declared.table.PolicyName.{PolicyName as Named};
+ghost use Rattle.wb_table.specs.declared.table.Table.{Table as TableTerm};
 
 use crate::number::read_number;
 use crate::words::SplitSpaces;
-use std::fmt;
-use std::fmt::{Display, Formatter};
-use wb_types::Refusal;
+use wb_types::{Key, Mode, Refusal};
 
-/// The files of a target, and the size of its blocks.
-#[derive(Clone, Copy)]
+/// The files of a target, the size of its blocks, its mode, and its policy with the keys that are given.
+#[derive(Clone, Copy, Debug, PartialEq, Eq)]
 pub struct Table<'a> {
     pub metadata: &'a str,
     pub cache: &'a str,
     pub origin: &'a str,
     /// Sectors of a block: 64 to 2,097,152, a multiple of 64.
     pub block: u64,
+    pub mode: Mode,
+    pub policy: PolicyName,
+    pub keys: Keys,
 }
 
-/// Reads `cache <metadata> <cache> <origin> <block size> 0 tinylfu 0` (the constructor of the kernel's
-/// `cache.rst`): words parted by spaces. Anything else is `BadTable`.
+/// A policy that a table can name.
+#[derive(Clone, Copy, Debug, PartialEq, Eq)]
+pub enum PolicyName {
+    /// `tinylfu`, or `default`.
+    TinyLfu,
+    /// `cleaner`.
+    Cleaner,
+}
+
+/// The keys that a table gives, each with the last value that it was given.
+#[derive(Clone, Copy, Debug, PartialEq, Eq)]
+pub struct Keys {
+    pub migration_threshold: Option<u64>,
+    pub promote_min: Option<u64>,
+}
+
+impl Keys {
+    /// None is given.
+    pub fn new() -> Keys
+        ensures { result ≡ no_keys }
+    {
+        Keys {
+            migration_threshold: None,
+            promote_min: None,
+        }
+    }
+
+    /// These, and then this key.
+    fn with(self, key: Key, value: u64) -> Keys
+        ensures { result ≡ with_key self key value }
+    {
+        match key {
+            Key::MigrationThreshold => Keys {
+                migration_threshold: Some(value),
+                promote_min: self.promote_min,
+            },
+            Key::PromoteMin => Keys {
+                migration_threshold: self.migration_threshold,
+                promote_min: Some(value),
+            },
+        }
+    }
+}
+
+/// Reads `cache <metadata> <cache> <origin> <block size> <#features> <feature>* <policy> <#arguments> [<key> <value>]*` (the
+/// constructor of the kernel's `cache.rst`), with nothing after it: words parted by spaces. The feature is `writeback`,
+/// `writethrough` or `passthrough`, and none means the first; the policy `tinylfu`, `default` (the same) or `cleaner`; a key
+/// `migration_threshold`, and under TinyLFU `promote_min`. Anything else is `BadTable`. A value that is no value of its key is read.
 pub fn read_table(text: &str) -> Result<Table<'_>, Refusal>
-    ensures found { IfOk result (λ table. IsTable (words_of text.now) table.metadata.now table.cache.now table.origin.now table.block) }
+    ensures found { IfOk result (IsTable (words_of text.now)) }
     ensures refused { IfErr result (λ refusal. refusal ≡ Refusal.BadTable) }
-    ensures outside { IfErr result (λ _. (metadata cache origin : List ℕ) (block : ℕ) → ¬ IsTable (words_of text.now) metadata cache origin block) }
+    ensures outside { IfErr result (λ _. (table : TableTerm) → ¬ IsTable (words_of text.now) table) }
 {
     read_words(SplitSpaces(text)).ok_or(Refusal::BadTable)
 }
 
 fn read_words(mut words: SplitSpaces<'_>) -> Option<Table<'_>>
-    ensures found { IfSome result (λ table. IsTable (words_of words.entry.0.now) table.metadata.now table.cache.now table.origin.now table.block) }
-    ensures outside { IfNone result ((metadata cache origin : List ℕ) (block : ℕ) → ¬ IsTable (words_of words.entry.0.now) metadata cache origin block) }
+    ensures found { IfSome result (IsTable (words_of words.entry.0.now)) }
+    ensures outside { IfNone result ((table : TableTerm) → ¬ IsTable (words_of words.entry.0.now) table) }
 {
     words.expect("cache")?;
     let metadata = words.next()?;
     let cache = words.next()?;
     let origin = words.next()?;
     let block = read_block_size(words.next()?)?;
-    words.expect("0")?;
-    words.expect("tinylfu")?;
-    words.expect("0")?;
-    words.expect_end()?;
+    let mode = read_features(&mut words)?;
+    let policy = read_policy(words.next()?)?;
+    let keys = read_arguments(words, policy)?;
     Some(Table {
         metadata,
         cache,
         origin,
         block,
+        mode,
+        policy,
+        keys,
     })
 }
 
 /// Reads the size of a block.
-fn read_block_size(word: &str) -> Option<u64>
+pub(crate) fn read_block_size(word: &str) -> Option<u64>
     ensures found { IfSome result (IsBlockSize word.now) }
     ensures none { IfNone result ((block : ℕ) → ¬ IsBlockSize word.now block) }
 {
@@ -64,92 +119,70 @@ fn read_block_size(word: &str) -> Option<u64>
     }
 }
 
-/// What each word of a table is, in their order.
-const WORDS: [&str; 8] = [
-    "'cache'",
-    "the metadata file",
-    "the cache file",
-    "the origin file",
-    "the sectors of a block, 64 to 2097152, a multiple of 64",
-    "'0', for no features",
-    "'tinylfu', the policy",
-    "'0', for no policy arguments",
-];
-
-/// Where a text is no table.
-#[derive(Clone, Copy)]
-pub enum TableFault<'a> {
-    /// A word that is none of a table's at its place: what is wanted there.
-    Word {
-        number: usize,
-        found: &'a str,
-        wanted: &'static str,
-    },
-    /// The text ends before this word.
-    End {
-        number: usize,
-        wanted: &'static str,
-    },
-    /// A word after the last.
-    More {
-        found: &'a str,
-    },
-}
-
-/// The first fault of a text that is no table.
-pub fn find_table_fault(text: &str) -> TableFault<'_> {
-    let mut words = SplitSpaces(text);
-    for (number, wanted) in WORDS.iter().copied().enumerate() {
-        match words.next() {
-            None => return TableFault::End { number, wanted },
-            Some(found) if !is_word_at(number, found) => {
-                return TableFault::Word {
-                    number,
-                    found,
-                    wanted,
-                };
-            }
-            Some(_) => {}
-        }
-    }
-    TableFault::More {
-        found: words.next().unwrap_or(""),
+/// Takes the number of features, and these: which mode they choose.
+fn read_features(words: &mut SplitSpaces<'_>) -> Option<Mode>
+    ensures found { IfSome result (λ mode. (taken : List (List ℕ)) × (words_of words.old.0.now ≡ taken ++ words_of words.new.0.now) × SpellsFeatures taken mode) }
+    ensures only { IfSome result (λ _. (taken rest : List (List ℕ)) (mode : ModeTerm) → words_of words.old.0.now ≡ taken ++ rest → SpellsFeatures taken mode → rest ≡ words_of words.new.0.now) }
+    ensures none { IfNone result ((taken rest : List (List ℕ)) (mode : ModeTerm) → words_of words.old.0.now ≡ taken ++ rest → ¬ SpellsFeatures taken mode) }
+{
+    match read_number(words.next()?)? {
+        0 => Some(Mode::Writeback),
+        1 => read_mode(words.next()?),
+        _ => None,
     }
 }
 
-/// Whether a word is one of a table's at its place, counted from 0.
-fn is_word_at(number: usize, word: &str) -> bool {
-    match number {
-        0 => word == "cache",
-        4 => read_block_size(word).is_some(),
-        5 | 7 => word == "0",
-        6 => word == "tinylfu",
-        _ => true,
+/// Reads the feature that a mode is.
+pub(crate) fn read_mode(word: &str) -> Option<Mode>
+    ensures found { IfSome result (λ mode. word.now ≡ mode_name mode) }
+    ensures none { IfNone result ((mode : ModeTerm) → ¬ (word.now ≡ mode_name mode)) }
+{
+    match word {
+        "writeback" => Some(Mode::Writeback),
+        "writethrough" => Some(Mode::Writethrough),
+        "passthrough" => Some(Mode::Passthrough),
+        _ => None,
     }
 }
 
-impl<'a> Display for TableFault<'a> {
-    fn fmt<W: fmt::Write>(&self, f: &mut Formatter<W>) -> fmt::Result {
-        match self {
-            TableFault::Word {
-                number,
-                found,
-                wanted,
-            } => {
-                let place = number.saturating_add(1);
-                write!(
-                    f,
-                    "word {place} of the table is '{found}', and has to be {wanted}"
-                )
-            }
-            TableFault::End { number, wanted } => {
-                let place = number.saturating_add(1);
-                write!(f, "the table ends before word {place}, {wanted}")
-            }
-            TableFault::More { found } => write!(
-                f,
-                "the table goes on after its last word, with '{found}'"
-            ),
-        }
+/// Reads the name of a policy.
+pub(crate) fn read_policy(word: &str) -> Option<PolicyName>
+    ensures found { IfSome result (NamesPolicy word.now) }
+    ensures only { IfSome result (λ policy. (named : Named) → NamesPolicy word.now named → named ≡ policy) }
+    ensures none { IfNone result ((policy : Named) → ¬ NamesPolicy word.now policy) }
+{
+    match word {
+        "tinylfu" | "default" => Some(PolicyName::TinyLfu),
+        "cleaner" => Some(PolicyName::Cleaner),
+        _ => None,
+    }
+}
+
+/// Reads the number of a policy's arguments, and these up to the end: which keys they give.
+fn read_arguments(mut words: SplitSpaces<'_>, policy: PolicyName) -> Option<Keys>
+    ensures found { IfSome result (SpellsArguments policy (words_of words.entry.0.now)) }
+    ensures none { IfNone result ((keys : KeysTerm) → ¬ SpellsArguments policy (words_of words.entry.0.now) keys) }
+{
+    let mut left = read_number(words.next()?)?;
+    let mut keys = Keys::new();
+    while let Some(word) = words.next() {
+        let key = read_key(word, policy)?;
+        let value = read_number(words.next()?)?;
+        keys = keys.with(key, value);
+        left = left.checked_sub(2)?;
+    }
+    if left == 0 { Some(keys) } else { None }
+}
+
+/// Reads the name of a key that can be given under a policy.
+pub(crate) fn read_key(word: &str, policy: PolicyName) -> Option<Key>
+    ensures found { IfSome result (NamesKey policy word.now) }
+    ensures only { IfSome result (λ key. (named : KeyName) → NamesKey policy word.now named → named ≡ key) }
+    ensures none { IfNone result ((key : KeyName) → ¬ NamesKey policy word.now key) }
+{
+    match (word, policy) {
+        ("migration_threshold", _) => Some(Key::MigrationThreshold),
+        ("promote_min", PolicyName::TinyLfu) => Some(Key::PromoteMin),
+        _ => None,
     }
 }

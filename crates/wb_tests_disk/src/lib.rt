@@ -9,4 +9,6 @@ mod format;
 #[cfg(test)]
 mod status;
 #[cfg(test)]
+mod table;
+#[cfg(test)]
 mod types;

@@ -1,0 +1,161 @@
+//! Where a text is no table, for who reads standard error.
+
+use crate::number::read_number;
+use crate::table::{PolicyName, read_block_size, read_key, read_mode, read_policy};
+use crate::words::SplitSpaces;
+use std::fmt;
+use std::fmt::{Display, Formatter};
+
+/// Where a text is no table.
+#[derive(Clone, Copy)]
+pub enum TableFault<'a> {
+    /// A word that is none of a table's at its place: what is wanted there.
+    Word {
+        number: usize,
+        found: &'a str,
+        wanted: &'static str,
+    },
+    /// The text ends before this word.
+    End {
+        number: usize,
+        wanted: &'static str,
+    },
+    /// A word after the last.
+    More {
+        found: &'a str,
+    },
+}
+
+/// What is wanted of a table's next word.
+#[derive(Clone, Copy)]
+enum Wanted {
+    Name,
+    Metadata,
+    Cache,
+    Origin,
+    BlockSize,
+    FeatureCount,
+    Feature,
+    Policy,
+    /// How many arguments the policy has.
+    ArgumentCount(PolicyName),
+    /// A key, where so many arguments are left.
+    Key(PolicyName, u64),
+    /// Its value, where so many are left.
+    Value(PolicyName, u64),
+    /// That there is none.
+    Nothing,
+}
+
+impl Wanted {
+    /// What is wanted behind this word; None where it is not what is wanted itself.
+    fn after(self, word: &str) -> Option<Wanted> {
+        match self {
+            Wanted::Name if word == "cache" => Some(Wanted::Metadata),
+            Wanted::Metadata => Some(Wanted::Cache),
+            Wanted::Cache => Some(Wanted::Origin),
+            Wanted::Origin => Some(Wanted::BlockSize),
+            Wanted::BlockSize => read_block_size(word).map(|_| Wanted::FeatureCount),
+            Wanted::FeatureCount => match read_number(word)? {
+                0 => Some(Wanted::Policy),
+                1 => Some(Wanted::Feature),
+                _ => None,
+            },
+            Wanted::Feature => read_mode(word).map(|_| Wanted::Policy),
+            Wanted::Policy => Some(Wanted::ArgumentCount(read_policy(word)?)),
+            Wanted::ArgumentCount(policy) => match read_number(word)? {
+                count if count % 2 == 0 => Some(Wanted::argument(policy, count)),
+                _ => None,
+            },
+            Wanted::Key(policy, left) => {
+                read_key(word, policy)?;
+                Some(Wanted::Value(policy, left.saturating_sub(1)))
+            }
+            Wanted::Value(policy, left) => {
+                read_number(word)?;
+                Some(Wanted::argument(policy, left.saturating_sub(1)))
+            }
+            _ => None,
+        }
+    }
+
+    /// What is wanted where so many arguments are left.
+    fn argument(policy: PolicyName, left: u64) -> Wanted {
+        match left {
+            0 => Wanted::Nothing,
+            _ => Wanted::Key(policy, left),
+        }
+    }
+
+    fn text(self) -> &'static str {
+        match self {
+            Wanted::Name => "'cache'",
+            Wanted::Metadata => "the metadata file",
+            Wanted::Cache => "the cache file",
+            Wanted::Origin => "the origin file",
+            Wanted::BlockSize => "the sectors of a block, 64 to 2097152, a multiple of 64",
+            Wanted::FeatureCount => "the number of features, 0 or 1",
+            Wanted::Feature => "the mode, 'writeback', 'writethrough' or 'passthrough'",
+            Wanted::Policy => "the policy, 'tinylfu', 'default' or 'cleaner'",
+            Wanted::ArgumentCount(_) => "the number of policy arguments, two for each key",
+            Wanted::Key(PolicyName::TinyLfu, _) => {
+                "a key, 'migration_threshold' or 'promote_min'"
+            }
+            Wanted::Key(PolicyName::Cleaner, _) => "a key, 'migration_threshold'",
+            Wanted::Value(_, _) => "the value of the key before it, a number below 2^64",
+            Wanted::Nothing => "the end",
+        }
+    }
+}
+
+/// The first fault of a text that is no table.
+pub fn find_table_fault(text: &str) -> TableFault<'_> {
+    let mut wanted = Wanted::Name;
+    let mut number: usize = 0;
+    for found in SplitSpaces(text) {
+        if matches!(wanted, Wanted::Nothing) {
+            return TableFault::More { found };
+        }
+        match wanted.after(found) {
+            Some(next) => wanted = next,
+            None => {
+                return TableFault::Word {
+                    number,
+                    found,
+                    wanted: wanted.text(),
+                };
+            }
+        }
+        number = number.saturating_add(1);
+    }
+    TableFault::End {
+        number,
+        wanted: wanted.text(),
+    }
+}
+
+impl<'a> Display for TableFault<'a> {
+    fn fmt<W: fmt::Write>(&self, f: &mut Formatter<W>) -> fmt::Result {
+        match self {
+            TableFault::Word {
+                number,
+                found,
+                wanted,
+            } => {
+                let place = number.saturating_add(1);
+                write!(
+                    f,
+                    "word {place} of the table is '{found}', and has to be {wanted}"
+                )
+            }
+            TableFault::End { number, wanted } => {
+                let place = number.saturating_add(1);
+                write!(f, "the table ends before word {place}, {wanted}")
+            }
+            TableFault::More { found } => write!(
+                f,
+                "the table goes on after its last word, with '{found}'"
+            ),
+        }
+    }
+}
