@@ -82,6 +82,30 @@ while IFS='|' read -r script printed status <&4; do
   check "the script '$script'" "$found $(cmp out.txt wanted.txt 2>&1)" "$status "
 done 4<rows.txt
 
+rows stories.txt >rows.txt
+while IFS='|' read -r does one two three four five <&4; do
+  case $does in
+    story)
+      story=$one
+      fresh
+      ;;
+    run)
+      printf '%b' "$two" >lines
+      "$cache" -v run "cache m.img c.img o.img 64 $one" <lines >out.txt 2>reason.txt
+      found=$?
+      printf '%b' "$three" >wanted.txt
+      check "$story: '$two' with $one" "$found $(cmp out.txt wanted.txt 2>&1). $(grep -v '^wbcache: opened' reason.txt)" \
+        "$four . ${five:+wbcache: $five}"
+      ;;
+    bytes)
+      begin=${two% *}
+      many=${two#* }
+      check "$story: bytes of $one" "$(tail -c +$((begin + 1)) "$one" | head -c "$many" | tr -d "\\$three" | wc -c) $((begin + many <= $(wc -c <"$one")))" '0 1'
+      ;;
+    *) check "$story: a row" "$does" 'story, run or bytes' ;;
+  esac
+done 4<rows.txt
+
 rows tables.txt >rows.txt
 while IFS='|' read -r words reason <&4; do
   words=$(printf '%b.' "$words")

@@ -54,13 +54,14 @@ impl<'w, N: Watch> Disks<WatchedDisk<'w, N>> {
     }
 }
 
-/// Reads a table, opens its files and measures them: `BadTable`, `Io` for the first that cannot be opened, `Geometry`.
+/// Reads a table, opens its files and measures them: `BadTable`, `Io` for the first that cannot be opened, `Geometry`. What the table says,
+/// the files, and the sizes.
 pub fn open_table<'a, 'w, R: Files<File = File>, P: Patience, N: Watch>(
     rt: &R,
     text: &'a str,
     patience: &mut P,
     watch: &'w N,
-) -> Result<(Disks<WatchedDisk<'w, N>>, Geometry), Unopened<'a>> {
+) -> Result<(Table<'a>, Disks<WatchedDisk<'w, N>>, Geometry), Unopened<'a>> {
     let Ok(table) = read_table(text) else {
         return Err(Unopened::Table(find_table_fault(text)));
     };
@@ -71,7 +72,7 @@ pub fn open_table<'a, 'w, R: Files<File = File>, P: Patience, N: Watch>(
         disks.origin.sectors(),
     );
     match measure(table.block, metadata, cache, origin) {
-        Ok(geometry) => Ok((disks, geometry)),
+        Ok(geometry) => Ok((table, disks, geometry)),
         Err(_) => Err(Unopened::Size(find_size_fault(table.block, metadata, cache, origin))),
     }
 }

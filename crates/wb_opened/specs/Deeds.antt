@@ -15,11 +15,12 @@ use Rattle.wb_port.specs.Requests.{WasRead, WasWritten}
 use Rattle.wb_port.specs.Ports.{block_at}
 use Rattle.wb_target.specs.Carried.{client_state, looked_at_fail, HasBegun, Runs, WasDone, WereDone, flush_of, jobs_of, AreSynced}
 
--- Sectors from a place on were read or written, as a whole or of one block without waiting; accesses were settled; all that was finished before was
+-- Sectors from a place on were read or written, as a whole or of one block without waiting, or written and then made durable; accesses were settled; all that was finished before was
 -- made durable, alone or after a tick of the policy; the order that waits longest was carried out, or none waits.
 pub data Deed : Type 0 where
   Read : (at : ℕ) → (content : List Bytes) → Deed
   Wrote : (at : ℕ) → (content : List Bytes) → Deed
+  WroteDurably : (at : ℕ) → (content : List Bytes) → Deed
   TriedRead : (at : ℕ) → (content : List Bytes) → Deed
   TriedWrite : (at : ℕ) → (content : List Bytes) → Deed
   Settled : Deed
@@ -32,17 +33,27 @@ abbrev pub DidWork : {D : Type 0} → (List Order → TaskJob → WorkState D �
 DidWork runs geometry old None new = HasBegun old new
 DidWork {D} runs geometry old (Some order) new = (begun : WorkState D) × HasBegun old begun × WereDone (runs (order ∷ [])) (jobs_of geometry order) begun new
 
--- A client has read so in parts, one a block, each by a run of its table; or has written so; or by one such run, whose access is to be settled then. It has
--- had its policy told of all that was to be settled. It has done a flush, which leaves its three devices their last contents alone, where they tell what
--- they hold; or first had its policy's tick. It has carried out the order that waited longest, or none did.
+-- what a client has done that wrote sectors: in parts, one a block, each by a run of its table
+abbrev pub DidWrite : {D P : Type 0} → Type 0 → (D → ℕ) → (D → List History) → (D → ℕ) → Client D P → ℕ → List Bytes → Client D P → Type 0
+DidWrite tells size contents faults old at content new =
+    (parts : ℕ) × InParts (WriteCame tells size contents faults old.port.geometry) old.port.geometry.block None parts at old.port.hand content new.port.hand content
+
+-- what it has done that flushed: a flush, which leaves its three devices their last contents alone, where they tell what they hold
+abbrev pub DidFlush : {D P : Type 0} → Type 0 → (D → ℕ) → (D → List History) → (D → ℕ) → (List Order → DeskTold) → Client D P → Client D P → Type 0
+DidFlush tells size contents faults asked old new =
+    WasDone (Runs tells size contents faults asked old.port.geometry.origin_blocks []) (flush_of old.port.geometry None) (client_state old.port) (client_state new.port)
+    × (tells → AreSynced contents new.port.hand.devices)
+
+-- A client has read so in parts, one a block, each by a run of its table; or has written so, and then flushed where that was to be durable; or by one such
+-- run, whose access is to be settled then. It has had its policy told of all that was to be settled. It has flushed; or first had its policy's tick. It has
+-- carried out the order that waited longest, or none did.
 abbrev pub ClientDid : {D P : Type 0} → Type 0 → (D → ℕ) → (D → List History) → (D → ℕ) → (List Order → DeskTold) → (List OBlock → Type 0) → Type 0 → (Option Order → Type 0) → Client D P → Deed → Client D P → Type 0
 ClientDid tells size contents faults asked settled ticked next old (Read at content) new =
     (parts : ℕ) × (before : List Bytes) × InParts (ReadCame tells size contents faults old.port.geometry) old.port.geometry.block None parts at old.port.hand before new.port.hand content
-ClientDid tells size contents faults asked settled ticked next old (Wrote at content) new =
-    (parts : ℕ) × InParts (WriteCame tells size contents faults old.port.geometry) old.port.geometry.block None parts at old.port.hand content new.port.hand content
-ClientDid tells size contents faults asked settled ticked next old Flushed new =
-    WasDone (Runs tells size contents faults asked old.port.geometry.origin_blocks []) (flush_of old.port.geometry None) (client_state old.port) (client_state new.port)
-    × (tells → AreSynced contents new.port.hand.devices)
+ClientDid tells size contents faults asked settled ticked next old (Wrote at content) new = DidWrite tells size contents faults old at content new
+ClientDid {D} {P} tells size contents faults asked settled ticked next old (WroteDurably at content) new =
+    (written : Client D P) × DidWrite tells size contents faults old at content written × DidFlush tells size contents faults asked written new
+ClientDid tells size contents faults asked settled ticked next old Flushed new = DidFlush tells size contents faults asked old new
 ClientDid tells size contents faults asked settled ticked next old (TriedRead at content) new =
     WasRead tells size contents faults old.port.geometry.block (block_at old.port.geometry at) (record { first = at; count = length content }) content old.port.hand new.port.hand
     × (new.port.accesses.items ≡ old.port.accesses.items ++ block_at old.port.geometry at ∷ [])

@@ -41,6 +41,21 @@ impl<'t, D: Disk + Drop, P: Policy> Served for Client<'t, D, P> {
     }
 
     #[tactic(auto, using(crate::proofs::Inside::not_outside))]
+    fn write_fua<R: Wait>(&mut self, rt: &R, at: Sector, from: &[Content]) -> Result<(), Refusal> {
+        let written = Client::write(self, rt, at, from);
+        match written {
+            Ok(()) => {
+                let flushed = Client::flush(self, rt);
+                match flushed {
+                    Ok(_) => Ok(()),
+                    Err(refusal) => Err(refusal),
+                }
+            }
+            Err(stopped) => Err(stopped.refusal),
+        }
+    }
+
+    #[tactic(auto, using(crate::proofs::Inside::not_outside))]
     fn try_read(&mut self, at: Sector, out: &mut [Content]) -> Result<(), Refusal> {
         match self.port.try_read(at, out) {
             Ok(()) => Ok(()),

@@ -4,6 +4,7 @@
 mod client;
 mod difference;
 mod opening;
+mod policies;
 mod served;
 mod serving;
 mod unserved;

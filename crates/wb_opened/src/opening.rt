@@ -1,6 +1,7 @@
 //! Opening a target over the files of a table.
 
-ghost use Rattle.std.specs.Prelude.{◌≡◌};
+ghost use Rattle.std.specs.Prelude.{◌≡◌, IfOk, IfErr};
+ghost use Rattle.wb_opened.specs.Tables.{name_of, Lists};
 
 use crate::difference::find_difference;
 use crate::unserved::Unserved;
@@ -10,20 +11,20 @@ use std::rt::Files;
 use wb_devices::Devices;
 use wb_disk::Disk;
 use wb_files::{Disks, Hurry, Patience, Watch, WatchedDisk, open_table};
-use wb_policy::TinyLfu;
-use wb_table::Table;
+use wb_policy::Policy;
+use wb_table::{Keys, Table};
 use wb_target::Target;
-use wb_types::{Mode, Refusal};
+use wb_types::{Key, Refusal};
 
-/// The files of a table, locked for as long as they are held, and the sectors of a block.
+/// Reads a table and opens its files, locked for as long as they are held.
 pub(crate) fn open_devices<'a, 'w, R: Files<File = File>, P: Patience, N: Watch>(
     rt: &R,
-    table: &'a str,
+    text: &'a str,
     patience: &mut P,
     watch: &'w N,
-) -> Result<(Devices<WatchedDisk<'w, N>>, u64), Unserved<'a>> {
-    match open_table(rt, table, patience, watch) {
-        Ok((disks, geometry)) => Ok((devices_of(disks), u64::from(geometry.block))),
+) -> Result<(Table<'a>, Devices<WatchedDisk<'w, N>>), Unserved<'a>> {
+    match open_table(rt, text, patience, watch) {
+        Ok((table, disks, _)) => Ok((table, devices_of(disks))),
         Err(unopened) => Err(Unserved::Unopened(unopened)),
     }
 }
@@ -70,17 +71,45 @@ pub(crate) fn open_unlocked<'a, 'w, R: Files<File = File>, N: Watch>(
     }
 }
 
-/// Opens the cache on these devices, in write-back mode with TinyLFU.
-pub(crate) fn open_target<'a, D: Disk + Drop>(
+/// Opens the cache of a table on these devices, with a policy of the name that it has.
+pub(crate) fn open_target<'a, P: Policy, D: Disk + Drop>(
     alloc: Global,
     devices: Devices<D>,
-    block: u64,
-) -> Result<(Devices<D>, Target<TinyLfu>), Unserved<'a>> {
-    let (mut devices, opened) = Target::open(alloc, devices, block, Mode::Writeback, &[]);
+    table: &Table<'a>,
+) -> Result<(Devices<D>, Target<P>), Unserved<'a>>
+    requires policy { P.name ≡ name_of table.now.policy }
+    requires mode { table.now.mode ≡ Mode.Writeback }
+{
+    let keys = match listed(alloc, &table.keys) {
+        Ok(keys) => keys,
+        Err(refusal) => return Err(Unserved::Refused(refusal)),
+    };
+    let (mut devices, opened) = Target::open(
+        alloc,
+        devices,
+        table.block,
+        table.mode,
+        keys.as_slice(),
+    );
     match opened {
         Ok(target) => Ok((devices, target)),
-        Err(refusal) => Err(unserved_of(&mut devices, block, refusal)),
+        Err(refusal) => Err(unserved_of(&mut devices, table.block, refusal)),
     }
+}
+
+/// The keys that a table gives, as an opening takes them. `Memory` where there is none.
+fn listed(alloc: Global, keys: &Keys) -> Result<Vec<(Key, u64)>, Refusal>
+    ensures listed { IfOk result (λ list. Lists list.items keys.now) }
+    ensures refused { IfErr result (λ refusal. refusal ≡ Refusal.Memory) }
+{
+    let mut list = Vec::with_capacity(alloc, 2)?;
+    if let Some(sectors) = keys.migration_threshold {
+        list.push_reserved((Key::MigrationThreshold, sectors));
+    }
+    if let Some(least) = keys.promote_min {
+        list.push_reserved((Key::PromoteMin, least));
+    }
+    Ok(list)
 }
 
 /// Why a target was not opened, with the size that differs where one does.

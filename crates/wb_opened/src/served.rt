@@ -1,11 +1,11 @@
 //! What a target is to who stands above it: what its clients can be asked, and what is done by one of them.
 
-ghost use Rattle.std.specs.Prelude.{Bool, ◌≡◌, ◌*◌, ◌++◌, OnOk, OnErr, IfOk, IfErr, length, string_bytes};
+ghost use Rattle.std.specs.Prelude.{Bool, ◌≡◌, ◌≢◌, ◌*◌, ◌++◌, OnOk, OnErr, IfOk, IfErr, length, string_bytes};
 ghost use Rattle.std.specs.Bool.{OnTrue};
 ghost use Rattle.wb_types.specs.declared.geometry.Geometry.{Geometry as Sizes};
 ghost use Rattle.wb_target.specs.declared.gate.Point.{Point as WorkPoint};
 ghost use Rattle.wb_target.specs.Workers.{IsFailure};
-ghost use Rattle.wb_opened.specs.Deeds.{Deed, Read, Wrote, TriedRead, TriedWrite, Settled, Flushed, Ticked, Worked};
+ghost use Rattle.wb_opened.specs.Deeds.{Deed, Read, Wrote, WroteDurably, TriedRead, TriedWrite, Settled, Flushed, Ticked, Worked};
 ghost use Rattle.wb_table.specs.Status.{status_line};
 ghost use Rattle.wb_table.specs.declared.status.Fields.{Fields};
 ghost use Rattle.wb_opened.specs.Inside.{IsInside};
@@ -43,6 +43,12 @@ pub trait Served {
     /// `Range` as `read`; `Failed`, `Worn` and `Io` where a block met them.
     fn write<R: Wait>(&mut self, rt: &R, at: Sector, from: &[Content]) -> Result<(), Refusal>
         ensures done { OnOk result (did self.old (Wrote at.0 from.now) self.new) }
+        ensures range { IfErr result (λ refusal. refusal ≡ Refusal.Range → ¬ IsInside at.0 (length from.now) ((sizes self.old).block * (sizes self.old).origin_blocks)) }
+        ensures sizes { sizes self.new ≡ sizes self.old };
+
+    /// Writes sectors as `write`, and then makes durable all that was finished, as `flush`; refused as these. Finished blocks stay.
+    fn write_fua<R: Wait>(&mut self, rt: &R, at: Sector, from: &[Content]) -> Result<(), Refusal>
+        ensures done { OnOk result (did self.old (WroteDurably at.0 from.now) self.new) }
         ensures range { IfErr result (λ refusal. refusal ≡ Refusal.Range → ¬ IsInside at.0 (length from.now) ((sizes self.old).block * (sizes self.old).origin_blocks)) }
         ensures sizes { sizes self.new ≡ sizes self.old };
 

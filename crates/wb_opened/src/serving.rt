@@ -1,6 +1,10 @@
 //! Serving the target of a table.
 
+ghost use Rattle.std.specs.Prelude.{◌≡◌};
+ghost use Rattle.wb_opened.specs.Tables.{name_of};
+
 use crate::opening::{open_devices, open_named, open_target, open_unlocked};
+use crate::policies::{serve_first, serve_on, serve_rest};
 use crate::served::{Served, Service};
 use crate::unserved::Unserved;
 use std::alloc::{AllocError, Global};
@@ -12,11 +16,11 @@ use wb_devices::Devices;
 use wb_disk::Disk;
 use wb_files::{Hurry, Patience, Unwatched, Watch, WatchedDisk};
 use wb_policy::Policy;
-use wb_table::{Table, read_table};
+use wb_table::Table;
 use wb_target::{Client, Errand, Returned, Sent, Target};
 use wb_types::Refusal;
 
-/// Opens the cache over the files of a table, in write-back mode with TinyLFU, and has one client do a service: what it told. The
+/// Opens the cache over the files of a table, in its mode and with its policy, and has one client do a service: what it told. The
 /// files are locked as long, and who watches is told of each step on them that fails. Nothing is flushed at the end, which leaves the
 /// cache without the clean flag.
 ///
@@ -29,8 +33,8 @@ pub fn serve_alone<'a, R: Files<File = File>, T: Wait, N: Watch, S: Service + Dr
     watch: &N,
     service: S,
 ) -> Result<S::Told, Unserved<'a>> {
-    let (devices, block) = open_devices(rt, table, &mut Hurry, watch)?;
-    serve_on(waits, alloc, devices, block, service)
+    let (table, devices) = open_devices(rt, table, &mut Hurry, watch)?;
+    serve_on(waits, alloc, devices, &table, service)
 }
 
 /// As `serve_alone`, by several who do their services beside one another, each by a client of its own with files of its own and on a
@@ -52,12 +56,9 @@ pub fn serve_all<
     watch: &N,
     services: Vec<S>,
 ) -> Result<Vec<Result<S::Told, Refusal>>, Unserved<'a>> {
-    let (devices, block) = open_devices(rt, table, patience, watch)?;
-    let Ok(table) = read_table(table) else {
-        return Err(Unserved::Refused(Refusal::BadTable));
-    };
+    let (table, devices) = open_devices(rt, table, patience, watch)?;
     let errands = errands_of(rt, alloc, &table, watch, services)?;
-    serve_rest(waits, alloc, devices, block, errands)
+    serve_rest(waits, alloc, devices, &table, errands)
 }
 
 /// Opens the cache over the files of a table that was read, has one client do a service, and then several, each with files of its
@@ -79,18 +80,21 @@ pub fn serve_each<
     let watch = Unwatched;
     let devices = open_named(rt, table, &watch)?;
     let errands = errands_of(rt, alloc, table, &watch, services)?;
-    serve_first(waits, alloc, devices, table.block, first, errands)
+    serve_first(waits, alloc, devices, table, first, errands)
 }
 
-/// Opens the cache on these devices and has one client do a service.
-fn serve_on<'a, T: Wait, D: Disk + Drop, S: Service + Drop>(
+/// Opens the cache of a table on these devices, with a policy of the name that it has, and has one client do a service.
+pub(crate) fn serve_one<'a, P: Policy, T: Wait, D: Disk + Drop, S: Service + Drop>(
     waits: &T,
     alloc: Global,
     devices: Devices<D>,
-    block: u64,
+    table: &Table<'a>,
     service: S,
-) -> Result<S::Told, Unserved<'a>> {
-    let (devices, target) = open_target(alloc, devices, block)?;
+) -> Result<S::Told, Unserved<'a>>
+    requires policy { P.name ≡ name_of table.now.policy }
+    requires mode { table.now.mode ≡ Mode.Writeback }
+{
+    let (devices, target) = open_target::<P, D>(alloc, devices, table)?;
     serve_by(waits, &target, devices, service).map_err(|refusal| Unserved::Refused(refusal))
 }
 
@@ -107,23 +111,33 @@ fn serve_by<T: Wait, D: Disk + Drop, P: Policy, S: Service + Drop>(
     }
 }
 
-/// Opens the cache on these devices, which are kept open as long, and has clients do services beside one another.
-fn serve_rest<'a, T: Threads + Wait + Sync, D: Disk + Drop + Send, S: Service + Send + Drop>(
+/// Opens the cache of a table so on these devices, which are kept open as long, and has clients do services beside one another.
+pub(crate) fn serve_several<
+    'a,
+    P: Policy + Send,
+    T: Threads + Wait + Sync,
+    D: Disk + Drop + Send,
+    S: Service + Send + Drop,
+>(
     waits: &T,
     alloc: Global,
     devices: Devices<D>,
-    block: u64,
+    table: &Table<'a>,
     errands: Vec<Sent<D, Doing<S>>>,
-) -> Result<Vec<Result<S::Told, Refusal>>, Unserved<'a>> {
-    let (devices, target) = open_target(alloc, devices, block)?;
+) -> Result<Vec<Result<S::Told, Refusal>>, Unserved<'a>>
+    requires policy { P.name ≡ name_of table.now.policy }
+    requires mode { table.now.mode ≡ Mode.Writeback }
+{
+    let (devices, target) = open_target::<P, D>(alloc, devices, table)?;
     let told = beside_one_another(waits, alloc, &target, errands);
     drop(devices);
     told.map_err(|_| Unserved::Refused(Refusal::Memory))
 }
 
-/// Opens the cache on these devices, has one client do the first service, and the others theirs beside one another.
-fn serve_first<
+/// Opens the cache of a table so on these devices, has one client do the first service, and the others theirs beside one another.
+pub(crate) fn serve_one_and_several<
     'a,
+    P: Policy + Send,
     T: Threads + Wait + Sync,
     D: Disk + Drop + Send,
     F: Service + Drop,
@@ -132,11 +146,14 @@ fn serve_first<
     waits: &T,
     alloc: Global,
     devices: Devices<D>,
-    block: u64,
+    table: &Table<'a>,
     first: F,
     errands: Vec<Sent<D, Doing<S>>>,
-) -> Result<(F::Told, Vec<Result<S::Told, Refusal>>), Unserved<'a>> {
-    let (devices, target) = open_target(alloc, devices, block)?;
+) -> Result<(F::Told, Vec<Result<S::Told, Refusal>>), Unserved<'a>>
+    requires policy { P.name ≡ name_of table.now.policy }
+    requires mode { table.now.mode ≡ Mode.Writeback }
+{
+    let (devices, target) = open_target::<P, D>(alloc, devices, table)?;
     let told = serve_by(waits, &target, devices, first).map_err(|refusal| Unserved::Refused(
         refusal,
     ))?;
@@ -163,7 +180,7 @@ fn beside_one_another<
 
 /// A service, to be done as an errand.
 #[derive(Drop)]
-struct Doing<S> {
+pub(crate) struct Doing<S> {
     service: S,
 }
 

@@ -4,7 +4,7 @@ use crate::difference::Difference;
 use std::fmt;
 use std::fmt::{Display, Formatter};
 use wb_files::Unopened;
-use wb_types::Refusal;
+use wb_types::{Mode, Refusal};
 
 /// Why a target of files was not served.
 #[derive(Drop)]
@@ -15,6 +15,8 @@ pub enum Unserved<'a> {
     Refused(Refusal),
     /// The metadata are those of other files, or of another block size.
     Differs(Difference),
+    /// The table's mode is none that is served so far.
+    Mode(Mode),
 }
 
 impl<'a> Unserved<'a> {
@@ -24,6 +26,7 @@ impl<'a> Unserved<'a> {
             Unserved::Unopened(unopened) => unopened.refusal(),
             Unserved::Refused(refusal) => *refusal,
             Unserved::Differs(_) => Refusal::Mismatch,
+            Unserved::Mode(_) => Refusal::BadTable,
         }
     }
 }
@@ -40,6 +43,10 @@ impl<'a> Display for Unserved<'a> {
                 "10 NotFormatted: the metadata file has no valid root; 'wbcache format' with the same table makes it that of an empty cache"
             ),
             Unserved::Differs(difference) => write!(f, "12 Mismatch: {difference}"),
+            Unserved::Mode(mode) => write!(
+                f,
+                "16 BadTable: the table's mode, {mode}, is not served so far; 'writeback' is"
+            ),
             Unserved::Refused(refusal) => write!(f, "{refusal}"),
         }
     }

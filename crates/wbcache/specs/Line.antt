@@ -5,14 +5,15 @@ use Rattle.wb_table.specs.Words.{words_of}
 use Rattle.wb_table.specs.Comments.{IsComment}
 use Rattle.wb_table.specs.Sectors.{SpellsSectors, SpellsFill}
 use Rattle.wbcache.specs.declared.line.Line.{Line}
-use Rattle.wbcache.specs.declared.line.Line.TheVariants.{Nothing, Read, Write, TryRead, TryWrite, Flush, Settle, Work, Tick, Status}
+use Rattle.wbcache.specs.declared.line.Line.TheVariants.{Nothing, Read, Write, WriteDurably, TryRead, TryWrite, Flush, Settle, Work, Tick, Status}
 
--- The words of a line that asks this: none, one that names the call, or `r`, `tr`, `w`, `tw` and what they take.
+-- The words of a line that asks this: none, one that names the call, or `r`, `tr`, `w`, `wf`, `tw` and what they take.
 abbrev pub WordsAsk : List (List ℕ) → Line → Type 0
 WordsAsk [] Nothing = Unit {0}
 WordsAsk (name ∷ words) (Read at count) = (name ≡ codes "r") × SpellsSectors words at.0 count
 WordsAsk (name ∷ words) (TryRead at count) = (name ≡ codes "tr") × SpellsSectors words at.0 count
 WordsAsk (name ∷ words) (Write at count fill) = (name ≡ codes "w") × SpellsFill words at.0 count fill
+WordsAsk (name ∷ words) (WriteDurably at count fill) = (name ≡ codes "wf") × SpellsFill words at.0 count fill
 WordsAsk (name ∷ words) (TryWrite at count fill) = (name ≡ codes "tw") × SpellsFill words at.0 count fill
 WordsAsk (name ∷ words) Flush = (name ≡ codes "flush") × (words ≡ [])
 WordsAsk (name ∷ words) Settle = (name ≡ codes "settle") × (words ≡ [])

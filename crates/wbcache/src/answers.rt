@@ -38,7 +38,12 @@ pub fn answer<R: Wait, C: Served>(
         Line::TryRead { at, count } => return try_read(alloc, client, at, count, text),
         Line::Work => return work(rt, client, text),
         Line::Status => return status(rt, client, text),
-        Line::Write { at, count, fill } => write(rt, alloc, client, at, count, fill, progress)?,
+        Line::Write { at, count, fill } => {
+            write(rt, alloc, client, at, count, fill, false, progress)?
+        }
+        Line::WriteDurably { at, count, fill } => {
+            write(rt, alloc, client, at, count, fill, true, progress)?
+        }
         Line::TryWrite { at, count, fill } => try_write(alloc, client, at, count, fill)?,
         Line::Settle => client.settle(rt),
         Line::Flush => client.flush(rt)?,
@@ -77,7 +82,7 @@ fn read<R: Wait, C: Served>(
     Ok(())
 }
 
-/// Writes block by block.
+/// Writes block by block; where it is to be durable, the last block is followed by a flush.
 #[tactic(auto, using(crate::proofs::Ranges::not_refused))]
 fn write<R: Wait, C: Served>(
     rt: &R,
@@ -86,6 +91,7 @@ fn write<R: Wait, C: Served>(
     at: Sector,
     count: u64,
     fill: u8,
+    is_durable: bool,
     progress: &mut Progress<'_>,
 ) -> Result<(), Refusal>
     ensures outside { ¬ IsInside at.0 count ((C.sizes client.old).block * (C.sizes client.old).origin_blocks) → IsErrOf result Refusal.Range }
@@ -98,7 +104,11 @@ fn write<R: Wait, C: Served>(
     while first < end {
         let part = first_part(geometry.block, first, end);
         let contents = filled(alloc, part.count, fill)?;
-        client.write(rt, Sector(first), contents.as_slice())?;
+        if is_durable && first + part.count == end {
+            client.write_fua(rt, Sector(first), contents.as_slice())?;
+        } else {
+            client.write(rt, Sector(first), contents.as_slice())?;
+        }
         first += part.count;
         progress.reach(count.saturating_sub(end - first), count);
     }

@@ -31,7 +31,7 @@ pub fn format_files<'a, R: Files<File = File>, N: Watch, C: Consent, W: Write>(
     writer: &mut W,
 ) -> Ended<'a> {
     match open_table(rt, table, &mut Hurry, watch) {
-        Ok((mut disks, geometry)) => {
+        Ok((_, mut disks, geometry)) => {
             format_disk(alloc, &mut disks.metadata, &geometry, consent, writer)
         }
         Err(unopened) => refused(alloc, Unserved::Unopened(unopened), writer),

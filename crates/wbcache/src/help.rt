@@ -8,14 +8,24 @@ pub const ABOUT: &str = "A write-back block cache over three files.";
 /// What a table and a script are, for both subcommands.
 pub const TEXTS: &str = "\
 TABLE is one argument, words parted by spaces:
-  cache <metadata> <cache> <origin> <block size> 0 tinylfu 0
+  cache <metadata> <cache> <origin> <block size> <mode> <policy> <keys>
 Three files that are there, and sectors of 512 bytes in a block: 64 to 2097152,
 a multiple of 64. Cache and origin have whole blocks, 1048575 and 1048576 at
 most. The metadata have 2 sectors and 2 for each node of a tree over the cache
 blocks, 32 a node: 4 sectors serve 32 cache blocks.
+  mode    0, or 1 writeback, the same; 1 writethrough and 1 passthrough are read
+          and not served so far
+  policy  tinylfu, or default, the same: caches what is read or written again;
+          cleaner: caches nothing more, and writes back what is dirty
+  keys    how many words follow, and these: 0, or
+          2 migration_threshold N   the most sectors on the way at once (2048)
+          2 promote_min N           tinylfu: accesses, 1 to 17, that make a
+                                    block worth caching (2)
+          4 migration_threshold N promote_min N   both
 
 A script, one answer a line, is read from standard input:
   w S N hh    fill N sectors from S on with the byte hh: prints 'ok'
+  wf S N hh   the same, and then flush
   r S N       read them: prints '<sector> <hh>' or '<sector> mixed' for each
   tw, tr      the same over sectors of one block, without waiting
   work        carry out an order of the policy, if any: prints which, or 'idle'

@@ -18,6 +18,8 @@ pub enum Line {
     Read { at: Sector, count: u64 },
     /// `w S N hh`: fills so many sectors, from a sector on, with a byte.
     Write { at: Sector, count: u64, fill: u8 },
+    /// `wf S N hh`: the same, and then makes durable what was finished.
+    WriteDurably { at: Sector, count: u64, fill: u8 },
     /// `tr S N`: reads sectors of one block, without waiting.
     TryRead { at: Sector, count: u64 },
     /// `tw S N hh`: fills sectors of one block with a byte, without waiting.
@@ -63,6 +65,10 @@ fn read_words(mut words: SplitSpaces<'_>) -> Option<Line>
             let (at, count, fill) = read_fill(words)?;
             Some(Line::Write { at, count, fill })
         }
+        Some("wf") => {
+            let (at, count, fill) = read_fill(words)?;
+            Some(Line::WriteDurably { at, count, fill })
+        }
         Some("tw") => {
             let (at, count, fill) = read_fill(words)?;
             Some(Line::TryWrite { at, count, fill })
@@ -74,7 +80,7 @@ fn read_words(mut words: SplitSpaces<'_>) -> Option<Line>
 /// Reads a line of one word.
 fn read_word(word: &str, mut words: SplitSpaces<'_>) -> Option<Line>
     requires reads { (word.now ≢ codes "r") × (word.now ≢ codes "tr") }
-    requires writes { (word.now ≢ codes "w") × (word.now ≢ codes "tw") }
+    requires writes { (word.now ≢ codes "w") × (word.now ≢ codes "wf") × (word.now ≢ codes "tw") }
     ensures found { IfSome result (WordsAsk (word.now ∷ words_of words.entry.0.now)) }
     ensures none { IfNone result ((asked : Asked) → ¬ WordsAsk (word.now ∷ words_of words.entry.0.now) asked) }
 {

@@ -24,7 +24,7 @@ const ONE_LINE: usize = 64;
 const MOST_OF_A_LINE: u64 = 1_048_576;
 
 /// Runs a script over the files of a table, and gives the exit status with the reason of what was refused: the cache is opened,
-/// in write-back mode with TinyLFU, and one client plays the script. Each line's answer is out, in one write, before the next line
+/// in the table's mode and with its policy, and one client plays the script. Each line's answer is out, in one write, before the next line
 /// is read, and what was opened and how far a long request has come is told where that was asked for. All three files are locked until the script ends, which leaves the cache without the clean flag.
 ///
 /// 0 where each line was answered, 1 where the opening or a line was refused or one was no line of a script, 3 where a device

@@ -37,7 +37,7 @@ impl Tally {
             Line::Write { .. } | Line::TryWrite { .. } => {
                 self.unflushed = self.unflushed.saturating_add(1);
             }
-            Line::Flush | Line::Tick => self.unflushed = 0,
+            Line::WriteDurably { .. } | Line::Flush | Line::Tick => self.unflushed = 0,
             _ => {}
         }
     }

@@ -20,7 +20,7 @@ use wb_types::Refusal;
 /// How many requests are served at once, at most.
 const SERVERS: u64 = 16;
 
-/// Opens the cache over the files of a table, in write-back mode with TinyLFU, and serves the origin to the client whose bytes are
+/// Opens the cache over the files of a table, in its mode and with its policy, and serves the origin to the client whose bytes are
 /// read and written here, up to 16 requests at once, with a worker beside. Once the connection has ended or broken, accesses are
 /// settled and all is flushed; the cache is left without the clean flag. All three files are locked as long; where another program
 /// holds one, it is waited for.

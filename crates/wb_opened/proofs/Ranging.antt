@@ -1,0 +1,30 @@
+-- A flush is not refused for a range.
+use Rattle.std.proofs.Common.{◌≡◌, ℕ, List, [], ◌∷◌, inl, inr, subst}
+use Rattle.wb_types.specs.declared.geometry.Geometry.{Geometry}
+use Rattle.wb_types.specs.declared.refusal.Refusal.{Refusal}
+use Rattle.wb_types.specs.declared.refusal.Refusal.TheVariants.{Range}
+use Rattle.wb_disk.specs.Device.{History}
+use Rattle.wb_policy.specs.declared.order.Order.{Order}
+use Rattle.wb_tasks.specs.Tables.{TaskJob}
+use Rattle.wb_tasks.specs.Causes.{GaveCause}
+use Rattle.wb_tasks.specs.declared.step.Want.{Want}
+use Rattle.wb_tasks.specs.declared.step.Got.{Got}
+use Rattle.wb_tasks.proofs.Causing.{refuses_for_cause}
+use Rattle.wb_target.specs.Carried.{Runs, flush_of}
+use Rattle.wb_target.specs.Workers.{FlushRefused}
+use Rattle.wb_target.specs.Works.{DeskTold, WorkState}
+use Rattle.std.specs.Prelude.{None}
+
+-- no step gives cause for it
+no_range : (job : TaskJob) (steps : List (Want × Got)) → GaveCause job Range steps → ⊥
+no_range job [] h = h
+no_range job (step ∷ steps) h = elim h [ inl now ↦ now | inr later ↦ no_range job steps later ]
+
+pub flush_never_range : {D : Type 0} (tells : Type 0) (size : D → ℕ) (contents : D → List History) (faults : D → ℕ) (asked : List Order → DeskTold) (blocks : ℕ) (geometry : Geometry) (refusal : Refusal) (old new : WorkState D)
+    → FlushRefused (Runs tells size contents faults asked blocks) geometry refusal old new → refusal ≡ Range → ⊥
+flush_never_range tells size contents faults asked blocks geometry refusal old new f e = elim f [
+  | inl refused ↦
+      let ended = refused.1.2.ended in
+      no_range (flush_of geometry None) ended.steps (subst (λ (x : Refusal). GaveCause (flush_of geometry None) x ended.steps) e (refuses_for_cause (flush_of geometry None) ended.steps refusal ended.run))
+  | inr unbegun ↦ let memory = unbegun.0 in cc
+]
