@@ -9,6 +9,7 @@ use Rattle.wb_target.specs.declared.gate.Point.{Point}
 use Rattle.wb_target.specs.Works.{DeskTold, WorkState}
 use Rattle.wb_target.specs.Workers.{EndedBy}
 use Rattle.wb_target.specs.Blocking.{ReadCame, WriteCame, InParts}
+use Rattle.wb_target.specs.Durable.{WroteDurably as WrittenDurably}
 use Rattle.wb_tasks.specs.Tables.{TaskJob}
 use Rattle.wb_tasks.specs.declared.step.Answer.{Answer}
 use Rattle.wb_port.specs.Requests.{WasRead, WasWritten}
@@ -33,12 +34,7 @@ abbrev pub DidWork : {D : Type 0} → (List Order → TaskJob → WorkState D �
 DidWork runs geometry old None new = HasBegun old new
 DidWork {D} runs geometry old (Some order) new = (begun : WorkState D) × HasBegun old begun × WereDone (runs (order ∷ [])) (jobs_of geometry order) begun new
 
--- what a client has done that wrote sectors: in parts, one a block, each by a run of its table
-abbrev pub DidWrite : {D P : Type 0} → Type 0 → (D → ℕ) → (D → List History) → (D → ℕ) → Client D P → ℕ → List Bytes → Client D P → Type 0
-DidWrite tells size contents faults old at content new =
-    (parts : ℕ) × InParts (WriteCame tells size contents faults old.port.geometry) old.port.geometry.block None parts at old.port.hand content new.port.hand content
-
--- what it has done that flushed: a flush, which leaves its three devices their last contents alone, where they tell what they hold
+-- what a client has done that flushed: a flush, which leaves its three devices their last contents alone, where they tell what they hold
 abbrev pub DidFlush : {D P : Type 0} → Type 0 → (D → ℕ) → (D → List History) → (D → ℕ) → (List Order → DeskTold) → Client D P → Client D P → Type 0
 DidFlush tells size contents faults asked old new =
     WasDone (Runs tells size contents faults asked old.port.geometry.origin_blocks []) (flush_of old.port.geometry None) (client_state old.port) (client_state new.port)
@@ -50,9 +46,11 @@ DidFlush tells size contents faults asked old new =
 abbrev pub ClientDid : {D P : Type 0} → Type 0 → (D → ℕ) → (D → List History) → (D → ℕ) → (List Order → DeskTold) → (List OBlock → Type 0) → Type 0 → (Option Order → Type 0) → Client D P → Deed → Client D P → Type 0
 ClientDid tells size contents faults asked settled ticked next old (Read at content) new =
     (parts : ℕ) × (before : List Bytes) × InParts (ReadCame tells size contents faults old.port.geometry) old.port.geometry.block None parts at old.port.hand before new.port.hand content
-ClientDid tells size contents faults asked settled ticked next old (Wrote at content) new = DidWrite tells size contents faults old at content new
-ClientDid {D} {P} tells size contents faults asked settled ticked next old (WroteDurably at content) new =
-    (written : Client D P) × DidWrite tells size contents faults old at content written × DidFlush tells size contents faults asked written new
+ClientDid tells size contents faults asked settled ticked next old (Wrote at content) new =
+    (parts : ℕ) × InParts (WriteCame tells size contents faults old.port.geometry) old.port.geometry.block None parts at old.port.hand content new.port.hand content
+ClientDid tells size contents faults asked settled ticked next old (WroteDurably at content) new =
+    WrittenDurably (WriteCame tells size contents faults old.port.geometry) (WasDone (Runs tells size contents faults asked old.port.geometry.origin_blocks []) (flush_of old.port.geometry None)) old.port.geometry at content old.port.hand (client_state new.port)
+    × (tells → AreSynced contents new.port.hand.devices)
 ClientDid tells size contents faults asked settled ticked next old Flushed new = DidFlush tells size contents faults asked old new
 ClientDid tells size contents faults asked settled ticked next old (TriedRead at content) new =
     WasRead tells size contents faults old.port.geometry.block (block_at old.port.geometry at) (record { first = at; count = length content }) content old.port.hand new.port.hand

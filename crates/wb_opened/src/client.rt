@@ -40,17 +40,9 @@ impl<'t, D: Disk + Drop, P: Policy> Served for Client<'t, D, P> {
         }
     }
 
-    #[tactic(auto, using(crate::proofs::Inside::not_outside))]
     fn write_fua<R: Wait>(&mut self, rt: &R, at: Sector, from: &[Content]) -> Result<(), Refusal> {
-        let written = Client::write(self, rt, at, from);
-        match written {
-            Ok(()) => {
-                let flushed = Client::flush(self, rt);
-                match flushed {
-                    Ok(_) => Ok(()),
-                    Err(refusal) => Err(refusal),
-                }
-            }
+        match Client::write_fua(self, rt, at, from) {
+            Ok(_) => Ok(()),
             Err(stopped) => Err(stopped.refusal),
         }
     }

@@ -21,14 +21,16 @@ pub(crate) fn serve_on<'a, T: Wait, D: Disk + Drop, S: Service + Drop>(
     table: &Table<'a>,
     service: S,
 ) -> Result<S::Told, Unserved<'a>> {
-    match (table.mode, table.policy) {
-        (Mode::Writeback, PolicyName::TinyLfu) => {
+    if table.mode == Mode::Passthrough {
+        return Err(Unserved::Mode(table.mode));
+    }
+    match table.policy {
+        PolicyName::TinyLfu => {
             serve_one::<TinyLfu, T, D, S>(waits, alloc, devices, table, service)
         }
-        (Mode::Writeback, PolicyName::Cleaner) => {
+        PolicyName::Cleaner => {
             serve_one::<Cleaner, T, D, S>(waits, alloc, devices, table, service)
         }
-        (mode, _) => Err(Unserved::Mode(mode)),
     }
 }
 
@@ -45,14 +47,16 @@ pub(crate) fn serve_rest<
     table: &Table<'a>,
     errands: Vec<Sent<D, Doing<S>>>,
 ) -> Result<Vec<Result<S::Told, Refusal>>, Unserved<'a>> {
-    match (table.mode, table.policy) {
-        (Mode::Writeback, PolicyName::TinyLfu) => {
+    if table.mode == Mode::Passthrough {
+        return Err(Unserved::Mode(table.mode));
+    }
+    match table.policy {
+        PolicyName::TinyLfu => {
             serve_several::<TinyLfu, T, D, S>(waits, alloc, devices, table, errands)
         }
-        (Mode::Writeback, PolicyName::Cleaner) => {
+        PolicyName::Cleaner => {
             serve_several::<Cleaner, T, D, S>(waits, alloc, devices, table, errands)
         }
-        (mode, _) => Err(Unserved::Mode(mode)),
     }
 }
 
@@ -71,17 +75,19 @@ pub(crate) fn serve_first<
     first: F,
     errands: Vec<Sent<D, Doing<S>>>,
 ) -> Result<(F::Told, Vec<Result<S::Told, Refusal>>), Unserved<'a>> {
-    match (table.mode, table.policy) {
-        (Mode::Writeback, PolicyName::TinyLfu) => {
+    if table.mode == Mode::Passthrough {
+        return Err(Unserved::Mode(table.mode));
+    }
+    match table.policy {
+        PolicyName::TinyLfu => {
             serve_one_and_several::<TinyLfu, T, D, F, S>(
                 waits, alloc, devices, table, first, errands,
             )
         }
-        (Mode::Writeback, PolicyName::Cleaner) => {
+        PolicyName::Cleaner => {
             serve_one_and_several::<Cleaner, T, D, F, S>(
                 waits, alloc, devices, table, first, errands,
             )
         }
-        (mode, _) => Err(Unserved::Mode(mode)),
     }
 }

@@ -1,6 +1,7 @@
 //! Serving the target of a table.
 
-ghost use Rattle.std.specs.Prelude.{◌≡◌};
+ghost use Rattle.std.specs.Prelude.{◌≡◌, ◌≢◌};
+ghost use Rattle.wb_types.specs.declared.mode.Mode.TheVariants.{Passthrough};
 ghost use Rattle.wb_opened.specs.Tables.{name_of};
 
 use crate::opening::{open_devices, open_named, open_target, open_unlocked};
@@ -92,7 +93,7 @@ pub(crate) fn serve_one<'a, P: Policy, T: Wait, D: Disk + Drop, S: Service + Dro
     service: S,
 ) -> Result<S::Told, Unserved<'a>>
     requires policy { P.name ≡ name_of table.now.policy }
-    requires mode { table.now.mode ≡ Mode.Writeback }
+    requires mode { table.now.mode ≢ Passthrough }
 {
     let (devices, target) = open_target::<P, D>(alloc, devices, table)?;
     serve_by(waits, &target, devices, service).map_err(|refusal| Unserved::Refused(refusal))
@@ -126,7 +127,7 @@ pub(crate) fn serve_several<
     errands: Vec<Sent<D, Doing<S>>>,
 ) -> Result<Vec<Result<S::Told, Refusal>>, Unserved<'a>>
     requires policy { P.name ≡ name_of table.now.policy }
-    requires mode { table.now.mode ≡ Mode.Writeback }
+    requires mode { table.now.mode ≢ Passthrough }
 {
     let (devices, target) = open_target::<P, D>(alloc, devices, table)?;
     let told = beside_one_another(waits, alloc, &target, errands);
@@ -151,7 +152,7 @@ pub(crate) fn serve_one_and_several<
     errands: Vec<Sent<D, Doing<S>>>,
 ) -> Result<(F::Told, Vec<Result<S::Told, Refusal>>), Unserved<'a>>
     requires policy { P.name ≡ name_of table.now.policy }
-    requires mode { table.now.mode ≡ Mode.Writeback }
+    requires mode { table.now.mode ≢ Passthrough }
 {
     let (devices, target) = open_target::<P, D>(alloc, devices, table)?;
     let told = serve_by(waits, &target, devices, first).map_err(|refusal| Unserved::Refused(

@@ -45,7 +45,7 @@ impl<'a> Display for Unserved<'a> {
             Unserved::Differs(difference) => write!(f, "12 Mismatch: {difference}"),
             Unserved::Mode(mode) => write!(
                 f,
-                "16 BadTable: the table's mode, {mode}, is not served so far; 'writeback' is"
+                "16 BadTable: the table's mode, {mode}, is not served so far; 'writeback' and 'writethrough' are"
             ),
             Unserved::Refused(refusal) => write!(f, "{refusal}"),
         }
