@@ -9,7 +9,7 @@ use std::rt::Files;
 use wb_devices::Devices;
 use wb_disk::{Disk, FileDisk};
 use wb_port::{Port, Seat, UNSETTLED};
-use wb_types::{Geometry, SECTOR_BYTES, Sector};
+use wb_types::{Geometry, Mode, SECTOR_BYTES, Sector};
 
 /// A block has a multiple of so many sectors.
 const BLOCK_UNIT: u64 = 64;
@@ -39,7 +39,7 @@ pub fn port_over<R: Files<File = File> + AllocGlobal>(
     let Ok(seat) = Seat::new(alloc, geometry) else {
         return Err("out of memory");
     };
-    match Port::new(alloc, seat, devices) {
+    match Port::new(alloc, seat, Mode::Writeback, devices) {
         Ok(port) => Ok(port),
         Err(_) => Err("out of memory"),
     }
