@@ -1,10 +1,25 @@
-use Rattle.std.proofs.Common.{◌≡◌, ◌∙◌, Bool, true, false, if◌then◌else◌, [], sym, ap, subst}
+use Rattle.std.proofs.Common.{◌≡◌, ◌∙◌, Bool, true, false, if◌then◌else◌, [], Option, Some, sym, ap, subst}
+use Rattle.wb_cells.specs.Crews.{card_of}
+use Rattle.wb_tasks.specs.Plan.{Plan}
+use Rattle.wb_tasks.specs.Ready.{MayTake}
+use Rattle.wb_tasks.specs.declared.step.Want.{Want}
+use Rattle.wb_tasks.proofs.Readiness.{is_ready}
+use Rattle.wb_promise.specs.declared.job.Job.{Job}
 use Rattle.wb_promise.specs.declared.event.What.{What}
 use Rattle.wb_machine.specs.Life.{contents_of}
 use Rattle.wb_machine.specs.Members.{Member}
+use Rattle.wb_runs.specs.Holding.{TaskSuits}
 use Rattle.wb_machine.specs.Serving.{Steps, may_give_up, is_copied}
 use Rattle.wb_machine.proofs.Stepped.{awaiting_are, buffer_stays, buffer_read, orders_are, performs_so, steps_at}
 use Rattle.wb_machine.proofs.member.Member.step.Goals as goal
+
+-- by what its actor has, as its task's table says
+pub perform-requires-clause-ready : goal.perform-requires-clause-ready
+perform-requires-clause-ready c =
+    let crew = c.args.target.now.crew in
+    let card = card_of crew c.args.number in
+    let at : c.args.self.now.task ≡ Some (c.in-Some.job, c.in-Some.task) = ap (λ (v : Member). v.task) (sym c.self.view_is) ∙ c.in-Some.is in
+    subst (λ (w : Want). MayTake crew.blocks card w) (sym c.want-want.ensures) (is_ready crew.blocks c.in-Some.task card (subst (λ (t : Option (Job × Plan)). TaskSuits crew.blocks card t) at c.requires.suits))
 
 pub returns-then-copies-clause-ok : goal.returns-then-copies-clause-ok
 returns-then-copies-clause-ok c =
