@@ -6,8 +6,10 @@ use Rattle.std.specs.declared.alloc.Global.{Global}
 use Rattle.wb_types.specs.declared.geometry.Geometry.{Geometry}
 use Rattle.wb_types.specs.declared.mode.Dev.{Dev}
 use Rattle.wb_types.specs.declared.mode.Dev.TheVariants.{Metadata, Cache, Origin}
+use Rattle.wb_types.specs.declared.mode.Mode.{Mode}
+use Rattle.wb_types.specs.declared.mode.Mode.TheVariants.{Passthrough}
 use Rattle.wb_types.specs.declared.refusal.Refusal.{Refusal}
-use Rattle.wb_types.specs.declared.refusal.Refusal.TheVariants.{Io}
+use Rattle.wb_types.specs.declared.refusal.Refusal.TheVariants.{Io, NotClean}
 use Rattle.wb_disk.specs.Device.{Content, History, newest, synced, written}
 use Rattle.wb_format.specs.declared.root.Root.{Root}
 use Rattle.wb_format.specs.Layout.{SpellsRoot}
@@ -35,7 +37,8 @@ use Rattle.wb_tasks.specs.declared.step.Got.TheVariants.{Done, Fault, Refused, M
 use Rattle.wb_tasks.proofs.Driving.{no_result}
 use Rattle.wb_devices.specs.Committing.{goes_on, is_coming}
 use Rattle.wb_devices.specs.Stepping.{Goes, DidPut}
-use Rattle.wb_devices.specs.Opened.{DidRead, DidOpen, IsUnfit, got_of_refusal}
+use Rattle.wb_devices.specs.Opened.{HasCome, IsUnfit, got_of_refusal}
+use Rattle.wb_devices.specs.Clean.{DidReadIn, DidOpenIn, HasComeIn, IsCleanSoFar, IsLeftClean, IsUnclean, IsUnfitIn}
 use Rattle.wb_devices.specs.Openings.{HasNotBegun}
 use Rattle.wb_devices.specs.OpeningLed.{LedOpening}
 use Rattle.wb_devices.specs.Outcomes.{IsOpen, DataIsDurable, IsRefused, OpeningHasEnded}
@@ -55,6 +58,24 @@ not_more refusal e = cc
 as_given : (refusal given : Refusal) → Refused refusal ≡ got_of_refusal given → given ≡ refusal
 as_given refusal (Io device) e = cc
 as_given refusal given e = cc
+
+more_is_none : More ≡ Refused NotClean → ⊥
+more_is_none e = cc
+
+done_is_none : Done ≡ Refused NotClean → ⊥
+done_is_none e = cc
+
+-- what is not refused as not clean becomes what it becomes in every mode
+as_every_mode : {A : Type 0} (mode : Mode) (geometry : Geometry) (left : ℕ) (now : ReadSteps A) (commit : Option RunningCommit) (got : Got) (after : Option (ReadSteps A)) (commit' : Option RunningCommit) → (got ≡ Refused NotClean → ⊥) →
+    HasComeIn mode geometry left now commit got after commit' → HasCome geometry left now commit got after commit' × (mode ≡ Passthrough → IsCleanSoFar geometry now)
+as_every_mode mode geometry left now commit got after commit' other (inl h) = h
+as_every_mode mode geometry left now commit got after commit' other (inr s) = absurd (other s.1)
+
+-- why a reading is refused, and what is left then
+unfit_in : {A : Type 0} (mode : Mode) (geometry : Geometry) (left : ℕ) (now : ReadSteps A) (commit : Option RunningCommit) (refusal : Refusal) (after : Option (ReadSteps A)) (commit' : Option RunningCommit) →
+    HasComeIn mode geometry left now commit (Refused refusal) after commit' → (after ≡ None) × (commit' ≡ commit) × IsUnfitIn mode geometry now refusal
+unfit_in mode geometry left now commit refusal after commit' (inl h) = (h.0.0, h.0.1, inl (h.0.2, h.1))
+unfit_in mode geometry left now commit refusal after commit' (inr s) = let same : refusal ≡ NotClean = let e = s.1 in cc in (s.2, s.3, inr (s.0, same, s.4))
 
 -- a reading that is done has a state
 all_read : {A : Type 0} (now : ReadSteps A) → IsDone now → (state : State A) × (now ≡ AllRead state)
@@ -101,6 +122,7 @@ module _ {D : Type 0} (tells : Type 0) (size : D → ℕ) (contents : D → List
     metadata : tells → contents stage.devices.metadata ≡ Settled
     copies : tells → DataIsDurable contents first.devices stage.devices
     geometry : stage.opening.geometry ≡ first.opening.geometry
+    mode : stage.mode ≡ first.mode
 
   -- all was read, and the commit of the next root stands at these steps
   record Found (stage : OpeningStage D) : Type 0 where
@@ -113,6 +135,7 @@ module _ {D : Type 0} (tells : Type 0) (size : D → ℕ) (contents : D → List
     opens : IsOpening next.image state.root
     represents : tells → RepresentsState (map newest Settled) state.root state.tree state.used.items
     copies : tells → DataIsDurable contents first.devices stage.devices
+    clean : first.mode ≡ Passthrough → IsLeftClean state
 
   -- the size is the one that the commit is for
   for_size : (stage : OpeningStage D) (found : Found stage) → (size stage.devices.metadata == found.next.image.root.geometry.meta_sectors) ≡ true
@@ -170,6 +193,7 @@ module _ {D : Type 0} (tells : Type 0) (size : D → ℕ) (contents : D → List
           wrote = (led.4.2 t).0 ∙ ap synced (w.wrote t) ∙ ap (λ (i : Image). synced (written Settled (slot_of i.root).0 (w.content t))) (sym later.2);
         }),
         (λ t. (ap contents led.0.0 ∙ (found.copies t).0, ap contents led.0.1 ∙ (found.copies t).1)),
+        found.clean,
       )
   last_by left old w got mid steps answer new f led r l = absurd f
 
@@ -230,6 +254,7 @@ module _ {D : Type 0} (tells : Type 0) (size : D → ℕ) (contents : D → List
           opens = subst (λ (i : Image). IsOpening i found.state.root) (sym later.2) found.opens;
           represents = found.represents;
           copies = λ t. (ap contents led.0.0 ∙ (found.copies t).0, ap contents led.0.1 ∙ (found.copies t).1);
+          clean = found.clean;
         };
         steps = later.3 ∙ ap (λ (s : CommitSteps). steps_after running.image s) w.steps;
         content = λ t. (puts t).content;
@@ -260,43 +285,50 @@ module _ {D : Type 0} (tells : Type 0) (size : D → ℕ) (contents : D → List
     metadata = λ t. led.4.0 t ∙ d.metadata t;
     copies = λ t. (ap contents led.0.0 ∙ (d.copies t).0, ap contents led.0.1 ∙ (d.copies t).1);
     geometry = led.2 ∙ d.geometry;
+    mode = led.5 ∙ d.mode;
   }
 
   -- what the step did, from the reading that was there
   did_read : (left : ℕ) (old mid : OpeningStage D) (got : Got) (was : ReadSteps Global) → Led old (Device (ReadMetadata left)) got mid → Reads old was →
-      DidRead tells old.opening.geometry left was (contents old.devices.metadata) (faults old.devices.metadata) old.opening.commit got mid.opening.reading (faults mid.devices.metadata) mid.opening.commit
-  did_read left old mid got was led h = subst (λ (o : Option (ReadSteps Global)). DidOpen tells old.opening.geometry left o (contents old.devices.metadata) (faults old.devices.metadata) old.opening.commit got mid.opening.reading (faults mid.devices.metadata) mid.opening.commit) h.reading_is led.4.1
+      DidReadIn old.mode tells old.opening.geometry left was (contents old.devices.metadata) (faults old.devices.metadata) old.opening.commit got mid.opening.reading (faults mid.devices.metadata) mid.opening.commit
+  did_read left old mid got was led h = subst (λ (o : Option (ReadSteps Global)). DidOpenIn old.mode tells old.opening.geometry left o (contents old.devices.metadata) (faults old.devices.metadata) old.opening.commit got mid.opening.reading (faults mid.devices.metadata) mid.opening.commit) h.reading_is led.4.1
 
   more_read : (left : ℕ) (old mid : OpeningStage D) (was : ReadSteps Global) → Led old (Device (ReadMetadata left)) More mid → Reads old was → (now : ReadSteps Global) × Reads mid now
   more_read left old mid was led h = case (did_read left old mid More was led h)
     where
-      case : DidRead tells old.opening.geometry left was (contents old.devices.metadata) (faults old.devices.metadata) old.opening.commit More mid.opening.reading (faults mid.devices.metadata) mid.opening.commit → (now : ReadSteps Global) × Reads mid now
-      case (inl d) = (d.0, record { durable = durable_still left old mid More led h.durable; reading_is = d.3.1; read = λ t. read_on (contents old.devices.metadata) was d.0 (h.durable.metadata t) (d.1 t) (h.read t); commit = d.3.3 ∙ h.commit })
+      case : DidReadIn old.mode tells old.opening.geometry left was (contents old.devices.metadata) (faults old.devices.metadata) old.opening.commit More mid.opening.reading (faults mid.devices.metadata) mid.opening.commit → (now : ReadSteps Global) × Reads mid now
+      case (inl d) =
+          let come = as_every_mode old.mode old.opening.geometry left d.0 old.opening.commit More mid.opening.reading mid.opening.commit more_is_none d.3 in
+          (d.0, record { durable = durable_still left old mid More led h.durable; reading_is = come.0.1; read = λ t. read_on (contents old.devices.metadata) was d.0 (h.durable.metadata t) (d.1 t) (h.read t); commit = come.0.3 ∙ h.commit })
       case (inr s) = absurd (not_more s.0 s.3)
 
   all_found : (left : ℕ) (old mid : OpeningStage D) (was : ReadSteps Global) → Led old (Device (ReadMetadata left)) Done mid → Reads old was → ToWrite mid
   all_found left old mid was led h = case (did_read left old mid Done was led h)
     where
-      case : DidRead tells old.opening.geometry left was (contents old.devices.metadata) (faults old.devices.metadata) old.opening.commit Done mid.opening.reading (faults mid.devices.metadata) mid.opening.commit → ToWrite mid
+      case : DidReadIn old.mode tells old.opening.geometry left was (contents old.devices.metadata) (faults old.devices.metadata) old.opening.commit Done mid.opening.reading (faults mid.devices.metadata) mid.opening.commit → ToWrite mid
       case (inr s) = absurd (not_done s.0 s.3)
       case (inl d) =
           let now = d.0 in
-          let next = d.3.2 in
+          let both = as_every_mode old.mode old.opening.geometry left d.0 old.opening.commit Done mid.opening.reading mid.opening.commit done_is_none d.3 in
+          let come = both.0 in
+          let next = come.2 in
           let whole = all_read now next.is_done in
           let state = whole.0 in
           let root_is : next.root ≡ state.root = same_root state next.root (subst (λ (n : ReadSteps Global). known_root n ≡ Some next.root) whole.1 next.newest) in
-          let is : mid.opening.reading ≡ Some (AllRead state) = d.3.0 ∙ ap (λ (n : ReadSteps Global). Some n) whole.1 in
+          let is : mid.opening.reading ≡ Some (AllRead state) = come.0 ∙ ap (λ (n : ReadSteps Global). Some n) whole.1 in
+          let fits : state.root.geometry ≡ old.opening.geometry = sym (ap (λ (r : Root). r.geometry) root_is) ∙ come.1 next.root next.newest in
           record {
             found = record {
               state = state;
               reading_is = is;
               fits = subst (λ (o : Option (ReadSteps Global)). IfSome o (AreStepsOn (size mid.devices.metadata))) is led.3;
-              geometry_is = sym (ap (λ (r : Root). r.geometry) root_is) ∙ d.3.1 next.root next.newest ∙ sym led.2;
+              geometry_is = fits ∙ sym led.2;
               next = next.next;
               commit_is = next.commit_is;
               opens = subst (λ (r : Root). IsOpening next.next.image r) root_is next.opens;
               represents = λ t. subst (λ (n : ReadSteps Global). HasRead (map newest Settled) n) whole.1 (read_on (contents old.devices.metadata) was now (h.durable.metadata t) (d.1 t) (h.read t));
               copies = (durable_still left old mid Done led h.durable).copies;
+              clean = λ passes. both.1 (h.durable.mode ∙ passes) state whole.1 fits;
             };
             steps = next.steps;
             metadata = (durable_still left old mid Done led h.durable).metadata;
@@ -308,14 +340,17 @@ module _ {D : Type 0} (tells : Type 0) (size : D → ℕ) (contents : D → List
       still : Durable mid
       still = durable_still left old mid (Refused refusal) led h.durable
 
-      case : DidRead tells old.opening.geometry left was (contents old.devices.metadata) (faults old.devices.metadata) old.opening.commit (Refused refusal) mid.opening.reading (faults mid.devices.metadata) mid.opening.commit → IsRefused tells contents first mid refusal
-      case (inl d) = record {
-        nothing_read = d.3.0;
-        nothing_written = d.3.1 ∙ h.commit;
-        metadata = still.metadata;
-        copies = still.copies;
-        cause = λ t. inr (d.0, read_on (contents old.devices.metadata) was d.0 (h.durable.metadata t) (d.1 t) (h.read t), subst (λ (g : Geometry). IsUnfit g d.0 refusal) h.durable.geometry d.3.2);
-      }
+      case : DidReadIn old.mode tells old.opening.geometry left was (contents old.devices.metadata) (faults old.devices.metadata) old.opening.commit (Refused refusal) mid.opening.reading (faults mid.devices.metadata) mid.opening.commit → IsRefused tells contents first mid refusal
+      case (inl d) =
+          let unfit = unfit_in old.mode old.opening.geometry left d.0 old.opening.commit refusal mid.opening.reading mid.opening.commit d.3 in
+          record {
+            nothing_read = unfit.0;
+            nothing_written = unfit.1 ∙ h.commit;
+            metadata = still.metadata;
+            copies = still.copies;
+            cause = λ t. inr (d.0, read_on (contents old.devices.metadata) was d.0 (h.durable.metadata t) (d.1 t) (h.read t),
+              subst (λ (m : Mode). IsUnfitIn m first.opening.geometry d.0 refusal) h.durable.mode (subst (λ (g : Geometry). IsUnfitIn old.mode g d.0 refusal) h.durable.geometry unfit.2));
+          }
       case (inr s) = record {
         nothing_read = s.4;
         nothing_written = s.5 ∙ h.commit;
@@ -358,6 +393,7 @@ module _ {D : Type 0} (tells : Type 0) (size : D → ℕ) (contents : D → List
     metadata : tells → contents stage.devices.metadata ≡ Settled
     begun : HasNotBegun stage.opening
     geometry : stage.opening.geometry ≡ first.opening.geometry
+    mode : stage.mode ≡ first.mode
 
   same_opening : (old new : Opening) → HasNotBegun old → new.reading ≡ old.reading → new.commit ≡ old.commit → HasNotBegun new
   same_opening old new h e c = record { reading = h.reading; reading_is = e ∙ h.reading_is; begins = h.begins; commit = c ∙ h.commit }
@@ -373,6 +409,7 @@ module _ {D : Type 0} (tells : Type 0) (size : D → ℕ) (contents : D → List
           metadata = λ t. ap contents led.0.0 ∙ h.metadata t;
           copies = λ t. (ap contents led.0.1 ∙ cache t, (led.4.2 t).0 ∙ ap (λ (d : D). synced (contents d)) origin);
           geometry = led.2 ∙ h.geometry;
+          mode = led.5 ∙ h.mode;
         };
         reading_is = begun.reading_is;
         read = λ t. begun.begins (map newest Settled);
@@ -390,6 +427,7 @@ module _ {D : Type 0} (tells : Type 0) (size : D → ℕ) (contents : D → List
         metadata = λ t. ap contents led.0.0 ∙ h.metadata t;
         begun = same_opening old.opening mid.opening h.begun led.4.0 led.4.1;
         geometry = led.2 ∙ h.geometry;
+        mode = led.5 ∙ h.mode;
       }) (λ t. (led.4.2 t).0 ∙ ap (λ (d : D). synced (contents d)) cache) (led.0.1 ∙ origin) next.got next.mid next.rest answer new next.fits next.led next.run next.leads
   cache_by left old h cache origin got mid steps answer new f led r l = absurd f
 
@@ -403,6 +441,7 @@ module _ {D : Type 0} (tells : Type 0) (size : D → ℕ) (contents : D → List
         metadata = λ t. (led.4.2 t).0;
         begun = same_opening first.opening mid.opening h led.4.0 (none ∙ sym h.commit);
         geometry = led.2;
+        mode = led.5;
       }) led.0.0 led.0.1 next.got next.mid next.rest answer new next.fits next.led next.run next.leads
   metadata_by left h got mid steps answer new f led r l = absurd f
 

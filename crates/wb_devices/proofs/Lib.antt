@@ -1,5 +1,6 @@
 pub mod Landing
 pub mod Going
+pub mod Cleaning
 pub mod Stopping
 pub mod Serving
 pub mod Ending

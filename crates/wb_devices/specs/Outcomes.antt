@@ -3,6 +3,8 @@ use Rattle.std.specs.Prelude.{◌≡◌, ◌≢◌, ◌⊎◌, ℕ, List, Some, 
 use Rattle.std.specs.declared.alloc.Global.{Global}
 use Rattle.wb_types.specs.declared.geometry.Geometry.{Geometry}
 use Rattle.wb_types.specs.declared.mode.Dev.{Dev}
+use Rattle.wb_types.specs.declared.mode.Mode.{Mode}
+use Rattle.wb_types.specs.declared.mode.Mode.TheVariants.{Passthrough}
 use Rattle.wb_types.specs.declared.refusal.Refusal.{Refusal}
 use Rattle.wb_types.specs.declared.refusal.Refusal.TheVariants.{Io}
 use Rattle.wb_disk.specs.Device.{Content, History, newest, synced, written}
@@ -17,7 +19,7 @@ use Rattle.wb_meta.specs.declared.read_steps.ReadSteps.TheVariants.{Done as AllR
 use Rattle.wb_meta.specs.declared.read_steps.State.{State}
 use Rattle.wb_tasks.specs.declared.step.Answer.{Answer}
 use Rattle.wb_tasks.specs.declared.step.Answer.TheVariants.{Done as Finished, Refused as Refuses}
-use Rattle.wb_devices.specs.Opened.{IsUnfit}
+use Rattle.wb_devices.specs.Clean.{IsLeftClean, IsUnfitIn}
 use Rattle.wb_devices.specs.declared.devices.Devices.{Devices}
 use Rattle.wb_devices.specs.declared.opening.Opening.{Opening}
 use Rattle.wb_devices.specs.declared.opening_stage.OpeningStage.{OpeningStage}
@@ -51,9 +53,10 @@ pub record IsOpenOver {sectors : ℕ} {opening : Opening} (opened : IsOpen secto
 abbrev pub DataIsDurable : {D : Type 0} → (D → List History) → Devices D → Devices D → Type 0
 DataIsDurable contents old new = (contents new.cache ≡ synced (contents old.cache)) × (contents new.origin ≡ synced (contents old.origin))
 
--- why these sectors are refused: for what wb_meta says, or for a root that is of another geometry or has no next one
-abbrev pub IsRefusedFor : List Content → Geometry → Refusal → Type 0
-IsRefusedFor sectors geometry refusal = IsRefusedBy sectors refusal ⊎ ((now : ReadSteps Global) × HasRead sectors now × IsUnfit geometry now refusal)
+-- Why these sectors are refused in this mode: for what wb_meta says, for a root that is of another geometry or has no next one, or in
+-- passthrough because they were not left clean.
+abbrev pub IsRefusedFor : Mode → List Content → Geometry → Refusal → Type 0
+IsRefusedFor mode sectors geometry refusal = IsRefusedBy sectors refusal ⊎ ((now : ReadSteps Global) × HasRead sectors now × IsUnfitIn mode geometry now refusal)
 
 -- The metadata were refused: they are as they were made durable, and nothing is left to be written.
 pub record IsRefused {D : Type 0} (tells : Type 0) (contents : D → List History) (old new : OpeningStage D) (refusal : Refusal) : Type 0 where
@@ -61,11 +64,13 @@ pub record IsRefused {D : Type 0} (tells : Type 0) (contents : D → List Histor
   pub nothing_written : new.opening.commit ≡ None
   pub metadata : tells → contents new.devices.metadata ≡ synced (contents old.devices.metadata)
   pub copies : tells → DataIsDurable contents old.devices new.devices
-  pub cause : tells → IsRefusedFor (map newest (synced (contents old.devices.metadata))) old.opening.geometry refusal
+  pub cause : tells → IsRefusedFor old.mode (map newest (synced (contents old.devices.metadata))) old.opening.geometry refusal
 
--- How an opening that had not begun has ended: all of it was done, a device failed, or what was read is refused.
+-- How an opening that had not begun has ended: all of it was done, in passthrough over metadata that were left clean; or a device
+-- failed, or what was read is refused.
 abbrev pub OpeningHasEnded : {D : Type 0} → Type 0 → (D → ℕ) → (D → List History) → OpeningStage D → Answer → OpeningStage D → Type 0
 OpeningHasEnded tells size contents old Finished new = (opened : IsOpen (size new.devices.metadata) new.opening)
     × (tells → IsOpenOver opened (contents old.devices.metadata) (contents new.devices.metadata))
     × (tells → DataIsDurable contents old.devices new.devices)
+    × (old.mode ≡ Passthrough → IsLeftClean opened.state)
 OpeningHasEnded tells size contents old (Refuses refusal) new = ((device : Dev) → refusal ≢ Io device) → IsRefused tells contents old new refusal

@@ -3,6 +3,7 @@
 //! builds a stage of these parts.
 #![tactic(auto)]
 
+mod clean;
 mod committing;
 mod devices;
 mod finishing;

@@ -21,11 +21,11 @@ use std::alloc::Global;
 use wb_disk::Disk;
 use wb_meta::State;
 use wb_tasks::{Answer, DeviceStep, Got, Stage, Task, Want, drive};
-use wb_types::Dev;
+use wb_types::{Dev, Mode};
 
 impl<D: Disk> OpeningStage<D> {
     /// A step on a device.
-    #[tactic(auto, using(crate::proofs::Going::outcome_fits))]
+    #[tactic(auto, using(crate::proofs::Going::outcome_fits, crate::proofs::Cleaning::in_mode))]
     fn device_step(&mut self, step: DeviceStep) -> Got
         requires step { IsOpenings (OnDevice step) }
         requires goes_on { MayGoOn (D.size self.old.devices.metadata) self.old.opening }
@@ -34,11 +34,15 @@ impl<D: Disk> OpeningStage<D> {
         ensures size { D.size (device_in (device_of step) self.new.devices) ≡ D.size (device_in (device_of step) self.old.devices) }
         ensures geometry { self.new.opening.geometry ≡ self.old.opening.geometry }
         ensures goes_on { MayGoOn (D.size self.new.devices.metadata) self.new.opening }
-        ensures did { DidForOpening D.tells self.old.opening step result (D.size (device_in (device_of step) self.old.devices)) (D.contents (device_in (device_of step) self.old.devices)) (D.faults (device_in (device_of step) self.old.devices)) self.new.opening (D.contents (device_in (device_of step) self.new.devices)) (D.faults (device_in (device_of step) self.new.devices)) }
+        ensures mode { self.new.mode ≡ self.old.mode }
+        ensures did { DidForOpening D.tells self.old.mode self.old.opening step result (D.size (device_in (device_of step) self.old.devices)) (D.contents (device_in (device_of step) self.old.devices)) (D.faults (device_in (device_of step) self.old.devices)) self.new.opening (D.contents (device_in (device_of step) self.new.devices)) (D.faults (device_in (device_of step) self.new.devices)) }
     {
         let metadata = &mut self.devices.metadata;
         match step {
-            DeviceStep::ReadMetadata(left) => self.opening.read(metadata, left),
+            DeviceStep::ReadMetadata(left) => match self.mode {
+                Mode::Passthrough => self.opening.read_clean(metadata, left),
+                Mode::Writeback | Mode::Writethrough => self.opening.read(metadata, left),
+            },
             DeviceStep::WriteRoot => put(&mut self.opening.commit, metadata, step),
             DeviceStep::Sync(Dev::Metadata) => sync_metadata(&mut self.opening.commit, metadata),
             DeviceStep::Sync(Dev::Cache) => self.devices.sync(Dev::Cache),
@@ -82,7 +86,11 @@ impl<D: Disk> OpeningStage<D> {
         ensures state { (opened : IsOpen (D.size self.devices.metadata) self.opening) → result.1 ≡ Some (opened_state opened) }
         ensures fits { IsOpen (D.size self.devices.metadata) self.opening → IfSome result.1 (λ state. FitsDevice (D.size result.0.metadata) state.root state.tree state.used.items) }
     {
-        let OpeningStage { devices, opening } = self;
+        let OpeningStage {
+            devices,
+            opening,
+            mode: _,
+        } = self;
         (devices, opening.finish())
     }
 }

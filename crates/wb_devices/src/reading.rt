@@ -55,7 +55,7 @@ impl Opening {
 
     /// What becomes of a reading that has come so far.
     #[tactic(auto, using(crate::proofs::Stopping::no_root, crate::proofs::Stopping::not_done))]
-    fn has_come(&mut self, steps: ReadSteps<Global>, left: u32) -> Got
+    pub(crate) fn has_come(&mut self, steps: ReadSteps<Global>, left: u32) -> Got
         requires none { self.old.reading ≡ None }
         ensures kind { Fits (Device (ReadMetadata left)) result }
         ensures geometry { self.new.geometry ≡ self.old.geometry }
@@ -137,7 +137,7 @@ impl Opening {
 
 /// A device that failed is a fault, anything else a refusal.
 #[tactic(auto, using(crate::proofs::Stopping::fits_reading))]
-fn got_of_refusal(refusal: Refusal, left: u32) -> Got
+pub(crate) fn got_of_refusal(refusal: Refusal, left: u32) -> Got
     requires { IsOfReading refusal }
     ensures kind { Fits (Device (ReadMetadata left)) result }
     ensures is { result ≡ got_of_refusal refusal }
@@ -149,7 +149,8 @@ fn got_of_refusal(refusal: Refusal, left: u32) -> Got
     }
 }
 
-fn is_same(a: Geometry, b: Geometry) -> bool
+/// Whether these are one geometry.
+pub(crate) fn is_same(a: Geometry, b: Geometry) -> bool
     ensures same { OnTrue result (a ≡ b) }
     ensures other { OnFalse result (a ≢ b) }
 {

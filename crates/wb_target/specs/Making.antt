@@ -46,7 +46,7 @@ pub record IsMadeOfRead {D P : Type 0} (with_setting : P → Key → ℕ → Opt
   pub next : RunningCommit
   pub reading_is : making.stage.opening.reading ≡ Some (AllRead state)
   pub commit_is : making.stage.opening.commit ≡ Some next
-  pub made : IsMade with_setting state.root.geometry next.image.root.generation state.tree state.used.items making.mode making.keys.now
+  pub made : IsMade with_setting state.root.geometry next.image.root.generation state.tree state.used.items making.stage.mode making.keys.now
 
 abbrev pub writes_root : Want → Bool
 writes_root (Device WriteRoot) = true
@@ -56,12 +56,12 @@ writes_root want = false
 abbrev pub MadeFirst : {D P : Type 0} → (P → Key → ℕ → Option P) → MakingStage D P → Want → Type 0
 MadeFirst with_setting making want = writes_root want ≡ true → IsMadeOfRead with_setting making
 
--- A step is one of the opening, over what was read or, where that was taken for the target, without it, and that was made before the root is
+-- A step is one of the opening in its mode, over what was read or, where that was taken for the target, without it, and that was made before the root is
 -- written; or it failed, and no device was asked. What was read so far, where it is still there, is of the metadata device.
 abbrev pub MakingGoesOn : {D P : Type 0} → Type 0 → (D → ℕ) → (D → List History) → (D → ℕ) → (P → Key → ℕ → Option P) → MakingStage D P → Want → Got → MakingStage D P → Type 0
 MakingGoesOn {D} tells size contents faults with_setting old want got new =
     MayGoOn (size new.stage.devices.metadata) new.stage.opening
-    × (new.mode ≡ old.mode)
+    × (new.stage.mode ≡ old.stage.mode)
     × (((before : OpeningStage D) × (before.devices ≡ old.stage.devices) × (before.opening.commit ≡ old.stage.opening.commit)
     × (before.opening.geometry ≡ old.stage.opening.geometry) × LedOpening tells size contents faults before want got new.stage × MadeFirst with_setting old want)
     ⊎ ((got ≡ Fault) × (new.stage.devices ≡ old.stage.devices)))
@@ -72,7 +72,7 @@ pub record WasRun {D P : Type 0} (tells : Type 0) (size : D → ℕ) (contents :
   pub first : MakingStage D P
   pub last : MakingStage D P
   pub over : first.stage.devices ≡ devices
-  pub in_mode : first.mode ≡ mode
+  pub in_mode : first.stage.mode ≡ mode
   pub not_begun : HasNotBegun first.stage.opening
   pub steps : List (Want × Got)
   pub run : IsRunOf (table (OpeningJob left)) steps answer

@@ -28,7 +28,6 @@ use wb_types::{Geometry, Key, Mode, Refusal};
 pub(crate) struct MakingStage<'k, D, P: Policy> {
     pub(crate) stage: OpeningStage<D>,
     alloc: Global,
-    mode: Mode,
     keys: &'k [(Key, u64)],
     /// What lies under the target's lock, once it was to be made.
     made: Option<Result<Office<P>, Refusal>>,
@@ -46,13 +45,12 @@ impl<'k, D: Disk + Drop, P: Policy> MakingStage<'k, D, P> {
         ensures goes_on { MayGoOn (D.size result.stage.devices.metadata) result.stage.opening }
         ensures devices { result.stage.devices ≡ devices }
         ensures begins { HasNotBegun result.stage.opening }
-        ensures mode { result.mode ≡ mode }
+        ensures mode { result.stage.mode ≡ mode }
     {
-        let stage = OpeningStage::new(alloc, devices, geometry);
+        let stage = OpeningStage::new(alloc, devices, geometry, mode);
         MakingStage {
             stage,
             alloc,
-            mode,
             keys,
             made: None,
         }
@@ -71,16 +69,16 @@ impl<'k, D: Disk + Drop, P: Policy> MakingStage<'k, D, P> {
     pub(crate) fn finish(self, answer: Answer) -> (Devices<D>, Result<Target<P>, Refusal>)
         ensures devices { result.0 ≡ self.entry.stage.devices }
         ensures done { OnOk result.1 (answer ≡ Answer.Done) }
-        ensures mode { IfOk result.1 (λ target. target.mode ≡ self.entry.mode) }
+        ensures mode { IfOk result.1 (λ target. target.mode ≡ self.entry.stage.mode) }
     {
         let MakingStage {
             stage,
             alloc,
-            mode,
             keys: _,
             made,
         } = self;
         let geometry = stage.opening.geometry;
+        let mode = stage.mode;
         let (devices, _) = stage.finish();
         let opened = match made {
             Some(Err(refusal)) => Err(refusal),
@@ -104,7 +102,7 @@ impl<'k, D: Disk + Drop, P: Policy> MakingStage<'k, D, P> {
         ensures geometry { self.new.stage.opening.geometry ≡ self.old.stage.opening.geometry }
         ensures goes_on { MayGoOn (D.size self.new.stage.devices.metadata) self.new.stage.opening }
         ensures made { OnTrue result (IsMadeOfRead P.with_setting self.old) }
-        ensures mode { self.new.mode ≡ self.old.mode }
+        ensures mode { self.new.stage.mode ≡ self.old.stage.mode }
     {
         let Some(commit) = &self.stage.opening.commit else {
             return false;
@@ -123,7 +121,7 @@ impl<'k, D: Disk + Drop, P: Policy> MakingStage<'k, D, P> {
             top: root.top,
         };
         let state = State { root, tree, used };
-        let made = office_over(self.alloc, state, was_clean, self.mode, self.keys);
+        let made = office_over(self.alloc, state, was_clean, self.stage.mode, self.keys);
         let is_made = made.is_ok();
         self.made = Some(made);
         is_made

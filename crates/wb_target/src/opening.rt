@@ -1,6 +1,6 @@
 //! Opening a target over what three devices hold.
 
-ghost use Rattle.std.specs.Prelude.{◌≡◌, ◌≢◌, ◌≤◌, ◌<◌, ◌⊎◌, IfOk, IfErr, OnOk, length};
+ghost use Rattle.std.specs.Prelude.{◌≡◌, ◌≤◌, ◌<◌, ◌⊎◌, IfOk, IfErr, OnOk, length};
 ghost use Rattle.wb_tasks.specs.declared.step.Answer.{Answer as AnswerTerm};
 ghost use Rattle.wb_target.specs.Making.{IsMade, WasRun};
 ghost use Rattle.wb_words.specs.declared.card.Hold.TheVariants.{Nothing};
@@ -27,11 +27,12 @@ use wb_types::{CBlock, Entry, Geometry, Key, Mode, Refusal};
 impl<P: Policy> Target<P> {
     /// Opens a cache over three devices, which are handed back: all three are synced, the newest root and its tree are read, the
     /// policy is made and told its keys, and a root of the next generation without the clean flag is durable before the target is
-    /// there. Without the clean flag each mapped block counts as dirty, in every mode (the kernel's device-mapper/cache.rst). Passthrough is not
-    /// served, so that it cannot be asked for.
+    /// there. Without the clean flag each mapped block counts as dirty, in every mode (the kernel's device-mapper/cache.rst), so that
+    /// passthrough, which reads the origin alone, opens over clean metadata only.
     ///
     /// `Geometry` for sizes outside the limits; `NotFormatted`, `Mismatch`, `Damaged`, `GenerationEnd` and `Memory` as the
-    /// metadata are read; then `Memory` where there is none for the target, and `BadMessage` for a key's value that is out of its
+    /// metadata are read; in passthrough `NotClean` where all was read and the newest root has no clean flag, or a mapped block is dirty,
+    /// before `GenerationEnd`; then `Memory` where there is none for the target, and `BadMessage` for a key's value that is out of its
     /// range: up to there nothing was written. `Io` where a step failed; after that of the root it may be written.
     pub fn open<D: Disk + Drop>(
         alloc: Global,
@@ -40,7 +41,6 @@ impl<P: Policy> Target<P> {
         mode: Mode,
         keys: &[(Key, u64)],
     ) -> (Devices<D>, Result<Target<P>, Refusal>)
-        requires served { mode ≢ Mode.Passthrough }
         ensures mode { IfOk result.1 (λ target. target.mode ≡ mode) }
         ensures opened { OnOk result.1 (WasRun D.tells D.size D.contents D.faults P.with_setting mode devices Answer.Done result.0) }
         ensures refused { IfErr result.1 (λ refusal. ((refusal ≡ Refusal.Geometry) × (result.0 ≡ devices)) ⊎ ((answer : AnswerTerm) × WasRun D.tells D.size D.contents D.faults P.with_setting mode devices answer result.0)) }

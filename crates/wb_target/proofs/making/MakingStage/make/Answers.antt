@@ -17,6 +17,6 @@ returns-clause-made g c =
       next = c.in-Some.commit;
       reading_is = sym c.take.ensures.value ∙ c.in-Some-Done.is ∙ ap Some c.in-Some-Done.field-0-is;
       commit_is = c.in-Some.is;
-      made = subst (λ (image : Image). IsMade g.P.Policy.with_setting state.root.geometry image.root.generation state.tree state.used.items c.args.self.now.mode c.args.self.now.keys.now) c.image.ensures made;
+      made = subst (λ (image : Image). IsMade g.P.Policy.with_setting state.root.geometry image.root.generation state.tree state.used.items c.args.self.now.stage.mode c.args.self.now.keys.now) c.image.ensures made;
     })
     c.office_over-made.ensures.made

@@ -6,5 +6,5 @@ returns g c = record {
   goes_on = c.new-stage.ensures.goes_on (g.D.Disk.size c.new-stage.result.devices.metadata);
   devices = c.new-stage.ensures.devices;
   begins = c.new-stage.ensures.begins;
-  mode = refl;
+  mode = c.new-stage.ensures.mode;
 }

@@ -7,10 +7,10 @@ use Rattle.wb_target.proofs.making.MakingStageStage.perform.Goals as goal
 
 pub returns-clause-led : goal.returns-clause-led
 returns-clause-led g c = elim c.if-writes_root.branch [
-  | then-writes_root+else-not-make w ↦ led_on (c.if-writes_root.self.mode ≡ c.args.self.now.mode) (MadeFirst g.P.Policy.with_setting c.args.self.now c.args.want.now) g.D.Disk.tells g.D.Disk.size g.D.Disk.contents g.D.Disk.faults c.args.self.now.stage c.if-writes_root.self.stage c.perform.new.self c.args.want.now c.perform.result
-      (ap (λ m. m.stage.devices) w.self-is ∙ w.make.ensures.devices) (ap (λ m. m.stage.opening.commit) w.self-is ∙ w.make.ensures.commit) (ap (λ m. m.stage.opening.geometry) w.self-is ∙ w.make.ensures.geometry) c.perform.ensures.led (ap (λ m. m.mode) w.self-is ∙ w.make.ensures.mode)
+  | then-writes_root+else-not-make w ↦ led_on (MadeFirst g.P.Policy.with_setting c.args.self.now c.args.want.now) g.D.Disk.tells g.D.Disk.size g.D.Disk.contents g.D.Disk.faults c.args.self.now.stage c.if-writes_root.self.stage c.perform.new.self c.args.want.now c.perform.result
+      (ap (λ m. m.stage.devices) w.self-is ∙ w.make.ensures.devices) (ap (λ m. m.stage.opening.commit) w.self-is ∙ w.make.ensures.commit) (ap (λ m. m.stage.opening.geometry) w.self-is ∙ w.make.ensures.geometry) (ap (λ m. m.stage.mode) w.self-is ∙ w.make.ensures.mode) c.perform.ensures.led
       (λ yes. OnTrue_at w.if-not-make.false w.make.ensures.made)
-  | else-writes_root w ↦ led_on (c.if-writes_root.self.mode ≡ c.args.self.now.mode) (MadeFirst g.P.Policy.with_setting c.args.self.now c.args.want.now) g.D.Disk.tells g.D.Disk.size g.D.Disk.contents g.D.Disk.faults c.args.self.now.stage c.if-writes_root.self.stage c.perform.new.self c.args.want.now c.perform.result
-      (ap (λ m. m.stage.devices) w.self-is) (ap (λ m. m.stage.opening.commit) w.self-is) (ap (λ m. m.stage.opening.geometry) w.self-is) c.perform.ensures.led (ap (λ m. m.mode) w.self-is)
+  | else-writes_root w ↦ led_on (MadeFirst g.P.Policy.with_setting c.args.self.now c.args.want.now) g.D.Disk.tells g.D.Disk.size g.D.Disk.contents g.D.Disk.faults c.args.self.now.stage c.if-writes_root.self.stage c.perform.new.self c.args.want.now c.perform.result
+      (ap (λ m. m.stage.devices) w.self-is) (ap (λ m. m.stage.opening.commit) w.self-is) (ap (λ m. m.stage.opening.geometry) w.self-is) (ap (λ m. m.stage.mode) w.self-is) c.perform.ensures.led
       (λ yes. absurd (let no : false ≡ true = sym w.if-writes_root.false ∙ (c.writes_root.ensures ∙ yes) in cc))
 ]

@@ -37,5 +37,5 @@ returns-clause-refused g c = err_anyway c.finish.result.1 _ (λ refusal. inr (c.
 pub returns-clause-mode : goal.returns-clause-mode
 returns-clause-mode g c =
     let run = c.run-answer.ensures.run in
-    let same = kept_by (MakingGoesOn g.D.Disk.tells g.D.Disk.size g.D.Disk.contents g.D.Disk.faults g.P.Policy.with_setting) (λ x. x.mode) (λ x w got y h. h.1) c.new-stage.result run.0 c.run-answer.new.self run.2 in
-    ok_as c.finish.result.1 (λ target. target.mode) c.run-answer.new.self.mode c.args.mode (same ∙ c.new-stage.ensures.mode) c.finish.ensures.mode
+    let same = kept_by (MakingGoesOn g.D.Disk.tells g.D.Disk.size g.D.Disk.contents g.D.Disk.faults g.P.Policy.with_setting) (λ x. x.stage.mode) (λ x w got y h. h.1) c.new-stage.result run.0 c.run-answer.new.self run.2 in
+    ok_as c.finish.result.1 (λ target. target.mode) c.run-answer.new.self.stage.mode c.args.mode (same ∙ c.new-stage.ensures.mode) c.finish.ensures.mode
