@@ -181,12 +181,12 @@ abbrev pub after_events : Site → List Event → Site
 after_events w [] = w
 after_events w (e ∷ es) = after_events (after_event w e) es
 
+abbrev pub site : ℕ → Content → Site
+site many z = record { world = abstract_begins many z; phase = Stands }
+
 abbrev pub AbstractHappens : ℕ → Site → List Event → Type 0
 AbstractHappens size w [] = Unit {0}
 AbstractHappens size w (e ∷ es) = MayHappen size w e × AbstractHappens size (after_event w e) es
-
-abbrev pub site : ℕ → Content → Site
-site many z = record { world = abstract_begins many z; phase = Stands }
 
 -- The clerk's part: a history begins with what an opening shows.
 
@@ -199,6 +199,10 @@ note_event n (On r) = abstract_note n r
 note_event n (Stopped r) = n
 note_event n (Begins mode) = n
 note_event n (Advances outcome) = note_outcome n outcome
+
+abbrev pub abstract_noted : AbstractNotes → List Event → AbstractNotes
+abstract_noted n [] = n
+abstract_noted n (e ∷ es) = abstract_noted (note_event n e) es
 
 abbrev pub ShowsRight : AbstractNotes → Outcome → Type 0
 ShowsRight n (Shown blocks view) = (b o : ℕ) → IsEntryFrom (n.floors b o) (n.histories b o) (view b o)
@@ -213,7 +217,3 @@ EventRight n (Advances outcome) = ShowsRight n outcome
 abbrev pub AllEventsRight : AbstractNotes → List Event → Type 0
 AllEventsRight n [] = Unit {0}
 AllEventsRight n (e ∷ es) = EventRight n e × AllEventsRight (note_event n e) es
-
-abbrev pub abstract_noted : AbstractNotes → List Event → AbstractNotes
-abstract_noted n [] = n
-abstract_noted n (e ∷ es) = abstract_noted (note_event n e) es

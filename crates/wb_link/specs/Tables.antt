@@ -164,6 +164,13 @@ abstract_acquire (Returning leaves order os) = Own order.block ∷ Look_seal ord
 abbrev pub abstract_table : Job → Script
 abstract_table job = record { job = job; steps = Look_fail ∷ abstract_acquire job; answer = Finished }
 
+abbrev pub abstract_later_steps : List Want → List Want
+abstract_later_steps [] = []
+abstract_later_steps (w ∷ ws) = ws
+
+abbrev pub abstract_onward : Script → Script
+abstract_onward s = record s { steps = abstract_later_steps s.steps }
+
 abbrev pub abstract_release : Job → List Want
 abstract_release (Reading past b os) = Leave b ∷ []
 abstract_release (Writing past b os c) = Disown b ∷ []
@@ -180,13 +187,6 @@ first_of_steps (w ∷ ws) answer = w
 
 abbrev pub abstract_want : Script → Want
 abstract_want s = first_of_steps s.steps s.answer
-
-abbrev pub abstract_later_steps : List Want → List Want
-abstract_later_steps [] = []
-abstract_later_steps (w ∷ ws) = ws
-
-abbrev pub abstract_onward : Script → Script
-abstract_onward s = record s { steps = abstract_later_steps s.steps }
 
 abbrev pub abstract_refused : Script → List Want → Answer → Script
 abstract_refused s steps answer = record { job = s.job; steps = steps; answer = answer }

@@ -209,6 +209,8 @@ AbstractGives s (Read_all location b os) (Gave contents) = AreAlike os contents 
 AbstractGives s (Read_all location b os) (Fault lands) = Unit {0}
 AbstractGives s (Read_all location b os) got = ⊥
 AbstractGives s (Write_all location b os) got = MayBeFault got
+AbstractGives s Put_root got = MayBeFault got
+AbstractGives s Make_room got = MayLack got
 AbstractGives s (Begin ticket) Done = (s.committing ≡ false) × (s.broken ≡ false) × Unserved s ticket
 AbstractGives s (Begin ticket) (Ticket k) = (ticket ≡ None) × (s.committing ≡ true) × (s.broken ≡ false) × (k ≡ s.began + 1)
 AbstractGives s (Begin ticket) Served = Serves s ticket
@@ -222,9 +224,7 @@ AbstractGives s Begin_clean Lost = s.committing ≡ true
 AbstractGives s Begin_clean got = MayLack got
 AbstractGives s Sync_cache_device got = MayBeFault got
 AbstractGives s Sync_origin_device got = MayBeFault got
-AbstractGives s Put_root got = MayBeFault got
 AbstractGives s Sync_metadata got = MayBeFault got
-AbstractGives s Make_room got = MayLack got
 AbstractGives s w got = IsDoneStep got
 
 -- What the lock words tell: an exchange to an own meets nobody who holds the block, one to a share nobody who owns it.

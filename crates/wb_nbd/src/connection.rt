@@ -123,7 +123,8 @@ impl<R: Read, W: Write> Connection<R, W> {
             return Err(Broken::Writer);
         }
         let answer = perform(alloc, export, &job);
-        self.send(rt, export, &job, &answer, turns)?;
+        // Under the lock of the replies alone, once others are out.
+        self.output.lock(rt).send(export, &job, &answer, turns)?;
         Ok(true)
     }
 
@@ -154,24 +155,6 @@ impl<R: Read, W: Write> Connection<R, W> {
     /// Whether an earlier reply could not be written: then nobody hears what becomes of a request.
     fn is_told_in_vain<C: Wait>(&self, rt: &C) -> bool {
         self.output.lock(rt).broken
-    }
-
-    /// Writes a reply, once others are out.
-    fn send<C: Wait, E: Export>(
-        &self,
-        rt: &C,
-        export: &E,
-        job: &Job,
-        answer: &Answer,
-        turns: &mut Turns,
-    ) -> Result<(), Broken>
-        requires answered { IsAnswered E.acts job.now answer.now export.now }
-        requires few { turns.old.sent + 1 < 2 ^ 64 }
-        ensures counted { OnOk result (turns.new ≡ record turns.old { sent = turns.old.sent + 1 }) }
-        ensures sent { OnOk result ((held then : Option (List ℕ)) × Appends held then (spelling answer.now)) }
-        ensures refused { IfErr result (λ broken. broken ≡ Broken.Writer) }
-    {
-        self.output.lock(rt).send(export, job, answer, turns)
     }
 }
 

@@ -85,10 +85,10 @@ module _ (job : BlockJob) (Is : AbstractJob → Type 0) (words : Words) (actors 
       record {
         results = f.results;
         may = f.may;
+        failed = flag (words_after words step).fail;
         quiet = f.quiet;
         words_agree = f.words_agree;
         same = f.same;
-        failed = flag (words_after words step).fail;
         has_failed = λ e. e;
         at = elim f.at [ inl i ↦ inl i | inr k ↦ inr (inl (k.0, subst Is (sym k.1) its)) ];
         below = elim f.at [ inl i ↦ held_below plan'.steps (card_after words step card) z (ap (λ (v : AbstractActor). v.held) i.is) | inr k ↦ k.0.below ];

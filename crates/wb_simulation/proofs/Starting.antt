@@ -29,11 +29,11 @@ pub record IsGiven (words : Words) (turn : Turn) (s t : Shared) : Type 0 where
   pub words_agree : WordsAgree words t
   pub origin : t.origin ≡ s.origin
   pub cache : t.cache ≡ s.cache
+  pub turned : TurnedTo turn s t
   pub mode : t.mode ≡ s.mode
   pub commits : t.committing ≡ s.committing
   pub broken : t.broken ≡ s.broken
   pub mapping : t.mapping ≡ s.mapping
-  pub turned : TurnedTo turn s t
   pub desk : DeskTurnedTo turn s t
 
 pub given_nothing : (words : Words) (s : Shared) → WordsAgree words s → IsGiven words Stays s s

@@ -201,12 +201,16 @@ fn both<'a>(
     rt: &'a HostRuntime,
     signals: &'a Signals,
 ) -> Result<Vec<Sent<FileDisk, Beside<'a, HostRuntime>>>, Fail> {
-    let mut sent = Vec::new(rt.alloc());
-    for errand in [Beside::Works(rt, signals), Beside::Asks(rt, signals)] {
-        let devices = images(rt, &HELD)?;
-        sent.push(Sent { devices, errand })?;
-    }
-    Ok(sent)
+    let mut both = Vec::with_capacity(rt.alloc(), 2)?;
+    both.push(Sent {
+        devices: images(rt, &HELD)?,
+        errand: Beside::Works(rt, signals),
+    })?;
+    both.push(Sent {
+        devices: images(rt, &HELD)?,
+        errand: Beside::Asks(rt, signals),
+    })?;
+    Ok(both)
 }
 
 /// Whether a worker that stands before its steps, and a client beside it, both end as they are to.

@@ -9,12 +9,11 @@ send-requires-clause-answered g c =
 pub returns-clause-turn : goal.returns-clause-turn
 returns-clause-turn g c goes =
     let taken : WasTaken (g.E.Export.size c.args.export.now) c.in-Some.job = taken_fits _ _ _ c.in-Some.job c.sectors-size.ensures c.in-Some.is c.in_ok-job.ensures.asked in
-    let sent = c.in_ok-send.ensures.sent in
     record {
       input = taken.input;
       input_left = taken.left;
-      output = sent.0;
-      output_then = sent.1;
+      output = g.W.Write.contents c.deref_mut.result.now.writer;
+      output_then = g.W.Write.contents c.send.new.self.writer;
       turn = record {
         asked = taken.bytes;
         job = c.in-Some.job;
@@ -23,6 +22,6 @@ returns-clause-turn g c goes =
         spelled = taken.asked;
         cookie = c.perform-answer.ensures.cookie;
         done = c.perform-answer.ensures.told taken.fits;
-        sent = sent.2;
+        sent = c.in_ok-send.ensures.sent;
       };
     }
