@@ -1,6 +1,8 @@
 /* The work of a target's clients by plain system calls, timed inside:
      clients FILE read|write SECTORS REQUESTS THREADS
    makes so many requests on each of so many threads, each with a descriptor and an equal part of the file's blocks of its own,
+     clients both ONE OTHER SECTORS REQUESTS
+   makes so many requests, each a write to one file and then to the same place of the other,
      clients copy FROM TO
    copies one file to the other, a block at a time, each by one pread and one pwrite between two rounds of a lock.
    Prints the nanoseconds of all. */
@@ -69,13 +71,33 @@ static long long copy(const char *from, const char *to) {
   return now() - start;
 }
 
+static long long write_both(const char *one, const char *other) {
+  static char buffer[BLOCK];
+  int first = opened(one), second = opened(other);
+  long blocks = blocks_of(second);
+  memset(buffer, 0x5a, sizeof buffer);
+  long long start = now();
+  for (long number = 0; number < requests; number++) {
+    off_t where = number % blocks * BLOCK;
+    if (pwrite(first, buffer, size, where) != (ssize_t)size) fail("a short write");
+    if (pwrite(second, buffer, size, where) != (ssize_t)size) fail("a short write");
+  }
+  return now() - start;
+}
+
 int main(int argc, char **argv) {
   pthread_t threads[MOST_THREADS];
+  if (argc == 6 && strcmp(argv[1], "both") == 0) {
+    size = strtoul(argv[4], NULL, 10) * SECTOR;
+    requests = strtol(argv[5], NULL, 10);
+    printf("%lld\n", write_both(argv[2], argv[3]));
+    return 0;
+  }
   if (argc == 4 && strcmp(argv[1], "copy") == 0) {
     printf("%lld\n", copy(argv[2], argv[3]));
     return 0;
   }
-  if (argc != 6) fail("usage: clients FILE read|write SECTORS REQUESTS THREADS, or clients copy FROM TO");
+  if (argc != 6) fail("usage: clients FILE read|write SECTORS REQUESTS THREADS, clients both ONE OTHER SECTORS REQUESTS, or clients copy FROM TO");
   path = argv[1];
   writes = strcmp(argv[2], "write") == 0;
   size = strtoul(argv[3], 0, 10) * SECTOR;

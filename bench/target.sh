@@ -47,7 +47,7 @@ for row in 'try_read 8 1' 'try_read 64 1' 'try_write 8 1' 'try_write 64 1' 'read
   for turn in 1 2 3 4 5; do
     "$work/clients" "$work/c.img" "${1#try_}" "$2" $requests "$3" >>"$work/plain.ns"
     "$cache" format "$table" >"$work/said"
-    "$bench" "$work/m.img" "$work/c.img" "$work/o.img" "$1" "$2" $requests "$3" >"$work/said"
+    "$bench" "$table" "$1" "$2" $requests "$3" >"$work/said"
     awk '$1 == "requests" { print $3 }' "$work/said" >>"$work/proved.ns"
     awk '$1 == "promotions" { print $3 / $2 }' "$work/said" >>"$work/promotions"
     "$work/clients" copy "$work/o.img" "$work/c.img" | awk '{ print $1 / 512 }' >>"$work/copies"

@@ -4,6 +4,7 @@ ghost use Rattle.std.specs.Prelude.{◌≤◌};
 
 use crate::cached::{BLOCK, Cached, Call};
 use crate::crowd::Crowd;
+use wb_table::read_table;
 
 /// The most sectors of a request: 1 MiB.
 pub const MOST_SECTORS: u64 = 2_048;
@@ -57,17 +58,16 @@ pub fn read_asked(words: &[String]) -> Option<Asked<'_>> {
 }
 
 fn read_cached(words: &[String]) -> Option<Asked<'_>> {
-    let [_, metadata, cache, origin, call, sectors, requests, clients] = words else {
+    let [_, table, call, sectors, requests, clients] = words else {
         return None;
     };
+    let table = read_table(table.as_str()).ok()?;
     let sectors = read_u64(sectors.as_str())?;
-    if sectors == 0 || sectors > BLOCK {
+    if table.block != BLOCK || sectors == 0 || sectors > BLOCK {
         return None;
     }
     Some(Asked::Cached(Cached {
-        metadata: metadata.as_str(),
-        cache: cache.as_str(),
-        origin: origin.as_str(),
+        table,
         call: read_call(call.as_str())?,
         sectors,
         requests: read_u64(requests.as_str())?,

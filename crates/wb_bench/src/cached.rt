@@ -7,8 +7,8 @@ use std::sync::Wait;
 use std::thread::Threads;
 use std::time::{Clock, Instant};
 use wb_opened::{Served, Service, Unserved, serve_each};
-use wb_table::{Keys, PolicyName, Table};
-use wb_types::{Content, Mode, Refusal, SECTOR_BYTES, Sector};
+use wb_table::Table;
+use wb_types::{Content, Refusal, SECTOR_BYTES, Sector};
 
 /// Sectors of a block: 32 KiB.
 pub const BLOCK: u64 = 64;
@@ -28,12 +28,11 @@ pub enum Call {
     Write,
 }
 
-/// The files of a formatted cache, and the requests over it.
+/// The table of a formatted cache, and the requests over it.
 #[derive(Clone, Copy, Debug)]
 pub struct Cached<'a> {
-    pub metadata: &'a str,
-    pub cache: &'a str,
-    pub origin: &'a str,
+    /// Its blocks are of `BLOCK` sectors.
+    pub table: Table<'a>,
     pub call: Call,
     /// Sectors of a request, 1 to `BLOCK`.
     pub sectors: u64,
@@ -162,18 +161,9 @@ pub fn time_cached<R: Threads + Wait + Clock + Sync>(
     asked: &Cached<'_>,
 ) -> Result<Took, &'static str> {
     let alloc = rt.alloc();
-    let table = Table {
-        metadata: asked.metadata,
-        cache: asked.cache,
-        origin: asked.origin,
-        block: BLOCK,
-        mode: Mode::Writeback,
-        policy: PolicyName::TinyLfu,
-        keys: Keys::new(),
-    };
     let loads = loads_of(threads, alloc, asked)?;
     let fill = Fill { clock: threads };
-    match serve_each(rt, threads, alloc, &table, fill, loads) {
+    match serve_each(rt, threads, alloc, &asked.table, fill, loads) {
         Ok((filled, answered)) => sum_up(filled?, answered.as_slice()),
         Err(Unserved::Unopened(_)) => Err("a file cannot be opened"),
         Err(Unserved::Refused(_) | Unserved::Differs(_) | Unserved::Mode(_)) => Err(

@@ -5,10 +5,10 @@
 //! such a request: a multiple of 64 sectors.
 //! `wb_bench settles CACHE_BLOCKS ACCESSES` settles accesses by Zipf's law over a cache that TinyLfu fills, and prints
 //! how many were hits; `wb_bench ticks CACHE_BLOCKS TICKS` ticks over a full cache, and prints how often one was ordered.
-//! `wb_bench METADATA CACHE ORIGIN try_read|try_write|read|write SECTORS REQUESTS 1|2|4` opens a formatted cache with blocks of 64
-//! sectors, promotes a block of the origin for each of its own, and makes so many requests by each of so many clients, on threads
-//! and cached blocks of their own; it prints how many promotions there were and their nanoseconds, and so of the requests, by the
-//! client that took longest.
+//! `wb_bench TABLE try_read|try_write|read|write SECTORS REQUESTS 1|2|4` opens a formatted cache with blocks of 64 sectors by its
+//! table, promotes a block of the origin for each of its own, where the mode promotes any, and makes so many requests by each of so
+//! many clients, on threads and blocks of their own; it prints how many promotions there were and their nanoseconds, and so of the
+//! requests, by the client that took longest.
 //! `wb_bench FILE mapping CACHE_BLOCKS` makes the file a metadata device that holds a full mapping of so many cache
 //! blocks, and `wb_bench FILE state` reads what it stands for; both print the number of nodes.
 #![tactic(auto)]
@@ -41,7 +41,7 @@ const STREAM_FAILED: u8 = 4;
 const USAGE: &str = "usage: wb_bench FILE read|write SECTORS REQUESTS
        wb_bench settles CACHE_BLOCKS ACCESSES
        wb_bench ticks CACHE_BLOCKS TICKS
-       wb_bench METADATA CACHE ORIGIN try_read|try_write|read|write SECTORS REQUESTS 1|2|4
+       wb_bench TABLE try_read|try_write|read|write SECTORS REQUESTS 1|2|4
        wb_bench FILE mapping CACHE_BLOCKS
        wb_bench FILE state";
 
