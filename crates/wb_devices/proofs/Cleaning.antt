@@ -1,8 +1,8 @@
 -- What an opening in passthrough does of metadata that are clean or not.
-use Rattle.std.proofs.Common.{◌≡◌, ◌≢◌, ◌∙◌, ℕ, List, Option, Some, None, refl, sym, subst, inl, inr}
+use Rattle.std.proofs.Common.{◌≡◌, ◌≢◌, ℕ, List, Option, Some, None, sym, subst, inl, inr}
 use Rattle.wb_types.specs.declared.geometry.Geometry.{Geometry}
 use Rattle.wb_types.specs.declared.mode.Mode.{Mode}
-use Rattle.wb_types.specs.declared.mode.Mode.TheVariants.{Passthrough, Writeback, Writethrough}
+use Rattle.wb_types.specs.declared.mode.Mode.TheVariants.{Passthrough}
 use Rattle.wb_disk.specs.Device.{History}
 use Rattle.wb_meta.specs.Reads.{ReadingGoesOn, ReadOneMore}
 use Rattle.wb_meta.specs.declared.read_steps.ReadSteps.{ReadSteps}

@@ -37,8 +37,8 @@ use Rattle.wb_tasks.specs.declared.step.Got.TheVariants.{Done, Fault, Refused, M
 use Rattle.wb_tasks.proofs.Driving.{no_result}
 use Rattle.wb_devices.specs.Committing.{goes_on, is_coming}
 use Rattle.wb_devices.specs.Stepping.{Goes, DidPut}
-use Rattle.wb_devices.specs.Opened.{HasCome, IsUnfit, got_of_refusal}
-use Rattle.wb_devices.specs.Clean.{DidReadIn, DidOpenIn, HasComeIn, IsCleanSoFar, IsLeftClean, IsUnclean, IsUnfitIn}
+use Rattle.wb_devices.specs.Opened.{HasCome, got_of_refusal}
+use Rattle.wb_devices.specs.Clean.{DidReadIn, DidOpenIn, HasComeIn, IsCleanSoFar, IsLeftClean, IsUnfitIn}
 use Rattle.wb_devices.specs.Openings.{HasNotBegun}
 use Rattle.wb_devices.specs.OpeningLed.{LedOpening}
 use Rattle.wb_devices.specs.Outcomes.{IsOpen, DataIsDurable, IsRefused, OpeningHasEnded}
@@ -348,8 +348,11 @@ module _ {D : Type 0} (tells : Type 0) (size : D → ℕ) (contents : D → List
             nothing_written = unfit.1 ∙ h.commit;
             metadata = still.metadata;
             copies = still.copies;
-            cause = λ t. inr (d.0, read_on (contents old.devices.metadata) was d.0 (h.durable.metadata t) (d.1 t) (h.read t),
-              subst (λ (m : Mode). IsUnfitIn m first.opening.geometry d.0 refusal) h.durable.mode (subst (λ (g : Geometry). IsUnfitIn old.mode g d.0 refusal) h.durable.geometry unfit.2));
+            cause = λ t. inr (
+              d.0,
+              read_on (contents old.devices.metadata) was d.0 (h.durable.metadata t) (d.1 t) (h.read t),
+              subst (λ (m : Mode). IsUnfitIn m first.opening.geometry d.0 refusal) h.durable.mode (subst (λ (g : Geometry). IsUnfitIn old.mode g d.0 refusal) h.durable.geometry unfit.2),
+            );
           }
       case (inr s) = record {
         nothing_read = s.4;

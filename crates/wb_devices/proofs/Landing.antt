@@ -1,5 +1,5 @@
 -- A write of which nothing landed.
-use Rattle.std.proofs.Common.{◌≡◌, ℕ, List, ◌∷◌, false, sym}
+use Rattle.std.proofs.Common.{ℕ, List, false, sym}
 use Rattle.wb_disk.specs.Device.{Content, History}
 use Rattle.wb_disk.specs.Extents.{PartlyWritten}
 use Rattle.wb_disk.proofs.Falters.{nothing_written}

@@ -4,6 +4,8 @@
 #[cfg(test)]
 mod caching;
 #[cfg(test)]
+mod clean;
+#[cfg(test)]
 mod faults;
 #[cfg(test)]
 mod files;

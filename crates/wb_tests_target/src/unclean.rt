@@ -12,15 +12,29 @@ use wb_types::{CBlock, Content, Dev, Geometry, OBlock, Place, Refusal, SECTOR_BY
 
 /// Devices whose newest root, with or without the clean flag, names that leaf.
 fn stored(alloc: Global, clean: bool) -> Result<Memory, Refusal> {
+    stored_as(alloc, 1, clean, false)
+}
+
+/// Devices whose newest root, of this odd generation, with or without the clean flag, names that leaf, or one whose first entry is dirty.
+pub fn stored_as(
+    alloc: Global,
+    generation: u64,
+    clean: bool,
+    dirty: bool,
+) -> Result<Memory, Refusal> {
     let mut devices = formatted(alloc)?;
     let root = Root {
-        generation: 1,
+        generation,
         version: Version::One,
         clean,
         geometry: Geometry::new(64, 4, 10, 4)?,
         top: Some(Place(2)),
     };
-    put(&mut devices.metadata, 2, &leaf())?;
+    let mut leaf = leaf();
+    if dirty {
+        leaf[32] |= 2;
+    }
+    put(&mut devices.metadata, 2, &leaf)?;
     let mut content = [0; SECTOR_BYTES];
     root.write(&mut content);
     put(&mut devices.metadata, 1, &content)?;
