@@ -6,11 +6,11 @@ ghost use Rattle.wb_target.specs.Works.{WasAsked};
 ghost use Rattle.wb_target.specs.Told.{WereSettled, HadTick, WasNext};
 ghost use Rattle.wb_opened.specs.Inside.{IsInside};
 
-use crate::served::Served;
+use crate::served::{Served, Shown};
 use std::sync::Wait;
 use wb_disk::Disk;
 use wb_policy::{Order, Policy};
-use wb_target::{Client, Gate};
+use wb_target::{Client, Gate, Target};
 use wb_types::{Content, Geometry, Refusal, Sector};
 
 impl<'t, D: Disk + Drop, P: Policy> Served for Client<'t, D, P> {
@@ -103,5 +103,11 @@ impl<'t, D: Disk + Drop, P: Policy> Served for Client<'t, D, P> {
 
     fn dirty<R: Wait>(&self, rt: &R) -> u32 {
         self.target().dirty(rt)
+    }
+}
+
+impl<P: Policy> Shown for Target<P> {
+    fn status<R: Wait>(&self, rt: &R, text: &mut String) -> Result<(), Refusal> {
+        Target::status(self, rt, text)
     }
 }

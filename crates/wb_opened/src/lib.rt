@@ -10,6 +10,6 @@ mod serving;
 mod unserved;
 
 pub use difference::Difference;
-pub use served::{Served, Service};
+pub use served::{Served, Service, Shown, Visit};
 pub use serving::{serve_all, serve_alone, serve_each};
 pub use unserved::Unserved;

@@ -1,6 +1,6 @@
 //! The policies that a table can name: one is added by an arm in each function here, and nothing else names it.
 
-use crate::served::Service;
+use crate::served::{Service, Visit};
 use crate::serving::{Doing, serve_one, serve_one_and_several, serve_several};
 use crate::unserved::Unserved;
 use std::alloc::Global;
@@ -13,23 +13,23 @@ use wb_table::{PolicyName, Table};
 use wb_target::Sent;
 use wb_types::{Mode, Refusal};
 
-/// Opens the cache of a table on these devices and has one client do a service.
-pub(crate) fn serve_on<'a, T: Wait, D: Disk + Drop, S: Service + Drop>(
+/// Opens the cache of a table on these devices and has one client do what a visit is for.
+pub(crate) fn serve_on<'a, T: Wait, D: Disk + Drop, V: Visit + Drop>(
     waits: &T,
     alloc: Global,
     devices: Devices<D>,
     table: &Table<'a>,
-    service: S,
-) -> Result<S::Told, Unserved<'a>> {
+    visit: V,
+) -> Result<V::Told, Unserved<'a>> {
     if table.mode == Mode::Passthrough {
         return Err(Unserved::Mode(table.mode));
     }
     match table.policy {
         PolicyName::TinyLfu => {
-            serve_one::<TinyLfu, T, D, S>(waits, alloc, devices, table, service)
+            serve_one::<TinyLfu, T, D, V>(waits, alloc, devices, table, visit)
         }
         PolicyName::Cleaner => {
-            serve_one::<Cleaner, T, D, S>(waits, alloc, devices, table, service)
+            serve_one::<Cleaner, T, D, V>(waits, alloc, devices, table, visit)
         }
     }
 }

@@ -102,6 +102,30 @@ pub trait Served {
     fn dirty<R: Wait>(&self, rt: &R) -> u32;
 }
 
+/// What a target shows without a client.
+pub trait Shown {
+    /// Adds the status line, with no end of line: `Memory`.
+    fn status<R: Wait>(&self, rt: &R, text: &mut String) -> Result<(), Refusal>
+        ensures line { OnOk result ((told : Fields) × (string_bytes text.new ≡ string_bytes text.old ++ status_line told)) }
+        ensures refused { IfErr result (λ refusal. refusal ≡ Refusal.Memory) }
+        ensures unchanged { OnErr result (string_bytes text.new ≡ string_bytes text.old) };
+}
+
+/// What is done by the one client of an opened target, and behind a suspend.
+pub trait Visit {
+    /// What it tells at its end.
+    type Told: Drop;
+
+    /// Does what a client is for: whether a suspend of the target is to come next, once the client was taken back, or it has ended.
+    fn serve<R: Wait, C: Served>(&mut self, rt: &R, client: &mut C) -> bool;
+
+    /// Goes on behind the suspend, which was done or refused.
+    fn go_on<R: Wait, T: Shown>(&mut self, rt: &R, suspended: Result<(), Refusal>, target: &T);
+
+    /// What it tells.
+    fn told(self) -> Self::Told;
+}
+
 /// What is done by a client of an opened target.
 pub trait Service {
     /// What it tells at its end.

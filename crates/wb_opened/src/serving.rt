@@ -6,7 +6,7 @@ ghost use Rattle.wb_opened.specs.Tables.{name_of};
 
 use crate::opening::{open_devices, open_named, open_target, open_unlocked};
 use crate::policies::{serve_first, serve_on, serve_rest};
-use crate::served::{Served, Service};
+use crate::served::{Served, Service, Visit};
 use crate::unserved::Unserved;
 use std::alloc::{AllocError, Global};
 use std::fs::File;
@@ -21,21 +21,21 @@ use wb_table::Table;
 use wb_target::{Client, Errand, Returned, Sent, Target};
 use wb_types::Refusal;
 
-/// Opens the cache over the files of a table, in its mode and with its policy, and has one client do a service: what it told. The
-/// files are locked as long, and who watches is told of each step on them that fails. Nothing is flushed at the end, which leaves the
-/// cache without the clean flag.
+/// Opens the cache over the files of a table, in its mode and with its policy, and has one client do what a visit is for: what it told. The
+/// files are locked as long, and who watches is told of each step on them that fails. Without a suspend nothing is flushed at the end,
+/// which leaves the cache without the clean flag.
 ///
 /// An error where the files cannot serve, the opening is refused or there is no memory for a client.
-pub fn serve_alone<'a, R: Files<File = File>, T: Wait, N: Watch, S: Service + Drop>(
+pub fn serve_alone<'a, R: Files<File = File>, T: Wait, N: Watch, V: Visit + Drop>(
     rt: &R,
     waits: &T,
     alloc: Global,
     table: &'a str,
     watch: &N,
-    service: S,
-) -> Result<S::Told, Unserved<'a>> {
+    visit: V,
+) -> Result<V::Told, Unserved<'a>> {
     let (table, devices) = open_devices(rt, table, &mut Hurry, watch)?;
-    serve_on(waits, alloc, devices, &table, service)
+    serve_on(waits, alloc, devices, &table, visit)
 }
 
 /// As `serve_alone`, by several who do their services beside one another, each by a client of its own with files of its own and on a
@@ -84,19 +84,45 @@ pub fn serve_each<
     serve_first(waits, alloc, devices, table, first, errands)
 }
 
-/// Opens the cache of a table on these devices, with a policy of the name that it has, and has one client do a service.
-pub(crate) fn serve_one<'a, P: Policy, T: Wait, D: Disk + Drop, S: Service + Drop>(
+/// Opens the cache of a table on these devices, with a policy of the name that it has, and has one client do what a visit is for; where a
+/// suspend is to come, the client is taken back and the target suspended.
+pub(crate) fn serve_one<'a, P: Policy, T: Wait, D: Disk + Drop, V: Visit + Drop>(
     waits: &T,
     alloc: Global,
     devices: Devices<D>,
     table: &Table<'a>,
-    service: S,
-) -> Result<S::Told, Unserved<'a>>
+    visit: V,
+) -> Result<V::Told, Unserved<'a>>
     requires policy { P.name ≡ name_of table.now.policy }
     requires mode { table.now.mode ≢ Passthrough }
 {
     let (devices, target) = open_target::<P, D>(alloc, devices, table)?;
-    serve_by(waits, &target, devices, service).map_err(|refusal| Unserved::Refused(refusal))
+    let mut visit = visit;
+    match visited(waits, &target, devices, &mut visit) {
+        Ok(()) => Ok(visit.told()),
+        Err(refusal) => Err(Unserved::Refused(refusal)),
+    }
+}
+
+/// Has a client of a target do what a visit is for, and suspends the target where that is to come.
+fn visited<T: Wait, D: Disk + Drop, P: Policy, V: Visit>(
+    waits: &T,
+    target: &Target<P>,
+    devices: Devices<D>,
+    visit: &mut V,
+) -> Result<(), Refusal> {
+    match target.client(waits, devices) {
+        Ok(mut client) => {
+            if visit.serve(waits, &mut client) {
+                let devices = target.retire(waits, client);
+                let (devices, suspended) = target.suspend(waits, devices);
+                visit.go_on(waits, suspended, target);
+                drop(devices);
+            }
+            Ok(())
+        }
+        Err((_, refusal)) => Err(refusal),
+    }
 }
 
 /// Has a client of a target do a service.

@@ -5,7 +5,7 @@ use Rattle.wb_table.specs.Words.{words_of}
 use Rattle.wb_table.specs.Comments.{IsComment}
 use Rattle.wb_table.specs.Sectors.{SpellsSectors, SpellsFill}
 use Rattle.wbcache.specs.declared.line.Line.{Line}
-use Rattle.wbcache.specs.declared.line.Line.TheVariants.{Nothing, Read, Write, WriteDurably, TryRead, TryWrite, Flush, Settle, Work, Tick, Status}
+use Rattle.wbcache.specs.declared.line.Line.TheVariants.{Nothing, Read, Write, WriteDurably, TryRead, TryWrite, Flush, Settle, Work, Tick, Status, Suspend}
 
 -- The words of a line that asks this: none, one that names the call, or `r`, `tr`, `w`, `wf`, `tw` and what they take.
 abbrev pub WordsAsk : List (List ℕ) → Line → Type 0
@@ -20,6 +20,7 @@ WordsAsk (name ∷ words) Settle = (name ≡ codes "settle") × (words ≡ [])
 WordsAsk (name ∷ words) Work = (name ≡ codes "work") × (words ≡ [])
 WordsAsk (name ∷ words) Tick = (name ≡ codes "tick") × (words ≡ [])
 WordsAsk (name ∷ words) Status = (name ≡ codes "status") × (words ≡ [])
+WordsAsk (name ∷ words) Suspend = (name ≡ codes "suspend") × (words ≡ [])
 WordsAsk words line = ⊥
 
 -- A line is a comment, or a text whose words ask this.

@@ -20,7 +20,8 @@ use wb_types::{CBlock, Content, Geometry, OBlock, Refusal, SECTOR_BYTES, Sector}
 ///
 /// `Range` for no sector, or one outside the origin; `Crosses` for sectors of more than one block, where one alone may be asked
 /// for; `Defer` where too many accesses are unsettled; `Busy` where a block is in use; `Io` where a step failed, `Failed` after a
-/// write or sync that failed so, `Memory` where there is none, and `GenerationEnd` where no further commit can be.
+/// write or sync that failed so, `Memory` where there is none, and `GenerationEnd` where no further commit can be. A line that asks for a
+/// suspend is `Busy`, as the client is out.
 pub fn answer<R: Wait, C: Served>(
     rt: &R,
     alloc: Global,
@@ -48,6 +49,8 @@ pub fn answer<R: Wait, C: Served>(
         Line::Settle => client.settle(rt),
         Line::Flush => client.flush(rt)?,
         Line::Tick => client.tick(rt)?,
+        // Only a target without a client can be suspended.
+        Line::Suspend => return Err(Refusal::Busy),
     }
     text.push_str("ok\n")?;
     Ok(())

@@ -34,6 +34,8 @@ pub enum Line {
     Tick,
     /// `status`: tells how the cache is.
     Status,
+    /// `suspend`: makes all durable, with what is dirty and how often blocks were asked for, and leaves the cache clean.
+    Suspend,
 }
 
 /// Reads a line, without its line break. None is a line that asks nothing that a script can ask.
@@ -91,6 +93,7 @@ fn read_word(word: &str, mut words: SplitSpaces<'_>) -> Option<Line>
         "work" => Some(Line::Work),
         "tick" => Some(Line::Tick),
         "status" => Some(Line::Status),
+        "suspend" => Some(Line::Suspend),
         _ => None,
     }
 }

@@ -14,7 +14,7 @@ use std::io::{BufRead, ErrorKind, Read, Write};
 use std::rt::Files;
 use std::sync::Wait;
 use wb_files::Watch;
-use wb_opened::{Served, Service, serve_alone};
+use wb_opened::{Served, Shown, Visit, serve_alone};
 use wb_types::Refusal;
 
 /// Room for an answer of one line, made before the first line is read.
@@ -44,6 +44,10 @@ pub fn run<'a, R: Files<File = File>, T: Wait, N: Watch, I: BufRead, W: Write>(
         reader,
         writer: &mut *writer,
         progress,
+        number: 0,
+        status: Status::Done,
+        tally: Tally::new(),
+        failed: None,
     };
     match serve_alone(rt, waits, alloc, table, watch, script) {
         Ok(played) => played.ended(),
@@ -51,13 +55,17 @@ pub fn run<'a, R: Files<File = File>, T: Wait, N: Watch, I: BufRead, W: Write>(
     }
 }
 
-/// A script that is to be played.
+/// A script that is played: its lines so far, how they were answered, and those of them that were refused.
 #[derive(Drop)]
 struct Script<'s, I, W> {
     alloc: Global,
     reader: &'s mut I,
     writer: &'s mut W,
     progress: Progress<'s>,
+    number: u64,
+    status: Status,
+    tally: Tally,
+    failed: Option<StreamFailed>,
 }
 
 /// How a script was played, and the lines of it that were refused.
@@ -81,68 +89,201 @@ impl Played {
     }
 }
 
-impl<'s, I: BufRead, W: Write> Service for Script<'s, I, W> {
+impl<'s, I: BufRead, W: Write> Visit for Script<'s, I, W> {
     type Told = Played;
 
-    fn serve<R: Wait, C: Served>(self, rt: &R, client: &mut C) -> Played {
-        let Script {
-            alloc,
-            reader,
-            writer,
-            mut progress,
-        } = self;
-        // Which blocks are dirty is a look at each of them.
-        if progress.is_asked() {
-            progress.opened(&client.geometry(), client.mapped(rt), client.dirty(rt));
+    fn serve<R: Wait, C: Served>(&mut self, rt: &R, client: &mut C) -> bool {
+        tell_opened(rt, client, &mut self.progress);
+        match play_by(rt, client, self) {
+            Ok(asked) => asked,
+            Err(failed) => {
+                self.failed = Some(failed);
+                false
+            }
         }
-        let mut tally = Tally::new();
-        let status = play(rt, alloc, client, reader, writer, &mut tally, &mut progress);
+    }
+
+    fn go_on<R: Wait, T: Shown>(&mut self, rt: &R, suspended: Result<(), Refusal>, target: &T) {
+        if let Err(failed) = play_behind(rt, target, self, suspended) {
+            self.failed = Some(failed);
+        }
+    }
+
+    fn told(self) -> Played {
+        let Script {
+            status,
+            tally,
+            failed,
+            ..
+        } = self;
+        let status = match failed {
+            Some(failed) => Err(failed),
+            None => Ok(status),
+        };
         Played { status, tally }
     }
 }
 
-/// Plays the lines of a script with a client, and counts those that are refused.
-fn play<R: Wait, C: Served, I: BufRead, W: Write>(
+/// Who answers lines.
+trait Answers {
+    /// Does what a line asks, and adds what it is answered to the text. None where the line ends what is answered here.
+    fn answer(
+        &mut self,
+        alloc: Global,
+        asked: Line,
+        text: &mut String,
+        progress: &mut Progress<'_>,
+    ) -> Option<Result<(), Refusal>>;
+}
+
+/// A client, up to a suspend.
+#[derive(Drop)]
+struct ByClient<'r, 'c, R, C> {
+    rt: &'r R,
+    client: &'c mut C,
+}
+
+impl<'r, 'c, R: Wait, C: Served> Answers for ByClient<'r, 'c, R, C> {
+    fn answer(
+        &mut self,
+        alloc: Global,
+        asked: Line,
+        text: &mut String,
+        progress: &mut Progress<'_>,
+    ) -> Option<Result<(), Refusal>> {
+        match asked {
+            Line::Suspend => None,
+            _ => Some(answer(self.rt, alloc, self.client, asked, text, progress)),
+        }
+    }
+}
+
+/// A target behind a suspend, done or refused: it tells how it is, and refuses all else.
+#[derive(Drop)]
+struct Behind<'r, 't, R, T> {
+    rt: &'r R,
+    target: &'t T,
+}
+
+impl<'r, 't, R: Wait, T: Shown> Answers for Behind<'r, 't, R, T> {
+    fn answer(
+        &mut self,
+        _alloc: Global,
+        asked: Line,
+        text: &mut String,
+        _progress: &mut Progress<'_>,
+    ) -> Option<Result<(), Refusal>> {
+        Some(match asked {
+            Line::Nothing => Ok(()),
+            Line::Status => told(self.rt, self.target, text),
+            _ => Err(Refusal::Failed),
+        })
+    }
+}
+
+/// Tells how a target is, on a line.
+fn told<R: Wait, T: Shown>(rt: &R, target: &T, text: &mut String) -> Result<(), Refusal> {
+    target.status(rt, text)?;
+    text.push_str("\n")?;
+    Ok(())
+}
+
+/// Tells what was opened, where that was asked for: which blocks are dirty is a look at each of them.
+fn tell_opened<R: Wait, C: Served>(rt: &R, client: &C, progress: &mut Progress<'_>) {
+    if progress.is_asked() {
+        progress.opened(&client.geometry(), client.mapped(rt), client.dirty(rt));
+    }
+}
+
+/// Plays the lines up to a suspend with a client.
+fn play_by<R: Wait, C: Served, I: BufRead, W: Write>(
     rt: &R,
-    alloc: Global,
     client: &mut C,
-    reader: &mut I,
-    writer: &mut W,
-    tally: &mut Tally,
-    progress: &mut Progress<'_>,
-) -> Result<Status, StreamFailed> {
+    script: &mut Script<'_, I, W>,
+) -> Result<bool, StreamFailed> {
+    let mut by = ByClient { rt, client };
+    let asked = play(script, &mut by);
+    let ByClient { rt: _, client: _ } = by;
+    asked
+}
+
+/// Prints what a suspend was answered, and goes on with the lines behind it.
+fn play_behind<R: Wait, T: Shown, I: BufRead, W: Write>(
+    rt: &R,
+    target: &T,
+    script: &mut Script<'_, I, W>,
+    suspended: Result<(), Refusal>,
+) -> Result<bool, StreamFailed> {
+    let mut text = String::new(script.alloc);
+    let answered = match suspended {
+        Ok(()) => {
+            script.tally.done(Line::Suspend);
+            text.push_str("ok\n").map_err(|_| Refusal::Memory)
+        }
+        Err(refusal) => Err(refusal),
+    };
+    tell(script, answered, &mut text)?;
+    let mut behind = Behind { rt, target };
+    let asked = play(script, &mut behind);
+    let Behind { rt: _, target: _ } = behind;
+    asked
+}
+
+/// Plays the lines of a script up to one that ends what is answered here, and counts those that are refused: whether there was one.
+fn play<A: Answers, I: BufRead, W: Write>(
+    script: &mut Script<'_, I, W>,
+    answers: &mut A,
+) -> Result<bool, StreamFailed> {
+    let alloc = script.alloc;
     let Ok(mut text) = String::with_capacity(alloc, ONE_LINE) else {
-        return refuse(alloc, Refusal::Memory, writer);
+        script.status = refuse(alloc, Refusal::Memory, script.writer)?;
+        return Ok(false);
     };
     let mut line = Vec::new(alloc);
-    let mut status = Status::Done;
-    for number in 1..u64::MAX {
+    for _ in 0..u64::MAX {
+        script.number = script.number.saturating_add(1);
         text.clear();
-        let answered = match next_input(reader, &mut line)? {
+        let answered = match next_input(script.reader, &mut line)? {
             Input::Asks(asked) => {
-                let answered = answer(rt, alloc, client, asked, &mut text, progress);
-                if answered.is_ok() {
-                    tally.done(asked);
+                match answers.answer(alloc, asked, &mut text, &mut script.progress) {
+                    Some(answered) => {
+                        if answered.is_ok() {
+                            script.tally.done(asked);
+                        }
+                        answered
+                    }
+                    None => return Ok(true),
                 }
-                answered
             }
             Input::TooLong => Err(Refusal::Memory),
             Input::Bad => {
-                tally.note(number, Said::BadLine);
-                print_bad_line(number, &mut text, writer)?;
-                return Ok(status.max(Status::Refused));
+                script.tally.note(script.number, Said::BadLine);
+                print_bad_line(script.number, &mut text, script.writer)?;
+                script.status = script.status.max(Status::Refused);
+                return Ok(false);
             }
-            Input::End => break,
+            Input::End => return Ok(false),
         };
-        status = status.max(match answered {
-            Ok(()) => print(&text, writer)?,
-            Err(refusal) => {
-                tally.note(number, Said::Refused(refusal));
-                print_refusal(refusal, &mut text, writer)?
-            }
-        });
+        tell(script, answered, &mut text)?;
     }
-    Ok(status)
+    Ok(false)
+}
+
+/// Prints what the last line was answered, and counts it where it was refused.
+fn tell<I, W: Write>(
+    script: &mut Script<'_, I, W>,
+    answered: Result<(), Refusal>,
+    text: &mut String,
+) -> Result<(), StreamFailed> {
+    let printed = match answered {
+        Ok(()) => print(text, script.writer)?,
+        Err(refusal) => {
+            script.tally.note(script.number, Said::Refused(refusal));
+            print_refusal(refusal, text, script.writer)?
+        }
+    };
+    script.status = script.status.max(printed);
+    Ok(())
 }
 
 /// What comes next in a script.

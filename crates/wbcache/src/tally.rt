@@ -37,7 +37,9 @@ impl Tally {
             Line::Write { .. } | Line::TryWrite { .. } => {
                 self.unflushed = self.unflushed.saturating_add(1);
             }
-            Line::WriteDurably { .. } | Line::Flush | Line::Tick => self.unflushed = 0,
+            Line::WriteDurably { .. } | Line::Flush | Line::Tick | Line::Suspend => {
+                self.unflushed = 0
+            }
             _ => {}
         }
     }
