@@ -46,7 +46,7 @@ pub(crate) fn serve_rest<
     devices: Devices<D>,
     table: &Table<'a>,
     errands: Vec<Sent<D, Doing<S>>>,
-) -> Result<Vec<Result<S::Told, Refusal>>, Unserved<'a>> {
+) -> Result<(Vec<Result<S::Told, Refusal>>, Result<(), Refusal>), Unserved<'a>> {
     if table.mode == Mode::Passthrough {
         return Err(Unserved::Mode(table.mode));
     }

@@ -40,7 +40,8 @@ pub fn serve_alone<'a, R: Files<File = File>, T: Wait, N: Watch, V: Visit + Drop
 
 /// As `serve_alone`, by several who do their services beside one another, each by a client of its own with files of its own and on a
 /// thread of its own; where no thread can be made, one is done after the other, the last of them first. What each told, in order, or why
-/// it had no client. Files that another program holds are waited for as long as there is patience.
+/// it had no client; then the target is suspended, which leaves the cache clean, or that is refused. Files that another program holds are
+/// waited for as long as there is patience.
 pub fn serve_all<
     'a,
     R: Files<File = File>,
@@ -56,7 +57,7 @@ pub fn serve_all<
     patience: &mut P,
     watch: &N,
     services: Vec<S>,
-) -> Result<Vec<Result<S::Told, Refusal>>, Unserved<'a>> {
+) -> Result<(Vec<Result<S::Told, Refusal>>, Result<(), Refusal>), Unserved<'a>> {
     let (table, devices) = open_devices(rt, table, patience, watch)?;
     let errands = errands_of(rt, alloc, &table, watch, services)?;
     serve_rest(waits, alloc, devices, &table, errands)
@@ -138,7 +139,8 @@ fn serve_by<T: Wait, D: Disk + Drop, P: Policy, S: Service + Drop>(
     }
 }
 
-/// Opens the cache of a table so on these devices, which are kept open as long, and has clients do services beside one another.
+/// Opens the cache of a table so on these devices, which are kept open as long, has clients do services beside one another, and suspends
+/// the target once all are back.
 pub(crate) fn serve_several<
     'a,
     P: Policy + Send,
@@ -151,14 +153,18 @@ pub(crate) fn serve_several<
     devices: Devices<D>,
     table: &Table<'a>,
     errands: Vec<Sent<D, Doing<S>>>,
-) -> Result<Vec<Result<S::Told, Refusal>>, Unserved<'a>>
+) -> Result<(Vec<Result<S::Told, Refusal>>, Result<(), Refusal>), Unserved<'a>>
     requires policy { P.name ≡ name_of table.now.policy }
     requires mode { table.now.mode ≢ Passthrough }
 {
     let (devices, target) = open_target::<P, D>(alloc, devices, table)?;
     let told = beside_one_another(waits, alloc, &target, errands);
+    let (devices, suspended) = target.suspend(waits, devices);
     drop(devices);
-    told.map_err(|_| Unserved::Refused(Refusal::Memory))
+    match told {
+        Ok(told) => Ok((told, suspended)),
+        Err(_) => Err(Unserved::Refused(Refusal::Memory)),
+    }
 }
 
 /// Opens the cache of a table so on these devices, has one client do the first service, and the others theirs beside one another.

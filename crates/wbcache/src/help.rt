@@ -33,6 +33,7 @@ A script, one answer a line, is read from standard input:
   tick        let it order write-backs, and flush: prints 'ok'
   status      tell how the cache is, on a line as the kernel's dm-cache does
   flush       make all that was written durable: prints 'ok'
+  suspend     the same, and leave the cache clean; behind it only status serves
   # ..        nothing; empty lines too
 What is refused prints 'refused <number> <Name>'. What was written is durable
 only after a flush. Status: 0 all was answered, 1 something was refused, 2 the

@@ -22,10 +22,10 @@ const SERVERS: u64 = 16;
 
 /// Opens the cache over the files of a table, in its mode and with its policy, and serves the origin to the client whose bytes are
 /// read and written here, up to 16 requests at once, with a worker beside. Once the connection has ended or broken, accesses are
-/// settled and all is flushed; the cache is left without the clean flag. All three files are locked as long; where another program
+/// settled and all is flushed, and the target is suspended, so that the next opening finds the cache clean. All three files are locked as long; where another program
 /// holds one, it is waited for.
 ///
-/// 0 where the client ended the connection or went between two requests and all was flushed, 1 where the files cannot serve or there is no memory, 3 where
+/// 0 where the client ended the connection or went between two requests and all was flushed and suspended, 1 where the files cannot serve or there is no memory, 3 where
 /// a device failed, 4 where the connection broke.
 pub fn run<
     'a,
@@ -50,7 +50,7 @@ pub fn run<
         &teller.alarm,
         services,
     ) {
-        Ok(told) => ended_of(told.as_slice()),
+        Ok((told, suspended)) => ended_of(told.as_slice(), suspended),
         Err(unserved) => Ended::unserved(unserved),
     }
 }
@@ -79,9 +79,9 @@ fn services_of<'a, T, I, O>(
     Ok(services)
 }
 
-/// How a run ended, by what each told: a connection that broke for one broke, and one that was served by one was served. A client that went between two
-/// requests has not broken it.
-fn ended_of<'a>(told: &[Result<Told, Refusal>]) -> Ended<'a> {
+/// How a run ended, by what each told and what the suspend behind them was answered: a connection that broke for one broke, and one that was served by
+/// one was served. A client that went between two requests has not broken it.
+fn ended_of<'a>(told: &[Result<Told, Refusal>], suspended: Result<(), Refusal>) -> Ended<'a> {
     let mut refused = None;
     let mut unserved = Some(Refusal::Memory);
     for one in told {
@@ -106,7 +106,7 @@ fn ended_of<'a>(told: &[Result<Told, Refusal>]) -> Ended<'a> {
             }
         }
     }
-    match refused.or(unserved) {
+    match refused.or(unserved).or(suspended.err()) {
         Some(refusal) => Ended::refused(refusal),
         None => Ended::well(),
     }
