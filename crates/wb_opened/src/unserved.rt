@@ -42,6 +42,10 @@ impl<'a> Display for Unserved<'a> {
                 f,
                 "10 NotFormatted: the metadata file has no valid root; 'wbcache format' with the same table makes it that of an empty cache"
             ),
+            Unserved::Refused(Refusal::NotClean) => write!(
+                f,
+                "13 NotClean: passthrough needs a cache that was left clean: open it with 'writeback' and the policy 'cleaner', tick and work until nothing is dirty, then suspend"
+            ),
             Unserved::Differs(difference) => write!(f, "12 Mismatch: {difference}"),
             Unserved::Mode(mode) => write!(
                 f,
