@@ -71,6 +71,13 @@ replies() { # the errors and the cookies of the replies without data, behind the
 fresh
 { hello; write_of 1 0 512; flush_of 2; goodbye; } | serve "$table"
 check 'a client that ends the connection' "$(status) $(replies)" '0 00:01 00:02 '
+clean() { # whether the newest root says that the cache was left clean
+  first=$(od -An -t u8 -j 8 -N 8 m.img | tr -d ' ')
+  second=$(od -An -t u8 -j 520 -N 8 m.img | tr -d ' ')
+  if test "$first" -gt "$second"; then at=20; else at=532; fi
+  od -An -t u1 -j $at -N 1 m.img | tr -d ' '
+}
+check 'and leaves the cache clean' "$(clean)" 1
 { hello; write_of 1 0 512; flush_of 2; } | serve "$table"
 check 'a client that goes between two requests' "$(status) $(replies)" '0 00:01 00:02 '
 { hello; write_of 1 0 512; request 3 2 0 0 | head -c 20; } | serve "$table"
