@@ -93,12 +93,8 @@ impl<'s, I: BufRead, W: Write> Visit for Script<'s, I, W> {
     type Told = Played;
 
     fn serve<R: Wait, C: Served>(&mut self, rt: &R, client: &mut C) -> bool {
-        // Which blocks are dirty is a look at each of them.
-        if self.progress.is_asked() {
-            self.progress
-                .opened(&client.geometry(), client.mapped(rt), client.dirty(rt));
-        }
-        match play(self, &mut ByClient { rt, client }) {
+        tell_opened(rt, client, &mut self.progress);
+        match play_by(rt, client, self) {
             Ok(asked) => asked,
             Err(failed) => {
                 self.failed = Some(failed);
@@ -108,7 +104,7 @@ impl<'s, I: BufRead, W: Write> Visit for Script<'s, I, W> {
     }
 
     fn go_on<R: Wait, T: Shown>(&mut self, rt: &R, suspended: Result<(), Refusal>, target: &T) {
-        if let Err(failed) = go_on(self, suspended, &mut Behind { rt, target }) {
+        if let Err(failed) = play_behind(rt, target, self, suspended) {
             self.failed = Some(failed);
         }
     }
@@ -142,12 +138,12 @@ trait Answers {
 
 /// A client, up to a suspend.
 #[derive(Drop)]
-struct ByClient<'c, R, C> {
-    rt: &'c R,
+struct ByClient<'r, 'c, R, C> {
+    rt: &'r R,
     client: &'c mut C,
 }
 
-impl<'c, R: Wait, C: Served> Answers for ByClient<'c, R, C> {
+impl<'r, 'c, R: Wait, C: Served> Answers for ByClient<'r, 'c, R, C> {
     fn answer(
         &mut self,
         alloc: Global,
@@ -164,12 +160,12 @@ impl<'c, R: Wait, C: Served> Answers for ByClient<'c, R, C> {
 
 /// A target behind a suspend, done or refused: it tells how it is, and refuses all else.
 #[derive(Drop)]
-struct Behind<'c, R, T> {
-    rt: &'c R,
-    target: &'c T,
+struct Behind<'r, 't, R, T> {
+    rt: &'r R,
+    target: &'t T,
 }
 
-impl<'c, R: Wait, T: Shown> Answers for Behind<'c, R, T> {
+impl<'r, 't, R: Wait, T: Shown> Answers for Behind<'r, 't, R, T> {
     fn answer(
         &mut self,
         _alloc: Global,
@@ -192,11 +188,31 @@ fn told<R: Wait, T: Shown>(rt: &R, target: &T, text: &mut String) -> Result<(), 
     Ok(())
 }
 
+/// Tells what was opened, where that was asked for: which blocks are dirty is a look at each of them.
+fn tell_opened<R: Wait, C: Served>(rt: &R, client: &C, progress: &mut Progress<'_>) {
+    if progress.is_asked() {
+        progress.opened(&client.geometry(), client.mapped(rt), client.dirty(rt));
+    }
+}
+
+/// Plays the lines up to a suspend with a client.
+fn play_by<R: Wait, C: Served, I: BufRead, W: Write>(
+    rt: &R,
+    client: &mut C,
+    script: &mut Script<'_, I, W>,
+) -> Result<bool, StreamFailed> {
+    let mut by = ByClient { rt, client };
+    let asked = play(script, &mut by);
+    let ByClient { rt: _, client: _ } = by;
+    asked
+}
+
 /// Prints what a suspend was answered, and goes on with the lines behind it.
-fn go_on<A: Answers, I: BufRead, W: Write>(
+fn play_behind<R: Wait, T: Shown, I: BufRead, W: Write>(
+    rt: &R,
+    target: &T,
     script: &mut Script<'_, I, W>,
     suspended: Result<(), Refusal>,
-    behind: &mut A,
 ) -> Result<bool, StreamFailed> {
     let mut text = String::new(script.alloc);
     let answered = match suspended {
@@ -207,7 +223,10 @@ fn go_on<A: Answers, I: BufRead, W: Write>(
         Err(refusal) => Err(refusal),
     };
     tell(script, answered, &mut text)?;
-    play(script, behind)
+    let mut behind = Behind { rt, target };
+    let asked = play(script, &mut behind);
+    let Behind { rt: _, target: _ } = behind;
+    asked
 }
 
 /// Plays the lines of a script up to one that ends what is answered here, and counts those that are refused: whether there was one.
@@ -221,8 +240,8 @@ fn play<A: Answers, I: BufRead, W: Write>(
         return Ok(false);
     };
     let mut line = Vec::new(alloc);
-    while script.number < u64::MAX {
-        script.number += 1;
+    for _ in 0..u64::MAX {
+        script.number = script.number.saturating_add(1);
         text.clear();
         let answered = match next_input(script.reader, &mut line)? {
             Input::Asks(asked) => {
