@@ -14,3 +14,4 @@ pub mod Turns
 mod Hinting
 mod Leading
 pub mod Asking
+pub mod Suspends

@@ -7,3 +7,4 @@ pub mod Durable
 pub mod Making
 pub mod Workers
 pub mod Opening
+pub mod Suspends

@@ -11,6 +11,7 @@ mod office;
 mod opening;
 mod orders;
 mod performing;
+mod suspending;
 mod target;
 mod together;
 mod worker;

@@ -60,7 +60,7 @@ impl<P: Policy> Office<P> {
         let mode = self.desk.mode();
         let (policy, promote_min) = self.desk.shown();
         Fields {
-            failed: self.watch.look(Word::Fail) != 0,
+            failed: self.watch.look(Word::Fail) % 2 != 0,
             used_metadata: counts.used,
             metadata: geometry.meta_sectors,
             block: geometry.block,

@@ -5,6 +5,8 @@ ghost use Rattle.std.specs.Bool.{OnTrue};
 ghost use Rattle.wb_table.specs.Status.{status_line};
 ghost use Rattle.wb_table.specs.declared.status.Fields.{Fields as Told};
 ghost use Rattle.wb_desk.specs.Desks.{DeskState, mapped_now};
+ghost use Rattle.wb_target.specs.Carried.{AreSynced};
+ghost use Rattle.wb_target.specs.Suspends.{WasSuspended, SuspendRefused};
 ghost use Rattle.wb_target.specs.Told.{WereSettled, HadTick, WasNext, AreShown};
 
 use crate::client::Client;
@@ -17,6 +19,7 @@ use wb_disk::Disk;
 use wb_policy::{Order, Policy};
 use wb_port::Port;
 use wb_table::status_text;
+use wb_tasks::Answer;
 use wb_types::{Geometry, Mode, OBlock, Refusal};
 
 /// How many clients a target has at most.
@@ -99,6 +102,28 @@ impl<P: Policy> Target<P> {
         client.settle(rt);
         let target = client.target;
         target.take_back(rt, client.into_port())
+    }
+
+    /// Suspends the target over these devices, which are the target's and are handed back: each mapped block's dirty bit and the policy's hints
+    /// are stored, and the metadata are marked clean, so that an opening finds the cache as it is. Afterwards a target is used again by opening it
+    /// alone: its calls answer `Failed`, but for those that show its counts and its status line.
+    ///
+    /// `Busy` while a client is out, and `Memory` where there is none for the list of its blocks, and then nothing was done; `Failed` where the
+    /// target has failed or is suspended; `Memory` and `GenerationEnd` as the commit; `Io` where a step failed, and then the target has failed.
+    pub fn suspend<R: Wait, D: Disk + Drop>(
+        &self,
+        rt: &R,
+        devices: Devices<D>,
+    ) -> (Devices<D>, Result<(), Refusal>)
+        ensures suspended { OnOk result.1 (WasSuspended D.tells D.size D.contents D.faults P.hint_of P.with_entry P.without_entry devices Answer.Done result.0) }
+        ensures synced { OnOk result.1 (D.tells → AreSynced D.contents result.0) }
+        ensures refused { IfErr result.1 (λ refusal. SuspendRefused D.tells D.size D.contents D.faults P.hint_of P.with_entry P.without_entry devices refusal result.0) }
+    {
+        let mut office = self.office.lock(rt);
+        if office.seats.len() < CLIENTS {
+            return (devices, Err(Refusal::Busy));
+        }
+        office.suspend(self.alloc, devices)
     }
 
     /// What the desk counts.
