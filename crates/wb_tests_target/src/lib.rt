@@ -22,6 +22,8 @@ mod requests;
 #[cfg(test)]
 mod retiring;
 #[cfg(test)]
+mod suspends;
+#[cfg(test)]
 mod threads;
 #[cfg(test)]
 mod ticks;

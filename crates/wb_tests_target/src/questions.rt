@@ -7,6 +7,7 @@ use crate::modes::{writes_durably, writes_through};
 use crate::opening::{caches_at_the_third, tells_status, was_opened};
 use crate::requests::{defers, refuses, settles_all, settles_alone};
 use crate::retiring::writes_twice;
+use crate::suspends::is_kept;
 use crate::ticks::ticks;
 use crate::unclean::orders;
 use crate::workers::{carries_out_all, takes_no_more};
@@ -47,6 +48,8 @@ pub enum Question {
     Orders(Order),
     /// Whether this order waits.
     Finds(Order),
+    /// Whether a cached block is there, dirty, and shown as it was written.
+    IsKept,
     /// Whether so many blocks are dirty.
     CountsDirty(u32),
 }
@@ -132,6 +135,7 @@ fn answer(
         Question::WritesDurably => writes_durably(rt, client),
         Question::Finds(order) => worked(rt, client) == Some(order),
         Question::Orders(order) => orders(rt, client, order),
+        Question::IsKept => is_kept(rt, target, client),
         Question::CountsDirty(blocks) => target.dirty(rt) == blocks,
     }
 }
