@@ -4,10 +4,9 @@ use Rattle.wb_types.specs.declared.mode.Mode.{Mode}
 use Rattle.wb_types.specs.declared.mode.Mode.TheVariants.{Passthrough}
 use Rattle.wb_types.specs.declared.extent.Extent.{Extent}
 use Rattle.wb_types.specs.declared.number.OBlock.{OBlock}
-use Rattle.wb_disk.specs.Device.{History, Content as Bytes}
+use Rattle.wb_disk.specs.Device.{History}
 use Rattle.wb_words.specs.declared.card.Card.{Card}
 use Rattle.wb_words.specs.declared.card.Hold.TheVariants.{Nothing}
-use Rattle.wb_cells.specs.Passes.{PassState}
 use Rattle.wb_tasks.specs.Tables.{BlockRange, OnBlock, Displacing}
 use Rattle.wb_tasks.specs.Plan.{Plan, table, want}
 use Rattle.wb_tasks.specs.Ready.{AreFirst, IsOwnStep, MayMake, MayTake, left_by}
@@ -19,13 +18,14 @@ use Rattle.wb_tasks.specs.declared.step.Want.{Want}
 use Rattle.wb_tasks.specs.declared.step.Want.TheVariants.{Cell, Device, Desk, End}
 use Rattle.wb_tasks.specs.declared.step.Got.{Got}
 use Rattle.wb_tasks.proofs.Placed.{moves_there}
-use Rattle.wb_port.specs.Hands.{WriteState, WriteStep, WriteLed}
+use Rattle.wb_port.specs.Hands.{WriteState, WriteLed}
 use Rattle.wb_port.specs.Moves.{MayMove}
 use Rattle.wb_port.specs.Requests.{part_of}
 use Rattle.wb_port.specs.declared.moving.WriteStage.{WriteStage}
 use Rattle.wb_port.proofs.Passing.{made_by_pass, same_table}
 use Rattle.wb_port.proofs.Placed.{IsMoving, MovesAt, part_in, displaces_there}
 use Rattle.wb_port.proofs.Readying.{kept_by, ready_there, idle_again}
+use Rattle.wb_target.specs.Works.{DeskTold}
 use Rattle.wb_target.specs.Displaces.{DisplaceLed, DisplaceStep, IsReadyToDisplace, WasDisplaced}
 use Rattle.wb_target.specs.declared.displacing.DisplaceStage.{DisplaceStage}
 
@@ -38,9 +38,9 @@ may_displace part card (Cell step) m = tt
 may_displace part card (Desk step) m = tt
 may_displace part card (End a) m = tt
 
-module _ {R D P : Type 0} (tells : Type 0) (size : D → ℕ) (contents : D → List History) (faults : D → ℕ) (without_entry : P → ℕ → P) where
+module _ {R D P : Type 0} (tells : Type 0) (size : D → ℕ) (contents : D → List History) (faults : D → ℕ) (asked : DeskTold) where
   abbrev led : DisplaceStage R D P → Want → Got → DisplaceStage R D P → Type 0
-  led = DisplaceLed tells size contents faults without_entry
+  led = DisplaceLed tells size contents faults asked
 
   abbrev card : DisplaceStage R D P → Card
   card x = x.write.hand.now.pass.card
@@ -124,16 +124,16 @@ module _ {R D P : Type 0} (tells : Type 0) (size : D → ℕ) (contents : D → 
   at x = record { hand = x.write.hand.now; moved = x.write.moved }
 
   -- a run of the stage is one of what it stands for
-  plainly : (x : DisplaceStage R D P) (steps : List (Want × Got)) (new : DisplaceStage R D P) → Leads led x steps new → Leads (DisplaceStep tells size contents faults without_entry x.write.cells.now.blocks x.write.from.now) (at x) steps (at new)
+  plainly : (x : DisplaceStage R D P) (steps : List (Want × Got)) (new : DisplaceStage R D P) → Leads led x steps new → Leads (DisplaceStep tells size contents faults asked x.write.cells.now.blocks x.write.from.now) (at x) steps (at new)
   plainly x [] new e = ap at e
   plainly x (step ∷ steps) new l = (
     at l.0,
     one step.0 step.1 l.1,
-    subst (λ c. Leads (DisplaceStep tells size contents faults without_entry c.now.blocks x.write.from.now) (at l.0) steps (at new)) (keeps (λ s. s.cells) (λ s w g y h. h.cells) x step.0 step.1 l.0 l.1)
-        (subst (λ f. Leads (DisplaceStep tells size contents faults without_entry l.0.write.cells.now.blocks f.now) (at l.0) steps (at new)) (keeps (λ s. s.from) (λ s w g y h. h.same_slice) x step.0 step.1 l.0 l.1) (plainly l.0 steps new l.2)),
+    subst (λ c. Leads (DisplaceStep tells size contents faults asked c.now.blocks x.write.from.now) (at l.0) steps (at new)) (keeps (λ s. s.cells) (λ s w g y h. h.cells) x step.0 step.1 l.0 l.1)
+        (subst (λ f. Leads (DisplaceStep tells size contents faults asked l.0.write.cells.now.blocks f.now) (at l.0) steps (at new)) (keeps (λ s. s.from) (λ s w g y h. h.same_slice) x step.0 step.1 l.0 l.1) (plainly l.0 steps new l.2)),
   )
     where
-      one : (w : Want) (g : Got) → led x w g l.0 → DisplaceStep tells size contents faults without_entry x.write.cells.now.blocks x.write.from.now (at x) w g (at l.0)
+      one : (w : Want) (g : Got) → led x w g l.0 → DisplaceStep tells size contents faults asked x.write.cells.now.blocks x.write.from.now (at x) w g (at l.0)
       one (Desk (Unmap b)) g h = (ap (λ (s : WriteStage D). record { hand = s.hand.now; moved = s.moved }) h.0, h.1)
       one (Desk (Map b c)) g h = absurd h
       one (Desk (ReleaseOrder b)) g h = absurd h
@@ -144,11 +144,11 @@ module _ {R D P : Type 0} (tells : Type 0) (size : D → ℕ) (contents : D → 
       one (End a) g h = (h.by_pass, h.from)
 
   pub displaced : (block_sectors : ℕ) (block : OBlock) (sectors : Extent) (answer : Answer) (old new : DisplaceStage R D P) → (steps : List (Want × Got)) × IsRunOf (table (OnBlock (Displacing (part_of Passthrough block_sectors block sectors)))) steps answer × Leads led old steps new → old.write.moved ≡ 0
-      → WasDisplaced tells size contents faults without_entry old.write.cells.now.blocks block_sectors block sectors old.write.from.now old.write.hand.now answer new.write.hand.now
+      → WasDisplaced tells size contents faults asked old.write.cells.now.blocks block_sectors block sectors old.write.from.now old.write.hand.now answer new.write.hand.now
   displaced block_sectors block sectors answer old new run unmoved = record {
     moved = new.write.moved;
     same_mode = same_mode block_sectors block sectors run.0 old new run.2;
     steps = run.0;
     run = run.1;
-    leads = subst (λ (n : ℕ). Leads (DisplaceStep tells size contents faults without_entry old.write.cells.now.blocks old.write.from.now) (record { hand = old.write.hand.now; moved = n }) run.0 (at new)) unmoved (plainly old run.0 new run.2);
+    leads = subst (λ (n : ℕ). Leads (DisplaceStep tells size contents faults asked old.write.cells.now.blocks old.write.from.now) (record { hand = old.write.hand.now; moved = n }) run.0 (at new)) unmoved (plainly old run.0 new run.2);
   }

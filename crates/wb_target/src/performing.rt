@@ -1,12 +1,12 @@
 //! The steps of a migration or a flush.
 
-ghost use Rattle.std.specs.Prelude.{◌≡◌};
+ghost use Rattle.std.specs.Prelude.{◌≡◌, [], None};
 ghost use Rattle.wb_tasks.specs.Plan.{Fits, device_of};
 ghost use Rattle.wb_tasks.specs.declared.step.Want.TheVariants.{Desk as AskDesk, Device as OnDevice};
 ghost use Rattle.wb_devices.specs.Moving.{IsOutcome, OthersStay, device_in};
 ghost use Rattle.wb_devices.specs.Stepping.{CommitGoes, DidStep, BufferStays};
 ghost use Rattle.wb_stage.specs.Stages.{IsServed};
-ghost use Rattle.wb_target.specs.Displaces.{WasUnmapped};
+ghost use Rattle.wb_tasks.specs.declared.step.DeskStep.TheVariants.{Unmap as Unmapping};
 ghost use Rattle.wb_target.specs.Told.{WasGivenUp};
 ghost use Rattle.wb_target.specs.Works.{IsReadyToWork, MayWork, WritesUnderCommit, DidAskDesk, WasAsked, WorkLed};
 
@@ -52,7 +52,7 @@ impl<P: Policy> Target<P> {
 
     /// Takes a block out of the mapping, where it has an entry.
     pub(crate) fn unmap<R: Wait>(&self, rt: &R, block: OBlock)
-        ensures { WasUnmapped P.without_entry block }
+        ensures { WasAsked P.with_entry P.without_entry [] (Unmapping block) Got.Done None None }
     {
         asking::unmap(&mut self.office.lock(rt).desk, block);
     }
