@@ -47,9 +47,9 @@ abbrev pub ClientDid : {D P : Type 0} → Type 0 → (D → ℕ) → (D → List
 ClientDid tells size contents faults asked settled ticked next old (Read at content) new =
     (parts : ℕ) × (before : List Bytes) × InParts (ReadCame tells size contents faults old.port.geometry) old.port.geometry.block None parts at old.port.hand before new.port.hand content
 ClientDid tells size contents faults asked settled ticked next old (Wrote at content) new =
-    (parts : ℕ) × InParts (WriteCame tells size contents faults old.port.geometry) old.port.geometry.block None parts at old.port.hand content new.port.hand content
+    (parts : ℕ) × InParts (WriteCame tells size contents faults (asked []) old.port.geometry) old.port.geometry.block None parts at old.port.hand content new.port.hand content
 ClientDid tells size contents faults asked settled ticked next old (WroteDurably at content) new =
-    WrittenDurably (WriteCame tells size contents faults old.port.geometry) (WasDone (Runs tells size contents faults asked old.port.geometry.origin_blocks []) (flush_of old.port.geometry None)) old.port.geometry at content old.port.hand (client_state new.port)
+    WrittenDurably (WriteCame tells size contents faults (asked []) old.port.geometry) (WasDone (Runs tells size contents faults asked old.port.geometry.origin_blocks []) (flush_of old.port.geometry None)) old.port.geometry at content old.port.hand (client_state new.port)
     × (tells → AreSynced contents new.port.hand.devices)
 ClientDid tells size contents faults asked settled ticked next old Flushed new = DidFlush tells size contents faults asked old new
 ClientDid tells size contents faults asked settled ticked next old (TriedRead at content) new =

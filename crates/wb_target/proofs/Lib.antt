@@ -15,3 +15,4 @@ mod Hinting
 mod Leading
 pub mod Asking
 pub mod Suspends
+pub mod Displaces

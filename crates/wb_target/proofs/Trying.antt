@@ -8,6 +8,7 @@ use Rattle.wb_disk.specs.Device.{History, Content}
 use Rattle.wb_port.specs.Ports.{block_at, IsTryRefused, TryReadRefused, TryWriteRefused}
 use Rattle.wb_port.specs.Requests.{IsOutside, ReadRefused, WriteRefused, WasRead, WasWritten}
 use Rattle.wb_port.specs.declared.port.Port.{Port}
+use Rattle.wb_target.specs.Works.{DeskTold}
 use Rattle.wb_target.specs.Blocking.{IsInsideOrigin, ReadCame, WriteCame}
 
 pub not_outside : (geometry : Geometry) (first count : ℕ) → IsInsideOrigin geometry first count → IsOutside geometry first count → ⊥
@@ -40,23 +41,21 @@ module _ {D : Type 0} (tells : Type 0) (size : D → ℕ) (contents : D → List
       (subst (λ (n : ℕ). ReadRefused tells size contents faults n port.geometry.block (block_at port.geometry first) (at count) port.hand out refusal port'.hand out') sized
       (subst (λ (n : ℕ). ReadRefused tells size contents faults port.cells.value.blocks port.geometry.block (block_at port.geometry first) (at n) port.hand out refusal port'.hand out') many h))
 
-  pub write_refused : (from : List Content) (refusal : Refusal) → length from ≡ count → TryWriteRefused tells size contents faults port first from refusal port' → WriteCame tells size contents faults geometry (Some refusal) (at count) (port.hand, from) (port'.hand, from)
-  write_refused from refusal many (inl h) = absurd (not_before refusal (subst (λ (n : ℕ). IsTryRefused port.geometry (length port.accesses.items) first n refusal) many h.0))
-  write_refused from refusal many (inr h) = (
-    subst (λ (g : Geometry). WriteRefused tells size contents faults g.origin_blocks g.block (block_at g first) (at count) from port.hand refusal port'.hand) same
-        (subst (λ (n : ℕ). WriteRefused tells size contents faults n port.geometry.block (block_at port.geometry first) (at count) from port.hand refusal port'.hand) sized
-        (subst (λ (n : ℕ). WriteRefused tells size contents faults port.cells.value.blocks port.geometry.block (block_at port.geometry first) (at n) from port.hand refusal port'.hand) many h)),
-    refl,
-  )
+  pub write_run_refused : (from : List Content) (refusal : Refusal) → length from ≡ count → TryWriteRefused tells size contents faults port first from refusal port' → WriteRefused tells size contents faults geometry.origin_blocks geometry.block (block_at geometry first) (at count) from port.hand refusal port'.hand
+  write_run_refused from refusal many (inl h) = absurd (not_before refusal (subst (λ (n : ℕ). IsTryRefused port.geometry (length port.accesses.items) first n refusal) many h.0))
+  write_run_refused from refusal many (inr h) =
+      subst (λ (g : Geometry). WriteRefused tells size contents faults g.origin_blocks g.block (block_at g first) (at count) from port.hand refusal port'.hand) same
+      (subst (λ (n : ℕ). WriteRefused tells size contents faults n port.geometry.block (block_at port.geometry first) (at count) from port.hand refusal port'.hand) sized
+      (subst (λ (n : ℕ). WriteRefused tells size contents faults port.cells.value.blocks port.geometry.block (block_at port.geometry first) (at n) from port.hand refusal port'.hand) many h))
 
   pub was_read : (out out' : List Content) → length out ≡ count → WasRead tells size contents faults port.geometry.block (block_at port.geometry first) (at (length out)) out' port.hand port'.hand → ReadCame tells size contents faults geometry None (at count) (port.hand, out) (port'.hand, out')
   was_read out out' many h =
       subst (λ (g : Geometry). WasRead tells size contents faults g.block (block_at g first) (at count) out' port.hand port'.hand) same
       (subst (λ (n : ℕ). WasRead tells size contents faults port.geometry.block (block_at port.geometry first) (at n) out' port.hand port'.hand) many h)
 
-  pub was_written : (from : List Content) → length from ≡ count → WasWritten tells size contents faults port.geometry.block (block_at port.geometry first) (at (length from)) from port.hand port'.hand → WriteCame tells size contents faults geometry None (at count) (port.hand, from) (port'.hand, from)
-  was_written from many h = (
-    subst (λ (g : Geometry). WasWritten tells size contents faults g.block (block_at g first) (at count) from port.hand port'.hand) same
-        (subst (λ (n : ℕ). WasWritten tells size contents faults port.geometry.block (block_at port.geometry first) (at n) from port.hand port'.hand) many h),
+  pub was_written : (asked : DeskTold) (from : List Content) → length from ≡ count → WasWritten tells size contents faults port.geometry.block (block_at port.geometry first) (at (length from)) from port.hand port'.hand → WriteCame tells size contents faults asked geometry None (at count) (port.hand, from) (port'.hand, from)
+  was_written asked from many h = (
+    inl (subst (λ (g : Geometry). WasWritten tells size contents faults g.block (block_at g first) (at count) from port.hand port'.hand) same
+        (subst (λ (n : ℕ). WasWritten tells size contents faults port.geometry.block (block_at port.geometry first) (at n) from port.hand port'.hand) many h)),
     refl,
   )

@@ -8,6 +8,9 @@ use Rattle.wb_disk.specs.Device.{History, Content as Bytes}
 use Rattle.wb_port.specs.Ports.{block_at}
 use Rattle.wb_port.specs.Requests.{WasRead, WasWritten, ReadRefused, WriteRefused, IsOutside}
 use Rattle.wb_port.specs.declared.hand.Hand.{Hand}
+use Rattle.wb_tasks.specs.declared.step.Answer.TheVariants.{Done as Finished, Refused as Refuses}
+use Rattle.wb_target.specs.Displaces.{WasDeferred}
+use Rattle.wb_target.specs.Works.{DeskTold}
 use Rattle.wb_target.specs.Tries.{EndedAfter}
 use Rattle.wb_target.specs.declared.blocking.Stopped.{Stopped}
 
@@ -18,9 +21,12 @@ abbrev pub ReadCame : {D : Type 0} → Type 0 → (D → ℕ) → (D → List Hi
 ReadCame tells size contents faults geometry None part s t = WasRead tells size contents faults geometry.block (block_at geometry part.first) part t.1 s.0 t.0
 ReadCame tells size contents faults geometry (Some refusal) part s t = ReadRefused tells size contents faults geometry.origin_blocks geometry.block (block_at geometry part.first) part s.0 s.1 refusal t.0 t.1
 
-abbrev pub WriteCame : {D : Type 0} → Type 0 → (D → ℕ) → (D → List History) → (D → ℕ) → Geometry → Option Refusal → Extent → Hand D × List Bytes → Hand D × List Bytes → Type 0
-WriteCame tells size contents faults geometry None part s t = WasWritten tells size contents faults geometry.block (block_at geometry part.first) part s.1 s.0 t.0 × (t.1 ≡ s.1)
-WriteCame tells size contents faults geometry (Some refusal) part s t = WriteRefused tells size contents faults geometry.origin_blocks geometry.block (block_at geometry part.first) part s.1 s.0 refusal t.0 × (t.1 ≡ s.1)
+-- in passthrough a write that was deferred is done by the desk
+abbrev pub WriteCame : {D : Type 0} → Type 0 → (D → ℕ) → (D → List History) → (D → ℕ) → DeskTold → Geometry → Option Refusal → Extent → Hand D × List Bytes → Hand D × List Bytes → Type 0
+WriteCame tells size contents faults asked geometry None part s t =
+    (WasWritten tells size contents faults geometry.block (block_at geometry part.first) part s.1 s.0 t.0 ⊎ WasDeferred tells size contents faults asked geometry part s.1 s.0 Finished t.0) × (t.1 ≡ s.1)
+WriteCame tells size contents faults asked geometry (Some refusal) part s t =
+    (WriteRefused tells size contents faults geometry.origin_blocks geometry.block (block_at geometry part.first) part s.1 s.0 refusal t.0 ⊎ WasDeferred tells size contents faults asked geometry part s.1 s.0 (Refuses refusal) t.0) × (t.1 ≡ s.1)
 
 -- A part came to its end: tries of it that were refused as busy, and one that was not.
 abbrev pub CameTo : {S : Type 0} → (Option Refusal → Extent → S → S → Type 0) → Option Refusal → Extent → S → S → Type 0

@@ -8,3 +8,4 @@ pub mod Making
 pub mod Workers
 pub mod Opening
 pub mod Suspends
+pub mod Displaces

@@ -1,7 +1,8 @@
 //! Requests that wait, over any number of blocks.
 
-ghost use Rattle.std.specs.Prelude.{◌≡◌, ◌≢◌, ◌≤◌, ◌<◌, ◌+◌, ◌-◌, ◌*◌, ◌%◌, ℕ, min, Some, None, OnOk, IfOk, IfErr, length};
+ghost use Rattle.std.specs.Prelude.{◌≡◌, ◌≢◌, ◌≤◌, ◌<◌, ◌+◌, ◌-◌, ◌*◌, ◌%◌, ℕ, min, Some, None, [], OnOk, IfOk, IfErr, length};
 ghost use Rattle.wb_port.specs.Requests.{IsOutside};
+ghost use Rattle.wb_target.specs.Works.{WasAsked};
 ghost use Rattle.wb_target.specs.Blocking.{ReadCame, WriteCame, CameTo, InParts, IsInsideOrigin, IsStopped};
 
 use crate::client::Client;
@@ -54,12 +55,14 @@ impl<'t, D: Disk + Drop, P: Policy> Client<'t, D, P> {
     /// Writes the sectors from `at` on, block by block, rising; a block that is busy is tried again. In write-through a mapped block is written on
     /// the origin and in the cache.
     ///
+    /// In passthrough a mapped block leaves the cache first.
+    ///
     /// `Range` as `read`; `Failed`, `Worn` and `Io` where a block met them.
     pub fn write<R: Wait>(&mut self, rt: &R, at: Sector, from: &[Content]) -> Result<(), Stopped>
         ensures inside { OnOk result (IsInsideOrigin self.old.port.geometry at.0 (length from.now)) }
-        ensures written { OnOk result ((parts : ℕ) × InParts (WriteCame D.tells D.size D.contents D.faults self.old.port.geometry) self.old.port.geometry.block None parts at.0 self.old.port.hand from.now self.new.port.hand from.now) }
+        ensures written { OnOk result ((parts : ℕ) × InParts (WriteCame D.tells D.size D.contents D.faults (WasAsked P.with_entry P.without_entry []) self.old.port.geometry) self.old.port.geometry.block None parts at.0 self.old.port.hand from.now self.new.port.hand from.now) }
         ensures waits { IfErr result (λ stopped. stopped.refusal ≢ Refusal.Busy) }
-        ensures stopped { IfErr result (λ stopped. IsStopped (WriteCame D.tells D.size D.contents D.faults self.old.port.geometry) self.old.port.geometry at.0 stopped self.old.port.hand from.now self.new.port.hand from.now) }
+        ensures stopped { IfErr result (λ stopped. IsStopped (WriteCame D.tells D.size D.contents D.faults (WasAsked P.with_entry P.without_entry []) self.old.port.geometry) self.old.port.geometry at.0 stopped self.old.port.hand from.now self.new.port.hand from.now) }
         ensures target { self.new.target ≡ self.old.target }
         ensures geometry { self.new.port.geometry ≡ self.old.port.geometry }
     {
@@ -75,9 +78,9 @@ impl<'t, D: Disk + Drop, P: Policy> Client<'t, D, P> {
         from: &[Content],
     ) -> Result<u64, Stopped>
         ensures inside { OnOk result (IsInsideOrigin self.old.port.geometry at.0 (length from.now)) }
-        ensures written { IfOk result (λ parts. InParts (WriteCame D.tells D.size D.contents D.faults self.old.port.geometry) self.old.port.geometry.block None parts at.0 self.old.port.hand from.now self.new.port.hand from.now) }
+        ensures written { IfOk result (λ parts. InParts (WriteCame D.tells D.size D.contents D.faults (WasAsked P.with_entry P.without_entry []) self.old.port.geometry) self.old.port.geometry.block None parts at.0 self.old.port.hand from.now self.new.port.hand from.now) }
         ensures waits { IfErr result (λ stopped. stopped.refusal ≢ Refusal.Busy) }
-        ensures stopped { IfErr result (λ stopped. IsStopped (WriteCame D.tells D.size D.contents D.faults self.old.port.geometry) self.old.port.geometry at.0 stopped self.old.port.hand from.now self.new.port.hand from.now) }
+        ensures stopped { IfErr result (λ stopped. IsStopped (WriteCame D.tells D.size D.contents D.faults (WasAsked P.with_entry P.without_entry []) self.old.port.geometry) self.old.port.geometry at.0 stopped self.old.port.hand from.now self.new.port.hand from.now) }
         ensures target { self.new.target ≡ self.old.target }
         ensures geometry { self.new.port.geometry ≡ self.old.port.geometry }
     {
@@ -156,15 +159,15 @@ impl<'t, D: Disk + Drop, P: Policy> Client<'t, D, P> {
     fn write_block<R: Wait>(&mut self, rt: &R, at: Sector, from: &[Content]) -> Result<(), Refusal>
         requires inside { IsInsideOrigin self.old.port.geometry at.0 (length from.now) }
         requires fits { at.0 % self.old.port.geometry.block + length from.now ≤ self.old.port.geometry.block }
-        ensures written { OnOk result (CameTo (WriteCame D.tells D.size D.contents D.faults self.old.port.geometry) None (record { first = at.0; count = length from.now }) (self.old.port.hand, from.now) (self.new.port.hand, from.now)) }
+        ensures written { OnOk result (CameTo (WriteCame D.tells D.size D.contents D.faults (WasAsked P.with_entry P.without_entry []) self.old.port.geometry) None (record { first = at.0; count = length from.now }) (self.old.port.hand, from.now) (self.new.port.hand, from.now)) }
         ensures waits { IfErr result (λ refusal. refusal ≢ Refusal.Busy) }
-        ensures refused { IfErr result (λ refusal. (refusal ≢ Refusal.Range) × CameTo (WriteCame D.tells D.size D.contents D.faults self.old.port.geometry) (Some refusal) (record { first = at.0; count = length from.now }) (self.old.port.hand, from.now) (self.new.port.hand, from.now)) }
+        ensures refused { IfErr result (λ refusal. (refusal ≢ Refusal.Range) × CameTo (WriteCame D.tells D.size D.contents D.faults (WasAsked P.with_entry P.without_entry []) self.old.port.geometry) (Some refusal) (record { first = at.0; count = length from.now }) (self.old.port.hand, from.now) (self.new.port.hand, from.now)) }
         ensures target { self.new.target ≡ self.old.target }
         ensures geometry { self.new.port.geometry ≡ self.old.port.geometry }
     {
         self.settle(rt);
         for _ in rt.forever() {
-            match self.port.try_write(at, from) {
+            match self.write_once(rt, at, from) {
                 Ok(()) => {
                     self.settle(rt);
                     return Ok(());

@@ -4,6 +4,7 @@
 mod blocking;
 mod carrying;
 mod client;
+mod displacing;
 mod durable;
 mod gate;
 mod making;

@@ -1,11 +1,12 @@
 //! The steps of a migration or a flush.
 
-ghost use Rattle.std.specs.Prelude.{◌≡◌};
+ghost use Rattle.std.specs.Prelude.{◌≡◌, [], None};
 ghost use Rattle.wb_tasks.specs.Plan.{Fits, device_of};
 ghost use Rattle.wb_tasks.specs.declared.step.Want.TheVariants.{Desk as AskDesk, Device as OnDevice};
 ghost use Rattle.wb_devices.specs.Moving.{IsOutcome, OthersStay, device_in};
 ghost use Rattle.wb_devices.specs.Stepping.{CommitGoes, DidStep, BufferStays};
 ghost use Rattle.wb_stage.specs.Stages.{IsServed};
+ghost use Rattle.wb_tasks.specs.declared.step.DeskStep.TheVariants.{Unmap as Unmapping};
 ghost use Rattle.wb_target.specs.Told.{WasGivenUp};
 ghost use Rattle.wb_target.specs.Works.{IsReadyToWork, MayWork, WritesUnderCommit, DidAskDesk, WasAsked, WorkLed};
 
@@ -47,6 +48,13 @@ impl<P: Policy> Target<P> {
             self.bell.notify_all();
         }
         got
+    }
+
+    /// Takes a block out of the mapping, where it has an entry.
+    pub(crate) fn unmap<R: Wait>(&self, rt: &R, block: OBlock)
+        ensures { WasAsked P.with_entry P.without_entry [] (Unmapping block) Got.Done None None }
+    {
+        asking::unmap(&mut self.office.lock(rt).desk, block);
     }
 
     /// Gives up the order of a block, which is one of these.

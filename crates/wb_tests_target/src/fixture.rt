@@ -46,6 +46,12 @@ pub fn open_through(alloc: Global, devices: Memory) -> Result<(Memory, Target<Ti
     Ok((devices, target?))
 }
 
+/// One in passthrough.
+pub fn open_passing(alloc: Global, devices: Memory) -> Result<(Memory, Target<TinyLfu>), Refusal> {
+    let (devices, target) = Target::open(alloc, devices, 64, Mode::Passthrough, &[]);
+    Ok((devices, target?))
+}
+
 /// A client of it.
 pub fn client_of<'t>(
     rt: &impl Wait,

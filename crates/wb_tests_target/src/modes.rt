@@ -1,9 +1,12 @@
-//! Writes that reach more than where the newest copy stands: in write-through, and with FUA.
+//! Writes in write-through and in passthrough, and writes with FUA.
 
 use crate::faults::crashed;
-use crate::fixture::{Lent, Memory, begun_with, formatted, open_through, worked, write_and_read};
+use crate::fixture::{
+    Lent, Memory, begun_with, formatted, open_passing, open_through, worked, write_and_read,
+};
 use crate::opening::tells;
 use crate::questions::{Question, answered_over, done_by};
+use crate::unclean::stored_as;
 use std::alloc::Global;
 use std::sync::Wait;
 use std::test::Fail;
@@ -46,6 +49,37 @@ fn written_through(rt: &impl Wait, alloc: Global) -> Result<(Memory, bool), Refu
 fn write_through_writes_a_cached_block_on_both_devices(rt: HostRuntime) -> Result<(), Fail> {
     let (mut devices, done) = written_through(&rt, rt.alloc())?;
     assert!(rt; done && holds(&mut devices.cache, 0x22) && holds(&mut devices.origin, 0x22));
+    Ok(())
+}
+
+/// Whether the first block, which is mapped, is written without a wait only once it has left the cache, and counted as a hit and a demotion.
+pub fn displaces(
+    rt: &impl Wait,
+    alloc: Global,
+    target: &Target<TinyLfu>,
+    client: &mut Lent<'_>,
+) -> bool {
+    client.port.try_write(Sector(0), &[begun_with(0x55)]) == Err(Refusal::Defer)
+        && write_and_read(rt, client, 0, 0x66)
+        && client.port.try_write(Sector(1), &[begun_with(0x77)]) == Ok(())
+        && tells(
+            rt,
+            alloc,
+            target,
+            "1 3/4 64 3/4 0 1 1 1 1 0 0 1 passthrough 2 migration_threshold 2048 tinylfu 2 promote_min 2 rw -",
+        )
+}
+
+/// The devices of a target on which that was done, and whether it was.
+fn displaced(rt: &impl Wait, alloc: Global) -> Result<(Memory, bool), Refusal> {
+    let (devices, target) = open_passing(alloc, stored_as(alloc, 1, true, false)?)?;
+    done_by(rt, alloc, &target, devices, Question::Displaces)
+}
+
+#[test]
+fn a_write_in_passthrough_takes_its_block_out_of_the_cache(rt: HostRuntime) -> Result<(), Fail> {
+    let (mut devices, done) = displaced(&rt, rt.alloc())?;
+    assert!(rt; done && holds(&mut devices.origin, 0x66));
     Ok(())
 }
 

@@ -3,7 +3,7 @@
 use crate::caching::{caches, caches_and_flushes, replaces, replaces_another};
 use crate::faults::{Rounds, shows_allowed};
 use crate::fixture::{Lent, Memory, client_of, formatted, open_with, shows, worked};
-use crate::modes::{writes_durably, writes_through};
+use crate::modes::{displaces, writes_durably, writes_through};
 use crate::opening::{caches_at_the_third, tells_status, was_opened};
 use crate::requests::{defers, refuses, settles_all, settles_alone};
 use crate::retiring::writes_twice;
@@ -42,6 +42,8 @@ pub enum Question {
     WritesTwice,
     /// Whether a cached block is written in write-through, and counted so.
     WritesThrough,
+    /// Whether a write in passthrough takes its block out of the cache.
+    Displaces,
     /// Whether a write with FUA is done.
     WritesDurably,
     /// Whether a block that is accessed four times gets this order.
@@ -132,6 +134,7 @@ fn answer(
         Question::WasOpened => was_opened(rt, target),
         Question::WritesTwice => writes_twice(client),
         Question::WritesThrough => writes_through(rt, alloc, target, client),
+        Question::Displaces => displaces(rt, alloc, target, client),
         Question::WritesDurably => writes_durably(rt, client),
         Question::Finds(order) => worked(rt, client) == Some(order),
         Question::Orders(order) => orders(rt, client, order),

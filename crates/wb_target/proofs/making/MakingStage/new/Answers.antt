@@ -1,4 +1,3 @@
-use Rattle.std.proofs.Common.{refl}
 use Rattle.wb_target.proofs.making.MakingStage.new.Goals as goal
 
 pub returns : goal.returns
