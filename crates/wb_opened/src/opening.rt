@@ -1,7 +1,6 @@
 //! Opening a target over the files of a table.
 
-ghost use Rattle.std.specs.Prelude.{◌≡◌, ◌≢◌, IfOk, IfErr};
-ghost use Rattle.wb_types.specs.declared.mode.Mode.TheVariants.{Passthrough};
+ghost use Rattle.std.specs.Prelude.{◌≡◌, IfOk, IfErr};
 ghost use Rattle.wb_opened.specs.Tables.{name_of, Lists};
 
 use crate::difference::find_difference;
@@ -79,7 +78,6 @@ pub(crate) fn open_target<'a, P: Policy, D: Disk + Drop>(
     table: &Table<'a>,
 ) -> Result<(Devices<D>, Target<P>), Unserved<'a>>
     requires policy { P.name ≡ name_of table.now.policy }
-    requires mode { table.now.mode ≢ Passthrough }
     ensures mode { IfOk result (λ opened. opened.1.mode ≡ table.now.mode) }
 {
     let keys = match listed(alloc, &table.keys) {

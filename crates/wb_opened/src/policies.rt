@@ -11,7 +11,7 @@ use wb_disk::Disk;
 use wb_policy::{Cleaner, TinyLfu};
 use wb_table::{PolicyName, Table};
 use wb_target::Sent;
-use wb_types::{Mode, Refusal};
+use wb_types::Refusal;
 
 /// Opens the cache of a table on these devices and has one client do what a visit is for.
 pub(crate) fn serve_on<'a, T: Wait, D: Disk + Drop, V: Visit + Drop>(
@@ -21,9 +21,6 @@ pub(crate) fn serve_on<'a, T: Wait, D: Disk + Drop, V: Visit + Drop>(
     table: &Table<'a>,
     visit: V,
 ) -> Result<V::Told, Unserved<'a>> {
-    if table.mode == Mode::Passthrough {
-        return Err(Unserved::Mode(table.mode));
-    }
     match table.policy {
         PolicyName::TinyLfu => {
             serve_one::<TinyLfu, T, D, V>(waits, alloc, devices, table, visit)
@@ -47,9 +44,6 @@ pub(crate) fn serve_rest<
     table: &Table<'a>,
     errands: Vec<Sent<D, Doing<S>>>,
 ) -> Result<(Vec<Result<S::Told, Refusal>>, Result<(), Refusal>), Unserved<'a>> {
-    if table.mode == Mode::Passthrough {
-        return Err(Unserved::Mode(table.mode));
-    }
     match table.policy {
         PolicyName::TinyLfu => {
             serve_several::<TinyLfu, T, D, S>(waits, alloc, devices, table, errands)
@@ -75,9 +69,6 @@ pub(crate) fn serve_first<
     first: F,
     errands: Vec<Sent<D, Doing<S>>>,
 ) -> Result<(F::Told, Vec<Result<S::Told, Refusal>>), Unserved<'a>> {
-    if table.mode == Mode::Passthrough {
-        return Err(Unserved::Mode(table.mode));
-    }
     match table.policy {
         PolicyName::TinyLfu => {
             serve_one_and_several::<TinyLfu, T, D, F, S>(

@@ -1,7 +1,6 @@
 //! Serving the target of a table.
 
 ghost use Rattle.std.specs.Prelude.{◌≡◌, ◌≢◌};
-ghost use Rattle.wb_types.specs.declared.mode.Mode.TheVariants.{Passthrough};
 ghost use Rattle.wb_opened.specs.Tables.{name_of};
 
 use crate::opening::{open_devices, open_named, open_target, open_unlocked};
@@ -95,7 +94,6 @@ pub(crate) fn serve_one<'a, P: Policy, T: Wait, D: Disk + Drop, V: Visit + Drop>
     visit: V,
 ) -> Result<V::Told, Unserved<'a>>
     requires policy { P.name ≡ name_of table.now.policy }
-    requires mode { table.now.mode ≢ Passthrough }
 {
     let (devices, target) = open_target::<P, D>(alloc, devices, table)?;
     let mut visit = visit;
@@ -155,7 +153,6 @@ pub(crate) fn serve_several<
     errands: Vec<Sent<D, Doing<S>>>,
 ) -> Result<(Vec<Result<S::Told, Refusal>>, Result<(), Refusal>), Unserved<'a>>
     requires policy { P.name ≡ name_of table.now.policy }
-    requires mode { table.now.mode ≢ Passthrough }
 {
     let (devices, target) = open_target::<P, D>(alloc, devices, table)?;
     let told = beside_one_another(waits, alloc, &target, errands);
@@ -184,7 +181,6 @@ pub(crate) fn serve_one_and_several<
     errands: Vec<Sent<D, Doing<S>>>,
 ) -> Result<(F::Told, Vec<Result<S::Told, Refusal>>), Unserved<'a>>
     requires policy { P.name ≡ name_of table.now.policy }
-    requires mode { table.now.mode ≢ Passthrough }
 {
     let (devices, target) = open_target::<P, D>(alloc, devices, table)?;
     let told = serve_by(waits, &target, devices, first).map_err(|refusal| Unserved::Refused(

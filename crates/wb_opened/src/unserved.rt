@@ -4,7 +4,7 @@ use crate::difference::Difference;
 use std::fmt;
 use std::fmt::{Display, Formatter};
 use wb_files::Unopened;
-use wb_types::{Mode, Refusal};
+use wb_types::Refusal;
 
 /// Why a target of files was not served.
 #[derive(Drop)]
@@ -15,8 +15,6 @@ pub enum Unserved<'a> {
     Refused(Refusal),
     /// The metadata are those of other files, or of another block size.
     Differs(Difference),
-    /// The table's mode is none that is served so far.
-    Mode(Mode),
 }
 
 impl<'a> Unserved<'a> {
@@ -26,7 +24,6 @@ impl<'a> Unserved<'a> {
             Unserved::Unopened(unopened) => unopened.refusal(),
             Unserved::Refused(refusal) => *refusal,
             Unserved::Differs(_) => Refusal::Mismatch,
-            Unserved::Mode(_) => Refusal::BadTable,
         }
     }
 }
@@ -47,10 +44,6 @@ impl<'a> Display for Unserved<'a> {
                 "13 NotClean: passthrough needs a cache that was left clean: open it with 'writeback' and the policy 'cleaner', tick and work until nothing is dirty, then suspend"
             ),
             Unserved::Differs(difference) => write!(f, "12 Mismatch: {difference}"),
-            Unserved::Mode(mode) => write!(
-                f,
-                "16 BadTable: the table's mode, {mode}, is not served so far; 'writeback' and 'writethrough' are"
-            ),
             Unserved::Refused(refusal) => write!(f, "{refusal}"),
         }
     }

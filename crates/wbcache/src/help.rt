@@ -14,7 +14,8 @@ a multiple of 64. Cache and origin have whole blocks, 1048575 and 1048576 at
 most. The metadata have 2 sectors and 2 for each node of a tree over the cache
 blocks, 32 a node: 4 sectors serve 32 cache blocks.
   mode    0, or 1 writeback, the same; 1 writethrough: writes reach the origin,
-          too, before they are answered; 1 passthrough is not served so far
+          too, before they are answered; 1 passthrough: all goes to the origin,
+          and what is written leaves the cache, which has to be clean
   policy  tinylfu, or default, the same: caches what is read or written again;
           cleaner: caches nothing more, and writes back what is dirty
   keys    how many words follow, and these: 0, or
