@@ -36,7 +36,7 @@ pub fn writes_through(
 /// Whether a device's first sector begins with this byte.
 fn holds(device: &mut MemDisk, byte: u8) -> bool {
     let mut content = [0; SECTOR_BYTES];
-    device.read(0, &mut content).is_ok() && content[0] == byte
+    device.sectors() > 0 && device.read(0, &mut content).is_ok() && content[0] == byte
 }
 
 /// The devices of a target on which that was done, and whether it was.
