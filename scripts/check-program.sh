@@ -422,7 +422,7 @@ for words in -h --help 'run --help' 'format -h'; do
   # shellcheck disable=SC2086 # the words are apart
   said=$("$cache" $words 2>&1)
   has "status of $words" "$? $said" '0 '
-  has "$words explains the table" "$said" 'cache <metadata> <cache> <origin> <block size> 0 tinylfu 0'
+  has "$words explains the table" "$said" 'cache <metadata> <cache> <origin> <block size> <mode> <policy> <keys>'
   has "$words explains the script" "$said" 'w S N hh'
   has "$words tells of signals" "$said" 'a signal ends it at once: what was not flushed may be lost then'
   has "$words tells of locks" "$said" 'are locked as long as it runs'
