@@ -3,7 +3,7 @@ use Rattle.std.proofs.Common.{◌≡◌, ◌∙◌, ◌++◌, ℕ, zero, suc, Li
 use Rattle.wb_types.specs.declared.mode.Dev.{Dev}
 use Rattle.wb_types.specs.declared.refusal.Refusal.TheVariants.{Io}
 use Rattle.wb_words.specs.declared.step.CellStep.TheVariants.{SetFailed}
-use Rattle.wb_tasks.specs.Plan.{Plan, after, after_fault, after_fault_of, first_step, later_steps, node_writes, device_of, Fits}
+use Rattle.wb_tasks.specs.Plan.{Plan, after, after_fault, after_fault_of, first_step, node_writes, device_of, Fits}
 use Rattle.wb_tasks.specs.declared.step.Answer.{Answer}
 use Rattle.wb_tasks.specs.declared.step.Answer.TheVariants.{Done as Finished, Refused as Refuses}
 use Rattle.wb_tasks.specs.declared.step.DeviceStep.{DeviceStep}
@@ -12,7 +12,7 @@ use Rattle.wb_tasks.specs.declared.step.DeskStep.TheVariants.{EndCommit}
 use Rattle.wb_tasks.specs.declared.step.Want.{Want}
 use Rattle.wb_tasks.specs.declared.step.Want.TheVariants.{Cell, Device, Desk, End}
 use Rattle.wb_tasks.specs.declared.step.Got.{Got}
-use Rattle.wb_tasks.specs.declared.step.Got.TheVariants.{Done, Fault}
+use Rattle.wb_tasks.specs.declared.step.Got.TheVariants.{Done, Lost, Fault, More}
 use Rattle.wb_flow.specs.Commits.{stage_steps, commit_left}
 use Rattle.wb_flow.specs.declared.commit.Commit.{Commit}
 use Rattle.wb_flow.specs.declared.commit.Stage.{Stage}
@@ -55,6 +55,12 @@ gives_either w got o n f = absurd o
 pub done_or_failed : (c : Commit) (got : Got) → IsNeither got → Fits (first_step (commit_left c) Finished) got → ⊥
 done_or_failed c got n f = gives_either (first_step (commit_left c) Finished) got (of_commit c) n f
 
+-- what no step of a flush or suspend gives
+abbrev pub IsOther : Got → Type 0
+IsOther Lost = Unit {0}
+IsOther More = Unit {0}
+IsOther got = ⊥
+
 -- it comes before whatever follows the commit
 first_of_stage : (stage : Stage) (left node : ℕ) (ws : List Want) (answer : Answer) → first_step (stage_steps stage (node_writes left node) ++ ws) answer ≡ first_step (stage_steps stage (node_writes left node)) Finished
 first_of_stage SyncsCache left node ws answer = refl
@@ -67,18 +73,6 @@ first_of_stage EndsCommit left node ws answer = refl
 
 pub first_of_commit : (c : Commit) (ws : List Want) (answer : Answer) → first_step (commit_left c ++ ws) answer ≡ first_step (commit_left c) Finished
 first_of_commit c ws answer = first_of_stage c.stage c.left c.node ws answer
-
-later_of_stage : (stage : Stage) (left node : ℕ) (ws : List Want) → later_steps (stage_steps stage (node_writes left node) ++ ws) ≡ later_steps (stage_steps stage (node_writes left node)) ++ ws
-later_of_stage SyncsCache left node ws = refl
-later_of_stage SyncsOrigin left node ws = refl
-later_of_stage WritesNodes zero node ws = refl
-later_of_stage WritesNodes (suc left) node ws = refl
-later_of_stage WritesRoot left node ws = refl
-later_of_stage SyncsRoot left node ws = refl
-later_of_stage EndsCommit left node ws = refl
-
-pub later_of_commit : (c : Commit) (ws : List Want) → later_steps (commit_left c ++ ws) ≡ later_steps (commit_left c) ++ ws
-later_of_commit c ws = later_of_stage c.stage c.left c.node ws
 
 -- where it fails the failed bit is set, and its device is told
 pub failed_commit : (s : Plan) (c : Commit) (device : Dev) → ((step : DeviceStep) → after_fault_of s.job step ≡ Cell SetFailed ∷ []) → first_step s.steps s.answer ≡ first_step (commit_left c) Finished →

@@ -4,16 +4,16 @@ use Rattle.std.proofs.Common.{◌==◌, Bool, true, false, if◌then◌else◌, 
 use Rattle.wb_types.specs.declared.number.OBlock.{OBlock}
 use Rattle.wb_types.specs.declared.refusal.Refusal.{Refusal}
 use Rattle.wb_types.specs.declared.refusal.Refusal.TheVariants.{Busy, Failed, Memory, GenerationEnd}
-use Rattle.wb_tasks.specs.Plan.{Plan, want, after, onward, commit_steps, Fits}
+use Rattle.wb_tasks.specs.Plan.{Plan, want, after, onward, commit_steps, Fits, IsRare}
 use Rattle.wb_tasks.specs.declared.step.Answer.TheVariants.{Refused as Refuses}
 use Rattle.wb_tasks.specs.declared.step.Got.{Got}
 use Rattle.wb_tasks.specs.declared.step.Got.TheVariants.{Word, Lost, Fault, Refused, Began, More}
 use Rattle.wb_flow.specs.Commits.{commit_left}
-use Rattle.wb_flow.specs.Phases.{flush_left, IsOther}
+use Rattle.wb_flow.specs.Phases.{flush_left}
 use Rattle.wb_flow.specs.declared.commit.Commit.{Commit}
 use Rattle.wb_flow.specs.declared.flush.Phase.{Phase}
 use Rattle.wb_flow.specs.declared.flush.Phase.TheVariants.{LooksAtFail, Begins, Commits, GivesUp, SetsFailed, Ended}
-use Rattle.wb_flow.proofs.Commits.{done_or_failed}
+use Rattle.wb_flow.proofs.Commits.{IsOther, done_or_failed}
 
 -- of all its steps the first alone looks at a word
 by_test : (s t : Plan) (word : ℕ) → word ≢ 0 → (b : Bool) → (word == 0) ≡ b → t ≡ (if b then s else t)
@@ -69,7 +69,7 @@ refused_else serves most (SetsFailed device) orders refusal n h = absurd h
 refused_else serves most (Ended answer) orders refusal n h = absurd h
 
 -- what began is the commit
-pub begun : (serves : List OBlock) (most : ℕ) (phase : Phase) (orders : List OBlock) (nodes : ℕ) (c : Commit) → commit_left c ≡ commit_steps nodes → Fits (want (flush_left serves most phase orders)) (Began nodes) → flush_left serves most (Commits c) orders ≡ after (flush_left serves most phase orders) (Began nodes)
+begun : (serves : List OBlock) (most : ℕ) (phase : Phase) (orders : List OBlock) (nodes : ℕ) (c : Commit) → commit_left c ≡ commit_steps nodes → Fits (want (flush_left serves most phase orders)) (Began nodes) → flush_left serves most (Commits c) orders ≡ after (flush_left serves most phase orders) (Began nodes)
 begun serves most LooksAtFail orders nodes c e h = absurd h
 begun serves most Begins orders nodes c e h = rw e refl
 begun serves most (Commits d) orders nodes c e h = absurd (done_or_failed d (Began nodes) tt h)
@@ -79,7 +79,7 @@ begun serves most (SetsFailed device) orders nodes c e h = absurd h
 begun serves most (Ended answer) orders nodes c e h = absurd h
 
 -- no step is an exchange, or reads metadata
-pub never_other : (serves : List OBlock) (most : ℕ) (phase : Phase) (orders : List OBlock) (got : Got) → IsOther got → Fits (want (flush_left serves most phase orders)) got → ⊥
+never_other : (serves : List OBlock) (most : ℕ) (phase : Phase) (orders : List OBlock) (got : Got) → IsOther got → Fits (want (flush_left serves most phase orders)) got → ⊥
 never_other serves most (Commits c) orders Lost o h = done_or_failed c Lost tt h
 never_other serves most (Commits c) orders More o h = done_or_failed c More tt h
 never_other serves most LooksAtFail orders Lost o h = h
@@ -95,3 +95,10 @@ never_other serves most (SetsFailed device) orders More o h = h
 never_other serves most (Ended answer) orders Lost o h = h
 never_other serves most (Ended answer) orders More o h = h
 never_other serves most phase orders got o h = absurd o
+
+-- so of the results that one kind of step alone has
+pub after_rare : (serves : List OBlock) (most : ℕ) (phase : Phase) (orders : List OBlock) (got : Got) (c : Commit) → ((nodes : ℕ) → got ≡ Began nodes → commit_left c ≡ commit_steps nodes) → IsRare got → Fits (want (flush_left serves most phase orders)) got → flush_left serves most (Commits c) orders ≡ after (flush_left serves most phase orders) got
+after_rare serves most phase orders (Began nodes) c e r h = begun serves most phase orders nodes c (e nodes refl) h
+after_rare serves most phase orders Lost c e r h = absurd (never_other serves most phase orders Lost tt h)
+after_rare serves most phase orders More c e r h = absurd (never_other serves most phase orders More tt h)
+after_rare serves most phase orders got c e r h = absurd r

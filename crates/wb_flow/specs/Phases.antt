@@ -11,8 +11,6 @@ use Rattle.wb_tasks.specs.declared.step.DeviceStep.TheVariants.{Sync, ReadMetada
 use Rattle.wb_tasks.specs.declared.step.DeskStep.TheVariants.{BeginCommit}
 use Rattle.wb_tasks.specs.declared.step.Want.{Want}
 use Rattle.wb_tasks.specs.declared.step.Want.TheVariants.{Cell, Device, Desk}
-use Rattle.wb_tasks.specs.declared.step.Got.{Got}
-use Rattle.wb_tasks.specs.declared.step.Got.TheVariants.{Word, Lost, Began, More}
 use Rattle.wb_tasks.specs.declared.step.Answer.{Answer}
 use Rattle.wb_tasks.specs.declared.step.Answer.TheVariants.{Done as Finished, Refused as Refuses}
 use Rattle.wb_flow.specs.declared.flush.Phase.{Phase as FlushPhase}
@@ -82,15 +80,3 @@ opening_answer phase = Finished
 
 abbrev pub opening_left : ℕ → OpenPhase → Plan
 opening_left more phase = record { job = Opening more; steps = opening_steps more phase; answer = opening_answer phase }
-
--- what no step of a flush or suspend gives, and what none of an opening gives
-abbrev pub IsOther : Got → Type 0
-IsOther Lost = Unit {0}
-IsOther More = Unit {0}
-IsOther got = ⊥
-
-abbrev pub IsUnopened : Got → Type 0
-IsUnopened (Word word) = Unit {0}
-IsUnopened Lost = Unit {0}
-IsUnopened (Began nodes) = Unit {0}
-IsUnopened got = ⊥

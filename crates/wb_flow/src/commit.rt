@@ -5,14 +5,14 @@
 //! 3. write the root, and sync the metadata;
 //! 4. end the commit.
 
-ghost use Rattle.std.specs.Prelude.{◌≡◌, IfSome};
+ghost use Rattle.std.specs.Prelude.{◌≡◌, ℕ, IfSome};
 ghost use Rattle.wb_tasks.specs.Plan.{first_step, later_steps, commit_steps, device_of};
 ghost use Rattle.wb_tasks.specs.declared.step.Answer.TheVariants.{Done as Finished};
 ghost use Rattle.wb_tasks.specs.declared.step.DeviceStep.{DeviceStep as DeviceStepTerm};
 ghost use Rattle.wb_tasks.specs.declared.step.Want.TheVariants.{Device};
 ghost use Rattle.wb_flow.specs.Commits.{commit_left, commit_after, IsInRange};
 
-use wb_tasks::{DeskStep, DeviceStep, Want};
+use wb_tasks::{DeskStep, DeviceStep, Got, Want};
 use wb_types::Dev;
 
 /// The step that comes next.
@@ -37,11 +37,12 @@ pub(crate) struct Commit {
 }
 
 impl Commit {
-    /// A commit whose image has so many nodes, before its first step.
-    pub(crate) fn begun(nodes: u32) -> Commit
-        ensures steps { commit_left result ≡ commit_steps nodes }
+    /// The commit of which this result says that it has begun, before its first step.
+    pub(crate) fn begun(got: Got) -> Commit
+        ensures steps { (nodes : ℕ) → got ≡ Got.Began nodes → commit_left result ≡ commit_steps nodes }
         ensures in_range { IsInRange result }
     {
+        let nodes = if let Got::Began(nodes) = got { nodes } else { 0 };
         Commit {
             stage: Stage::SyncsCache,
             node: 0,

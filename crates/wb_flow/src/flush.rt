@@ -9,12 +9,11 @@
 
 ghost use Rattle.std.specs.Prelude.{◌≡◌, []};
 ghost use Rattle.wb_tasks.specs.Tables.{Flushing};
-ghost use Rattle.wb_tasks.specs.Plan.{Plan, want, after, table, Fits};
-ghost use Rattle.wb_flow.specs.Phases.{IsOther};
+ghost use Rattle.wb_tasks.specs.Plan.{Plan, table};
 
 use crate::commit::Commit;
 use std::marker::Model;
-use wb_tasks::{Answer, CellStep, DeskStep, Got, Task, Want};
+use wb_tasks::{Answer, CellStep, DeskStep, Got, Steps, Want};
 use wb_types::{Dev, OBlock, Refusal};
 use wb_words::Word;
 
@@ -69,11 +68,12 @@ impl FlushTask {
             most,
         }
     }
+}
 
-    /// The next step, or the answer.
-    pub fn want(&self) -> Want
-        ensures { result ≡ want self.now }
-    {
+impl Steps for FlushTask {
+    ghost left = { λ t. t };
+
+    fn want(&self) -> Want {
         match self.phase {
             Phase::LooksAtFail => Want::Cell(CellStep::Look(Word::Fail)),
             Phase::Begins => Want::Desk(DeskStep::BeginCommit(false, self.most)),
@@ -87,11 +87,7 @@ impl FlushTask {
         }
     }
 
-    /// What is left after the fail word was looked at.
-    fn after_look(&mut self, word: u64)
-        requires { Fits (want self.old) (Got.Word word) }
-        ensures { self.new ≡ after self.old (Got.Word word) }
-    {
+    fn after_look(&mut self, word: u64) {
         if word == 0 {
             self.phase = Phase::Begins;
         } else {
@@ -99,11 +95,7 @@ impl FlushTask {
         }
     }
 
-    /// What is left after a step was done.
-    fn after_done(&mut self)
-        requires { Fits (want self.old) Got.Done }
-        ensures { self.new ≡ after self.old Got.Done }
-    {
+    fn after_done(&mut self) {
         match self.phase {
             Phase::Commits(commit) => match commit.advanced() {
                 Some(next) => self.phase = Phase::Commits(next),
@@ -118,21 +110,13 @@ impl FlushTask {
         }
     }
 
-    /// What is left after a fault.
-    fn after_fault(&mut self)
-        requires { Fits (want self.old) Got.Fault }
-        ensures { self.new ≡ after self.old Got.Fault }
-    {
+    fn after_fault(&mut self) {
         if let Phase::Commits(commit) = self.phase {
             self.phase = Phase::SetsFailed(commit.device());
         }
     }
 
-    /// What is left after the desk refused the commit.
-    fn after_refusal(&mut self, refusal: Refusal)
-        requires { Fits (want self.old) (Got.Refused refusal) }
-        ensures { self.new ≡ after self.old (Got.Refused refusal) }
-    {
+    fn after_refusal(&mut self, refusal: Refusal) {
         self.given = 0;
         match refusal {
             Refusal::Busy => self.phase = Phase::Ended(Answer::Refused(Refusal::Busy)),
@@ -140,38 +124,8 @@ impl FlushTask {
         }
     }
 
-    /// What is left after the commit began.
-    fn after_begun(&mut self, nodes: u32)
-        requires { Fits (want self.old) (Got.Began nodes) }
-        ensures { self.new ≡ after self.old (Got.Began nodes) }
-    {
-        self.phase = Phase::Commits(Commit::begun(nodes));
-    }
-
-    /// No step of a flush is lost or reads metadata.
-    fn after_other(&mut self, got: Got)
-        requires other { IsOther got }
-        requires fits { Fits (want self.old) got }
-        ensures { self.new ≡ after self.old got }
-    {
-        self.phase = Phase::Ended(Answer::Refused(Refusal::Busy));
-    }
-}
-
-impl Task for FlushTask {
-    ghost plan = { λ t. t };
-
-    fn next(&mut self, got: Got) -> Want {
-        match got {
-            Got::Begin => {}
-            Got::Word(word) => self.after_look(word),
-            Got::Done => self.after_done(),
-            Got::Fault => self.after_fault(),
-            Got::Refused(refusal) => self.after_refusal(refusal),
-            Got::Began(nodes) => self.after_begun(nodes),
-            Got::Lost => self.after_other(Got::Lost),
-            Got::More => self.after_other(Got::More),
-        }
-        self.want()
+    fn after_rare(&mut self, got: Got) {
+        // None of its steps is an exchange or reads metadata: its commit began.
+        self.phase = Phase::Commits(Commit::begun(got));
     }
 }

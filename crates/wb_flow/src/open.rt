@@ -9,11 +9,10 @@
 
 ghost use Rattle.std.specs.Prelude.{◌≡◌, ◌≤◌, ◌-◌, []};
 ghost use Rattle.wb_tasks.specs.Tables.{Opening};
-ghost use Rattle.wb_tasks.specs.Plan.{Plan, want, after, table, Fits};
-ghost use Rattle.wb_flow.specs.Phases.{IsOther, IsUnopened};
+ghost use Rattle.wb_tasks.specs.Plan.{Plan, table};
 
 use std::marker::Model;
-use wb_tasks::{Answer, DeviceStep, Got, Task, Want};
+use wb_tasks::{Answer, DeviceStep, Got, Steps, Want};
 use wb_types::{Dev, Refusal};
 
 /// Where an opening stands.
@@ -65,11 +64,12 @@ impl OpenTask {
             more,
         }
     }
+}
 
-    /// The next step, or the answer.
-    pub fn want(&self) -> Want
-        ensures { result ≡ want self.now }
-    {
+impl Steps for OpenTask {
+    ghost left = { λ t. t };
+
+    fn want(&self) -> Want {
         match self.phase {
             Phase::SyncsMetadata | Phase::SyncsRoot => {
                 Want::Device(DeviceStep::Sync(Dev::Metadata))
@@ -82,11 +82,12 @@ impl OpenTask {
         }
     }
 
-    /// What is left after a step was done.
-    fn after_done(&mut self)
-        requires { Fits (want self.old) Got.Done }
-        ensures { self.new ≡ after self.old Got.Done }
-    {
+    fn after_look(&mut self, _word: u64) {
+        // None of its steps looks at a word.
+        self.phase = Phase::Ended(Answer::Refused(Refusal::Busy));
+    }
+
+    fn after_done(&mut self) {
         match self.phase {
             Phase::SyncsMetadata => self.phase = Phase::SyncsCache,
             Phase::SyncsCache => self.phase = Phase::SyncsOrigin,
@@ -98,11 +99,7 @@ impl OpenTask {
         }
     }
 
-    /// What is left after a fault.
-    fn after_fault(&mut self)
-        requires { Fits (want self.old) Got.Fault }
-        ensures { self.new ≡ after self.old Got.Fault }
-    {
+    fn after_fault(&mut self) {
         let device = match self.phase {
             Phase::SyncsCache => Dev::Cache,
             Phase::SyncsOrigin => Dev::Origin,
@@ -111,46 +108,14 @@ impl OpenTask {
         self.phase = Phase::Ended(Answer::Refused(Refusal::Io(device)));
     }
 
-    /// What is left after what was read is refused.
-    fn after_refusal(&mut self, refusal: Refusal)
-        requires { Fits (want self.old) (Got.Refused refusal) }
-        ensures { self.new ≡ after self.old (Got.Refused refusal) }
-    {
+    fn after_refusal(&mut self, refusal: Refusal) {
         self.phase = Phase::Ended(Answer::Refused(refusal));
     }
 
-    /// What is left after a sector was read, and there is more to read.
-    fn after_more(&mut self)
-        requires { Fits (want self.old) Got.More }
-        ensures { self.new ≡ after self.old Got.More }
-    {
+    fn after_rare(&mut self, _got: Got) {
+        // None of its steps is an exchange or begins a commit: there is more to read.
         if let Phase::Reads(left) = self.phase {
             self.phase = Phase::Reads(left - 1);
         }
-    }
-
-    /// No step of an opening looks at a word, is lost, or begins a commit.
-    fn after_other(&mut self, got: Got)
-        requires other { IsUnopened got }
-        requires fits { Fits (want self.old) got }
-        ensures { self.new ≡ after self.old got }
-    {
-        self.phase = Phase::Ended(Answer::Refused(Refusal::Busy));
-    }
-}
-
-impl Task for OpenTask {
-    ghost plan = { λ t. t };
-
-    fn next(&mut self, got: Got) -> Want {
-        match got {
-            Got::Begin => {}
-            Got::Done => self.after_done(),
-            Got::Fault => self.after_fault(),
-            Got::Refused(refusal) => self.after_refusal(refusal),
-            Got::More => self.after_more(),
-            Got::Word(_) | Got::Lost | Got::Began(_) => self.after_other(got),
-        }
-        self.want()
     }
 }

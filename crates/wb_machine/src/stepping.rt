@@ -15,7 +15,7 @@ use std::mem;
 use wb_devices::Devices;
 use wb_disk::{CrashChoice, MemDisk};
 use wb_promise::What;
-use wb_tasks::{Answer, DeviceStep, Got, Want};
+use wb_tasks::{Answer, DeviceStep, Got, Steps, Want};
 use wb_types::{Geometry, Refusal};
 
 /// The next step of an actor's opening, if it opens. No target stands.

@@ -5,7 +5,7 @@ ghost use Rattle.wb_tasks.specs.Plan.{Plan, want, after, MayCome};
 
 use std::marker::Model;
 use wb_flow::FlushTask;
-use wb_tasks::{BlockTask, Got, Task, Want};
+use wb_tasks::{BlockTask, Got, Steps, Task, Want};
 
 #[derive(Drop)]
 enum Kind {

@@ -7,11 +7,11 @@ use Rattle.wb_types.specs.declared.mode.Dev.{Dev}
 use Rattle.wb_types.specs.declared.mode.Dev.TheVariants.{Cache, Origin}
 use Rattle.wb_types.specs.declared.number.CBlock.{CBlock}
 use Rattle.wb_types.specs.declared.refusal.Refusal.{Refusal}
-use Rattle.wb_types.specs.declared.refusal.Refusal.TheVariants.{Io}
+use Rattle.wb_types.specs.declared.refusal.Refusal.TheVariants.{Busy, Io}
 use Rattle.wb_words.specs.declared.grip.GripStage.{GripStage}
 use Rattle.wb_words.specs.declared.grip.GripStage.TheVariants.{LookFail, LookLock, Exchange, LookSeal, LookNumber}
 use Rattle.wb_tasks.specs.Tables.{BlockRange, OnBlock, device_at, cache_extent, places_written, read_step, write_step, writes}
-use Rattle.wb_tasks.specs.Plan.{Plan, want, after, after_look, first_step, later_steps, Fits}
+use Rattle.wb_tasks.specs.Plan.{Plan, want, after, after_look, first_step, later_steps, Fits, IsRare}
 use Rattle.wb_tasks.specs.Phases.{job_on_block, acquiring, after_seeing, write_end, written_mode, steps_in, left_in, has_order}
 use Rattle.wb_tasks.specs.declared.acquire.Seen.{Seen}
 use Rattle.wb_tasks.specs.declared.block.Work.{Work}
@@ -25,7 +25,7 @@ use Rattle.wb_tasks.specs.declared.step.Want.{Want}
 use Rattle.wb_tasks.specs.declared.step.Want.TheVariants.{Device, Desk}
 use Rattle.wb_tasks.specs.declared.step.Answer.TheVariants.{Done as Finished, Refused as Refuses}
 use Rattle.wb_tasks.specs.declared.step.Got.{Got}
-use Rattle.wb_tasks.specs.declared.step.Got.TheVariants.{Word, Fault, Refused, Began, More}
+use Rattle.wb_tasks.specs.declared.step.Got.TheVariants.{Word, Lost, Fault, Refused, Began, More}
 
 -- what is shown of the fields' view holds of the value
 pub by_view : (v old new : Plan) (got : Got) → v ≡ old → Fits (want old) got → (Fits (want v) got → new ≡ after v got) → new ≡ after old got
@@ -199,12 +199,12 @@ never_more : (w : Want) → IsAside w → Fits w More → ⊥
 never_more (Device (ReadMetadata left)) a h = a
 never_more w a h = h
 
--- so it is never told that a commit began, or that there is more to read
-pub not_begun : (work : Work) (part : BlockRange) (phase : Phase) (extents : List Extent) (nodes : ℕ) → Fits (want (left_in work part phase extents)) (Began nodes) → ⊥
-not_begun work part phase extents nodes h = never_begun _ nodes (aside work part phase extents) h
-
-pub no_more : (work : Work) (part : BlockRange) (phase : Phase) (extents : List Extent) → Fits (want (left_in work part phase extents)) More → ⊥
-no_more work part phase extents h = never_more _ (aside work part phase extents) h
+-- so of the results that one kind of step alone has, a lost exchange is left to it
+pub lost : (work : Work) (part : BlockRange) (phase : Phase) (extents : List Extent) (got : Got) → IsRare got → Fits (want (left_in work part phase extents)) got → left_in work part (Ended (Refuses Busy)) extents ≡ after (left_in work part phase extents) got
+lost work part phase extents Lost r h = refl
+lost work part phase extents (Began nodes) r h = absurd (never_begun _ nodes (aside work part phase extents) h)
+lost work part phase extents More r h = absurd (never_more _ (aside work part phase extents) h)
+lost work part phase extents got r h = absurd r
 
 -- it looks at words before it has its block alone
 pub looks_first : (work : Work) (part : BlockRange) (phase : Phase) (extents : List Extent) (word : ℕ) → ((stage : GripStage) → phase ≡ Acquires stage → ⊥) → Fits (want (left_in work part phase extents)) (Word word) → ⊥

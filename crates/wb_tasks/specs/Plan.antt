@@ -287,3 +287,10 @@ IsStep (End answer) = ⊥
 abbrev pub MayCome : Plan → Got → Type 0
 MayCome s Begin = Unit {0}
 MayCome s got = Fits (want s) got
+
+-- a result that one kind of step alone has: an exchange, the beginning of a commit, a read of the metadata
+abbrev pub IsRare : Got → Type 0
+IsRare Lost = Unit {0}
+IsRare (Began nodes) = Unit {0}
+IsRare More = Unit {0}
+IsRare got = ⊥

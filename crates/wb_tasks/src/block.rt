@@ -21,14 +21,14 @@ ghost use Rattle.std.specs.Prelude.{◌≡◌, ◌+◌, ◌*◌, ◌<◌, ◌≤
 ghost use Rattle.wb_types.specs.Extents.{pieces};
 ghost use Rattle.wb_types.specs.declared.mode.Mode.TheVariants.{Writeback, Passthrough};
 ghost use Rattle.wb_tasks.specs.Tables.{BlockRange, OnBlock, Writing, Displacing, Invalidating, Migrating, places_written, access_of, is_write, whole_block};
-ghost use Rattle.wb_tasks.specs.Plan.{Plan, want, after, refused, table, Fits};
+ghost use Rattle.wb_tasks.specs.Plan.{Plan, table};
 ghost use Rattle.wb_tasks.specs.Phases.{job_on_block, has_order, written_mode, left_in, after_seeing};
 
 use crate::acquire::{self, Seen};
 use crate::cut::split;
 use crate::route::{device_at, place_read, route, written};
 use crate::step::{Answer, DeskStep, DeviceStep, Got, Migration, Want};
-use crate::task::Task;
+use crate::task::Steps;
 use std::marker::Model;
 use wb_types::{CBlock, Dev, Extent, Mode, OBlock, Refusal};
 use wb_words::{Access, CellStep, GripStage, Kind};
@@ -179,11 +179,12 @@ impl BlockTask {
             1,
         )
     }
+}
 
-    /// The next step, or the answer.
-    pub fn want(&self) -> Want
-        ensures { result ≡ want self.now }
-    {
+impl Steps for BlockTask {
+    ghost left = { λ t. t };
+
+    fn want(&self) -> Want {
         match self.phase {
             Phase::Acquires(stage) => acquire::want(access_of(self.work), self.block, stage),
             Phase::Dirties(c) => Want::Cell(CellStep::Seal(self.block, Some(c), true)),
@@ -235,11 +236,7 @@ impl BlockTask {
         }
     }
 
-    /// What is left after a word was looked at.
-    fn after_look(&mut self, word: u64)
-        requires { Fits (want self.old) (Got.Word word) }
-        ensures { self.new ≡ after self.old (Got.Word word) }
-    {
+    fn after_look(&mut self, word: u64) {
         if let Phase::Acquires(stage) = self.phase {
             self.left = self.sectors;
             let access = access_of(self.work);
@@ -267,11 +264,7 @@ impl BlockTask {
         }
     }
 
-    /// What is left after a step was done.
-    fn after_done(&mut self)
-        requires { Fits (want self.old) Got.Done }
-        ensures { self.new ≡ after self.old Got.Done }
-    {
+    fn after_done(&mut self) {
         match self.phase {
             // Only the exchange can have been done.
             Phase::Acquires(_) => self.phase = Phase::Acquires(GripStage::LookSeal),
@@ -326,11 +319,7 @@ impl BlockTask {
         }
     }
 
-    /// What is left after a fault.
-    fn after_fault(&mut self)
-        requires { Fits (want self.old) Got.Fault }
-        ensures { self.new ≡ after self.old Got.Fault }
-    {
+    fn after_fault(&mut self) {
         match self.phase {
             Phase::Reads(place) | Phase::Copies(place, _) => {
                 let answer = Answer::Refused(Refusal::Io(device_at(place)));
@@ -347,44 +336,14 @@ impl BlockTask {
         }
     }
 
-    /// What is left after the desk refused; a promotion alone can be refused, its entry.
-    fn after_refusal(&mut self, refusal: Refusal)
-        requires { Fits (want self.old) (Got.Refused refusal) }
-        ensures { self.new ≡ after self.old (Got.Refused refusal) }
-    {
+    fn after_refusal(&mut self, refusal: Refusal) {
+        // A promotion alone can be refused, its entry.
         self.phase = Phase::Releases(has_order(self.work), Answer::Refused(refusal));
     }
 
-    /// Nothing is left but the refusal.
-    fn refuse(&mut self, refusal: Refusal)
-        ensures { self.new ≡ refused self.old [] refusal }
-    {
-        self.phase = Phase::Ended(Answer::Refused(refusal));
-    }
-}
-
-impl Task for BlockTask {
-    ghost plan = { λ t. t };
-
-    fn next(&mut self, got: Got) -> Want {
-        match got {
-            Got::Begin => {}
-            Got::Word(word) => self.after_look(word),
-            Got::Done => self.after_done(),
-            Got::Fault => self.after_fault(),
-            Got::Lost => self.refuse(Refusal::Busy),
-            Got::Refused(refusal) => self.after_refusal(refusal),
-            // None of its steps, wherever it stands, begins a commit or reads metadata.
-            Got::Began(_) => {
-                let _phase = self.phase;
-                unreachable!()
-            }
-            Got::More => {
-                let _phase = self.phase;
-                unreachable!()
-            }
-        }
-        self.want()
+    fn after_rare(&mut self, _got: Got) {
+        // None of its steps begins a commit or reads metadata: its exchange was lost.
+        self.phase = Phase::Ended(Answer::Refused(Refusal::Busy));
     }
 }
 

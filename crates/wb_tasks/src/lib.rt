@@ -17,5 +17,5 @@ pub use block::{BlockTask, Work};
 pub use law::{refusal_causes, step_bound, steps_are_ready};
 pub use stage::{Stage, drive};
 pub use step::{Answer, DeskStep, DeviceStep, Got, Migration, Want};
-pub use task::Task;
+pub use task::{Steps, Task};
 pub use wb_words::{CellResult, CellStep};

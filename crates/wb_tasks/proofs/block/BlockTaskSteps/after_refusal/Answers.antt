@@ -2,7 +2,7 @@ use Rattle.wb_types.specs.Extents.{pieces}
 use Rattle.wb_tasks.specs.Tables.{BlockRange}
 use Rattle.wb_tasks.specs.declared.step.Got.TheVariants.{Refused}
 use Rattle.wb_tasks.proofs.Views.{by_view, after_refused_entry}
-use Rattle.wb_tasks.proofs.block.BlockTask.after_refusal.Goals as goal
+use Rattle.wb_tasks.proofs.block.BlockTaskSteps.after_refusal.Goals as goal
 
 pub returns : goal.returns
 returns c =

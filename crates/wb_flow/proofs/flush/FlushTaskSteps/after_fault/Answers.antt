@@ -6,7 +6,7 @@ use Rattle.wb_flow.specs.Phases.{flush_left}
 use Rattle.wb_flow.specs.declared.flush.Phase.{Phase}
 use Rattle.wb_flow.proofs.Commits.{failed_commit}
 use Rattle.wb_flow.proofs.Flushes.{unfailed}
-use Rattle.wb_flow.proofs.flush.FlushTask.after_fault.Goals as goal
+use Rattle.wb_flow.proofs.flush.FlushTaskSteps.after_fault.Goals as goal
 
 pub returns-in-Commits : goal.returns-in-Commits
 returns-in-Commits c = let t = c.self.inside in

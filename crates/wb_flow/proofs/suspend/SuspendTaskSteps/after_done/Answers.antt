@@ -2,7 +2,7 @@ use Rattle.std.proofs.Common.{sym, subst, drop}
 use Rattle.wb_tasks.specs.Plan.{Plan, want, Fits}
 use Rattle.wb_tasks.specs.declared.step.Got.TheVariants.{Done}
 use Rattle.wb_flow.proofs.Suspends.{undone}
-use Rattle.wb_flow.proofs.suspend.SuspendTask.after_done.Goals as goal
+use Rattle.wb_flow.proofs.suspend.SuspendTaskSteps.after_done.Goals as goal
 
 pub returns-in_default : goal.returns-in_default
 returns-in_default c = let t = c.self.inside in

@@ -5,7 +5,7 @@ use Rattle.wb_tasks.specs.Plan.{Plan, want, Fits}
 use Rattle.wb_tasks.specs.declared.step.Got.TheVariants.{Word}
 use Rattle.wb_tasks.proofs.Views.{by_view}
 use Rattle.wb_flow.proofs.Suspends.{saw_seal, saw_none}
-use Rattle.wb_flow.proofs.suspend.SuspendTask.after_look.Goals as goal
+use Rattle.wb_flow.proofs.suspend.SuspendTaskSteps.after_look.Goals as goal
 
 pub returns-then-self-as_slice : goal.returns-then-self-as_slice
 returns-then-self-as_slice c = let t = c.self.inside in

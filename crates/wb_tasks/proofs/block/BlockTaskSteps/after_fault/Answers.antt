@@ -6,7 +6,7 @@ use Rattle.wb_tasks.specs.Tables.{BlockRange}
 use Rattle.wb_tasks.specs.declared.block.Phase.TheVariants.{Reads, Writes, Mirrors, Copies, Puts, Releases, SetsFailed}
 use Rattle.wb_tasks.specs.declared.step.Answer.TheVariants.{Refused as Refuses}
 use Rattle.wb_tasks.proofs.Views.{left_by_fault, FailsTo}
-use Rattle.wb_tasks.proofs.block.BlockTask.after_fault.Goals as goal
+use Rattle.wb_tasks.proofs.block.BlockTaskSteps.after_fault.Goals as goal
 
 pub returns-in-Writes : goal.returns-in-Writes
 returns-in-Writes c =

@@ -9,7 +9,7 @@ use Rattle.wb_flow.specs.Phases.{suspend_left}
 use Rattle.wb_flow.specs.declared.suspend.Phase.{Phase}
 use Rattle.wb_flow.proofs.Commits.{failed_commit, first_of_commit}
 use Rattle.wb_flow.proofs.Suspends.{unfailed}
-use Rattle.wb_flow.proofs.suspend.SuspendTask.after_fault.Goals as goal
+use Rattle.wb_flow.proofs.suspend.SuspendTaskSteps.after_fault.Goals as goal
 
 pub returns-in-Commits : goal.returns-in-Commits
 returns-in-Commits c = let t = c.self.inside in

@@ -3,7 +3,7 @@ use Rattle.wb_types.specs.declared.number.OBlock.{OBlock}
 use Rattle.wb_tasks.specs.Plan.{onward}
 use Rattle.std.proofs.lemmas.List.{drop_more}
 use Rattle.wb_flow.proofs.Flushes.{gave_up}
-use Rattle.wb_flow.proofs.flush.FlushTask.after_done.Goals as goal
+use Rattle.wb_flow.proofs.flush.FlushTaskSteps.after_done.Goals as goal
 
 pub returns-in-GivesUp : goal.returns-in-GivesUp
 returns-in-GivesUp c = let t = c.self.inside in

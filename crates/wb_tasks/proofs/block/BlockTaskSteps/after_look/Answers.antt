@@ -6,7 +6,7 @@ use Rattle.wb_tasks.specs.Phases.{after_seeing, job_on_block, left_in}
 use Rattle.wb_tasks.specs.declared.block.Work.{Work}
 use Rattle.wb_tasks.specs.declared.step.Got.TheVariants.{Word}
 use Rattle.wb_tasks.proofs.Views.{left_by_look, looks_first}
-use Rattle.wb_tasks.proofs.block.BlockTask.after_look.Goals as goal
+use Rattle.wb_tasks.proofs.block.BlockTaskSteps.after_look.Goals as goal
 
 pub returns-in-Write-default : goal.returns-in-Write-default
 returns-in-Write-default c =
