@@ -12,7 +12,7 @@ use Rattle.wb_words.specs.SharedWords.{place_in, dirty_in}
 use Rattle.wb_types.specs.declared.extent.Extent.{Extent}
 use Rattle.wb_words.specs.declared.word.Access.TheVariants.{Shared, Owned}
 use Rattle.wb_tasks.specs.Tables.{BlockJob, Reading, Writing, Displacing, Invalidating, Migrating, TaskJob, OnBlock, Flushing, Suspending, Opening, place_read, read_step, read_count, write_count, writing, work}
-use Rattle.wb_tasks.proofs.Working.{Works, work_has}
+use Rattle.wb_tasks.proofs.Working.{Works, work_has, parting_has}
 use Rattle.wb_tasks.specs.Plan.{Plan, after, table, first_step, refused, gives_back, gives_up, release_orders, node_writes, root_steps, begun_steps, seal_looks, steps_seeing, deferring, answer_seeing, lets_go, after_fault_of, exchange, may_take, is_worn, Fits}
 use Rattle.wb_tasks.specs.Run.{IsRunOf}
 use Rattle.wb_tasks.proofs.Driving.{no_result}
@@ -106,11 +106,7 @@ calm_orders [] = tt
 calm_orders (block ∷ blocks) = calm_orders blocks
 
 calm_parting : (job : BlockJob) → AreCalm (gives_up job)
-calm_parting (Reading part) = tt
-calm_parting (Writing part) = tt
-calm_parting (Displacing part) = tt
-calm_parting (Invalidating part) = tt
-calm_parting (Migrating migration part) = tt
+calm_parting job = parting_has AreCalm job tt (λ block. tt)
 
 calm_lets_go : (job : TaskJob) → AreCalm (lets_go job)
 calm_lets_go (OnBlock job) = calm_parting job

@@ -31,7 +31,7 @@ use Rattle.wb_tasks.specs.declared.step.Got.TheVariants.{Done, Fault, Refused}
 use Rattle.wb_tasks.proofs.Driving.{no_result}
 use Rattle.wb_tasks.proofs.Readiness.{begins_ready, keeps_ready, reads_or_writes, is_own_step, job_stays}
 use Rattle.wb_tasks.proofs.Seals.{seal_tells}
-use Rattle.wb_tasks.proofs.Working.{OfSteps, Works, work_has}
+use Rattle.wb_tasks.proofs.Working.{OfSteps, Works, work_has, parting_has}
 
 -- Of a step that moves an extent or sets a seal, where the block stands at this place, its copy in the cache being dirty or not.
 abbrev pub OfStep : Type 1
@@ -96,11 +96,7 @@ no_end (Invalidating part) a = a
 no_end (Migrating migration part) a = a
 
 gives_up_still : (job : BlockJob) → IsStill (gives_up job)
-gives_up_still (Reading part) = tt
-gives_up_still (Writing part) = tt
-gives_up_still (Displacing part) = tt
-gives_up_still (Invalidating part) = tt
-gives_up_still (Migrating migration part) = tt
+gives_up_still job = parting_has IsStill job tt (λ block. tt)
 
 lets_go_still : (job : BlockJob) (step : DeviceStep) → IsStill (after_fault_of (OnBlock job) step)
 lets_go_still job (Read device e) = gives_up_still job

@@ -1,5 +1,6 @@
 -- From the fields of a task to what its contract says.
 use Rattle.std.proofs.Common.{◌≡◌, ◌++◌, ℕ, Bool, if◌then◌else◌, List, [], ◌∷◌, Option, Some, None, map, refl, sym, ap, subst, ◌∙◌}
+use Rattle.wb_types.specs.Extents.{pieces}
 use Rattle.wb_types.specs.declared.extent.Extent.{Extent}
 use Rattle.wb_types.specs.declared.mode.Mode.{Mode}
 use Rattle.wb_types.specs.declared.mode.Mode.TheVariants.{Writeback, Writethrough, Passthrough}
@@ -8,12 +9,15 @@ use Rattle.wb_types.specs.declared.mode.Dev.TheVariants.{Cache, Origin}
 use Rattle.wb_types.specs.declared.number.CBlock.{CBlock}
 use Rattle.wb_types.specs.declared.refusal.Refusal.{Refusal}
 use Rattle.wb_types.specs.declared.refusal.Refusal.TheVariants.{Busy, Io}
+use Rattle.wb_words.specs.declared.word.Access.{Access}
 use Rattle.wb_words.specs.declared.grip.GripStage.{GripStage}
 use Rattle.wb_words.specs.declared.grip.GripStage.TheVariants.{LookFail, LookLock, Exchange, LookSeal, LookNumber}
-use Rattle.wb_tasks.specs.Tables.{BlockRange, OnBlock, device_at, cache_extent, places_written, read_step, write_step, writes}
+use Rattle.wb_tasks.specs.Tables.{BlockRange, BlockJob, OnBlock, access_of, is_write, device_at, cache_extent, places_written, read_step, write_step, writes}
 use Rattle.wb_tasks.specs.Plan.{Plan, want, after, after_look, first_step, later_steps, Fits, IsRare}
 use Rattle.wb_tasks.specs.Phases.{job_on_block, acquiring, after_seeing, write_end, written_mode, steps_in, left_in, has_order}
 use Rattle.wb_tasks.specs.declared.acquire.Seen.{Seen}
+use Rattle.wb_tasks.specs.declared.acquire.Seen.TheVariants.{Holds}
+use Rattle.wb_tasks.specs.declared.block.BlockTask.TheInside.{Inside}
 use Rattle.wb_tasks.specs.declared.block.Work.{Work}
 use Rattle.wb_tasks.specs.declared.block.Work.TheVariants.{Read as ToRead, Write as ToWrite, Displace as ToDisplace, Invalidate as ToInvalidate, Migrate as ToMigrate}
 use Rattle.wb_tasks.specs.declared.block.Phase.{Phase}
@@ -31,13 +35,28 @@ use Rattle.wb_tasks.specs.declared.step.Got.TheVariants.{Word, Lost, Fault, Refu
 pub by_view : (v old new : Plan) (got : Got) → v ≡ old → Fits (want old) got → (Fits (want v) got → new ≡ after v got) → new ≡ after old got
 by_view v old new got e h f = f (subst (λ (s : Plan). Fits (want s) got) (sym e) h) ∙ ap (λ s. after s got) e
 
+-- the sectors of its block that a task is on
+abbrev pub part_of : Inside → BlockRange
+part_of t = record { mode = t.mode; block_sectors = t.block_sectors; block = t.block; extents = pieces t.longest t.sectors }
+
 -- a job that has its block stands where what it saw leaves it
-pub left_by_look : (work : Work) (part : BlockRange) (now left : Phase) (stage : GripStage) (extents : List Extent) (old : Plan) (word : ℕ) (seen : Seen) → now ≡ Acquires stage → left_in work part now extents ≡ old → Fits (want old) (Word word) →
+left_by_look : (work : Work) (part : BlockRange) (now left : Phase) (stage : GripStage) (extents : List Extent) (old : Plan) (word : ℕ) (seen : Seen) → now ≡ Acquires stage → left_in work part now extents ≡ old → Fits (want old) (Word word) →
     (Fits (want (acquiring (job_on_block work part) stage)) (Word word) → after_seeing (job_on_block work part) seen ≡ after_look (acquiring (job_on_block work part) stage) (want (acquiring (job_on_block work part) stage)) word) →
     left_in work part left part.extents ≡ after_seeing (job_on_block work part) seen → left_in work part left part.extents ≡ after_look old (want old) word
 left_by_look work part now left stage extents old word seen e is f saw stands =
     let at : acquiring (job_on_block work part) stage ≡ old = ap (λ (p : Phase). left_in work part p extents) (sym e) ∙ is in
     stands ∙ saw (subst (λ (s : Plan). Fits (want s) (Word word)) (sym at) f) ∙ ap (λ (s : Plan). after_look s (want s) word) at
+
+-- so of a task whose block stands at this place: it stands where work of its kind goes on from there
+pub left_by_holding : {old : Plan} {stage : GripStage} {seen : Seen} {access : Access} {writing : Bool} {place : Option CBlock} {dirty : Bool} (t : Inside) (kind : Work) (left : Phase) (word : ℕ) →
+    t.phase ≡ Acquires stage → left_in t.work (part_of t) t.phase (pieces t.longest t.left) ≡ old → Fits (want old) (Word word) →
+    ((job : BlockJob) → access_of job ≡ access → is_write job ≡ writing → Fits (want (acquiring job stage)) (Word word) → after_seeing job seen ≡ after_look (acquiring job stage) (want (acquiring job stage)) word) →
+    ((part : BlockRange) → access ≡ access_of (job_on_block t.work part)) → ((part : BlockRange) → writing ≡ is_write (job_on_block t.work part)) →
+    t.work ≡ kind → seen ≡ Holds place dirty → left_in kind (part_of t) left (part_of t).extents ≡ after_seeing (job_on_block kind (part_of t)) (Holds place dirty) → left_in t.work (part_of t) left (part_of t).extents ≡ after_look old (want old) word
+left_by_holding {old} {stage} {seen} t kind left word acquires is fits saw takes wants does holds goes =
+    let part : BlockRange = part_of t in
+    left_by_look t.work part t.phase left stage (pieces t.longest t.left) old word seen acquires is fits (saw (job_on_block t.work part) (sym (takes part)) (sym (wants part)))
+    (ap (λ (w : Work). left_in w part left part.extents) does ∙ goes ∙ (λ i. after_seeing (job_on_block (sym does i) part) (sym holds i)))
 
 -- where a write puts an extent of a block at this place first, and that it puts it at that place then
 abbrev pub IsWritten : Work → BlockRange → Option CBlock → Option CBlock → Bool → Type 0

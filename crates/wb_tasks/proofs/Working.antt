@@ -5,10 +5,12 @@ use Rattle.wb_types.specs.declared.extent.Extent.{Extent}
 use Rattle.wb_types.specs.declared.mode.Mode.{Mode}
 use Rattle.wb_types.specs.declared.mode.Mode.TheVariants.{Writeback, Writethrough, Passthrough}
 use Rattle.wb_types.specs.declared.number.CBlock.{CBlock}
+use Rattle.wb_types.specs.declared.number.OBlock.{OBlock}
 use Rattle.wb_words.specs.declared.word.Access.TheVariants.{Shared, Owned}
 use Rattle.wb_words.specs.declared.step.CellStep.TheVariants.{Release, Seal, Finish}
 use Rattle.wb_tasks.specs.Tables.{BlockRange, BlockJob, Reading, Writing, Displacing, Invalidating, Migrating, place_read, dirtying, read_step, write_step, read_count, write_count, writes, writing, copies, ending, work}
-use Rattle.wb_tasks.specs.declared.step.DeskStep.TheVariants.{Unmap}
+use Rattle.wb_tasks.specs.Plan.{gives_up}
+use Rattle.wb_tasks.specs.declared.step.DeskStep.TheVariants.{Unmap, ReleaseOrder}
 use Rattle.wb_tasks.specs.declared.step.Migration.{Migration}
 use Rattle.wb_tasks.specs.declared.step.Migration.TheVariants.{Promote, Demote, Clean}
 use Rattle.wb_tasks.specs.declared.step.Want.{Want}
@@ -135,3 +137,11 @@ pub write_work_back : (part : BlockRange) → part.mode ≡ Writeback → (place
 write_work_back part back place dirty =
     ap (λ (mode : Mode). writing mode part place dirty) back
     ∙ ap (λ (ws : List Want). dirtying Writeback part.block place dirty ++ ws ++ Cell (Finish part.block) ∷ write_count place ∷ Cell (Release Owned part.block) ∷ []) (writes_back part place part.extents)
+
+-- what holds of nothing, and of giving up an order, holds of what a job gives up
+pub parting_has : (Q : List Want → Type 0) (job : BlockJob) → Q [] → ((block : OBlock) → Q (Desk (ReleaseOrder block) ∷ [])) → Q (gives_up job)
+parting_has Q (Reading part) none order = none
+parting_has Q (Writing part) none order = none
+parting_has Q (Displacing part) none order = none
+parting_has Q (Invalidating part) none order = none
+parting_has Q (Migrating migration part) none order = order part.block

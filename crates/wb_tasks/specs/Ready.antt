@@ -95,34 +95,29 @@ IsAsked (Migrating migration part) (Map block place) = (block ≡ part.block) ×
 IsAsked (Migrating migration part) (Unmap block) = (block ≡ part.block) × (migration ≡ Demote)
 IsAsked job step = ⊥
 
--- A flush looks at the fail word, syncs each device, writes nodes and a root, and asks the desk for a commit; what it serves
--- it may give up.
-abbrev pub IsFlushs : List OBlock → ℕ → Want → Type 0
-IsFlushs serves most (Cell (Look Fail)) = Unit {0}
-IsFlushs serves most (Cell SetFailed) = Unit {0}
-IsFlushs serves most (Device (Sync device)) = Unit {0}
-IsFlushs serves most (Device (WriteNode number)) = number < most
-IsFlushs serves most (Device WriteRoot) = Unit {0}
-IsFlushs serves most (Desk (BeginCommit clean nodes)) = (clean ≡ false) × (nodes ≡ most)
-IsFlushs serves most (Desk EndCommit) = Unit {0}
-IsFlushs serves most (Desk (ReleaseOrder block)) = Contains serves block
-IsFlushs serves most (End answer) = Unit {0}
-IsFlushs serves most next = ⊥
+-- What commits looks at the fail word, asks the desk for a commit whose root is marked clean or not, syncs each device, writes nodes and a
+-- root, and may set the failed bit.
+abbrev pub IsCommits : Bool → ℕ → Want → Type 0
+IsCommits clean most (Cell (Look Fail)) = Unit {0}
+IsCommits clean most (Cell SetFailed) = Unit {0}
+IsCommits clean most (Device (Sync device)) = Unit {0}
+IsCommits clean most (Device (WriteNode number)) = number < most
+IsCommits clean most (Device WriteRoot) = Unit {0}
+IsCommits clean most (Desk (BeginCommit marked nodes)) = (marked ≡ clean) × (nodes ≡ most)
+IsCommits clean most (Desk EndCommit) = Unit {0}
+IsCommits clean most (End answer) = Unit {0}
+IsCommits clean most next = ⊥
 
--- A suspend looks at the fail word and at the seals of its blocks, asks the desk for a commit whose root is marked clean, syncs each
--- device, writes nodes and a root, and sets the suspended bit, or the failed one.
+-- a flush may give up what it serves too
+abbrev pub IsFlushs : List OBlock → ℕ → Want → Type 0
+IsFlushs serves most (Desk (ReleaseOrder block)) = Contains serves block
+IsFlushs serves most next = IsCommits false most next
+
+-- a suspend looks at the seals of its blocks too, and sets the suspended bit
 abbrev pub IsSuspends : List OBlock → ℕ → Want → Type 0
-IsSuspends blocks most (Cell (Look Fail)) = Unit {0}
 IsSuspends blocks most (Cell (Look (SealWord block))) = Contains blocks block
-IsSuspends blocks most (Cell SetFailed) = Unit {0}
 IsSuspends blocks most (Cell SetSuspended) = Unit {0}
-IsSuspends blocks most (Device (Sync device)) = Unit {0}
-IsSuspends blocks most (Device (WriteNode number)) = number < most
-IsSuspends blocks most (Device WriteRoot) = Unit {0}
-IsSuspends blocks most (Desk (BeginCommit clean nodes)) = (clean ≡ true) × (nodes ≡ most)
-IsSuspends blocks most (Desk EndCommit) = Unit {0}
-IsSuspends blocks most (End answer) = Unit {0}
-IsSuspends blocks most next = ⊥
+IsSuspends blocks most next = IsCommits true most next
 
 -- An opening syncs each device, reads metadata and writes a root; it touches no word and asks nothing of a desk, which
 -- is not there yet.
