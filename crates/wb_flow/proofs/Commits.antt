@@ -2,27 +2,29 @@
 use Rattle.std.proofs.Common.{◌≡◌, ◌∙◌, ◌++◌, ℕ, zero, suc, List, [], ◌∷◌, refl, sym}
 use Rattle.wb_types.specs.declared.mode.Dev.{Dev}
 use Rattle.wb_types.specs.declared.refusal.Refusal.TheVariants.{Io}
-use Rattle.wb_words.specs.declared.step.CellStep.TheVariants.{SetFailed}
+use Rattle.wb_words.specs.declared.step.CellStep.TheVariants.{SetFailed, SetSuspended}
 use Rattle.wb_tasks.specs.Plan.{Plan, after, after_fault, after_fault_of, first_step, node_writes, device_of, Fits}
 use Rattle.wb_tasks.specs.declared.step.Answer.{Answer}
 use Rattle.wb_tasks.specs.declared.step.Answer.TheVariants.{Done as Finished, Refused as Refuses}
 use Rattle.wb_tasks.specs.declared.step.DeviceStep.{DeviceStep}
-use Rattle.wb_tasks.specs.declared.step.DeviceStep.TheVariants.{Sync, WriteNode, WriteRoot}
+use Rattle.wb_tasks.specs.declared.step.DeviceStep.TheVariants.{Read, Write, Sync, ReadMetadata, WriteNode, WriteRoot}
 use Rattle.wb_tasks.specs.declared.step.DeskStep.TheVariants.{EndCommit}
 use Rattle.wb_tasks.specs.declared.step.Want.{Want}
 use Rattle.wb_tasks.specs.declared.step.Want.TheVariants.{Cell, Device, Desk, End}
 use Rattle.wb_tasks.specs.declared.step.Got.{Got}
-use Rattle.wb_tasks.specs.declared.step.Got.TheVariants.{Done, Lost, Fault, More}
+use Rattle.wb_tasks.specs.declared.step.Got.TheVariants.{Done, Fault}
 use Rattle.wb_flow.specs.Commits.{stage_steps, commit_left}
+use Rattle.wb_flow.specs.Phases.{closing}
 use Rattle.wb_flow.specs.declared.commit.Commit.{Commit}
 use Rattle.wb_flow.specs.declared.commit.Stage.{Stage}
 use Rattle.wb_flow.specs.declared.commit.Stage.TheVariants.{SyncsCache, SyncsOrigin, WritesNodes, WritesRoot, SyncsRoot, EndsCommit}
+use Rattle.wb_flow.specs.declared.committing.Purpose.{Purpose}
+use Rattle.wb_flow.specs.declared.committing.Purpose.TheVariants.{Flush, Suspend}
 
 abbrev pub IsOfCommit : Want → Type 0
-IsOfCommit (Device (Sync device)) = Unit {0}
-IsOfCommit (Device (WriteNode number)) = Unit {0}
-IsOfCommit (Device WriteRoot) = Unit {0}
 IsOfCommit (Desk EndCommit) = Unit {0}
+IsOfCommit (Device (ReadMetadata left)) = ⊥
+IsOfCommit (Device step) = Unit {0}
 IsOfCommit w = ⊥
 
 of_stage : (stage : Stage) (left node : ℕ) → IsOfCommit (first_step (stage_steps stage (node_writes left node)) Finished)
@@ -46,6 +48,8 @@ IsNeither got = Unit {0}
 gives_either : (w : Want) (got : Got) → IsOfCommit w → IsNeither got → Fits w got → ⊥
 gives_either w Done o n f = n
 gives_either w Fault o n f = n
+gives_either (Device (Read device e)) got o n f = absurd f
+gives_either (Device (Write device e)) got o n f = absurd f
 gives_either (Device (Sync device)) got o n f = absurd f
 gives_either (Device (WriteNode number)) got o n f = absurd f
 gives_either (Device WriteRoot) got o n f = absurd f
@@ -54,12 +58,6 @@ gives_either w got o n f = absurd o
 
 pub done_or_failed : (c : Commit) (got : Got) → IsNeither got → Fits (first_step (commit_left c) Finished) got → ⊥
 done_or_failed c got n f = gives_either (first_step (commit_left c) Finished) got (of_commit c) n f
-
--- what no step of a flush or suspend gives
-abbrev pub IsOther : Got → Type 0
-IsOther Lost = Unit {0}
-IsOther More = Unit {0}
-IsOther got = ⊥
 
 -- it comes before whatever follows the commit
 first_of_stage : (stage : Stage) (left node : ℕ) (ws : List Want) (answer : Answer) → first_step (stage_steps stage (node_writes left node) ++ ws) answer ≡ first_step (stage_steps stage (node_writes left node)) Finished
@@ -71,8 +69,9 @@ first_of_stage WritesRoot left node ws answer = refl
 first_of_stage SyncsRoot left node ws answer = refl
 first_of_stage EndsCommit left node ws answer = refl
 
-pub first_of_commit : (c : Commit) (ws : List Want) (answer : Answer) → first_step (commit_left c ++ ws) answer ≡ first_step (commit_left c) Finished
-first_of_commit c ws answer = first_of_stage c.stage c.left c.node ws answer
+pub first_of_closing : (purpose : Purpose) (c : Commit) → first_step (closing purpose (commit_left c)) Finished ≡ first_step (commit_left c) Finished
+first_of_closing Flush c = refl
+first_of_closing Suspend c = first_of_stage c.stage c.left c.node (Cell SetSuspended ∷ []) Finished
 
 -- where it fails the failed bit is set, and its device is told
 pub failed_commit : (s : Plan) (c : Commit) (device : Dev) → ((step : DeviceStep) → after_fault_of s.job step ≡ Cell SetFailed ∷ []) → first_step s.steps s.answer ≡ first_step (commit_left c) Finished →

@@ -1,3 +1,2 @@
 pub mod Commits
-pub mod Flushes
-pub mod Suspends
+pub mod Requests

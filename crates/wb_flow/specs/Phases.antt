@@ -5,7 +5,7 @@ use Rattle.wb_types.specs.declared.number.OBlock.{OBlock}
 use Rattle.wb_types.specs.declared.refusal.Refusal.TheVariants.{Io}
 use Rattle.wb_words.specs.declared.word.Word.TheVariants.{Fail}
 use Rattle.wb_words.specs.declared.step.CellStep.TheVariants.{Look, SetFailed, SetSuspended}
-use Rattle.wb_tasks.specs.Tables.{Flushing, Suspending, Opening}
+use Rattle.wb_tasks.specs.Tables.{TaskJob, Flushing, Suspending, Opening}
 use Rattle.wb_tasks.specs.Plan.{Plan, seal_looks, release_orders}
 use Rattle.wb_tasks.specs.declared.step.DeviceStep.TheVariants.{Sync, ReadMetadata, WriteRoot}
 use Rattle.wb_tasks.specs.declared.step.DeskStep.TheVariants.{BeginCommit}
@@ -13,56 +13,51 @@ use Rattle.wb_tasks.specs.declared.step.Want.{Want}
 use Rattle.wb_tasks.specs.declared.step.Want.TheVariants.{Cell, Device, Desk}
 use Rattle.wb_tasks.specs.declared.step.Answer.{Answer}
 use Rattle.wb_tasks.specs.declared.step.Answer.TheVariants.{Done as Finished, Refused as Refuses}
-use Rattle.wb_flow.specs.declared.flush.Phase.{Phase as FlushPhase}
-use Rattle.wb_flow.specs.declared.flush.Phase.TheVariants.{LooksAtFail, Begins, Commits, GivesUp, SetsFailed, Ended}
-use Rattle.wb_flow.specs.declared.suspend.Phase.{Phase as SuspendPhase}
-use Rattle.wb_flow.specs.declared.suspend.Phase.TheVariants.{LooksAtFail as SuspendLooksAtFail, LooksAtSeals, Commits as SuspendCommits, SetsSuspended, SetsFailed as SuspendSetsFailed, Ended as SuspendEnded}
+use Rattle.wb_flow.specs.declared.committing.Purpose.{Purpose}
+use Rattle.wb_flow.specs.declared.committing.Purpose.TheVariants.{Flush, Suspend}
+use Rattle.wb_flow.specs.declared.committing.Phase.{Phase as CommitPhase}
+use Rattle.wb_flow.specs.declared.committing.Phase.TheVariants.{LooksAtFail, Begins, Commits, SetsSuspended, GivesUp, SetsFailed, Ended}
 use Rattle.wb_flow.specs.Commits.{commit_left, IsInRange}
 use Rattle.wb_flow.specs.declared.open.Phase.{Phase as OpenPhase}
 use Rattle.wb_flow.specs.declared.open.Phase.TheVariants.{SyncsMetadata as OpenSyncsMetadata, SyncsCache as OpenSyncsCache, SyncsOrigin as OpenSyncsOrigin, Reads, WritesRoot as OpenWritesRoot, SyncsRoot as OpenSyncsRoot, Ended as OpenEnded}
 
--- The steps of a flush in a phase, with these orders still to give up.
-abbrev pub flush_steps : ℕ → FlushPhase → List OBlock → List Want
-flush_steps most LooksAtFail orders = Cell (Look Fail) ∷ Desk (BeginCommit false most) ∷ []
-flush_steps most Begins orders = Desk (BeginCommit false most) ∷ []
-flush_steps most (Commits commit) orders = commit_left commit
-flush_steps most (GivesUp refusal) orders = release_orders orders
-flush_steps most (SetsFailed device) orders = Cell SetFailed ∷ []
-flush_steps most (Ended answer) orders = []
+-- the job that a request with this purpose is on
+abbrev pub commit_job : Purpose → List OBlock → ℕ → TaskJob
+commit_job Flush blocks most = Flushing blocks most
+commit_job Suspend blocks most = Suspending blocks most
 
-abbrev pub flush_answer : FlushPhase → Answer
-flush_answer (GivesUp refusal) = Refuses refusal
-flush_answer (SetsFailed device) = Refuses (Io device)
-flush_answer (Ended answer) = answer
-flush_answer phase = Finished
+-- The steps up to the beginning of its commit; a suspend looks at these seals before.
+abbrev pub begin_steps : Purpose → ℕ → List OBlock → List Want
+begin_steps Flush most unseen = Desk (BeginCommit false most) ∷ []
+begin_steps Suspend most unseen = seal_looks unseen ++ Desk (BeginCommit true most) ∷ []
 
-abbrev pub flush_left : List OBlock → ℕ → FlushPhase → List OBlock → Plan
-flush_left serves most phase orders = record { job = Flushing serves most; steps = flush_steps most phase orders; answer = flush_answer phase }
+-- these steps of its commit, and what follows them
+abbrev pub closing : Purpose → List Want → List Want
+closing Flush steps = steps
+closing Suspend steps = steps ++ Cell SetSuspended ∷ []
 
-abbrev pub IsFlushInRange : FlushPhase → Type 0
-IsFlushInRange (Commits commit) = IsInRange commit
-IsFlushInRange phase = Unit {0}
+-- The steps in a phase, where these of its blocks are left: to be looked at, or to be given up.
+abbrev pub commit_task_steps : Purpose → List OBlock → ℕ → CommitPhase → List OBlock → List Want
+commit_task_steps purpose blocks most LooksAtFail rest = Cell (Look Fail) ∷ begin_steps purpose most blocks
+commit_task_steps purpose blocks most Begins rest = begin_steps purpose most rest
+commit_task_steps purpose blocks most (Commits commit) rest = closing purpose (commit_left commit)
+commit_task_steps purpose blocks most SetsSuspended rest = Cell SetSuspended ∷ []
+commit_task_steps purpose blocks most (GivesUp refusal) rest = release_orders rest
+commit_task_steps purpose blocks most (SetsFailed device) rest = Cell SetFailed ∷ []
+commit_task_steps purpose blocks most (Ended answer) rest = []
 
--- The steps of a suspend of these blocks in a phase, with the seals of the last of them still to be looked at.
-abbrev pub suspend_steps : List OBlock → ℕ → SuspendPhase → List OBlock → List Want
-suspend_steps blocks most SuspendLooksAtFail unseen = Cell (Look Fail) ∷ (seal_looks blocks ++ Desk (BeginCommit true most) ∷ [])
-suspend_steps blocks most LooksAtSeals unseen = seal_looks unseen ++ Desk (BeginCommit true most) ∷ []
-suspend_steps blocks most (SuspendCommits commit) unseen = commit_left commit ++ Cell SetSuspended ∷ []
-suspend_steps blocks most SetsSuspended unseen = Cell SetSuspended ∷ []
-suspend_steps blocks most (SuspendSetsFailed device) unseen = Cell SetFailed ∷ []
-suspend_steps blocks most (SuspendEnded answer) unseen = []
+abbrev pub commit_task_answer : CommitPhase → Answer
+commit_task_answer (GivesUp refusal) = Refuses refusal
+commit_task_answer (SetsFailed device) = Refuses (Io device)
+commit_task_answer (Ended answer) = answer
+commit_task_answer phase = Finished
 
-abbrev pub suspend_answer : SuspendPhase → Answer
-suspend_answer (SuspendSetsFailed device) = Refuses (Io device)
-suspend_answer (SuspendEnded answer) = answer
-suspend_answer phase = Finished
+abbrev pub commit_task_left : Purpose → List OBlock → ℕ → CommitPhase → List OBlock → Plan
+commit_task_left purpose blocks most phase rest = record { job = commit_job purpose blocks most; steps = commit_task_steps purpose blocks most phase rest; answer = commit_task_answer phase }
 
-abbrev pub suspend_left : List OBlock → ℕ → SuspendPhase → List OBlock → Plan
-suspend_left blocks most phase unseen = record { job = Suspending blocks most; steps = suspend_steps blocks most phase unseen; answer = suspend_answer phase }
-
-abbrev pub IsSuspendInRange : SuspendPhase → Type 0
-IsSuspendInRange (SuspendCommits commit) = IsInRange commit
-IsSuspendInRange phase = Unit {0}
+abbrev pub IsPhaseInRange : CommitPhase → Type 0
+IsPhaseInRange (Commits commit) = IsInRange commit
+IsPhaseInRange phase = Unit {0}
 
 -- The steps of an opening in a phase, that reads at most so many sectors after the first.
 abbrev pub opening_steps : ℕ → OpenPhase → List Want

@@ -42,7 +42,11 @@ impl Commit {
         ensures steps { (nodes : ℕ) → got ≡ Got.Began nodes → commit_left result ≡ commit_steps nodes }
         ensures in_range { IsInRange result }
     {
-        let nodes = if let Got::Began(nodes) = got { nodes } else { 0 };
+        let nodes = if let Got::Began(nodes) = got {
+            nodes
+        } else {
+            0
+        };
         Commit {
             stage: Stage::SyncsCache,
             node: 0,

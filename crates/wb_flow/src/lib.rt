@@ -5,10 +5,8 @@
 #![tactic(auto)]
 
 mod commit;
-mod flush;
+mod committing;
 mod open;
-mod suspend;
 
-pub use flush::FlushTask;
+pub use committing::CommitTask;
 pub use open::OpenTask;
-pub use suspend::SuspendTask;

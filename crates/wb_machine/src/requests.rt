@@ -14,7 +14,7 @@ ghost use Rattle.wb_machine.specs.Serving.{cut_for, is_ordered};
 use crate::keeping::blocks_left;
 use crate::work::Work;
 use std::alloc::Global;
-use wb_flow::FlushTask;
+use wb_flow::CommitTask;
 use wb_policy::Order;
 use wb_promise::Job;
 use wb_tasks::{BlockTask, Migration};
@@ -107,7 +107,7 @@ pub(crate) fn task_of(
         }
         Job::Flush => {
             let serves = blocks_left(alloc, awaiting)?;
-            Ok(Work::flushes(FlushTask::new(serves, geometry.node_count())))
+            Ok(Work::flushes(CommitTask::flush(serves, geometry.node_count())))
         }
         Job::Migrate(migration, block) => Ok(migrates(geometry, *migration, *block)),
         Job::Replace(old, _) => Ok(migrates(geometry, Migration::Demote, *old)),

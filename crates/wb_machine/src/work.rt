@@ -4,13 +4,13 @@ ghost use Rattle.std.specs.Prelude.{◌≡◌};
 ghost use Rattle.wb_tasks.specs.Plan.{Plan, want, after, MayCome};
 
 use std::marker::Model;
-use wb_flow::FlushTask;
+use wb_flow::CommitTask;
 use wb_tasks::{BlockTask, Got, Steps, Task, Want};
 
 #[derive(Drop)]
 enum Kind {
     OnBlock(BlockTask),
-    Flushes(FlushTask),
+    Flushes(CommitTask),
 }
 
 /// What is left of a read, a write, a flush or a migration.
@@ -40,7 +40,7 @@ impl Work {
     }
 
     /// A flush.
-    pub(crate) fn flushes(task: FlushTask) -> Work
+    pub(crate) fn flushes(task: CommitTask) -> Work
         ensures { result ≡ task }
     {
         Work {

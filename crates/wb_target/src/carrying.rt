@@ -19,7 +19,7 @@ use std::alloc::Global;
 use std::sync::Wait;
 use std::thread;
 use wb_disk::Disk;
-use wb_flow::FlushTask;
+use wb_flow::CommitTask;
 use wb_policy::{Order, Policy};
 use wb_port::{LONGEST, Port};
 use wb_tasks::{Answer, BlockTask, Migration, Task};
@@ -140,7 +140,7 @@ fn flush<R: Wait, D: Disk + Drop, P: Policy, G: Gate>(
                 return Err(refusal);
             }
         };
-        let mut task = FlushTask::new(blocks, most);
+        let mut task = CommitTask::flush(blocks, most);
         match work(rt, target, gate, port, held, &mut task) {
             Answer::Done => return Ok(()),
             Answer::Refused(refusal) => {

@@ -22,7 +22,7 @@ use std::alloc::{AllocError, Global};
 use wb_desk::Desk;
 use wb_devices::{Devices, RunningCommit};
 use wb_disk::Disk;
-use wb_flow::SuspendTask;
+use wb_flow::CommitTask;
 use wb_policy::Policy;
 use wb_port::Seat;
 use wb_stage::{asking, seen};
@@ -157,7 +157,7 @@ impl<P: Policy> Office<P> {
         let Ok(bits) = no_bits(alloc, geometry.cache_blocks) else {
             return (devices, Err(Refusal::Memory));
         };
-        let mut task = SuspendTask::new(blocks, geometry.node_count());
+        let mut task = CommitTask::suspend(blocks, geometry.node_count());
         let (devices, answer) = self.run_suspend(alloc, devices, bits, &mut task);
         match answer {
             Answer::Done => (devices, Ok(())),

@@ -25,11 +25,11 @@ fn play(alloc: Global, noted: &mut Noted, row: &Row) -> Result<Answer, AllocErro
     match row.task {
         Task::Flush => {
             let serves = serves_of(alloc, row)?;
-            Ok(drive(&mut FlushTask::new(serves, 3), noted))
+            Ok(drive(&mut CommitTask::flush(serves, 3), noted))
         }
         Task::Suspend => {
             let mapped = serves_of(alloc, row)?;
-            Ok(drive(&mut SuspendTask::new(mapped, 3), noted))
+            Ok(drive(&mut CommitTask::suspend(mapped, 3), noted))
         }
         Task::Open => Ok(drive(&mut OpenTask::new(4), noted)),
     }
