@@ -6,7 +6,7 @@ use Rattle.wb_types.specs.declared.number.OBlock.{OBlock}
 use Rattle.wb_types.specs.declared.refusal.Refusal.{Refusal}
 use Rattle.wb_types.specs.declared.refusal.Refusal.TheVariants.{Busy}
 use Rattle.wb_words.specs.declared.step.CellStep.TheVariants.{SetFailed}
-use Rattle.wb_tasks.specs.Plan.{Plan, want, after, after_fault_of, begun_steps, commit_steps, first_step, Fits, IsRare}
+use Rattle.wb_tasks.specs.Plan.{Plan, table, want, after, after_fault_of, begun_steps, commit_steps, first_step, Fits, IsRare}
 use Rattle.wb_tasks.specs.declared.step.Answer.TheVariants.{Done as Finished, Refused as Refuses}
 use Rattle.wb_tasks.specs.declared.step.DeviceStep.{DeviceStep}
 use Rattle.wb_tasks.specs.declared.step.Got.{Got}
@@ -23,6 +23,10 @@ use Rattle.wb_flow.specs.declared.committing.Phase.{Phase}
 use Rattle.wb_flow.specs.declared.committing.Phase.TheVariants.{LooksAtFail, Begins, Commits, SetsSuspended, GivesUp, SetsFailed, Ended}
 use Rattle.wb_flow.specs.declared.committing.CommitTask.TheInside.{Inside}
 use Rattle.wb_flow.proofs.Commits.{IsNeither, done_or_failed, first_of_closing}
+
+pub starts : (purpose : Purpose) (blocks : List OBlock) (most : ℕ) → commit_task_left purpose blocks most LooksAtFail blocks ≡ table (commit_job purpose blocks most)
+starts Flush blocks most = refl
+starts Suspend blocks most = refl
 
 -- its commit is done, or fails
 commits : (purpose : Purpose) (c : Commit) (got : Got) → IsNeither got → Fits (first_step (closing purpose (commit_left c)) Finished) got → ⊥
@@ -124,11 +128,6 @@ saw_one t word begins l is h =
     let at = (λ i. in_phase t (sym begins i) (sym next.1 i)) ∙ is in
     ap (λ (p : Phase). in_phase t p (drop (t.past + 1) t.blocks.items)) begins
     ∙ saw_seal t.purpose t.blocks.items t.most next.0 (drop (t.past + 1) t.blocks.items) word (subst (λ (s : Plan). Fits (want s) (Word word)) (sym at) h) ∙ ap (λ (s : Plan). after s (Word word)) at
-
--- with none left a suspend begins its commit, as a flush does
-pub saw_none : (purpose : Purpose) (blocks : List OBlock) (most : ℕ) (word : ℕ) → Fits (want (commit_task_left purpose blocks most Begins [])) (Word word) → ⊥
-saw_none Flush blocks most word h = h
-saw_none Suspend blocks most word h = h
 
 pub gave_up : {old : Plan} (t : Inside) (refusal : Refusal) → t.phase ≡ GivesUp refusal → t.past < length t.blocks.items → in_phase t t.phase (rest_of t) ≡ old → in_phase t t.phase (drop (t.past + 1) t.blocks.items) ≡ after old Done
 gave_up t refusal gives l is =

@@ -19,6 +19,7 @@
 ghost use Rattle.std.specs.Prelude.{◌≡◌};
 ghost use Rattle.wb_tasks.specs.Tables.{Flushing, Suspending};
 ghost use Rattle.wb_tasks.specs.Plan.{table};
+ghost use Rattle.wb_flow.specs.Phases.{commit_job};
 
 use crate::commit::Commit;
 use std::marker::Model;
@@ -81,23 +82,25 @@ impl CommitTask {
     pub fn flush(serves: Vec<OBlock>, most: u32) -> CommitTask
         ensures { result ≡ table (Flushing serves.items most) }
     {
-        CommitTask {
-            purpose: Purpose::Flush,
-            phase: Phase::LooksAtFail,
-            blocks: serves,
-            past: 0,
-            most,
-        }
+        CommitTask::starting(Purpose::Flush, serves, most)
     }
 
     /// A suspend of a target whose mapped blocks are these; it looks at their seals in this order. Its image has at most so many nodes.
     pub fn suspend(mapped: Vec<OBlock>, most: u32) -> CommitTask
         ensures { result ≡ table (Suspending mapped.items most) }
     {
+        CommitTask::starting(Purpose::Suspend, mapped, most)
+    }
+
+    /// A request that has not begun.
+    #[tactic(auto, using(crate::proofs::Requests::starts))]
+    fn starting(purpose: Purpose, blocks: Vec<OBlock>, most: u32) -> CommitTask
+        ensures { result ≡ table (commit_job purpose blocks.items most) }
+    {
         CommitTask {
-            purpose: Purpose::Suspend,
+            purpose,
             phase: Phase::LooksAtFail,
-            blocks: mapped,
+            blocks,
             past: 0,
             most,
         }
