@@ -1,3 +1,4 @@
 pub mod Digits
 pub mod Parts
 pub mod Tables
+pub mod Messages

@@ -4,3 +4,4 @@ pub mod Numbers
 pub mod Sectors
 pub mod Table
 pub mod Status
+pub mod Messages

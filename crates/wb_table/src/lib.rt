@@ -1,7 +1,8 @@
-//! Texts about a target: the line that constructs it, with the words and numbers of such lines, and the one that tells how it is.
+//! Texts about a target: the line that constructs it, with the words and numbers of such lines, messages to it, and the line that tells how it is.
 #![tactic(auto)]
 
 mod comment;
+mod message;
 mod number;
 mod sectors;
 mod status;
@@ -10,6 +11,7 @@ mod table_fault;
 mod words;
 
 pub use comment::is_comment;
+pub use message::read_message;
 pub use number::{read_byte, read_number};
 pub use sectors::{read_fill, read_sectors};
 pub use status::{Fields, status_text};

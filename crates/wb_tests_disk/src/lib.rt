@@ -1,4 +1,4 @@
-//! Tests of numbers, formats, status lines and disks by their public contracts. They stand beside those crates, so that testing one does
+//! Tests of numbers, formats, texts and disks by their public contracts. They stand beside those crates, so that testing one does
 //! not prove it once more.
 #![tactic(auto)]
 
@@ -6,6 +6,8 @@
 mod disk;
 #[cfg(test)]
 mod format;
+#[cfg(test)]
+mod message;
 #[cfg(test)]
 mod status;
 #[cfg(test)]

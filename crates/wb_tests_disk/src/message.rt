@@ -1,0 +1,92 @@
+//! Messages: what they say, and which texts are none.
+
+use std::alloc::Global;
+use wb_table::read_message;
+use wb_types::{CBlockRange, Key, Message, Refusal};
+
+/// Whether a text gives a key this value.
+fn sets(alloc: Global, text: &str, key: Key, value: u64) -> bool {
+    match read_message(alloc, text) {
+        Ok(Message::Set(told, given)) => told == key && given == value,
+        _ => false,
+    }
+}
+
+/// Whether a text names these ranges of cache blocks, each from one up to, and without, another.
+fn names(alloc: Global, text: &str, ranges: &[(u32, u32)]) -> bool {
+    match read_message(alloc, text) {
+        Ok(Message::InvalidateCblocks(told)) => are(told.into_vec(), ranges),
+        _ => false,
+    }
+}
+
+fn are(told: Vec<CBlockRange>, ranges: &[(u32, u32)]) -> bool {
+    told.len() == ranges.len()
+        && told.as_slice().iter().zip(ranges).all(|(range, (begin, end))| range.begin.0 == *begin
+            && range.end.0 == *end)
+}
+
+fn is_bad(alloc: Global, text: &str) -> bool {
+    match read_message(alloc, text) {
+        Ok(_) => false,
+        Err(refusal) => refusal == Refusal::BadMessage,
+    }
+}
+
+#[test]
+fn a_key_gets_its_value(rt: HostRuntime) {
+    for (text, key, value) in [
+        ("migration_threshold 63", Key::MigrationThreshold, 63),
+        ("  migration_threshold   0064 ", Key::MigrationThreshold, 64),
+        (
+            "promote_min 18446744073709551615",
+            Key::PromoteMin,
+            u64::MAX,
+        ),
+    ] {
+        assert!(rt; sets(rt.alloc(), text, key, value));
+    }
+}
+
+#[test]
+fn ranges_are_named_in_their_order(rt: HostRuntime) {
+    assert!(rt; names(rt.alloc(), "invalidate_cblocks", &[]));
+    assert!(rt; names(rt.alloc(), " invalidate_cblocks 3 ", &[(3, 4)]));
+    assert!(rt;
+        names(
+            rt.alloc(),
+            "invalidate_cblocks 5-10 0 07-8",
+            &[(5, 10), (0, 1), (7, 8)]
+        )
+    );
+    assert!(rt;
+        names(
+            rt.alloc(),
+            "invalidate_cblocks 4294967294",
+            &[(4_294_967_294, 4_294_967_295)]
+        )
+    );
+}
+
+#[test]
+fn other_texts_are_no_messages(rt: HostRuntime) {
+    for text in [
+        "",
+        "  ",
+        "threshold 1",
+        "migration_threshold",
+        "migration_threshold 1 2",
+        "migration_threshold -1",
+        "promote_min 18446744073709551616",
+        "invalidate_cblocks 3-3",
+        "invalidate_cblocks 4-3",
+        "invalidate_cblocks 0-2-3",
+        "invalidate_cblocks 0-",
+        "invalidate_cblocks -2",
+        "invalidate_cblocks 0 x",
+        "invalidate_cblocks 4294967295",
+        "Invalidate_cblocks 0",
+    ] {
+        assert!(rt; is_bad(rt.alloc(), text));
+    }
+}
