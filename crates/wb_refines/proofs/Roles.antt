@@ -83,27 +83,22 @@ same_there (Promote k) order os c seen seal where_is a = refl
 same_there Demote order os c seen seal where_is a = ap (work_there (job_under order os Demote)) (λ i. record { location = a.location i; dirty = a.dirty c where_is i })
 same_there Clean order os c seen seal where_is a = ap (work_there (job_under order os Clean)) (λ i. record { location = a.location i; dirty = a.dirty c where_is i })
 
+-- each migration owns its block first, sets the failed bit where it breaks, and is alone no more than another
+parts : (part : BlockRange) (c : CBlock) (next : Option ℕ) (os : List (List ℕ)) (migration : Migration) → (abstract_acquire (job_under (order_on part c next) os migration) ≡ claim (access_of (Migrating migration part)) part.block ∷ Look_seal part.block.0 ∷ [])
+    × (breaking (job_under (order_on part c next) os migration) ≡ Set_failed ∷ []) × (job_alone (job_under (order_on part c next) os migration) ≡ false)
+parts part c next os (Promote k) = (refl, refl, refl)
+parts part c next os Demote = (refl, refl, refl)
+parts part c next os Clean = (refl, refl, refl)
+
 pub migrations_play : (part : BlockRange) (c : CBlock) (next : Option ℕ) (migration : Migration) (kept : Option Order) → 0 < part.block_sectors → Fills migration c → Plays (migration_role part c next migration kept) (Migrating migration part)
-migrations_play part c next (Promote k) kept some fills = record {
-  begins = refl;
-  steps = λ step later. refl;
-  ends = refl;
-  works = λ word seal f a. same_there (Promote k) (order_on part c next) (offsets part.block_sectors part.extents) c word seal f a ∙ sym (works part c next (Promote k) (place_in word) (dirty_in word) some fills f);
-  undeferred = λ word answer. refl;
-  breaks = refl;
-  among_others = refl;
-  failed = λ e. absurd (cc);
-  busy = λ e. absurd (cc);
-  undone = λ refusal answer n. n;
-}
-migrations_play part c next migration kept some fills = record {
-  begins = refl;
+migrations_play part c next migration kept some fills = let its = parts part c next (offsets part.block_sectors part.extents) migration in record {
+  begins = its.0;
   steps = λ step later. refl;
   ends = refl;
   works = λ word seal f a. same_there migration (order_on part c next) (offsets part.block_sectors part.extents) c word seal f a ∙ sym (works part c next migration (place_in word) (dirty_in word) some fills f);
   undeferred = λ word answer. refl;
-  breaks = refl;
-  among_others = refl;
+  breaks = its.1;
+  among_others = its.2;
   failed = λ e. absurd (cc);
   busy = λ e. absurd (cc);
   undone = λ refusal answer n. n;
