@@ -8,7 +8,7 @@ use self::stage::{Noted, Task};
 use std::alloc::{AllocError, Global};
 use std::test::Fail;
 use wb_flow::*;
-use wb_tasks::{Answer, Want, drive};
+use wb_tasks::{Answer, drive};
 use wb_types::{OBlock, Refusal};
 
 /// The blocks whose orders a row's flush serves, or that are mapped at its suspend.
@@ -43,15 +43,13 @@ fn goes_so(alloc: Global, noted: &mut Noted, row: &Row) -> Result<bool, AllocErr
 
 /// Whether what was noted is what a row says.
 fn has_noted(noted: &Noted, row: &Row) -> bool {
-    noted.fail == row.fail && are_from(noted.wants.as_slice(), row.from, row.wants)
-}
-
-/// Whether the wants from this one on are those.
-fn are_from(wants: &[Want], from: usize, wanted: &[Want]) -> bool {
-    match wants.get(from..) {
-        Some(wants) => wants == wanted,
-        None => false,
-    }
+    let wants = noted.wants.as_slice();
+    let commit = row.from.saturating_add(row.wants.len());
+    let last = commit.saturating_add(row.commit.len());
+    noted.fail == row.fail
+        && wants.get(row.from..commit) == Some(row.wants)
+        && wants.get(commit..last) == Some(row.commit)
+        && wants.get(last..) == Some(row.last)
 }
 
 /// Whether a row's task ends at the step that fails; a flush or suspend that does fails the target.

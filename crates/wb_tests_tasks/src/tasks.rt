@@ -7,10 +7,12 @@ mod requests;
 mod row;
 
 use self::bench::{BLOCK, BLOCK_SECTORS, Bench};
-use self::migrations::{CACHED, COPIES, DISOWN, GIVE_UP, HOME, PROMOTIONS, REFUSED, RETURNS};
+use self::migrations::{CACHED, COPIES, GIVE_UP, HOME, PROMOTIONS, REFUSED, RETURNS};
 use self::passthrough::{DEFERRED, DISPLACING, INVALIDATIONS};
-use self::requests::{CACHED_SECTORS, IN_ONE_STEP, IN_OTHER_MODES, READS, SECTORS, WRITES};
-use self::row::{Job, Row};
+use self::requests::{
+    CACHED_SECTORS, DISOWN, IN_ONE_STEP, IN_OTHER_MODES, READS, SECTORS, SET_FAILED, WRITES,
+};
+use self::row::Row;
 use std::alloc::Global;
 use std::test::Fail;
 use wb_tasks::*;
@@ -21,25 +23,9 @@ use wb_words::Word;
 fn play(bench: &mut Bench, row: &Row) -> Answer {
     let longest = row.longest.max(1);
     let mut task = match row.job {
-        Job::Read => BlockTask::new(Work::Read, row.mode, BLOCK_SECTORS, BLOCK, SECTORS, longest),
-        Job::Write => BlockTask::new(
-            Work::Write,
-            row.mode,
-            BLOCK_SECTORS,
-            BLOCK,
-            SECTORS,
-            longest,
-        ),
-        Job::Displace => BlockTask::new(
-            Work::Displace,
-            row.mode,
-            BLOCK_SECTORS,
-            BLOCK,
-            SECTORS,
-            longest,
-        ),
-        Job::Invalidate => BlockTask::invalidate(BLOCK_SECTORS, BLOCK),
-        Job::Migrate(migration) => BlockTask::migrate(migration, BLOCK_SECTORS, BLOCK, longest),
+        Work::Invalidate => BlockTask::invalidate(BLOCK_SECTORS, BLOCK),
+        Work::Migrate(migration) => BlockTask::migrate(migration, BLOCK_SECTORS, BLOCK, longest),
+        work => BlockTask::new(work, row.mode, BLOCK_SECTORS, BLOCK, SECTORS, longest),
     };
     drive(&mut task, bench)
 }
@@ -64,7 +50,7 @@ fn is_left(bench: &Bench, row: &Row) -> bool {
         return true;
     };
     let (there, cached) = match row.job {
-        Job::Migrate(_) => (HOME, CACHED),
+        Work::Migrate(_) => (HOME, CACHED),
         _ => (SECTORS, CACHED_SECTORS),
     };
     holds(&bench.origin, there, origin, 1) && holds(&bench.cache, cached, cache, 2)
@@ -93,7 +79,7 @@ fn ends_at(bench: &mut Bench, row: &Row, fails: u32, device: Dev) -> bool {
     let parting: &[Want] = if is_read {
         &[DISOWN, GIVE_UP]
     } else {
-        &[Want::Cell(CellStep::SetFailed)]
+        &[SET_FAILED]
     };
     let next = (fails as usize).saturating_add(6);
     let kept = if is_read { 0 } else { 1 };

@@ -17,9 +17,11 @@ pub struct Row {
     pub refuses: Option<Refusal>,
     pub fails: Option<u32>,
     pub answer: Answer,
-    /// The wants from this one on.
+    /// The wants from this one on, then the steps of a commit that has begun, if any, and what comes last.
     pub from: usize,
     pub wants: &'static [Want],
+    pub commit: &'static [Want],
+    pub last: &'static [Want],
     /// How many of the wants are on a device.
     pub device_steps: u32,
     /// The fail word.
@@ -36,6 +38,8 @@ const FLUSH: Row = Row {
     answer: Answer::Done,
     from: 0,
     wants: &[],
+    commit: &[],
+    last: &[],
     device_steps: 0,
     fail: 0,
 };
@@ -55,6 +59,8 @@ const OPEN: Row = Row {
     answer: Answer::Done,
     from: 0,
     wants: &[],
+    commit: &[],
+    last: &[],
     device_steps: 0,
     fail: 0,
 };
@@ -82,35 +88,39 @@ const GIVE_UP: [Want; 2] = [
     Want::Desk(DeskStep::ReleaseOrder(OBlock(7))),
 ];
 
+/// The steps of a commit of no node, and of one.
+const COMMIT: [Want; 6] = [
+    SYNC_CACHE,
+    SYNC_ORIGIN,
+    SYNC_METADATA,
+    WRITE_ROOT,
+    SYNC_METADATA,
+    END,
+];
+
+const COMMIT_OF_ONE: [Want; 7] = [
+    SYNC_CACHE,
+    SYNC_ORIGIN,
+    Want::Device(DeviceStep::WriteNode(0)),
+    SYNC_METADATA,
+    WRITE_ROOT,
+    SYNC_METADATA,
+    END,
+];
+
 pub const ROWS: [Row; 9] = [
     Row {
         name: "a flush of one node writes its root at the seventh step and syncs it at the eighth",
         nodes: 1,
-        wants: &[
-            LOOK,
-            BEGIN,
-            SYNC_CACHE,
-            SYNC_ORIGIN,
-            Want::Device(DeviceStep::WriteNode(0)),
-            SYNC_METADATA,
-            WRITE_ROOT,
-            SYNC_METADATA,
-            END,
-        ],
+        wants: &[LOOK, BEGIN],
+        commit: &COMMIT_OF_ONE,
         device_steps: 6,
         ..FLUSH
     },
     Row {
         name: "a flush without nodes syncs all the same",
         from: 2,
-        wants: &[
-            SYNC_CACHE,
-            SYNC_ORIGIN,
-            SYNC_METADATA,
-            WRITE_ROOT,
-            SYNC_METADATA,
-            END,
-        ],
+        commit: &COMMIT,
         device_steps: 5,
         ..FLUSH
     },
@@ -199,32 +209,18 @@ pub const SUSPENDS: [Row; 5] = [
             Want::Cell(CellStep::Look(Word::Seal(OBlock(5)))),
             Want::Cell(CellStep::Look(Word::Seal(OBlock(7)))),
             BEGIN_CLEAN,
-            SYNC_CACHE,
-            SYNC_ORIGIN,
-            Want::Device(DeviceStep::WriteNode(0)),
-            SYNC_METADATA,
-            WRITE_ROOT,
-            SYNC_METADATA,
-            END,
-            SET_SUSPENDED,
         ],
+        commit: &COMMIT_OF_ONE,
+        last: &[SET_SUSPENDED],
         device_steps: 6,
         ..SUSPEND
     },
     Row {
         name: "a suspend of an empty cache looks at no seal",
         serves: &[],
-        wants: &[
-            LOOK,
-            BEGIN_CLEAN,
-            SYNC_CACHE,
-            SYNC_ORIGIN,
-            SYNC_METADATA,
-            WRITE_ROOT,
-            SYNC_METADATA,
-            END,
-            SET_SUSPENDED,
-        ],
+        wants: &[LOOK, BEGIN_CLEAN],
+        commit: &COMMIT,
+        last: &[SET_SUSPENDED],
         device_steps: 5,
         ..SUSPEND
     },

@@ -3,7 +3,7 @@
 ghost use Rattle.wb_tasks.specs.Plan.{Fits};
 ghost use Rattle.wb_tasks.specs.declared.step.Want.TheVariants.{Cell, Device, Desk};
 
-use super::row::{Job, Row};
+use super::row::Row;
 use std::alloc::Global;
 use wb_tasks::*;
 use wb_types::{CBlock, Dev, Extent, OBlock, Refusal};
@@ -68,7 +68,7 @@ impl Bench {
             cache: [2; 192],
             gave: 3,
             is_mapped: row.mapped.is_some(),
-            has_order: matches!(row.job, Job::Migrate(_)),
+            has_order: matches!(row.job, Work::Migrate(_)),
             wants: Vec::with_capacity(alloc, 160)?,
             moved: 0,
             fails: row.fails,

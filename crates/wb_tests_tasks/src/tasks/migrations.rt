@@ -1,16 +1,19 @@
 //! Migrations, what they meet, and what they want then.
 
 use super::bench::BLOCK;
-use super::row::{Job, Row};
+use super::requests::{
+    DISOWN, LOOK_FAIL, LOOK_LOCK, LOOK_NUMBER, LOOK_SEAL, OWN, SEAL_HOME, UNMAP,
+};
+use super::row::Row;
 use wb_tasks::*;
 use wb_types::{CBlock, Dev, Extent, Mode, Refusal};
-use wb_words::{Access, Word};
+use wb_words::Word;
 
 const TO: CBlock = CBlock(1);
 
 const PROMOTE: Row = Row {
     name: "",
-    job: Job::Migrate(Migration::Promote(TO)),
+    job: Work::Migrate(Migration::Promote(TO)),
     mode: Mode::Writeback,
     longest: 64,
     mapped: None,
@@ -34,7 +37,7 @@ const PROMOTE: Row = Row {
 
 const DEMOTE: Row = Row {
     name: "",
-    job: Job::Migrate(Migration::Demote),
+    job: Work::Migrate(Migration::Demote),
     mode: Mode::Writeback,
     longest: 64,
     mapped: Some(true),
@@ -58,7 +61,7 @@ const DEMOTE: Row = Row {
 
 const CLEAN: Row = Row {
     name: "",
-    job: Job::Migrate(Migration::Clean),
+    job: Work::Migrate(Migration::Clean),
     mode: Mode::Writeback,
     longest: 64,
     mapped: Some(true),
@@ -121,21 +124,11 @@ const CACHED_FIRST_SECTOR: Extent = Extent {
     count: 1,
 };
 
-const LOOK_FAIL: Want = Want::Cell(CellStep::Look(Word::Fail));
-
-const LOOK_LOCK: Want = Want::Cell(CellStep::Look(Word::Cell(BLOCK)));
-
-pub const DISOWN: Want = Want::Cell(CellStep::Release(Access::Owned, BLOCK));
-
 pub const GIVE_UP: Want = Want::Desk(DeskStep::ReleaseOrder(BLOCK));
 
 const MAP: Want = Want::Desk(DeskStep::Map(BLOCK, TO));
 
-const UNMAP: Want = Want::Desk(DeskStep::Unmap(BLOCK));
-
 const SEAL_CACHED: Want = Want::Cell(CellStep::Seal(BLOCK, Some(TO), false));
-
-const SEAL_HOME: Want = Want::Cell(CellStep::Seal(BLOCK, None, false));
 
 const READ_HOME: Want = Want::Device(DeviceStep::Read(Dev::Origin, HOME));
 
@@ -152,9 +145,9 @@ pub const PROMOTIONS: [Row; 5] = [
         wants: &[
             LOOK_FAIL,
             LOOK_LOCK,
-            Want::Cell(CellStep::Take(Access::Owned, BLOCK, 0)),
-            Want::Cell(CellStep::Look(Word::Seal(BLOCK))),
-            Want::Cell(CellStep::Look(Word::Number(BLOCK))),
+            OWN,
+            LOOK_SEAL,
+            LOOK_NUMBER,
             READ_HOME,
             WRITE_CACHED,
             MAP,
@@ -279,7 +272,7 @@ pub const REFUSED: [Row; 4] = [
         is_raced: true,
         answer: Answer::Refused(Refusal::Busy),
         from: 2,
-        wants: &[Want::Cell(CellStep::Take(Access::Owned, BLOCK, 0))],
+        wants: &[OWN],
         words: &[(Word::Cell(BLOCK), 2), (Word::Seal(BLOCK), 5)],
         holds: Some((1, 2)),
         has_order: true,

@@ -1,40 +1,33 @@
 //! Writes and invalidations of passthrough, what they meet, and what they want then.
 
 use super::bench::BLOCK;
-use super::requests::{DISOWN, FINISH, FREE, SECTORS};
-use super::row::{Job, Row};
+use super::requests::{
+    DISOWN, FINISH, FREE, LOOK_FAIL, LOOK_LOCK, LOOK_NUMBER, LOOK_SEAL, OWN, SEAL_HOME, SET_FAILED,
+    UNMAP, WRITE_BOTH, WRITE_HIT, WRITE_MISS,
+};
+use super::row::Row;
 use wb_tasks::*;
 use wb_types::{Dev, Mode, Refusal};
-use wb_words::{Access, Kind, Word};
+use wb_words::Word;
 
 const WRITE: Row = Row {
-    job: Job::Write,
+    job: Work::Write,
     mode: Mode::Passthrough,
     longest: 2,
     ..FREE
 };
 
 const DISPLACE: Row = Row {
-    job: Job::Displace,
+    job: Work::Displace,
     mode: Mode::Passthrough,
     longest: 2,
     ..FREE
 };
 
 const INVALIDATE: Row = Row {
-    job: Job::Invalidate,
+    job: Work::Invalidate,
     ..FREE
 };
-
-const UNMAP: Want = Want::Desk(DeskStep::Unmap(BLOCK));
-
-const SEAL_HOME: Want = Want::Cell(CellStep::Seal(BLOCK, None, false));
-
-const WRITE_HOME: Want = Want::Device(DeviceStep::Write(Dev::Origin, SECTORS));
-
-const HIT: Want = Want::Cell(CellStep::Count(Kind::WriteHit));
-
-const MISS: Want = Want::Cell(CellStep::Count(Kind::WriteMiss));
 
 pub const DEFERRED: [Row; 3] = [
     Row {
@@ -42,14 +35,7 @@ pub const DEFERRED: [Row; 3] = [
         mapped: Some(false),
         answer: Answer::Refused(Refusal::Defer),
         from: 0,
-        wants: &[
-            Want::Cell(CellStep::Look(Word::Fail)),
-            Want::Cell(CellStep::Look(Word::Cell(BLOCK))),
-            Want::Cell(CellStep::Take(Access::Owned, BLOCK, 0)),
-            Want::Cell(CellStep::Look(Word::Seal(BLOCK))),
-            Want::Cell(CellStep::Look(Word::Number(BLOCK))),
-            DISOWN,
-        ],
+        wants: &[LOOK_FAIL, LOOK_LOCK, OWN, LOOK_SEAL, LOOK_NUMBER, DISOWN],
         words: &[
             (Word::Cell(BLOCK), 0),
             (Word::Seal(BLOCK), 4),
@@ -69,7 +55,7 @@ pub const DEFERRED: [Row; 3] = [
     },
     Row {
         name: "a write to an unmapped block is done on the origin",
-        wants: &[WRITE_HOME, FINISH, MISS, DISOWN],
+        wants: &[WRITE_BOTH, FINISH, WRITE_MISS, DISOWN],
         holds: Some((3, 2)),
         ..WRITE
     },
@@ -79,7 +65,7 @@ pub const DISPLACING: [Row; 4] = [
     Row {
         name: "a mapped block is unmapped, sealed to the origin, and written there, a hit",
         mapped: Some(false),
-        wants: &[UNMAP, SEAL_HOME, WRITE_HOME, FINISH, HIT, DISOWN],
+        wants: &[UNMAP, SEAL_HOME, WRITE_BOTH, FINISH, WRITE_HIT, DISOWN],
         words: &[
             (Word::Cell(BLOCK), 0),
             (Word::Seal(BLOCK), 0),
@@ -90,7 +76,7 @@ pub const DISPLACING: [Row; 4] = [
     },
     Row {
         name: "an unmapped block is written on the origin, a miss",
-        wants: &[WRITE_HOME, FINISH, MISS, DISOWN],
+        wants: &[WRITE_BOTH, FINISH, WRITE_MISS, DISOWN],
         holds: Some((3, 2)),
         ..DISPLACE
     },
@@ -109,12 +95,7 @@ pub const DISPLACING: [Row; 4] = [
         mapped: Some(false),
         fails: Some(0),
         answer: Answer::Refused(Refusal::Io(Dev::Origin)),
-        wants: &[
-            UNMAP,
-            SEAL_HOME,
-            WRITE_HOME,
-            Want::Cell(CellStep::SetFailed),
-        ],
+        wants: &[UNMAP, SEAL_HOME, WRITE_BOTH, SET_FAILED],
         words: &[
             (Word::Cell(BLOCK), 1),
             (Word::Seal(BLOCK), 0),
@@ -147,7 +128,7 @@ pub const INVALIDATIONS: [Row; 3] = [
         mapped: Some(false),
         answer: Answer::Refused(Refusal::Busy),
         from: 1,
-        wants: &[Want::Cell(CellStep::Look(Word::Cell(BLOCK)))],
+        wants: &[LOOK_LOCK],
         words: &[(Word::Seal(BLOCK), 4)],
         is_mapped: true,
         ..INVALIDATE

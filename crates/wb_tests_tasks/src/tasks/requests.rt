@@ -1,7 +1,7 @@
 //! Reads and writes, what they meet, and what they want then.
 
 use super::bench::BLOCK;
-use super::row::{Job, Row};
+use super::row::Row;
 use wb_tasks::*;
 use wb_types::{CBlock, Dev, Extent, Mode, Refusal};
 use wb_words::{Access, Kind, Word};
@@ -13,7 +13,7 @@ pub const CACHED_SECTORS: Extent = CACHED_BOTH;
 
 pub const FREE: Row = Row {
     name: "",
-    job: Job::Read,
+    job: Work::Read,
     mode: Mode::Writeback,
     longest: 1,
     mapped: None,
@@ -62,25 +62,89 @@ const CACHED_BOTH: Extent = Extent {
     count: 2,
 };
 
+const SHARE: Want = Want::Cell(CellStep::Take(Access::Shared, BLOCK, 0));
+
 const LEAVE: Want = Want::Cell(CellStep::Release(Access::Shared, BLOCK));
+
+pub const OWN: Want = Want::Cell(CellStep::Take(Access::Owned, BLOCK, 0));
 
 pub const DISOWN: Want = Want::Cell(CellStep::Release(Access::Owned, BLOCK));
 
+pub const LOOK_FAIL: Want = Want::Cell(CellStep::Look(Word::Fail));
+
+pub const LOOK_LOCK: Want = Want::Cell(CellStep::Look(Word::Cell(BLOCK)));
+
+pub const LOOK_SEAL: Want = Want::Cell(CellStep::Look(Word::Seal(BLOCK)));
+
+pub const LOOK_NUMBER: Want = Want::Cell(CellStep::Look(Word::Number(BLOCK)));
+
 pub const FINISH: Want = Want::Cell(CellStep::Finish(BLOCK));
+
+pub const SET_FAILED: Want = Want::Cell(CellStep::SetFailed);
+
+pub const UNMAP: Want = Want::Desk(DeskStep::Unmap(BLOCK));
+
+pub const SEAL_HOME: Want = Want::Cell(CellStep::Seal(BLOCK, None, false));
+
+const READ_HIT: Want = Want::Cell(CellStep::Count(Kind::ReadHit));
+
+const READ_MISS: Want = Want::Cell(CellStep::Count(Kind::ReadMiss));
+
+pub const WRITE_HIT: Want = Want::Cell(CellStep::Count(Kind::WriteHit));
+
+pub const WRITE_MISS: Want = Want::Cell(CellStep::Count(Kind::WriteMiss));
+
+const SEAL_DIRTY: Want = Want::Cell(CellStep::Seal(BLOCK, Some(CBlock(1)), true));
+
+const READ_SECOND: Want = Want::Device(DeviceStep::Read(Dev::Origin, SECOND));
+
+const READ_THIRD: Want = Want::Device(DeviceStep::Read(Dev::Origin, THIRD));
+
+const READ_BOTH: Want = Want::Device(DeviceStep::Read(Dev::Origin, BOTH));
+
+const READ_CACHED_SECOND: Want = Want::Device(DeviceStep::Read(Dev::Cache, CACHED_SECOND));
+
+const READ_CACHED_THIRD: Want = Want::Device(DeviceStep::Read(Dev::Cache, CACHED_THIRD));
+
+const READ_CACHED_BOTH: Want = Want::Device(DeviceStep::Read(Dev::Cache, CACHED_BOTH));
+
+const WRITE_SECOND: Want = Want::Device(DeviceStep::Write(Dev::Origin, SECOND));
+
+const WRITE_THIRD: Want = Want::Device(DeviceStep::Write(Dev::Origin, THIRD));
+
+pub const WRITE_BOTH: Want = Want::Device(DeviceStep::Write(Dev::Origin, BOTH));
+
+const WRITE_CACHED_SECOND: Want = Want::Device(DeviceStep::Write(Dev::Cache, CACHED_SECOND));
+
+const WRITE_CACHED_THIRD: Want = Want::Device(DeviceStep::Write(Dev::Cache, CACHED_THIRD));
+
+const WRITE_CACHED_BOTH: Want = Want::Device(DeviceStep::Write(Dev::Cache, CACHED_BOTH));
+
+const WRITE: Row = Row {
+    job: Work::Write,
+    ..FREE
+};
+
+const THROUGH: Row = Row {
+    job: Work::Write,
+    mode: Mode::Writethrough,
+    longest: 2,
+    ..FREE
+};
 
 pub const READS: [Row; 5] = [
     Row {
         name: "an unmapped block is read from the origin",
         from: 0,
         wants: &[
-            Want::Cell(CellStep::Look(Word::Fail)),
-            Want::Cell(CellStep::Look(Word::Cell(BLOCK))),
-            Want::Cell(CellStep::Take(Access::Shared, BLOCK, 0)),
-            Want::Cell(CellStep::Look(Word::Seal(BLOCK))),
-            Want::Cell(CellStep::Look(Word::Number(BLOCK))),
-            Want::Device(DeviceStep::Read(Dev::Origin, SECOND)),
-            Want::Device(DeviceStep::Read(Dev::Origin, THIRD)),
-            Want::Cell(CellStep::Count(Kind::ReadMiss)),
+            LOOK_FAIL,
+            LOOK_LOCK,
+            SHARE,
+            LOOK_SEAL,
+            LOOK_NUMBER,
+            READ_SECOND,
+            READ_THIRD,
+            READ_MISS,
             LEAVE,
         ],
         ..FREE
@@ -88,12 +152,7 @@ pub const READS: [Row; 5] = [
     Row {
         name: "a mapped block is read from the cache",
         mapped: Some(false),
-        wants: &[
-            Want::Device(DeviceStep::Read(Dev::Cache, CACHED_SECOND)),
-            Want::Device(DeviceStep::Read(Dev::Cache, CACHED_THIRD)),
-            Want::Cell(CellStep::Count(Kind::ReadHit)),
-            LEAVE,
-        ],
+        wants: &[READ_CACHED_SECOND, READ_CACHED_THIRD, READ_HIT, LEAVE],
         is_mapped: true,
         ..FREE
     },
@@ -102,7 +161,7 @@ pub const READS: [Row; 5] = [
         shows: Some((Word::Cell(BLOCK), 1)),
         answer: Answer::Refused(Refusal::Busy),
         from: 1,
-        wants: &[Want::Cell(CellStep::Look(Word::Cell(BLOCK)))],
+        wants: &[LOOK_LOCK],
         words: &[(Word::Fail, 0)],
         ..FREE
     },
@@ -111,7 +170,7 @@ pub const READS: [Row; 5] = [
         shows: Some((Word::Fail, 1)),
         answer: Answer::Refused(Refusal::Failed),
         from: 0,
-        wants: &[Want::Cell(CellStep::Look(Word::Fail))],
+        wants: &[LOOK_FAIL],
         words: &[(Word::Cell(BLOCK), 0)],
         ..FREE
     },
@@ -119,7 +178,7 @@ pub const READS: [Row; 5] = [
         name: "a fault on a read gives the block back",
         fails: Some(0),
         answer: Answer::Refused(Refusal::Io(Dev::Origin)),
-        wants: &[Want::Device(DeviceStep::Read(Dev::Origin, SECOND)), LEAVE],
+        wants: &[READ_SECOND, LEAVE],
         ..FREE
     },
 ];
@@ -127,86 +186,77 @@ pub const READS: [Row; 5] = [
 pub const WRITES: [Row; 6] = [
     Row {
         name: "an unmapped block is written on the origin",
-        job: Job::Write,
         from: 2,
         wants: &[
-            Want::Cell(CellStep::Take(Access::Owned, BLOCK, 0)),
-            Want::Cell(CellStep::Look(Word::Seal(BLOCK))),
-            Want::Cell(CellStep::Look(Word::Number(BLOCK))),
-            Want::Device(DeviceStep::Write(Dev::Origin, SECOND)),
-            Want::Device(DeviceStep::Write(Dev::Origin, THIRD)),
+            OWN,
+            LOOK_SEAL,
+            LOOK_NUMBER,
+            WRITE_SECOND,
+            WRITE_THIRD,
             FINISH,
-            Want::Cell(CellStep::Count(Kind::WriteMiss)),
+            WRITE_MISS,
             DISOWN,
         ],
         words: &[(Word::Cell(BLOCK), 0), (Word::Number(BLOCK), 1)],
         holds: Some((3, 2)),
-        ..FREE
+        ..WRITE
     },
     Row {
         name: "a clean copy is sealed dirty before its first write",
-        job: Job::Write,
         mapped: Some(false),
         wants: &[
-            Want::Cell(CellStep::Seal(BLOCK, Some(CBlock(1)), true)),
-            Want::Device(DeviceStep::Write(Dev::Cache, CACHED_SECOND)),
-            Want::Device(DeviceStep::Write(Dev::Cache, CACHED_THIRD)),
+            SEAL_DIRTY,
+            WRITE_CACHED_SECOND,
+            WRITE_CACHED_THIRD,
             FINISH,
-            Want::Cell(CellStep::Count(Kind::WriteHit)),
+            WRITE_HIT,
             DISOWN,
         ],
         words: &[(Word::Seal(BLOCK), 5), (Word::Number(BLOCK), 1)],
         holds: Some((1, 3)),
         is_mapped: true,
-        ..FREE
+        ..WRITE
     },
     Row {
         name: "a dirty copy is not sealed again",
-        job: Job::Write,
         mapped: Some(true),
         wants: &[
-            Want::Device(DeviceStep::Write(Dev::Cache, CACHED_SECOND)),
-            Want::Device(DeviceStep::Write(Dev::Cache, CACHED_THIRD)),
+            WRITE_CACHED_SECOND,
+            WRITE_CACHED_THIRD,
             FINISH,
-            Want::Cell(CellStep::Count(Kind::WriteHit)),
+            WRITE_HIT,
             DISOWN,
         ],
         holds: Some((1, 3)),
         is_mapped: true,
-        ..FREE
+        ..WRITE
     },
     Row {
         name: "a lost exchange is busy",
-        job: Job::Write,
         is_raced: true,
         answer: Answer::Refused(Refusal::Busy),
         from: 2,
-        wants: &[Want::Cell(CellStep::Take(Access::Owned, BLOCK, 0))],
+        wants: &[OWN],
         words: &[(Word::Cell(BLOCK), 2)],
-        ..FREE
+        ..WRITE
     },
     Row {
         name: "a block without a number left is worn",
-        job: Job::Write,
         shows: Some((Word::Number(BLOCK), u64::MAX)),
         answer: Answer::Refused(Refusal::Worn),
         from: 4,
-        wants: &[Want::Cell(CellStep::Look(Word::Number(BLOCK))), DISOWN],
-        ..FREE
+        wants: &[LOOK_NUMBER, DISOWN],
+        ..WRITE
     },
     Row {
         name: "a fault on a write keeps the block",
-        job: Job::Write,
         fails: Some(1),
         answer: Answer::Refused(Refusal::Io(Dev::Origin)),
         from: 6,
-        wants: &[
-            Want::Device(DeviceStep::Write(Dev::Origin, THIRD)),
-            Want::Cell(CellStep::SetFailed),
-        ],
+        wants: &[WRITE_THIRD, SET_FAILED],
         words: &[(Word::Cell(BLOCK), 1), (Word::Fail, 1)],
         holds: None,
-        ..FREE
+        ..WRITE
     },
 ];
 
@@ -214,123 +264,80 @@ pub const IN_ONE_STEP: [Row; 3] = [
     Row {
         name: "both sectors are read by one step",
         longest: 2,
-        wants: &[
-            Want::Device(DeviceStep::Read(Dev::Origin, BOTH)),
-            Want::Cell(CellStep::Count(Kind::ReadMiss)),
-            LEAVE,
-        ],
+        wants: &[READ_BOTH, READ_MISS, LEAVE],
         ..FREE
     },
     Row {
         name: "both sectors are written by one step",
-        job: Job::Write,
         mapped: Some(true),
         longest: 256,
-        wants: &[
-            Want::Device(DeviceStep::Write(Dev::Cache, CACHED_BOTH)),
-            FINISH,
-            Want::Cell(CellStep::Count(Kind::WriteHit)),
-            DISOWN,
-        ],
+        wants: &[WRITE_CACHED_BOTH, FINISH, WRITE_HIT, DISOWN],
         holds: Some((1, 3)),
         is_mapped: true,
-        ..FREE
+        ..WRITE
     },
     Row {
         name: "a fault on one step for both keeps the block",
-        job: Job::Write,
         longest: 2,
         fails: Some(0),
         answer: Answer::Refused(Refusal::Io(Dev::Origin)),
-        wants: &[
-            Want::Device(DeviceStep::Write(Dev::Origin, BOTH)),
-            Want::Cell(CellStep::SetFailed),
-        ],
+        wants: &[WRITE_BOTH, SET_FAILED],
         words: &[(Word::Cell(BLOCK), 1), (Word::Fail, 1)],
-        ..FREE
+        ..WRITE
     },
 ];
 
 pub const IN_OTHER_MODES: [Row; 6] = [
     Row {
         name: "write-through writes each extent on the origin, and then in the cache",
-        job: Job::Write,
-        mode: Mode::Writethrough,
+        longest: 1,
         mapped: Some(false),
         wants: &[
-            Want::Device(DeviceStep::Write(Dev::Origin, SECOND)),
-            Want::Device(DeviceStep::Write(Dev::Cache, CACHED_SECOND)),
-            Want::Device(DeviceStep::Write(Dev::Origin, THIRD)),
-            Want::Device(DeviceStep::Write(Dev::Cache, CACHED_THIRD)),
+            WRITE_SECOND,
+            WRITE_CACHED_SECOND,
+            WRITE_THIRD,
+            WRITE_CACHED_THIRD,
             FINISH,
-            Want::Cell(CellStep::Count(Kind::WriteHit)),
+            WRITE_HIT,
             DISOWN,
         ],
         words: &[(Word::Seal(BLOCK), 4), (Word::Number(BLOCK), 1)],
         holds: Some((3, 3)),
         is_mapped: true,
-        ..FREE
+        ..THROUGH
     },
     Row {
         name: "a dirty copy stays dirty in write-through",
-        job: Job::Write,
-        mode: Mode::Writethrough,
-        longest: 2,
         mapped: Some(true),
-        wants: &[
-            Want::Device(DeviceStep::Write(Dev::Origin, BOTH)),
-            Want::Device(DeviceStep::Write(Dev::Cache, CACHED_BOTH)),
-            FINISH,
-            Want::Cell(CellStep::Count(Kind::WriteHit)),
-            DISOWN,
-        ],
+        wants: &[WRITE_BOTH, WRITE_CACHED_BOTH, FINISH, WRITE_HIT, DISOWN],
         words: &[(Word::Seal(BLOCK), 5)],
         holds: Some((3, 3)),
         is_mapped: true,
-        ..FREE
+        ..THROUGH
     },
     Row {
         name: "write-through writes an unmapped block on the origin alone",
-        job: Job::Write,
-        mode: Mode::Writethrough,
-        longest: 2,
-        wants: &[
-            Want::Device(DeviceStep::Write(Dev::Origin, BOTH)),
-            FINISH,
-            Want::Cell(CellStep::Count(Kind::WriteMiss)),
-            DISOWN,
-        ],
+        wants: &[WRITE_BOTH, FINISH, WRITE_MISS, DISOWN],
         holds: Some((3, 2)),
-        ..FREE
+        ..THROUGH
     },
     Row {
         name: "a fault on the second write of an extent keeps the block",
-        job: Job::Write,
-        mode: Mode::Writethrough,
-        longest: 2,
         mapped: Some(false),
         fails: Some(1),
         answer: Answer::Refused(Refusal::Io(Dev::Cache)),
-        wants: &[
-            Want::Device(DeviceStep::Write(Dev::Origin, BOTH)),
-            Want::Device(DeviceStep::Write(Dev::Cache, CACHED_BOTH)),
-            Want::Cell(CellStep::SetFailed),
-        ],
+        wants: &[WRITE_BOTH, WRITE_CACHED_BOTH, SET_FAILED],
         words: &[(Word::Cell(BLOCK), 1), (Word::Fail, 1)],
         holds: Some((3, 2)),
         is_mapped: true,
-        ..FREE
+        ..THROUGH
     },
     Row {
         name: "a mapped block is read from the cache in write-through",
         mode: Mode::Writethrough,
         longest: 2,
         mapped: Some(false),
-        wants: &[
-            Want::Device(DeviceStep::Read(Dev::Cache, CACHED_BOTH)),
-            Want::Cell(CellStep::Count(Kind::ReadHit)),
-            LEAVE,
-        ],
+        wants: &[READ_CACHED_BOTH, READ_HIT, LEAVE],
         is_mapped: true,
         ..FREE
     },
@@ -339,11 +346,7 @@ pub const IN_OTHER_MODES: [Row; 6] = [
         mode: Mode::Passthrough,
         longest: 2,
         mapped: Some(false),
-        wants: &[
-            Want::Device(DeviceStep::Read(Dev::Origin, BOTH)),
-            Want::Cell(CellStep::Count(Kind::ReadMiss)),
-            LEAVE,
-        ],
+        wants: &[READ_BOTH, READ_MISS, LEAVE],
         is_mapped: true,
         ..FREE
     },

@@ -4,23 +4,11 @@ use wb_tasks::*;
 use wb_types::Mode;
 use wb_words::Word;
 
-/// What is done with the block.
-#[derive(Clone, Copy)]
-pub enum Job {
-    /// A read of two of its sectors.
-    Read,
-    /// A write of two of its sectors.
-    Write,
-    /// A write of two of its sectors that may ask the desk.
-    Displace,
-    Invalidate,
-    Migrate(Migration),
-}
-
 #[derive(Clone, Copy)]
 pub struct Row {
     pub name: &'static str,
-    pub job: Job,
+    /// What is done with the block; a read or write is of two of its sectors.
+    pub job: Work,
     /// The mode of a read or write.
     pub mode: Mode,
     /// How many sectors a step takes at most.
