@@ -125,11 +125,24 @@ const WRITE: Row = Row {
     ..FREE
 };
 
-const THROUGH: Row = Row {
+/// A write of a block that has a dirty copy.
+const REWRITE: Row = Row {
     job: Work::Write,
+    mapped: Some(true),
+    holds: Some((1, 3)),
+    is_mapped: true,
+    ..FREE
+};
+
+/// What a write of an unmapped block wants where it goes to the origin by one step.
+pub const PAST: [Want; 4] = [WRITE_BOTH, FINISH, WRITE_MISS, DISOWN];
+
+const THROUGH: Row = Row {
     mode: Mode::Writethrough,
     longest: 2,
-    ..FREE
+    mapped: Some(false),
+    holds: Some((3, 3)),
+    ..REWRITE
 };
 
 pub const READS: [Row; 5] = [
@@ -213,13 +226,10 @@ pub const WRITES: [Row; 6] = [
             DISOWN,
         ],
         words: &[(Word::Seal(BLOCK), 5), (Word::Number(BLOCK), 1)],
-        holds: Some((1, 3)),
-        is_mapped: true,
-        ..WRITE
+        ..REWRITE
     },
     Row {
         name: "a dirty copy is not sealed again",
-        mapped: Some(true),
         wants: &[
             WRITE_CACHED_SECOND,
             WRITE_CACHED_THIRD,
@@ -227,9 +237,7 @@ pub const WRITES: [Row; 6] = [
             WRITE_HIT,
             DISOWN,
         ],
-        holds: Some((1, 3)),
-        is_mapped: true,
-        ..WRITE
+        ..REWRITE
     },
     Row {
         name: "a lost exchange is busy",
@@ -269,12 +277,9 @@ pub const IN_ONE_STEP: [Row; 3] = [
     },
     Row {
         name: "both sectors are written by one step",
-        mapped: Some(true),
         longest: 256,
         wants: &[WRITE_CACHED_BOTH, FINISH, WRITE_HIT, DISOWN],
-        holds: Some((1, 3)),
-        is_mapped: true,
-        ..WRITE
+        ..REWRITE
     },
     Row {
         name: "a fault on one step for both keeps the block",
@@ -291,7 +296,6 @@ pub const IN_OTHER_MODES: [Row; 6] = [
     Row {
         name: "write-through writes each extent on the origin, and then in the cache",
         longest: 1,
-        mapped: Some(false),
         wants: &[
             WRITE_SECOND,
             WRITE_CACHED_SECOND,
@@ -302,8 +306,6 @@ pub const IN_OTHER_MODES: [Row; 6] = [
             DISOWN,
         ],
         words: &[(Word::Seal(BLOCK), 4), (Word::Number(BLOCK), 1)],
-        holds: Some((3, 3)),
-        is_mapped: true,
         ..THROUGH
     },
     Row {
@@ -311,25 +313,23 @@ pub const IN_OTHER_MODES: [Row; 6] = [
         mapped: Some(true),
         wants: &[WRITE_BOTH, WRITE_CACHED_BOTH, FINISH, WRITE_HIT, DISOWN],
         words: &[(Word::Seal(BLOCK), 5)],
-        holds: Some((3, 3)),
-        is_mapped: true,
         ..THROUGH
     },
     Row {
         name: "write-through writes an unmapped block on the origin alone",
-        wants: &[WRITE_BOTH, FINISH, WRITE_MISS, DISOWN],
+        mapped: None,
+        wants: &PAST,
         holds: Some((3, 2)),
+        is_mapped: false,
         ..THROUGH
     },
     Row {
         name: "a fault on the second write of an extent keeps the block",
-        mapped: Some(false),
         fails: Some(1),
         answer: Answer::Refused(Refusal::Io(Dev::Cache)),
         wants: &[WRITE_BOTH, WRITE_CACHED_BOTH, SET_FAILED],
         words: &[(Word::Cell(BLOCK), 1), (Word::Fail, 1)],
         holds: Some((3, 2)),
-        is_mapped: true,
         ..THROUGH
     },
     Row {
