@@ -80,42 +80,6 @@ fn invalidate_on<S: Stage>(stage: &mut S, block_sectors: u32, block: OBlock) -> 
 }
 
 /// Takes this block out of the cache once: `Busy` and `Failed` as a write.
-fn invalidate_once<'a, R: Wait, D: Disk, P: Policy>(
-    rt: &'a R,
-    target: &'a Target<P>,
-    cells: &'a Cells,
-    hand: &'a mut Hand<D>,
-    block_sectors: u32,
-    block: OBlock,
-) -> Answer
-    requires some { 0 < block_sectors }
-    requires block { block.0 < cells.now.blocks }
-    requires at { hand.old.pass.table ≡ cells.now.table }
-    requires idle { hand.old.pass.card.hold ≡ Nothing }
-    ensures invalidated { WasInvalidated (WasAsked P.with_entry P.without_entry []) cells.now.blocks block_sectors block hand.old result hand.new }
-    ensures at { hand.new.pass.table ≡ hand.old.pass.table }
-    ensures idle { hand.new.pass.card.hold ≡ Nothing }
-    ensures size { hand.new.block_sectors ≡ hand.old.block_sectors }
-    ensures mode { hand.new.mode ≡ hand.old.mode }
-    ensures devices { hand.new.devices ≡ hand.old.devices }
-{
-    let mut stage = InvalidateStage {
-        rt,
-        target,
-        cells,
-        hand,
-    };
-    let answer = stage.empty(block_sectors, block);
-    let InvalidateStage {
-        rt: _,
-        target: _,
-        cells: _,
-        hand: _,
-    } = stage;
-    answer
-}
-
-/// The same on a port.
 fn invalidate_port<R: Wait, D: Disk, P: Policy>(
     rt: &R,
     target: &Target<P>,
@@ -129,14 +93,19 @@ fn invalidate_port<R: Wait, D: Disk, P: Policy>(
     ensures accesses { port.new.accesses ≡ port.old.accesses }
     ensures geometry { port.new.geometry ≡ port.old.geometry }
 {
-    let answer = invalidate_once(
+    let mut stage = InvalidateStage {
         rt,
         target,
-        &port.cells,
-        &mut port.hand,
-        port.geometry.block,
-        block,
-    );
+        cells: &port.cells,
+        hand: &mut port.hand,
+    };
+    let answer = stage.empty(port.geometry.block, block);
+    let InvalidateStage {
+        rt: _,
+        target: _,
+        cells: _,
+        hand: _,
+    } = stage;
     match answer {
         Answer::Done => Ok(()),
         Answer::Refused(refusal) => Err(refusal),
@@ -248,9 +217,9 @@ impl<'t, D: Disk + Drop, P: Policy> Client<'t, D, P> {
                 Err(refusal) => {
                     if refusal == Refusal::Busy {
                         thread::yield_now();
-                        continue;
+                    } else {
+                        return Err(refusal);
                     }
-                    return Err(refusal);
                 }
             }
         }

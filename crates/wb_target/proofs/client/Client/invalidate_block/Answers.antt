@@ -21,8 +21,8 @@ loop-preserved g c = record {
       (subst (λ (geometry : Geometry). WasInvalidated (WasAsked g.P.Policy.with_entry g.P.Policy.without_entry []) geometry.origin_blocks geometry.block c.args.block c.loop.self.port.hand (Refuses c.in-Err.refusal) c.invalidate_port.new.port.hand) c.loop.invariant.geometry c.in-Err.ensures.refused));
 }
 
-pub returns-in-Err-clause-refused : goal.returns-in-Err-clause-refused
-returns-in-Err-clause-refused g c =
+pub returns-else-eq-clause-refused : goal.returns-else-eq-clause-refused
+returns-else-eq-clause-refused g c =
     let was = subst (λ (geometry : Geometry). WasInvalidated (WasAsked g.P.Policy.with_entry g.P.Policy.without_entry []) geometry.origin_blocks geometry.block c.args.block c.loop.self.port.hand (Refuses c.in-Err.refusal) c.invalidate_port.new.port.hand) c.loop.invariant.geometry c.in-Err.ensures.refused in
     let alone = failed_alone (WasAsked g.P.Policy.with_entry g.P.Policy.without_entry []) _ _ c.args.block c.in-Err.refusal _ _ (not_busy c.in-Err.refusal (sym c.if-eq.ensures)) was in (
       alone,
