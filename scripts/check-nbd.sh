@@ -267,4 +267,25 @@ exec 3>&-
 wait "$running"
 check 'and has nothing dirty' "$(tail -n 1 told.txt | cut -d" " -f12)" 0
 
+# --- Lines of a control file: those that it had are passed over, and each is answered as it ends.
+fresh
+echo flush >control
+timeout 30 "$server" --control control "$table" <sends >out.bin 2>told.txt &
+running=$!
+exec 3>sends
+hello >&3
+sleep 1
+printf '# a comment\n\nstatus\nflush\ntick\nmessage promote_min 18\nmessage promote_min 3\nmessage invalidate_cblocks 0-1\nnonsense\nsta' >>control
+sleep 1
+printf 'tus\n' >>control
+sleep 1
+exec 3>&-
+wait "$running"
+figures='1 2/4 64 0/4 0 0 0 0 0 0 0 1 writeback 2 migration_threshold 2048 tinylfu 2 promote_min'
+check 'lines of a control file' "$(sed '1d;$d;s/^wbnbd: //' told.txt | tr '\n' '/')" \
+  "$figures 2 rw -/ok/ok/refused 14 BadMessage/ok/refused 15 WrongMode/bad line/$figures 3 rw -/"
+mkfifo pipe
+hello | serve --control pipe "$table"
+check 'a FIFO is no control file' "$(status) $(cat told.txt)" '1 wbnbd: control file pipe: invalid input parameter'
+
 tell

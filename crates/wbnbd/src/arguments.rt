@@ -20,6 +20,9 @@ flushed; 1 the files cannot serve, 2 the arguments, 3 a device failed or a file
 is held, 4 the connection broke. Of the first failure of each device standard
 error tells at once; where a file system is full the client is told ENOSPC.
 
+A line that is added to the control FILE (status, flush, tick, or message TEXT
+as in a script of wbcache) is answered on standard error: echo status >>FILE.
+
 To stop it in order, end the client. A signal ends it at once, and what was not
 flushed is lost then. All three files are locked as long as it runs, against
 programs that lock them too.
@@ -40,6 +43,8 @@ pub struct Asked<'a> {
     pub wait: u32,
     /// Whether only what went wrong is to be told.
     pub quiet: bool,
+    /// The file whose lines are answered while the client is served.
+    pub control: Option<&'a str>,
 }
 
 /// Reads the words of the command line, the program's name first; none where they ask for nothing. The error's kind is `DisplayHelp` or
@@ -60,6 +65,7 @@ pub fn read_arguments<'a>(alloc: Global, words: &'a [String]) -> Result<Option<A
         table,
         wait,
         quiet: matches.get_flag("quiet"),
+        control: matches.get_str("control"),
     }))
 }
 
@@ -72,6 +78,10 @@ fn command<'a>(alloc: Global) -> Result<Command<'a>, Error> {
         .long("wait")
         .help("Seconds to wait for files that another program holds [default: 5]")
         .action(ArgAction::Set);
+    let control = Arg::new(alloc, "control")
+        .long("control")
+        .help("Answer the lines that are added to this file, as below")
+        .action(ArgAction::Set);
     let quiet = Arg::new(alloc, "quiet")
         .short('q')
         .long("quiet")
@@ -83,6 +93,7 @@ fn command<'a>(alloc: Global) -> Result<Command<'a>, Error> {
             .version(VERSION)
             .after_help(TEXTS)
             .arg(wait)?
+            .arg(control)?
             .arg(quiet)?
             .arg(table)?,
     )

@@ -2,6 +2,7 @@
 
 ghost use Rattle.std.specs.Prelude.{◌≡◌, ◌*◌};
 
+use crate::control::{Control, answer_lines};
 use crate::lent::Lent;
 use crate::pace::{Pace, Place, UntilTick};
 use crate::teller::Teller;
@@ -20,6 +21,8 @@ pub enum Beside<'a, T, I, O> {
     Serve(Peer<'a, T, I, O>),
     /// To carry out orders until it is over.
     Work(&'a Teller<'a, T>, &'a Pace),
+    /// To answer the lines of a control file until it is over.
+    Answer(Control<'a, T>),
 }
 
 /// The other end of a connection that is to be served.
@@ -50,6 +53,10 @@ impl<'a, T: Clock + Eprint, I: Read, O: Write> Service for Beside<'a, T, I, O> {
             Beside::Serve(peer) => serve(rt, client, peer),
             Beside::Work(teller, pace) => {
                 work(rt, client, teller, pace);
+                Told::Worked
+            }
+            Beside::Answer(control) => {
+                answer_lines(rt, client, control);
                 Told::Worked
             }
         }
@@ -100,7 +107,7 @@ fn finish<R: Wait, S: Served, T: Eprint>(
     }
     let mut status = String::new(alloc);
     if teller.is_asked() && client.status(rt, &mut status).is_ok() {
-        teller.ended(&status);
+        teller.say(status.as_str());
     }
     flushed
 }

@@ -2,8 +2,8 @@
 
 ghost use Rattle.std.specs.Prelude.{◌≡◌, ◌<◌};
 
-use std::fmt;
 use std::fmt::{Display, Formatter};
+use std::{fmt, io};
 use wb_nbd::Broken;
 use wb_opened::Unserved;
 use wb_types::Refusal;
@@ -22,6 +22,8 @@ pub struct Ended<'a> {
 #[derive(Drop)]
 pub enum Reason<'a> {
     Unserved(Unserved<'a>),
+    /// The control file cannot be had.
+    Control(&'a str, io::Error),
     Broken(Broken),
 }
 
@@ -43,6 +45,16 @@ impl<'a> Ended<'a> {
         Ended {
             code: code_of(unserved.refusal()),
             reason: Some(Reason::Unserved(unserved)),
+        }
+    }
+
+    /// The control file cannot be had.
+    pub fn uncontrolled(path: &'a str, error: io::Error) -> Ended<'a>
+        ensures { result.code ≡ 1 }
+    {
+        Ended {
+            code: 1,
+            reason: Some(Reason::Control(path, error)),
         }
     }
 
@@ -78,6 +90,7 @@ impl<'a> Display for Reason<'a> {
     fn fmt<W: fmt::Write>(&self, f: &mut Formatter<W>) -> fmt::Result {
         match self {
             Reason::Unserved(unserved) => write!(f, "{unserved}"),
+            Reason::Control(path, error) => write!(f, "control file {path}: {error}"),
             Reason::Broken(broken) => write!(f, "{broken}"),
         }
     }

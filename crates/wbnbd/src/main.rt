@@ -3,6 +3,7 @@
 
 mod arguments;
 mod beside;
+mod control;
 mod ended;
 mod lent;
 mod pace;
@@ -23,7 +24,7 @@ use wb_files::{Awaited, hold_streams};
 use wb_types::Refusal;
 
 /// What is asked of who calls the program otherwise.
-const USAGE: &str = "usage: wbnbd [-q] [--wait SECONDS] TABLE";
+const USAGE: &str = "usage: wbnbd [-q] [--wait SECONDS] [--control FILE] TABLE";
 
 /// Bytes of what the client sends, and of what it is told, that are kept for one call of the system: 256 KiB.
 const BUFFER: usize = 262_144;

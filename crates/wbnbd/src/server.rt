@@ -2,6 +2,7 @@
 
 use crate::arguments::Asked;
 use crate::beside::{Beside, Peer, Told};
+use crate::control::{Control, Lines};
 use crate::ended::Ended;
 use crate::pace::{Pace, Place};
 use crate::teller::Teller;
@@ -37,7 +38,14 @@ pub fn run<
     let pace = Pace::new(SERVERS);
     let teller = Teller::new(waits, asked.quiet);
     let connection = Connection::new(reader, writer);
-    let Ok(services) = services_of(alloc, &teller, &pace, &connection) else {
+    let lines = match asked.control {
+        Some(path) => match Lines::open(rt, path) {
+            Ok(lines) => Some(lines),
+            Err(error) => return Ended::uncontrolled(path, error),
+        },
+        None => None,
+    };
+    let Ok(services) = services_of(alloc, lines, &teller, &pace, &connection) else {
         return Ended::refused(Refusal::Memory);
     };
     let mut patience = Patient::new(waits, asked.wait);
@@ -55,10 +63,11 @@ pub fn run<
     }
 }
 
-/// One who works, and behind it those who serve: where no thread can be made the last of them are done first, and nobody waits for one behind
+/// One who works, one who answers control lines where there are such, and behind them those who serve: where no thread can be made the last of them are done first, and nobody waits for one behind
 /// itself. So with too few threads they serve one after the other, and who works finds the connection over.
 fn services_of<'a, T, I, O>(
     alloc: Global,
+    lines: Option<Lines>,
     teller: &'a Teller<'a, T>,
     pace: &'a Pace,
     connection: &'a Connection<I, O>,
@@ -67,6 +76,17 @@ fn services_of<'a, T, I, O>(
     services
         .push(Beside::Work(teller, pace))
         .map_err(|_| AllocError)?;
+    if let Some(lines) = lines {
+        let control = Control {
+            alloc,
+            lines,
+            pace,
+            teller,
+        };
+        services
+            .push(Beside::Answer(control))
+            .map_err(|_| AllocError)?;
+    }
     for _ in 0..SERVERS {
         let peer = Peer {
             alloc,

@@ -2,9 +2,10 @@
 
 ghost use Rattle.std.specs.Prelude.{◌≡◌};
 
+use std::io;
 use std::sync::atomic::{AtomicU64, Ordering};
 use wb_files::Alarm;
-use wb_types::Geometry;
+use wb_types::{Geometry, Refusal};
 
 /// Tells what was opened, the first failure of each device, and how the cache stands at the end. Whoever tells writes a line at once.
 #[derive(Drop)]
@@ -46,8 +47,18 @@ impl<'a, T: Eprint> Teller<'a, T> {
         );
     }
 
-    /// The status line of the cache at the end.
-    pub fn ended(&self, status: &str) {
-        let _ = eprintln!(self.rt; "wbnbd: {status}");
+    /// The status line of the cache at the end, or what a line of the control file was answered.
+    pub fn say(&self, text: &str) {
+        let _ = eprintln!(self.rt; "wbnbd: {text}");
+    }
+
+    /// What a line of the control file was refused for.
+    pub fn refused(&self, refusal: Refusal) {
+        let _ = eprintln!(self.rt; "wbnbd: refused {refusal}");
+    }
+
+    /// The control file cannot be read, and is read no more.
+    pub fn unread(&self, error: &io::Error) {
+        let _ = eprintln!(self.rt; "wbnbd: control file: {error}");
     }
 }
