@@ -8,6 +8,7 @@ use Rattle.wb_types.specs.declared.number.OBlock.{OBlock}
 use Rattle.wb_words.specs.declared.card.Card.{Card}
 use Rattle.wb_words.specs.declared.card.Hold.TheVariants.{Nothing}
 use Rattle.wb_words.specs.declared.word.Word.TheVariants.{Seal as SealWord, Number}
+use Rattle.wb_words.specs.declared.step.CellStep.{CellStep}
 use Rattle.wb_words.specs.declared.step.CellStep.TheVariants.{Look}
 use Rattle.wb_tasks.specs.Tables.{BlockJob, BlockRange, OnBlock, Invalidating}
 use Rattle.wb_tasks.specs.Plan.{Plan, want, after, Fits}
@@ -23,6 +24,7 @@ use Rattle.wb_tasks.specs.declared.step.Want.TheVariants.{Cell, Device, Desk, En
 use Rattle.wb_tasks.specs.declared.step.Got.{Got}
 use Rattle.wb_tasks.specs.declared.step.Got.TheVariants.{Word, Refused}
 use Rattle.wb_tasks.proofs.Causing.{refuses_for_cause}
+use Rattle.wb_port.specs.Hands.{DoneByPass}
 use Rattle.wb_port.specs.declared.hand.Hand.{Hand}
 use Rattle.wb_port.proofs.Passing.{made_by_pass, same_table}
 use Rattle.wb_port.proofs.Readying.{kept_by, ready_there, idle_again}
@@ -30,37 +32,28 @@ use Rattle.wb_target.specs.Works.{DeskTold}
 use Rattle.wb_target.specs.Invalidates.{invalidation, InvalidateLed, InvalidateStep, IsReadyToInvalidate, WasInvalidated, IsEmptied, AreEmptied, AreStopped}
 use Rattle.wb_target.specs.declared.invalidating.InvalidateStage.{InvalidateStage}
 
-module _ {D : Type 0} (asked : DeskTold) where
-  makes_by : (blocks : ℕ) (s : Hand D) (w : Want) (g : Got) (t : Hand D) → InvalidateStep asked blocks s w g t → MayMake w g s.pass.card t.pass.card
-  makes_by blocks s (Desk (Unmap b)) g t h = ap (λ (x : Hand D). x.pass.card) h.0
-  makes_by blocks s (Desk (Map b c)) g t h = absurd h
-  makes_by blocks s (Desk (ReleaseOrder b)) g t h = absurd h
-  makes_by blocks s (Desk (BeginCommit clean most)) g t h = absurd h
-  makes_by blocks s (Desk EndCommit) g t h = absurd h
-  makes_by blocks s (Cell step) g t h = made_by_pass blocks s.pass t.pass (Cell step) g h.1
-  makes_by blocks s (Device step) g t h = absurd h
-  makes_by blocks s (End a) g t h = absurd h
+module _ {D : Type 0} (asked : DeskTold) (blocks : ℕ) where
+  -- What holds where the desk is asked, which changes no hand, and of each step of the pass, holds of each step.
+  by_steps : (T : Hand D → Want → Got → Hand D → Type 0) → ((s : Hand D) (b : OBlock) (g : Got) → T s (Desk (Unmap b)) g s) → ((s : Hand D) (step : CellStep) (g : Got) (t : Hand D) → t ≡ record s { pass = t.pass } → DoneByPass blocks s.pass (Cell step) g t.pass → T s (Cell step) g t)
+      → (s : Hand D) (w : Want) (g : Got) (t : Hand D) → InvalidateStep asked blocks s w g t → T s w g t
+  by_steps T asks steps s (Desk (Unmap b)) g t h = subst (λ (x : Hand D). T s (Desk (Unmap b)) g x) (sym h.0) (asks s b g)
+  by_steps T asks steps s (Desk (Map b c)) g t h = absurd h
+  by_steps T asks steps s (Desk (ReleaseOrder b)) g t h = absurd h
+  by_steps T asks steps s (Desk (BeginCommit clean most)) g t h = absurd h
+  by_steps T asks steps s (Desk EndCommit) g t h = absurd h
+  by_steps T asks steps s (Cell step) g t h = steps s step g t h.0 h.1
+  by_steps T asks steps s (Device step) g t h = absurd h
+  by_steps T asks steps s (End a) g t h = absurd h
+
+  makes_by : (s : Hand D) (w : Want) (g : Got) (t : Hand D) → InvalidateStep asked blocks s w g t → MayMake w g s.pass.card t.pass.card
+  makes_by = by_steps (λ s w g t. MayMake w g s.pass.card t.pass.card) (λ s b g. refl) (λ s step g t kept by. made_by_pass blocks s.pass t.pass (Cell step) g by)
 
   -- whatever of a hand is not its pass stays
-  stays : {C : Type 0} (part : Hand D → C) → ((s t : Hand D) → part (record s { pass = t.pass }) ≡ part s) → (blocks : ℕ) (s : Hand D) (w : Want) (g : Got) (t : Hand D) → InvalidateStep asked blocks s w g t → part t ≡ part s
-  stays part apart blocks s (Desk (Unmap b)) g t h = ap part h.0
-  stays part apart blocks s (Desk (Map b c)) g t h = absurd h
-  stays part apart blocks s (Desk (ReleaseOrder b)) g t h = absurd h
-  stays part apart blocks s (Desk (BeginCommit clean most)) g t h = absurd h
-  stays part apart blocks s (Desk EndCommit) g t h = absurd h
-  stays part apart blocks s (Cell step) g t h = ap part h.0 ∙ apart s t
-  stays part apart blocks s (Device step) g t h = absurd h
-  stays part apart blocks s (End a) g t h = absurd h
+  stays : {C : Type 0} (part : Hand D → C) → ((s t : Hand D) → part (record s { pass = t.pass }) ≡ part s) → (s : Hand D) (w : Want) (g : Got) (t : Hand D) → InvalidateStep asked blocks s w g t → part t ≡ part s
+  stays part apart = by_steps (λ s w g t. part t ≡ part s) (λ s b g. refl) (λ s step g t kept by. ap part kept ∙ apart s t)
 
-  table_stays : (blocks : ℕ) (s : Hand D) (w : Want) (g : Got) (t : Hand D) → InvalidateStep asked blocks s w g t → t.pass.table ≡ s.pass.table
-  table_stays blocks s (Desk (Unmap b)) g t h = ap (λ (x : Hand D). x.pass.table) h.0
-  table_stays blocks s (Desk (Map b c)) g t h = absurd h
-  table_stays blocks s (Desk (ReleaseOrder b)) g t h = absurd h
-  table_stays blocks s (Desk (BeginCommit clean most)) g t h = absurd h
-  table_stays blocks s (Desk EndCommit) g t h = absurd h
-  table_stays blocks s (Cell step) g t h = same_table blocks s.pass t.pass (Cell step) g h.1
-  table_stays blocks s (Device step) g t h = absurd h
-  table_stays blocks s (End a) g t h = absurd h
+  table_stays : (s : Hand D) (w : Want) (g : Got) (t : Hand D) → InvalidateStep asked blocks s w g t → t.pass.table ≡ s.pass.table
+  table_stays = by_steps (λ s w g t. t.pass.table ≡ s.pass.table) (λ s b g. refl) (λ s step g t kept by. same_table blocks s.pass t.pass (Cell step) g by)
 
 module _ {R D P : Type 0} (asked : DeskTold) where
   abbrev led : InvalidateStage R D P → Want → Got → InvalidateStage R D P → Type 0
@@ -89,13 +82,13 @@ module _ {R D P : Type 0} (asked : DeskTold) where
     at_words = kept_by led (λ x. x.hand.now.pass.table) (λ x w g y h. table_stays asked x.cells.now.blocks x.hand.now w g y.hand.now h.did) old steps new leads
 
     pub same_size : new.hand.now.block_sectors ≡ old.hand.now.block_sectors
-    same_size = kept_by led (λ x. x.hand.now.block_sectors) (λ x w g y h. stays asked (λ s. s.block_sectors) (λ s t. refl) x.cells.now.blocks x.hand.now w g y.hand.now h.did) old steps new leads
+    same_size = kept_by led (λ x. x.hand.now.block_sectors) (λ x w g y h. stays asked x.cells.now.blocks (λ s. s.block_sectors) (λ s t. refl) x.hand.now w g y.hand.now h.did) old steps new leads
 
     pub same_mode : new.hand.now.mode ≡ old.hand.now.mode
-    same_mode = kept_by led (λ x. x.hand.now.mode) (λ x w g y h. stays asked (λ s. s.mode) (λ s t. refl) x.cells.now.blocks x.hand.now w g y.hand.now h.did) old steps new leads
+    same_mode = kept_by led (λ x. x.hand.now.mode) (λ x w g y h. stays asked x.cells.now.blocks (λ s. s.mode) (λ s t. refl) x.hand.now w g y.hand.now h.did) old steps new leads
 
     pub same_devices : new.hand.now.devices ≡ old.hand.now.devices
-    same_devices = kept_by led (λ x. x.hand.now.devices) (λ x w g y h. stays asked (λ s. s.devices) (λ s t. refl) x.cells.now.blocks x.hand.now w g y.hand.now h.did) old steps new leads
+    same_devices = kept_by led (λ x. x.hand.now.devices) (λ x w g y h. stays asked x.cells.now.blocks (λ s. s.devices) (λ s t. refl) x.hand.now w g y.hand.now h.did) old steps new leads
 
     pub ready : block.0 < old.cells.now.blocks → old.hand.now.pass.table ≡ old.cells.now.table → old.hand.now.pass.card.hold ≡ Nothing → AreFirst plan steps → IsReadyToInvalidate new (want (left_by plan steps))
     ready there at idle f =

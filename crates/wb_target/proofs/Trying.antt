@@ -1,15 +1,14 @@
 -- What a try of one part comes to, where its request is inside and no access is unsettled.
-use Rattle.std.proofs.Common.{◌≡◌, ◌≢◌, ◌≤◌, ◌+◌, ◌%◌, inl, inr, ℕ, List, Some, None, length, refl, sym, subst, arith}
+use Rattle.std.proofs.Common.{◌≡◌, ◌≢◌, ◌≤◌, ◌+◌, ◌%◌, inl, inr, ℕ, List, Some, None, length, sym, subst, arith}
 use Rattle.wb_types.specs.declared.extent.Extent.{Extent}
 use Rattle.wb_types.specs.declared.geometry.Geometry.{Geometry}
 use Rattle.wb_types.specs.declared.refusal.Refusal.{Refusal}
 use Rattle.wb_types.specs.declared.refusal.Refusal.TheVariants.{Range, Crosses as CrossesBlocks, Defer}
 use Rattle.wb_disk.specs.Device.{History, Content}
 use Rattle.wb_port.specs.Ports.{block_at, IsTryRefused, TryReadRefused, TryWriteRefused}
-use Rattle.wb_port.specs.Requests.{IsOutside, ReadRefused, WriteRefused, WasRead, WasWritten}
+use Rattle.wb_port.specs.Requests.{IsOutside, ReadRefused, WriteRefused, WasRead}
 use Rattle.wb_port.specs.declared.port.Port.{Port}
-use Rattle.wb_target.specs.Works.{DeskTold}
-use Rattle.wb_target.specs.Blocking.{IsInsideOrigin, ReadCame, WriteCame}
+use Rattle.wb_target.specs.Blocking.{IsInsideOrigin, ReadCame}
 
 pub not_outside : (geometry : Geometry) (first count : ℕ) → IsInsideOrigin geometry first count → IsOutside geometry first count → ⊥
 not_outside geometry first count inside (inl none) = absurd (omega (arith, inside.0, none))
@@ -52,10 +51,3 @@ module _ {D : Type 0} (tells : Type 0) (size : D → ℕ) (contents : D → List
   was_read out out' many h =
       subst (λ (g : Geometry). WasRead tells size contents faults g.block (block_at g first) (at count) out' port.hand port'.hand) same
       (subst (λ (n : ℕ). WasRead tells size contents faults port.geometry.block (block_at port.geometry first) (at n) out' port.hand port'.hand) many h)
-
-  pub was_written : (asked : DeskTold) (from : List Content) → length from ≡ count → WasWritten tells size contents faults port.geometry.block (block_at port.geometry first) (at (length from)) from port.hand port'.hand → WriteCame tells size contents faults asked geometry None (at count) (port.hand, from) (port'.hand, from)
-  was_written asked from many h = (
-    inl (subst (λ (g : Geometry). WasWritten tells size contents faults g.block (block_at g first) (at count) from port.hand port'.hand) same
-        (subst (λ (n : ℕ). WasWritten tells size contents faults port.geometry.block (block_at port.geometry first) (at n) from port.hand port'.hand) many h)),
-    refl,
-  )
