@@ -4,7 +4,7 @@ use crate::answers::answer;
 use crate::ended::{Ended, refused};
 use crate::line::{Line, read_line};
 use crate::output::{StreamFailed, print, print_bad_line, print_refusal, refuse};
-use crate::progress::Progress;
+use crate::progress::{Paced, Progress};
 use crate::reason::Reason;
 use crate::status::Status;
 use crate::tally::{Said, Tally};
@@ -13,6 +13,7 @@ use std::fs::File;
 use std::io::{BufRead, ErrorKind, Read, Write};
 use std::rt::Files;
 use std::sync::Wait;
+use std::time::Clock;
 use wb_files::Watch;
 use wb_opened::{Served, Shown, Visit, serve_alone};
 use wb_types::Refusal;
@@ -29,7 +30,7 @@ const MOST_OF_A_LINE: u64 = 1_048_576;
 ///
 /// 0 where each line was answered, 1 where the opening or a line was refused or one was no line of a script, 3 where a device
 /// failed, 4 where the reader or the writer did.
-pub fn run<'a, R: Files<File = File>, T: Wait, N: Watch, I: BufRead, W: Write>(
+pub fn run<'a, R: Files<File = File>, T: Wait, N: Watch, I: BufRead, W: Write, E: Clock + Eprint>(
     rt: &R,
     waits: &T,
     alloc: Global,
@@ -37,7 +38,7 @@ pub fn run<'a, R: Files<File = File>, T: Wait, N: Watch, I: BufRead, W: Write>(
     watch: &N,
     reader: &mut I,
     writer: &mut W,
-    progress: Progress<'_>,
+    progress: Progress<'_, E>,
 ) -> Ended<'a> {
     let script = Script {
         alloc,
@@ -57,11 +58,11 @@ pub fn run<'a, R: Files<File = File>, T: Wait, N: Watch, I: BufRead, W: Write>(
 
 /// A script that is played: its lines so far, how they were answered, and those of them that were refused.
 #[derive(Drop)]
-struct Script<'s, I, W> {
+struct Script<'s, I, W, E> {
     alloc: Global,
     reader: &'s mut I,
     writer: &'s mut W,
-    progress: Progress<'s>,
+    progress: Progress<'s, E>,
     number: u64,
     status: Status,
     tally: Tally,
@@ -89,7 +90,7 @@ impl Played {
     }
 }
 
-impl<'s, I: BufRead, W: Write> Visit for Script<'s, I, W> {
+impl<'s, I: BufRead, W: Write, E: Clock + Eprint> Visit for Script<'s, I, W, E> {
     type Told = Played;
 
     fn serve<R: Wait, C: Served>(&mut self, rt: &R, client: &mut C) -> bool {
@@ -127,12 +128,12 @@ impl<'s, I: BufRead, W: Write> Visit for Script<'s, I, W> {
 /// Who answers lines.
 trait Answers {
     /// Does what a line asks, and adds what it is answered to the text. None where the line ends what is answered here.
-    fn answer(
+    fn answer<P: Paced>(
         &mut self,
         alloc: Global,
         asked: Line,
         text: &mut String,
-        progress: &mut Progress<'_>,
+        progress: &mut P,
     ) -> Option<Result<(), Refusal>>;
 }
 
@@ -144,12 +145,12 @@ struct ByClient<'r, 'c, R, C> {
 }
 
 impl<'r, 'c, R: Wait, C: Served> Answers for ByClient<'r, 'c, R, C> {
-    fn answer(
+    fn answer<P: Paced>(
         &mut self,
         alloc: Global,
         asked: Line,
         text: &mut String,
-        progress: &mut Progress<'_>,
+        progress: &mut P,
     ) -> Option<Result<(), Refusal>> {
         match asked {
             Line::Suspend => None,
@@ -166,12 +167,12 @@ struct Behind<'r, 't, R, T> {
 }
 
 impl<'r, 't, R: Wait, T: Shown> Answers for Behind<'r, 't, R, T> {
-    fn answer(
+    fn answer<P: Paced>(
         &mut self,
         _alloc: Global,
         asked: Line,
         text: &mut String,
-        _progress: &mut Progress<'_>,
+        _progress: &mut P,
     ) -> Option<Result<(), Refusal>> {
         Some(match asked {
             Line::Nothing => Ok(()),
@@ -189,17 +190,21 @@ fn told<R: Wait, T: Shown>(rt: &R, target: &T, text: &mut String) -> Result<(), 
 }
 
 /// Tells what was opened, where that was asked for: which blocks are dirty is a look at each of them.
-fn tell_opened<R: Wait, C: Served>(rt: &R, client: &C, progress: &mut Progress<'_>) {
+fn tell_opened<R: Wait, C: Served, E: Clock + Eprint>(
+    rt: &R,
+    client: &C,
+    progress: &mut Progress<'_, E>,
+) {
     if progress.is_asked() {
         progress.opened(&client.geometry(), client.mapped(rt), client.dirty(rt));
     }
 }
 
 /// Plays the lines up to a suspend with a client.
-fn play_by<R: Wait, C: Served, I: BufRead, W: Write>(
+fn play_by<R: Wait, C: Served, I: BufRead, W: Write, E: Clock + Eprint>(
     rt: &R,
     client: &mut C,
-    script: &mut Script<'_, I, W>,
+    script: &mut Script<'_, I, W, E>,
 ) -> Result<bool, StreamFailed> {
     let mut by = ByClient { rt, client };
     let asked = play(script, &mut by);
@@ -208,10 +213,10 @@ fn play_by<R: Wait, C: Served, I: BufRead, W: Write>(
 }
 
 /// Prints what a suspend was answered, and goes on with the lines behind it.
-fn play_behind<R: Wait, T: Shown, I: BufRead, W: Write>(
+fn play_behind<R: Wait, T: Shown, I: BufRead, W: Write, E: Clock + Eprint>(
     rt: &R,
     target: &T,
-    script: &mut Script<'_, I, W>,
+    script: &mut Script<'_, I, W, E>,
     suspended: Result<(), Refusal>,
 ) -> Result<bool, StreamFailed> {
     let mut text = String::new(script.alloc);
@@ -230,8 +235,8 @@ fn play_behind<R: Wait, T: Shown, I: BufRead, W: Write>(
 }
 
 /// Plays the lines of a script up to one that ends what is answered here, and counts those that are refused: whether there was one.
-fn play<A: Answers, I: BufRead, W: Write>(
-    script: &mut Script<'_, I, W>,
+fn play<A: Answers, I: BufRead, W: Write, E: Clock + Eprint>(
+    script: &mut Script<'_, I, W, E>,
     answers: &mut A,
 ) -> Result<bool, StreamFailed> {
     let alloc = script.alloc;
@@ -270,8 +275,8 @@ fn play<A: Answers, I: BufRead, W: Write>(
 }
 
 /// Prints what the last line was answered, and counts it where it was refused.
-fn tell<I, W: Write>(
-    script: &mut Script<'_, I, W>,
+fn tell<I, W: Write, E>(
+    script: &mut Script<'_, I, W, E>,
     answered: Result<(), Refusal>,
     text: &mut String,
 ) -> Result<(), StreamFailed> {

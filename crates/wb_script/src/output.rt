@@ -1,7 +1,7 @@
 //! Answers, each out in one write.
 
 ghost use Rattle.std.specs.Prelude.{◌≡◌, IfOk, OnErr};
-ghost use Rattle.wbcache.specs.Exit.{code_of};
+ghost use Rattle.wb_script.specs.Exit.{code_of};
 
 use crate::status::Status;
 use std::alloc::Global;

@@ -1,8 +1,8 @@
 -- The sectors that a line of a script asks for.
 use Rattle.std.specs.Prelude.{ℕ}
 use Rattle.wb_opened.specs.Inside.{IsInside}
-use Rattle.wbcache.specs.declared.line.Line.{Line}
-use Rattle.wbcache.specs.declared.line.Line.TheVariants.{Read, Write, WriteDurably, TryRead, TryWrite}
+use Rattle.wb_script.specs.declared.line.Line.{Line}
+use Rattle.wb_script.specs.declared.line.Line.TheVariants.{Read, Write, WriteDurably, TryRead, TryWrite}
 
 -- a line that asks for sectors
 abbrev pub AsksForSectors : Line → Type 0

@@ -4,8 +4,8 @@ use Rattle.std.specs.Str.{IsUtf8}
 use Rattle.wb_table.specs.Words.{words_of}
 use Rattle.wb_table.specs.Comments.{IsComment}
 use Rattle.wb_table.specs.Sectors.{SpellsSectors, SpellsFill}
-use Rattle.wbcache.specs.declared.line.Line.{Line}
-use Rattle.wbcache.specs.declared.line.Line.TheVariants.{Nothing, Read, Write, WriteDurably, TryRead, TryWrite, Flush, Settle, Work, Tick, Status, Suspend}
+use Rattle.wb_script.specs.declared.line.Line.{Line}
+use Rattle.wb_script.specs.declared.line.Line.TheVariants.{Nothing, Read, Write, WriteDurably, TryRead, TryWrite, Flush, Settle, Work, Tick, Status, Suspend}
 
 -- The words of a line that asks this: none, one that names the call, or `r`, `tr`, `w`, `wf`, `tw` and what they take.
 abbrev pub WordsAsk : List (List ℕ) → Line → Type 0

@@ -1,9 +1,9 @@
 //! The lines of a script.
 
 ghost use Rattle.std.specs.Prelude.{◌≡◌, ◌≢◌, ◌∷◌, ℕ, IfSome, IfNone, codes};
-ghost use Rattle.wbcache.specs.Line.{WordsAsk, IsLine};
+ghost use Rattle.wb_script.specs.Line.{WordsAsk, IsLine};
 ghost use Rattle.wb_table.specs.Words.{words_of};
-ghost use Rattle.wbcache.specs.declared.line.Line.{Line as Asked};
+ghost use Rattle.wb_script.specs.declared.line.Line.{Line as Asked};
 
 use std::str;
 use wb_table::{SplitSpaces, is_comment, read_fill, read_sectors};

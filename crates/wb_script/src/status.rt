@@ -18,7 +18,7 @@ pub enum Status {
 }
 
 impl Status {
-    ghost use Rattle.wbcache.specs.Exit.{code_of, status_of};
+    ghost use Rattle.wb_script.specs.Exit.{code_of, status_of};
 
     /// What a printed refusal makes of a run.
     pub fn of(refusal: Refusal) -> Status

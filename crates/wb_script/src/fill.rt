@@ -13,7 +13,7 @@ pub enum Fill {
 }
 
 impl Fill {
-    ghost use Rattle.wbcache.specs.Fill.{Shows};
+    ghost use Rattle.wb_script.specs.Fill.{Shows};
 
     /// What fills this content.
     pub fn of(content: &Content) -> Fill

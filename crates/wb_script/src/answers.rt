@@ -2,12 +2,12 @@
 
 ghost use Rattle.std.specs.Prelude.{◌≡◌, ◌<◌, ◌≤◌, ◌+◌, ◌*◌, IfOk, IfErr, OnErr, IsErrOf, length, replicate};
 ghost use Rattle.wb_opened.specs.Inside.{IsInside};
-ghost use Rattle.wbcache.specs.Request.{AsksForSectors, AsksInside};
+ghost use Rattle.wb_script.specs.Request.{AsksForSectors, AsksInside};
 
 use crate::fill::Fill;
 use crate::line::Line;
 use crate::part::first_part;
-use crate::progress::Progress;
+use crate::progress::Paced;
 use std::alloc::Global;
 use std::fmt::Write;
 use std::sync::Wait;
@@ -22,13 +22,13 @@ use wb_types::{CBlock, Content, Geometry, OBlock, Refusal, SECTOR_BYTES, Sector}
 /// for; `Defer` where too many accesses are unsettled; `Busy` where a block is in use; `Io` where a step failed, `Failed` after a
 /// write or sync that failed so, `Memory` where there is none, and `GenerationEnd` where no further commit can be. A line that asks for a
 /// suspend is `Busy`, as the client is out.
-pub fn answer<R: Wait, C: Served>(
+pub fn answer<R: Wait, C: Served, P: Paced>(
     rt: &R,
     alloc: Global,
     client: &mut C,
     asked: Line,
     text: &mut String,
-    progress: &mut Progress<'_>,
+    progress: &mut P,
 ) -> Result<(), Refusal>
     ensures outside { AsksForSectors asked → ¬ AsksInside asked ((C.sizes client.old).block * (C.sizes client.old).origin_blocks) → IsErrOf result Refusal.Range }
     ensures inside { AsksForSectors asked → IsErrOf result Refusal.Range → ¬ AsksInside asked ((C.sizes client.old).block * (C.sizes client.old).origin_blocks) }
@@ -58,14 +58,14 @@ pub fn answer<R: Wait, C: Served>(
 
 /// Reads block by block.
 #[tactic(auto, using(crate::proofs::Ranges::not_refused))]
-fn read<R: Wait, C: Served>(
+fn read<R: Wait, C: Served, P: Paced>(
     rt: &R,
     alloc: Global,
     client: &mut C,
     at: Sector,
     count: u64,
     text: &mut String,
-    progress: &mut Progress<'_>,
+    progress: &mut P,
 ) -> Result<(), Refusal>
     ensures outside { ¬ IsInside at.0 count ((C.sizes client.old).block * (C.sizes client.old).origin_blocks) → IsErrOf result Refusal.Range }
     ensures inside { IsErrOf result Refusal.Range → ¬ IsInside at.0 count ((C.sizes client.old).block * (C.sizes client.old).origin_blocks) }
@@ -87,7 +87,7 @@ fn read<R: Wait, C: Served>(
 
 /// Writes block by block; where it is to be durable, the last block is followed by a flush.
 #[tactic(auto, using(crate::proofs::Ranges::not_refused))]
-fn write<R: Wait, C: Served>(
+fn write<R: Wait, C: Served, P: Paced>(
     rt: &R,
     alloc: Global,
     client: &mut C,
@@ -95,7 +95,7 @@ fn write<R: Wait, C: Served>(
     count: u64,
     fill: u8,
     is_durable: bool,
-    progress: &mut Progress<'_>,
+    progress: &mut P,
 ) -> Result<(), Refusal>
     ensures outside { ¬ IsInside at.0 count ((C.sizes client.old).block * (C.sizes client.old).origin_blocks) → IsErrOf result Refusal.Range }
     ensures inside { IsErrOf result Refusal.Range → ¬ IsInside at.0 count ((C.sizes client.old).block * (C.sizes client.old).origin_blocks) }

@@ -2,8 +2,8 @@
 use Rattle.std.specs.Prelude.{ℕ}
 use Rattle.wb_types.specs.declared.refusal.Refusal.{Refusal}
 use Rattle.wb_types.specs.declared.refusal.Refusal.TheVariants.{Io, Failed}
-use Rattle.wbcache.specs.declared.status.Status.{Status}
-use Rattle.wbcache.specs.declared.status.Status.TheVariants.{Done, Refused, DeviceFailed, StreamFailed}
+use Rattle.wb_script.specs.declared.status.Status.{Status}
+use Rattle.wb_script.specs.declared.status.Status.TheVariants.{Done, Refused, DeviceFailed, StreamFailed}
 
 -- the exit status that a caller of the program sees
 abbrev pub code_of : Status → ℕ
