@@ -1,11 +1,11 @@
-//! What a client answers to the lines of a script.
+//! What a client answers to what it is asked.
 
 ghost use Rattle.std.specs.Prelude.{◌≡◌, ◌<◌, ◌≤◌, ◌+◌, ◌*◌, IfOk, IfErr, OnErr, IsErrOf, length, replicate};
 ghost use Rattle.wb_opened.specs.Inside.{IsInside};
 ghost use Rattle.wb_script.specs.Request.{AsksForSectors, AsksInside};
 
 use crate::fill::Fill;
-use crate::line::Line;
+use crate::line::Call;
 use crate::part::first_part;
 use crate::progress::Paced;
 use std::alloc::Global;
@@ -15,18 +15,17 @@ use wb_opened::Served;
 use wb_policy::Order;
 use wb_types::{CBlock, Content, Geometry, OBlock, Refusal, SECTOR_BYTES, Sector};
 
-/// Does what a line asks, and adds what it is answered to the text. After a refusal the text may have what was read so far;
+/// Does what a client is asked, and adds what is answered to the text. After a refusal the text may have what was read so far;
 /// finished blocks of a write stay.
 ///
 /// `Range` for no sector, or one outside the origin; `Crosses` for sectors of more than one block, where one alone may be asked
 /// for; `Defer` where too many accesses are unsettled; `Busy` where a block is in use; `Io` where a step failed, `Failed` after a
-/// write or sync that failed so, `Memory` where there is none, and `GenerationEnd` where no further commit can be. A line that asks for a
-/// suspend is `Busy`, as the client is out.
+/// write or sync that failed so, `Memory` where there is none, and `GenerationEnd` where no further commit can be.
 pub fn answer<R: Wait, C: Served, P: Paced>(
     rt: &R,
     alloc: Global,
     client: &mut C,
-    asked: Line,
+    asked: Call,
     text: &mut String,
     progress: &mut P,
 ) -> Result<(), Refusal>
@@ -34,24 +33,25 @@ pub fn answer<R: Wait, C: Served, P: Paced>(
     ensures inside { AsksForSectors asked → IsErrOf result Refusal.Range → ¬ AsksInside asked ((C.sizes client.old).block * (C.sizes client.old).origin_blocks) }
 {
     match asked {
-        Line::Nothing => return Ok(()),
-        Line::Read { at, count } => return read(rt, alloc, client, at, count, text, progress),
-        Line::TryRead { at, count } => return try_read(alloc, client, at, count, text),
-        Line::Work => return work(rt, client, text),
-        Line::Status => return status(rt, client, text),
-        Line::Write { at, count, fill } => {
+        Call::Read { at, count } => return read(rt, alloc, client, at, count, text, progress),
+        Call::TryRead { at, count } => return try_read(alloc, client, at, count, text),
+        Call::Write { at, count, fill } => {
             write(rt, alloc, client, at, count, fill, false, progress)?
         }
-        Line::WriteDurably { at, count, fill } => {
+        Call::WriteDurably { at, count, fill } => {
             write(rt, alloc, client, at, count, fill, true, progress)?
         }
-        Line::TryWrite { at, count, fill } => try_write(alloc, client, at, count, fill)?,
-        Line::Settle => client.settle(rt),
-        Line::Flush => client.flush(rt)?,
-        Line::Tick => client.tick(rt)?,
-        // Only a target without a client can be suspended.
-        Line::Suspend => return Err(Refusal::Busy),
+        Call::TryWrite { at, count, fill } => try_write(alloc, client, at, count, fill)?,
+        Call::Settle => client.settle(rt),
+        Call::Flush => client.flush(rt)?,
     }
+    done(text)
+}
+
+/// Adds that something was done.
+pub fn done(text: &mut String) -> Result<(), Refusal>
+    ensures refused { IfErr result (λ refusal. refusal ≡ Refusal.Memory) }
+{
     text.push_str("ok\n")?;
     Ok(())
 }
@@ -155,14 +155,14 @@ fn try_write<C: Served>(
 }
 
 /// Tells how the cache is, on a line.
-fn status<R: Wait, C: Served>(rt: &R, client: &C, text: &mut String) -> Result<(), Refusal> {
+pub fn status<R: Wait, C: Served>(rt: &R, client: &C, text: &mut String) -> Result<(), Refusal> {
     client.status(rt, text)?;
     text.push_str("\n")?;
     Ok(())
 }
 
 /// Carries out an order, if any waits, and says which.
-fn work<R: Wait, C: Served>(rt: &R, client: &mut C, text: &mut String) -> Result<(), Refusal> {
+pub fn work<R: Wait, C: Served>(rt: &R, client: &mut C, text: &mut String) -> Result<(), Refusal> {
     let Some(order) = client.work_one(rt)? else {
         text.push_str("idle\n")?;
         return Ok(());
@@ -230,4 +230,15 @@ fn in_one_block(geometry: &Geometry, at: Sector, count: u64) -> Result<(), Refus
         return Err(Refusal::Crosses);
     }
     Ok(())
+}
+
+/// How many lines an answer may have: one, or one for each sector that is read.
+pub fn most_lines(geometry: &Geometry, asked: Call) -> u64
+    ensures { 0 < result }
+{
+    match asked {
+        Call::Read { at, count } if end_of(geometry, at, count).is_ok() => count.max(1),
+        Call::TryRead { at, count } if in_one_block(geometry, at, count).is_ok() => count.max(1),
+        _ => 1,
+    }
 }

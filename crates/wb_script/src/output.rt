@@ -1,7 +1,9 @@
 //! Answers, each out in one write.
 
-ghost use Rattle.std.specs.Prelude.{◌≡◌, IfOk, OnErr};
+ghost use Rattle.std.specs.Prelude.{◌≡◌, IfOk, OnErr, OnOk};
+ghost use Rattle.std.specs.Io.KnownBytes.{Appends};
 ghost use Rattle.wb_script.specs.Exit.{code_of};
+ghost use Rattle.wb_script.specs.Leading.{want_of_memory};
 
 use crate::status::Status;
 use std::alloc::Global;
@@ -9,8 +11,14 @@ use std::fmt::Write as _;
 use std::io::Write;
 use wb_types::Refusal;
 
-/// What is printed where even the text of a refusal has no room.
 const OUT_OF_MEMORY: &[u8] = b"refused 7 Memory\n";
+
+/// What is printed where even the text of a refusal has no room.
+pub fn out_of_memory() -> &'static [u8]
+    ensures { result.now ≡ want_of_memory }
+{
+    OUT_OF_MEMORY
+}
 
 /// The reader or the writer of a script failed.
 #[derive(Clone, Copy)]
@@ -53,13 +61,23 @@ pub fn print_refusal<W: Write>(
     text: &mut String,
     writer: &mut W,
 ) -> Result<Status, StreamFailed> {
-    text.clear();
-    if writeln!(text, "refused {refusal}").is_err() {
-        send(OUT_OF_MEMORY, writer)?;
-        return Ok(Status::of(Refusal::Memory).max(Status::of(refusal)));
+    let (status, is_spelled) = spell(refusal, text);
+    if is_spelled {
+        send(text.as_bytes(), writer)?;
+    } else {
+        send(out_of_memory(), writer)?;
     }
-    send(text.as_bytes(), writer)?;
-    Ok(Status::of(refusal))
+    Ok(status)
+}
+
+/// Spells a refusal over what a text had: what it makes of a run, and whether there was memory for it.
+pub fn spell(refusal: Refusal, text: &mut String) -> (Status, bool) {
+    text.clear();
+    if writeln!(text, "refused {refusal}").is_ok() {
+        (Status::of(refusal), true)
+    } else {
+        (Status::of(Refusal::Memory).max(Status::of(refusal)), false)
+    }
 }
 
 /// Prints that a line is none of a script's.
@@ -76,7 +94,9 @@ pub fn print_bad_line<W: Write>(
 }
 
 /// Writes all of it at once, and sees that it is out.
-fn send<W: Write>(bytes: &[u8], writer: &mut W) -> Result<(), StreamFailed> {
+pub fn send<W: Write>(bytes: &[u8], writer: &mut W) -> Result<(), StreamFailed>
+    ensures sent { OnOk result (Appends (W.contents writer.old) (W.contents writer.new) bytes.now) }
+{
     writer.write_all(bytes).map_err(|_| StreamFailed::Writer)?;
     writer.flush().map_err(|_| StreamFailed::Writer)
 }

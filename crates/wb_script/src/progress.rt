@@ -64,3 +64,13 @@ impl<'a, T: Clock + Eprint> Paced for Progress<'a, T> {
         }
     }
 }
+
+/// Nobody is told.
+#[derive(Clone, Copy)]
+pub(crate) struct Unseen;
+
+impl Paced for Unseen {
+    fn begin(&mut self) {}
+
+    fn reach(&mut self, _done: u64, _all: u64) {}
+}

@@ -1,21 +1,26 @@
 //! Scripts: a line in, its answer out.
 
-use crate::answers::answer;
+use crate::answers::{answer, done, most_lines, status, work};
 use crate::ended::{Ended, refused};
-use crate::line::{Line, read_line};
-use crate::output::{StreamFailed, print, print_bad_line, print_refusal, refuse};
-use crate::progress::{Paced, Progress};
+use crate::lane::Beside;
+use crate::line::{Call, Line, read_line};
+use crate::output::{StreamFailed, print, print_bad_line, print_refusal};
+use crate::printing::print_all;
+use crate::progress::Progress;
+use crate::queue::Asked;
 use crate::reason::Reason;
 use crate::status::Status;
 use crate::tally::{Said, Tally};
-use std::alloc::Global;
+use crate::told::Told;
+use std::alloc::{AllocError, Global};
 use std::fs::File;
 use std::io::{BufRead, ErrorKind, Read, Write};
 use std::rt::Files;
 use std::sync::Wait;
+use std::thread::Threads;
 use std::time::Clock;
 use wb_files::Watch;
-use wb_opened::{Served, Shown, Visit, serve_alone};
+use wb_opened::{LANES, Next, Play, Served, Shown, Unserved, serve_lanes};
 use wb_types::Refusal;
 
 /// Room for an answer of one line, made before the first line is read.
@@ -25,12 +30,22 @@ const ONE_LINE: usize = 64;
 const MOST_OF_A_LINE: u64 = 1_048_576;
 
 /// Runs a script over the files of a table, and gives the exit status with the reason of what was refused: the cache is opened,
-/// in the table's mode and with its policy, and one client plays the script. Each line's answer is out, in one write, before the next line
-/// is read, and what was opened and how far a long request has come is told where that was asked for. All three files are locked until the script ends, which leaves the cache without the clean flag.
+/// in the table's mode and with its policy, and a first client plays the script. A line that another client is asked is done on a thread of
+/// that client, which has files of its own, and what it answered is printed at a join. Each other line's answer is out, in one write,
+/// before the next line is read, and what was opened and how far a long request of the first client has come is told where that was asked for. All three
+/// files are locked until the script ends, which leaves the cache without the clean flag.
 ///
 /// 0 where each line was answered, 1 where the opening or a line was refused or one was no line of a script, 3 where a device
 /// failed, 4 where the reader or the writer did.
-pub fn run<'a, R: Files<File = File>, T: Wait, N: Watch, I: BufRead, W: Write, E: Clock + Eprint>(
+pub fn run<
+    'a,
+    R: Files<File = File>,
+    T: Threads + Wait + Sync,
+    N: Watch + Sync,
+    I: BufRead,
+    W: Write,
+    E: Clock + Eprint,
+>(
     rt: &R,
     waits: &T,
     alloc: Global,
@@ -40,17 +55,13 @@ pub fn run<'a, R: Files<File = File>, T: Wait, N: Watch, I: BufRead, W: Write, E
     writer: &mut W,
     progress: Progress<'_, E>,
 ) -> Ended<'a> {
-    let script = Script {
-        alloc,
-        reader,
-        writer: &mut *writer,
-        progress,
-        number: 0,
-        status: Status::Done,
-        tally: Tally::new(),
-        failed: None,
+    let Ok(beside) = Beside::new(alloc) else {
+        return refused(alloc, Unserved::Refused(Refusal::Memory), writer);
     };
-    match serve_alone(rt, waits, alloc, table, watch, script) {
+    let Ok(script) = Script::new(alloc, &beside, reader, &mut *writer, progress) else {
+        return refused(alloc, Unserved::Refused(Refusal::Memory), writer);
+    };
+    match serve_lanes(rt, waits, alloc, table, watch, &beside, script) {
         Ok(played) => played.ended(),
         Err(unserved) => refused(alloc, unserved, writer),
     }
@@ -60,13 +71,31 @@ pub fn run<'a, R: Files<File = File>, T: Wait, N: Watch, I: BufRead, W: Write, E
 #[derive(Drop)]
 struct Script<'s, I, W, E> {
     alloc: Global,
+    beside: &'s Beside,
     reader: &'s mut I,
     writer: &'s mut W,
     progress: Progress<'s, E>,
+    /// The line that was read last, and its answer.
+    line: Vec<u8>,
+    text: String,
+    /// What clients have told at a join.
+    told: Vec<Told>,
+    /// Of each client beside the first whether it has begun.
+    has_begun: [bool; LANES],
+    /// What comes behind the join that is due, if one is.
+    behind_join: Option<Behind>,
     number: u64,
     status: Status,
     tally: Tally,
     failed: Option<StreamFailed>,
+}
+
+/// What comes behind a join.
+#[derive(Clone, Copy)]
+enum Behind {
+    Lines,
+    Suspend,
+    End,
 }
 
 /// How a script was played, and the lines of it that were refused.
@@ -90,23 +119,82 @@ impl Played {
     }
 }
 
-impl<'s, I: BufRead, W: Write, E: Clock + Eprint> Visit for Script<'s, I, W, E> {
+impl<'s, I: BufRead, W: Write, E: Clock + Eprint> Script<'s, I, W, E> {
+    /// None of its lines is read.
+    fn new(
+        alloc: Global,
+        beside: &'s Beside,
+        reader: &'s mut I,
+        writer: &'s mut W,
+        progress: Progress<'s, E>,
+    ) -> Result<Script<'s, I, W, E>, AllocError> {
+        let text = String::with_capacity(alloc, ONE_LINE)?;
+        let told = Vec::with_capacity(alloc, LANES)?;
+        Ok(Script {
+            alloc,
+            beside,
+            reader,
+            writer,
+            progress,
+            line: Vec::new(alloc),
+            text,
+            told,
+            has_begun: [false; LANES],
+            behind_join: None,
+            number: 0,
+            status: Status::Done,
+            tally: Tally::new(),
+            failed: None,
+        })
+    }
+
+    /// A join is due, and then this.
+    fn join_before(&mut self, behind: Behind) -> Next {
+        self.behind_join = Some(behind);
+        Next::CatchUp
+    }
+
+    /// The reader or the writer failed: only the others are to be joined.
+    fn fail(&mut self, failed: StreamFailed) -> Next {
+        self.failed = Some(failed);
+        self.join_before(Behind::End)
+    }
+}
+
+impl<'s, I: BufRead, W: Write, E: Clock + Eprint> Play for Script<'s, I, W, E> {
     type Told = Played;
 
-    fn serve<R: Wait, C: Served>(&mut self, rt: &R, client: &mut C) -> bool {
-        tell_opened(rt, client, &mut self.progress);
-        match play_by(rt, client, self) {
-            Ok(asked) => asked,
-            Err(failed) => {
-                self.failed = Some(failed);
-                false
-            }
+    fn serve<R: Wait, C: Served>(&mut self, rt: &R, client: &mut C) -> Next {
+        if self.number == 0 {
+            tell_opened(rt, client, &mut self.progress);
+        }
+        match self.behind_join.take() {
+            None => {}
+            Some(behind) => match (join(rt, self), behind) {
+                (Ok(()), Behind::Lines) => {}
+                (Ok(()), Behind::Suspend) => return Next::Suspend,
+                (_, _) => return Next::End,
+            },
+        }
+        match play(rt, client, self) {
+            Ok(next) => next,
+            Err(failed) => self.fail(failed),
+        }
+    }
+
+    fn refused<R: Wait>(&mut self, rt: &R, lane: usize, refusal: Refusal) {
+        if let Some(has_begun) = self.has_begun.get_mut(lane) {
+            *has_begun = false;
+        }
+        if let Some(lane) = self.beside.lane_at(lane) {
+            lane.refuse(rt, refusal);
         }
     }
 
     fn go_on<R: Wait, T: Shown>(&mut self, rt: &R, suspended: Result<(), Refusal>, target: &T) {
         if let Err(failed) = play_behind(rt, target, self, suspended) {
             self.failed = Some(failed);
+            let _ = join(rt, self);
         }
     }
 
@@ -125,70 +213,6 @@ impl<'s, I: BufRead, W: Write, E: Clock + Eprint> Visit for Script<'s, I, W, E> 
     }
 }
 
-/// Who answers lines.
-trait Answers {
-    /// Does what a line asks, and adds what it is answered to the text. None where the line ends what is answered here.
-    fn answer<P: Paced>(
-        &mut self,
-        alloc: Global,
-        asked: Line,
-        text: &mut String,
-        progress: &mut P,
-    ) -> Option<Result<(), Refusal>>;
-}
-
-/// A client, up to a suspend.
-#[derive(Drop)]
-struct ByClient<'r, 'c, R, C> {
-    rt: &'r R,
-    client: &'c mut C,
-}
-
-impl<'r, 'c, R: Wait, C: Served> Answers for ByClient<'r, 'c, R, C> {
-    fn answer<P: Paced>(
-        &mut self,
-        alloc: Global,
-        asked: Line,
-        text: &mut String,
-        progress: &mut P,
-    ) -> Option<Result<(), Refusal>> {
-        match asked {
-            Line::Suspend => None,
-            _ => Some(answer(self.rt, alloc, self.client, asked, text, progress)),
-        }
-    }
-}
-
-/// A target behind a suspend, done or refused: it tells how it is, and refuses all else.
-#[derive(Drop)]
-struct Behind<'r, 't, R, T> {
-    rt: &'r R,
-    target: &'t T,
-}
-
-impl<'r, 't, R: Wait, T: Shown> Answers for Behind<'r, 't, R, T> {
-    fn answer<P: Paced>(
-        &mut self,
-        _alloc: Global,
-        asked: Line,
-        text: &mut String,
-        _progress: &mut P,
-    ) -> Option<Result<(), Refusal>> {
-        Some(match asked {
-            Line::Nothing => Ok(()),
-            Line::Status => told(self.rt, self.target, text),
-            _ => Err(Refusal::Failed),
-        })
-    }
-}
-
-/// Tells how a target is, on a line.
-fn told<R: Wait, T: Shown>(rt: &R, target: &T, text: &mut String) -> Result<(), Refusal> {
-    target.status(rt, text)?;
-    text.push_str("\n")?;
-    Ok(())
-}
-
 /// Tells what was opened, where that was asked for: which blocks are dirty is a look at each of them.
 fn tell_opened<R: Wait, C: Served, E: Clock + Eprint>(
     rt: &R,
@@ -200,100 +224,212 @@ fn tell_opened<R: Wait, C: Served, E: Clock + Eprint>(
     }
 }
 
-/// Plays the lines up to a suspend with a client.
-fn play_by<R: Wait, C: Served, I: BufRead, W: Write, E: Clock + Eprint>(
+/// Plays lines with the first client, up to one that wants more than a client, or the end.
+fn play<R: Wait, C: Served, I: BufRead, W: Write, E: Clock + Eprint>(
     rt: &R,
     client: &mut C,
     script: &mut Script<'_, I, W, E>,
-) -> Result<bool, StreamFailed> {
-    let mut by = ByClient { rt, client };
-    let asked = play(script, &mut by);
-    let ByClient { rt: _, client: _ } = by;
-    asked
+) -> Result<Next, StreamFailed> {
+    for _ in 0..u64::MAX {
+        let Some(line) = next_line(script)? else {
+            return Ok(script.join_before(Behind::End));
+        };
+        match line {
+            Line::Join => return Ok(script.join_before(Behind::Lines)),
+            Line::Suspend => return Ok(script.join_before(Behind::Suspend)),
+            Line::Beside {
+                client: other,
+                call,
+            } => {
+                let most = most_lines(&client.geometry(), call);
+                if let Some(lane) = ask_beside(rt, script, other, call, most) {
+                    return Ok(Next::Begin(lane));
+                }
+            }
+            _ => {
+                let answered = answer_line(rt, client, script, line);
+                tell(script, answered)?;
+            }
+        }
+    }
+    Ok(script.join_before(Behind::End))
 }
 
-/// Prints what a suspend was answered, and goes on with the lines behind it.
+/// Does what a line asks the first client or the target for, and adds what is answered to the text.
+fn answer_line<R: Wait, C: Served, I: BufRead, W: Write, E: Clock + Eprint>(
+    rt: &R,
+    client: &mut C,
+    script: &mut Script<'_, I, W, E>,
+    line: Line,
+) -> Result<(), Refusal> {
+    match line {
+        Line::Asks(call) => {
+            answer(
+                rt,
+                script.alloc,
+                client,
+                call,
+                &mut script.text,
+                &mut script.progress,
+            )?;
+            script.tally.done(call);
+            Ok(())
+        }
+        Line::Tick => {
+            client.tick(rt)?;
+            script.tally.flushed();
+            done(&mut script.text)
+        }
+        Line::Work => work(rt, client, &mut script.text),
+        Line::Status => status(rt, client, &mut script.text),
+        _ => Ok(()),
+    }
+}
+
+/// Asks a client beside the first for what a line says: the lane that has to begin for it, if it has not.
+fn ask_beside<R: Wait, I: BufRead, W: Write, E: Clock + Eprint>(
+    rt: &R,
+    script: &mut Script<'_, I, W, E>,
+    client: u8,
+    call: Call,
+    most: u64,
+) -> Option<usize> {
+    let asked = Asked {
+        number: script.number,
+        call,
+    };
+    script.beside.lane(client)?.put(rt, asked, most);
+    let lane = usize::from(client).checked_sub(1)?;
+    let has_begun = script.has_begun.get_mut(lane)?;
+    if *has_begun {
+        return None;
+    }
+    *has_begun = true;
+    Some(lane)
+}
+
+/// Waits for all clients beside the first, and prints what they answered, where the writer has not failed.
+fn join<R: Wait, I: BufRead, W: Write, E: Clock + Eprint>(
+    rt: &R,
+    script: &mut Script<'_, I, W, E>,
+) -> Result<(), StreamFailed> {
+    script.told.clear();
+    if script.beside.join(rt, &mut script.told).is_err() {
+        let printed = print_refusal(Refusal::Memory, &mut script.text, script.writer)?;
+        script.status = script.status.max(printed);
+    }
+    for told in &script.told {
+        script.status = script.status.max(told.status);
+        script.tally.join(&told.tally);
+    }
+    if let Some(StreamFailed::Writer) = script.failed {
+        return Ok(());
+    }
+    match print_all(script.told.as_slice(), script.writer) {
+        Ok(()) => Ok(()),
+        Err(failed) => {
+            script.failed = Some(failed);
+            Err(failed)
+        }
+    }
+}
+
+/// Prints what a suspend was answered, and goes on with the lines behind it: the target tells how it is, and refuses all else.
 fn play_behind<R: Wait, T: Shown, I: BufRead, W: Write, E: Clock + Eprint>(
     rt: &R,
     target: &T,
     script: &mut Script<'_, I, W, E>,
     suspended: Result<(), Refusal>,
-) -> Result<bool, StreamFailed> {
-    let mut text = String::new(script.alloc);
+) -> Result<(), StreamFailed> {
+    script.text.clear();
     let answered = match suspended {
         Ok(()) => {
-            script.tally.done(Line::Suspend);
-            text.push_str("ok\n").map_err(|_| Refusal::Memory)
+            script.tally.flushed();
+            done(&mut script.text)
         }
         Err(refusal) => Err(refusal),
     };
-    tell(script, answered, &mut text)?;
-    let mut behind = Behind { rt, target };
-    let asked = play(script, &mut behind);
-    let Behind { rt: _, target: _ } = behind;
-    asked
-}
-
-/// Plays the lines of a script up to one that ends what is answered here, and counts those that are refused: whether there was one.
-fn play<A: Answers, I: BufRead, W: Write, E: Clock + Eprint>(
-    script: &mut Script<'_, I, W, E>,
-    answers: &mut A,
-) -> Result<bool, StreamFailed> {
-    let alloc = script.alloc;
-    let Ok(mut text) = String::with_capacity(alloc, ONE_LINE) else {
-        script.status = refuse(alloc, Refusal::Memory, script.writer)?;
-        return Ok(false);
-    };
-    let mut line = Vec::new(alloc);
+    tell(script, answered)?;
     for _ in 0..u64::MAX {
-        script.number = script.number.saturating_add(1);
-        text.clear();
-        let answered = match next_input(script.reader, &mut line)? {
-            Input::Asks(asked) => {
-                match answers.answer(alloc, asked, &mut text, &mut script.progress) {
-                    Some(answered) => {
-                        if answered.is_ok() {
-                            script.tally.done(asked);
-                        }
-                        answered
-                    }
-                    None => return Ok(true),
+        let Some(line) = next_line(script)? else {
+            break;
+        };
+        match line {
+            Line::Join => join(rt, script)?,
+            Line::Beside { client, call } => {
+                ask_beside(rt, script, client, call, 1);
+                if let Some(lane) = script.beside.lane(client) {
+                    lane.refuse(rt, Refusal::Failed);
                 }
             }
-            Input::TooLong => Err(Refusal::Memory),
-            Input::Bad => {
-                script.tally.note(script.number, Said::BadLine);
-                print_bad_line(script.number, &mut text, script.writer)?;
-                script.status = script.status.max(Status::Refused);
-                return Ok(false);
+            _ => {
+                let answered = answer_behind(rt, target, line, &mut script.text);
+                tell(script, answered)?;
             }
-            Input::End => return Ok(false),
-        };
-        tell(script, answered, &mut text)?;
+        }
     }
-    Ok(false)
+    join(rt, script)
+}
+
+/// What a line is answered behind a suspend.
+fn answer_behind<R: Wait, T: Shown>(
+    rt: &R,
+    target: &T,
+    line: Line,
+    text: &mut String,
+) -> Result<(), Refusal> {
+    match line {
+        Line::Nothing => Ok(()),
+        Line::Status => {
+            target.status(rt, text)?;
+            text.push_str("\n")?;
+            Ok(())
+        }
+        _ => Err(Refusal::Failed),
+    }
 }
 
 /// Prints what the last line was answered, and counts it where it was refused.
 fn tell<I, W: Write, E>(
     script: &mut Script<'_, I, W, E>,
     answered: Result<(), Refusal>,
-    text: &mut String,
 ) -> Result<(), StreamFailed> {
     let printed = match answered {
-        Ok(()) => print(text, script.writer)?,
+        Ok(()) => print(&script.text, script.writer)?,
         Err(refusal) => {
             script.tally.note(script.number, Said::Refused(refusal));
-            print_refusal(refusal, text, script.writer)?
+            print_refusal(refusal, &mut script.text, script.writer)?
         }
     };
     script.status = script.status.max(printed);
     Ok(())
 }
 
+/// Reads the next line. None at the end of the script, and behind a line that is none of a script's, which is told.
+fn next_line<I: BufRead, W: Write, E>(
+    script: &mut Script<'_, I, W, E>,
+) -> Result<Option<Line>, StreamFailed> {
+    script.number = script.number.saturating_add(1);
+    script.text.clear();
+    match next_input(script.reader, &mut script.line)? {
+        Input::Says(line) => Ok(Some(line)),
+        Input::TooLong => {
+            tell(script, Err(Refusal::Memory))?;
+            Ok(Some(Line::Nothing))
+        }
+        Input::Bad => {
+            script.tally.note(script.number, Said::BadLine);
+            let printed = print_bad_line(script.number, &mut script.text, script.writer)?;
+            script.status = script.status.max(printed);
+            Ok(None)
+        }
+        Input::End => Ok(None),
+    }
+}
+
 /// What comes next in a script.
 enum Input {
-    Asks(Line),
+    Says(Line),
     /// A line outside the table of lines, or one that is too long to be read.
     Bad,
     /// A line that has no room; it was passed over.
@@ -320,7 +456,7 @@ fn read_input(line: &[u8]) -> Input {
         return Input::Bad;
     }
     match read_line(without_break(line)) {
-        Some(asked) => Input::Asks(asked),
+        Some(said) => Input::Says(said),
         None => Input::Bad,
     }
 }

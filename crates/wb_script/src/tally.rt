@@ -1,6 +1,6 @@
 //! The refused lines of a script.
 
-use crate::line::Line;
+use crate::line::Call;
 use std::fmt;
 use std::fmt::{Display, Formatter};
 use wb_types::Refusal;
@@ -31,25 +31,42 @@ impl Tally {
         }
     }
 
-    /// A line was done: a write is not durable before a flush.
-    pub fn done(&mut self, asked: Line) {
+    /// What a client was asked was done: a write is not durable before a flush.
+    pub fn done(&mut self, asked: Call) {
         match asked {
-            Line::Write { .. } | Line::TryWrite { .. } => {
+            Call::Write { .. } | Call::TryWrite { .. } => {
                 self.unflushed = self.unflushed.saturating_add(1);
             }
-            Line::WriteDurably { .. } | Line::Flush | Line::Tick | Line::Suspend => {
-                self.unflushed = 0
-            }
+            Call::WriteDurably { .. } | Call::Flush => self.flushed(),
             _ => {}
         }
     }
 
+    /// All that was answered is durable.
+    pub fn flushed(&mut self) {
+        self.unflushed = 0;
+    }
+
     /// Counts a line that was refused.
     pub fn note(&mut self, number: u64, said: Said) {
-        self.count = self.count.saturating_add(1);
-        if self.first.is_none() {
-            self.first = Some((number, said));
+        self.note_all(number, said, 1);
+    }
+
+    /// Counts so many lines that were refused, of which this is the first.
+    pub fn note_all(&mut self, number: u64, said: Said, count: u64) {
+        self.count = self.count.saturating_add(count);
+        match self.first {
+            Some((first, _)) if first <= number => {}
+            _ => self.first = Some((number, said)),
         }
+    }
+
+    /// Counts what another one has counted.
+    pub fn join(&mut self, other: &Tally) {
+        if let Some((number, said)) = other.first {
+            self.note_all(number, said, other.count);
+        }
+        self.unflushed = self.unflushed.saturating_add(other.unflushed);
     }
 }
 

@@ -10,6 +10,7 @@ use clap::error::ErrorKind;
 use std::io::{BufReader, IsTerminal, Read};
 use std::process::ExitCode;
 use std::sync::Wait;
+use std::thread::Threads;
 use std::{env, io};
 use wb_files::{Alarm, Awaited, hold_streams};
 use wb_opened::Unserved;
@@ -30,8 +31,8 @@ fn main(rt: HostRuntime) -> ExitCode {
     }
 }
 
-/// Does what the arguments ask, and gives the exit status. Who waits does so by the second handle.
-fn serve<T: Wait>(rt: &HostRuntime, waits: &T) -> u8 {
+/// Does what the arguments ask, and gives the exit status. Who waits or starts threads does so by the second handle.
+fn serve<T: Threads + Wait + Sync>(rt: &HostRuntime, waits: &T) -> u8 {
     let alloc = rt.alloc();
     let Ok(words) = env::args(rt) else {
         return usage(rt);
