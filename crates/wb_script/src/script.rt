@@ -1,5 +1,7 @@
 //! Scripts: a line in, its answer out.
 
+ghost use Rattle.std.specs.Prelude.{◌<◌};
+
 use crate::answers::{answer, done, most_lines, status, work};
 use crate::ended::{Ended, refused};
 use crate::lane::Beside;
@@ -286,14 +288,17 @@ fn answer_line<R: Wait, C: Served, I: BufRead, W: Write, E: Clock + Eprint>(
     }
 }
 
-/// Asks a client beside the first for what a line says: the lane that has to begin for it, if it has not.
+/// Asks a client beside the first for what a line says, whose answer may have so many lines: the lane that has to begin for it, if it has
+/// not.
 fn ask_beside<R: Wait, I: BufRead, W: Write, E: Clock + Eprint>(
     rt: &R,
     script: &mut Script<'_, I, W, E>,
     client: u8,
     call: Call,
     most: u64,
-) -> Option<usize> {
+) -> Option<usize>
+    requires some { 0 < most }
+{
     let asked = Asked {
         number: script.number,
         call,
