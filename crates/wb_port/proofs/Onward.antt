@@ -7,7 +7,6 @@ use Rattle.wb_types.specs.declared.mode.Mode.{Mode}
 use Rattle.wb_types.specs.declared.mode.Mode.TheVariants.{Writeback, Writethrough, Passthrough}
 use Rattle.wb_types.specs.declared.mode.Dev.{Dev}
 use Rattle.wb_types.specs.declared.number.CBlock.{CBlock}
-use Rattle.wb_types.specs.declared.number.OBlock.{OBlock}
 use Rattle.wb_types.specs.declared.refusal.Refusal.TheVariants.{Busy, Defer, Failed, Worn, Io}
 use Rattle.wb_words.specs.SharedWords.{can_take}
 use Rattle.wb_words.specs.declared.word.Word.TheVariants.{Cell as LockWord, Number, Fail}
@@ -25,8 +24,8 @@ use Rattle.wb_tasks.specs.declared.step.Got.{Got}
 use Rattle.wb_tasks.specs.declared.step.Got.TheVariants.{Word, Fault}
 use Rattle.wb_tasks.proofs.Pieces.{first_piece}
 use Rattle.wb_port.specs.declared.moving.TheConstants.{LONGEST}
-use Rattle.wb_port.specs.Requests.{part_of}
-use Rattle.wb_port.specs.Straight.{ComesTo, access_by, giving_back, is_deferred, job_by, left, range_in, straight_writing, straight_written}
+use Rattle.wb_tasks.specs.Phases.{job_on_block}
+use Rattle.wb_port.specs.Straight.{ComesTo, access_by, giving_back, is_deferred, job_by, left, part_at, range_in, straight_writing, straight_written, work_by}
 use Rattle.wb_port.specs.declared.straight.Part.{Part}
 use Rattle.wb_port.specs.declared.straight.Way.{Way}
 use Rattle.wb_port.specs.declared.straight.Way.TheVariants.{Reads, Writes}
@@ -124,16 +123,6 @@ after_last Writes part place dirty number e l = rw l refl
 abbrev still_writing : Part → List Want → Plan
 still_writing part ws = left (Writing (range_in part)) ws Finished
 
--- of a block that is not mapped no seal is due
-pub unmapped_first : (part : Part) (place : Option CBlock) (dirty : Bool) → place ≡ None
-    → still_writing part (dirtying part.mode part.block place dirty ++ straight_writing part (places_written part.mode place) place) ≡ still_writing part (straight_writing part (places_written part.mode None) None)
-unmapped_first part place dirty p = rw p (ap (λ (ws : List Want). still_writing part (ws ++ straight_writing part (places_written part.mode None) None)) (none_due part.mode))
-  where
-    none_due : (mode : Mode) → dirtying mode part.block None dirty ≡ []
-    none_due Writeback = refl
-    none_due Writethrough = refl
-    none_due Passthrough = refl
-
 -- of one that is mapped it is, or is not
 pub mapped_first : (part : Part) (place : Option CBlock) (c : CBlock) (dirty due : Bool) → place ≡ Some c → dirtying part.mode part.block (Some c) dirty ≡ (if due then (Cell (Seal part.block (Some c) true) ∷ []) else [])
     → still_writing part (dirtying part.mode part.block place dirty ++ straight_writing part (places_written part.mode place) place)
@@ -164,5 +153,12 @@ one_piece piece sectors p s few =
     let none : sectors.count - sectors.count ≡ 0 = omega arith in
     rw (first_piece piece sectors.first sectors.count p s, is, none) refl
 
-pub one_part : (mode : Mode) (block_sectors : ℕ) (block : OBlock) (sectors : Extent) → 1 ≤ sectors.count → sectors.count ≤ LONGEST → part_of mode block_sectors block sectors ≡ range_in (record { mode = mode; block_sectors = block_sectors; block = block; sectors = sectors })
-one_part mode block_sectors block sectors s few = ap (λ (es : List Extent). record { mode = mode; block_sectors = block_sectors; block = block; extents = es }) (one_piece LONGEST sectors (omega arith) s few)
+pub one_part : (way : Way) (part : Part) → 1 ≤ part.sectors.count → part.sectors.count ≤ LONGEST → job_on_block (work_by way) (part_at part) ≡ job_by way part
+one_part way part some few = by_way way
+  where
+    one : part_at part ≡ range_in part
+    one = ap (λ (es : List Extent). record { mode = part.mode; block_sectors = part.block_sectors; block = part.block; extents = es }) (one_piece LONGEST part.sectors (omega arith) some few)
+
+    by_way : (way : Way) → job_on_block (work_by way) (part_at part) ≡ job_by way part
+    by_way Reads = ap Reading one
+    by_way Writes = ap Writing one

@@ -9,10 +9,13 @@ use Rattle.wb_words.specs.declared.step.CellStep.TheVariants.{Release, Finish}
 use Rattle.wb_tasks.specs.Tables.{BlockRange, BlockJob, Reading, Writing, OnBlock, write_step, write_count}
 use Rattle.wb_tasks.specs.Plan.{Plan}
 use Rattle.wb_tasks.specs.Run.{IsRunOf, Leads}
+use Rattle.wb_tasks.specs.declared.block.Work.{Work}
+use Rattle.wb_tasks.specs.declared.block.Work.TheVariants.{Read, Write}
 use Rattle.wb_tasks.specs.declared.step.Answer.{Answer}
 use Rattle.wb_tasks.specs.declared.step.Want.{Want}
 use Rattle.wb_tasks.specs.declared.step.Want.TheVariants.{Cell}
 use Rattle.wb_tasks.specs.declared.step.Got.{Got}
+use Rattle.wb_port.specs.Requests.{part_of}
 use Rattle.wb_port.specs.declared.straight.Part.{Part}
 use Rattle.wb_port.specs.declared.straight.Way.{Way}
 use Rattle.wb_port.specs.declared.straight.Way.TheVariants.{Reads, Writes}
@@ -24,6 +27,15 @@ range_in part = record { mode = part.mode; block_sectors = part.block_sectors; b
 abbrev pub job_by : Way → Part → BlockJob
 job_by Reads part = Reading (range_in part)
 job_by Writes part = Writing (range_in part)
+
+-- what a task does that moves sectors so
+abbrev pub work_by : Way → Work
+work_by Reads = Read
+work_by Writes = Write
+
+-- its sectors are cut into extents of at most the longest that a step takes
+abbrev pub part_at : Part → BlockRange
+part_at part = part_of part.mode part.block_sectors part.block part.sectors
 
 abbrev pub access_by : Way → Access
 access_by Reads = Shared

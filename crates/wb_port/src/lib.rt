@@ -18,3 +18,5 @@ pub use moving::{LONGEST, ReadStage, WriteStage};
 pub use parts::{read_part, write_part};
 pub use port::{Port, UNSETTLED};
 pub use seat::Seat;
+pub use serving::perform_part;
+pub use straight::Part;

@@ -3,16 +3,17 @@
 ghost use Rattle.std.specs.Prelude.{◌≡◌, ◌≢◌, ◌≤◌, ◌<◌, ◌+◌, ◌/◌, ◌%◌, ◌^◌, OnOk, IfErr, length};
 ghost use Rattle.wb_words.specs.declared.card.Hold.TheVariants.{Nothing};
 ghost use Rattle.wb_tasks.specs.Ready.{StaysReady};
-ghost use Rattle.wb_tasks.specs.Tables.{OnBlock, Reading, Writing};
+ghost use Rattle.wb_tasks.specs.Tables.{OnBlock};
+ghost use Rattle.wb_tasks.specs.Phases.{job_on_block};
 ghost use Rattle.wb_tasks.specs.Plan.{table};
-ghost use Rattle.wb_port.specs.Straight.{ComesTo};
-ghost use Rattle.wb_port.specs.Requests.{part_of, WasRead, WasWritten, ReadRefused, WriteRefused};
+ghost use Rattle.wb_port.specs.Straight.{ComesTo, part_at, work_by};
+ghost use Rattle.wb_port.specs.Requests.{WasRead, WasWritten, ReadRefused, WriteRefused};
 
 use crate::moving::{LONGEST, ReadStage, WriteStage};
 use crate::straight::{Part, Way, request};
 use wb_disk::Disk;
 use wb_tasks::{Answer, BlockTask, Stage, Work, drive};
-use wb_types::{Extent, Mode, OBlock, Refusal};
+use wb_types::{Extent, OBlock, Refusal};
 
 impl<'a, D: Disk> ReadStage<'a, D> {
     /// Reads sectors of this block into the slice, by steps of at most `LONGEST` sectors.
@@ -43,8 +44,13 @@ impl<'a, D: Disk> ReadStage<'a, D> {
         ensures size { self.new.hand.now.block_sectors ≡ self.old.hand.now.block_sectors }
         ensures mode { self.new.hand.now.mode ≡ self.old.hand.now.mode }
     {
-        let mode = self.hand.mode;
-        answered(read_all(self, mode, block_sectors, block, sectors))
+        let part = Part {
+            mode: self.hand.mode,
+            block_sectors,
+            block,
+            sectors,
+        };
+        answered(serve_part(self, Way::Reads, part))
     }
 }
 
@@ -75,63 +81,55 @@ impl<'a, D: Disk> WriteStage<'a, D> {
         ensures size { self.new.hand.now.block_sectors ≡ self.old.hand.now.block_sectors }
         ensures mode { self.new.hand.now.mode ≡ self.old.hand.now.mode }
     {
-        let mode = self.hand.mode;
-        answered(write_all(self, mode, block_sectors, block, sectors))
-    }
-}
-
-/// Performs a read up to its answer, on a stage that is ready for each of its steps: where one step moves all sectors,
-/// without asking a task for each step.
-fn read_all<S: Stage>(
-    stage: &mut S,
-    mode: Mode,
-    block_sectors: u32,
-    block: OBlock,
-    sectors: Extent,
-) -> Answer
-    requires some { 0 < block_sectors }
-    requires range { sectors.first + sectors.count < 2 ^ 64 }
-    requires stays { StaysReady S.ready S.led (table (OnBlock (Reading (part_of mode block_sectors block sectors)))) stage.old }
-    ensures { ComesTo S.led (table (OnBlock (Reading (part_of mode block_sectors block sectors)))) stage.old result stage.new }
-{
-    if 1 <= sectors.count && sectors.count <= LONGEST {
         let part = Part {
-            mode,
+            mode: self.hand.mode,
             block_sectors,
             block,
             sectors,
         };
-        return request(stage, Way::Reads, part);
+        answered(serve_part(self, Way::Writes, part))
     }
-    let mut task = BlockTask::new(Work::Read, mode, block_sectors, block, sectors, LONGEST);
+}
+
+/// Performs a read or a write up to its answer, on a stage that is ready for each of its steps: where one step moves all sectors,
+/// without asking a task for each step.
+fn serve_part<S: Stage>(stage: &mut S, way: Way, part: Part) -> Answer
+    requires some { 0 < part.block_sectors }
+    requires range { part.sectors.first + part.sectors.count < 2 ^ 64 }
+    requires stays { StaysReady S.ready S.led (table (OnBlock (job_on_block (work_by way) (part_at part)))) stage.old }
+    ensures { ComesTo S.led (table (OnBlock (job_on_block (work_by way) (part_at part)))) stage.old result stage.new }
+{
+    if 1 <= part.sectors.count && part.sectors.count <= LONGEST {
+        return request(stage, way, part);
+    }
+    perform_part(stage, work(way), part)
+}
+
+/// Performs a job on sectors of a block up to its answer, on a stage that is ready for each of its steps, by steps of at most `LONGEST` sectors.
+pub fn perform_part<S: Stage>(stage: &mut S, work: Work, part: Part) -> Answer
+    requires some { 0 < part.block_sectors }
+    requires range { part.sectors.first + part.sectors.count < 2 ^ 64 }
+    requires stays { StaysReady S.ready S.led (table (OnBlock (job_on_block work (part_at part)))) stage.old }
+    ensures { ComesTo S.led (table (OnBlock (job_on_block work (part_at part)))) stage.old result stage.new }
+{
+    let Part {
+        mode,
+        block_sectors,
+        block,
+        sectors,
+    } = part;
+    let mut task = BlockTask::new(work, mode, block_sectors, block, sectors, LONGEST);
     drive(&mut task, stage)
 }
 
-/// Performs a write up to its answer, on a stage that is ready for each of its steps: where one step moves all sectors,
-/// without asking a task for each step.
-fn write_all<S: Stage>(
-    stage: &mut S,
-    mode: Mode,
-    block_sectors: u32,
-    block: OBlock,
-    sectors: Extent,
-) -> Answer
-    requires some { 0 < block_sectors }
-    requires range { sectors.first + sectors.count < 2 ^ 64 }
-    requires stays { StaysReady S.ready S.led (table (OnBlock (Writing (part_of mode block_sectors block sectors)))) stage.old }
-    ensures { ComesTo S.led (table (OnBlock (Writing (part_of mode block_sectors block sectors)))) stage.old result stage.new }
+/// What a task does that moves sectors this way.
+fn work(way: Way) -> Work
+    ensures { result ≡ work_by way }
 {
-    if 1 <= sectors.count && sectors.count <= LONGEST {
-        let part = Part {
-            mode,
-            block_sectors,
-            block,
-            sectors,
-        };
-        return request(stage, Way::Writes, part);
+    match way {
+        Way::Reads => Work::Read,
+        Way::Writes => Work::Write,
     }
-    let mut task = BlockTask::new(Work::Write, mode, block_sectors, block, sectors, LONGEST);
-    drive(&mut task, stage)
 }
 
 /// A task's answer as a result.

@@ -22,13 +22,13 @@ use wb_tasks::{Answer, CellStep, DeviceStep, Stage};
 use wb_types::{CBlock, Dev, Extent, Mode, OBlock, Refusal};
 use wb_words::{Access, Kind, Word, can_take, is_dirty, place_in};
 
-/// Sectors of one block, which are moved as one extent.
+/// Sectors of one block of the origin, and the mode in which they are read or written.
 #[derive(Clone, Copy)]
-pub(crate) struct Part {
-    pub(crate) mode: Mode,
-    pub(crate) block_sectors: u32,
-    pub(crate) block: OBlock,
-    pub(crate) sectors: Extent,
+pub struct Part {
+    pub mode: Mode,
+    pub block_sectors: u32,
+    pub block: OBlock,
+    pub sectors: Extent,
 }
 
 /// Which way they are moved.
@@ -38,7 +38,7 @@ pub(crate) enum Way {
     Writes,
 }
 
-/// Performs a read or a write up to its answer, on a stage that is ready for each of its steps.
+/// Performs a read or a write of sectors that are moved as one extent up to its answer, on a stage that is ready for each of its steps.
 #[inline(always)]
 pub(crate) fn request<S: Stage>(stage: &mut S, way: Way, part: Part) -> Answer
     requires some { 0 < part.block_sectors }

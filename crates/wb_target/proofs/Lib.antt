@@ -16,3 +16,4 @@ mod Leading
 pub mod Asking
 pub mod Suspends
 pub mod Displaces
+pub mod Invalidates

@@ -9,3 +9,5 @@ pub mod Workers
 pub mod Opening
 pub mod Suspends
 pub mod Displaces
+pub mod Invalidates
+pub mod Messages

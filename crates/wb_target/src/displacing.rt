@@ -20,8 +20,8 @@ use std::sync::Wait;
 use wb_cells::Cells;
 use wb_disk::Disk;
 use wb_policy::Policy;
-use wb_port::{Hand, LONGEST, Port, WriteStage};
-use wb_tasks::{Answer, BlockTask, DeskStep, Got, Stage, Want, Work, drive};
+use wb_port::{Hand, Part, Port, WriteStage, perform_part};
+use wb_tasks::{Answer, DeskStep, Got, Stage, Want, Work};
 use wb_types::{Content, Extent, Geometry, Mode, OBlock, Refusal, Sector};
 
 /// The stage of such a write.
@@ -50,31 +50,14 @@ impl<'a, R: Wait, D: Disk, P: Policy> DisplaceStage<'a, R, D, P> {
         ensures idle { self.new.write.hand.now.pass.card.hold ≡ Nothing }
         ensures size { self.new.write.hand.now.block_sectors ≡ self.old.write.hand.now.block_sectors }
     {
-        displace_all(self, block_sectors, block, sectors)
+        let part = Part {
+            mode: Mode::Passthrough,
+            block_sectors,
+            block,
+            sectors,
+        };
+        perform_part(self, Work::Displace, part)
     }
-}
-
-/// Performs a displacing write up to its answer, on a stage that is ready for each of its steps.
-fn displace_all<S: Stage>(
-    stage: &mut S,
-    block_sectors: u32,
-    block: OBlock,
-    sectors: Extent,
-) -> Answer
-    requires some { 0 < block_sectors }
-    requires range { sectors.first + sectors.count < 2 ^ 64 }
-    requires stays { StaysReady S.ready S.led (table (OnBlock (Displacing (part_of Passthrough block_sectors block sectors)))) stage.old }
-    ensures { ComesTo S.led (table (OnBlock (Displacing (part_of Passthrough block_sectors block sectors)))) stage.old result stage.new }
-{
-    let mut task = BlockTask::new(
-        Work::Displace,
-        Mode::Passthrough,
-        block_sectors,
-        block,
-        sectors,
-        LONGEST,
-    );
-    drive(&mut task, stage)
 }
 
 impl<'a, R: Wait, D: Disk, P: Policy> Stage for DisplaceStage<'a, R, D, P> {

@@ -1,9 +1,10 @@
 //! What lies under a target's lock.
 
-ghost use Rattle.std.specs.Prelude.{◌≡◌, ◌<◌, ◌+◌, ◌++◌, ◌∷◌, [], List, IfOk, IfErr, IfSome, OnOk, length, vec_capacity};
+ghost use Rattle.std.specs.Prelude.{◌≡◌, ◌<◌, ◌+◌, ◌++◌, ◌∷◌, [], List, IfOk, IfErr, IfSome, OnOk, OnErr, length, vec_capacity};
 ghost use Rattle.wb_types.specs.declared.number.CBlock.{CBlock as CBlockValue};
 ghost use Rattle.wb_types.specs.declared.number.OBlock.{OBlock as OBlockValue};
 ghost use Rattle.wb_desk.specs.Desks.{holdings};
+ghost use Rattle.wb_desk.specs.Messages.{MessageIsTold, IsRefused};
 ghost use Rattle.wb_desk.specs.Settling.{IsTicked};
 ghost use Rattle.wb_target.specs.Told.{AreShown};
 ghost use Rattle.wb_desk.proofs.Seen.{AreSeen};
@@ -14,7 +15,7 @@ use wb_desk::Desk;
 use wb_policy::Policy;
 use wb_port::Seat;
 use wb_table::Fields;
-use wb_types::{CBlock, OBlock, Refusal};
+use wb_types::{CBlock, Key, Message, OBlock, Refusal};
 use wb_words::{Kind, Word, is_dirty};
 
 /// The desk, the seats that no client has, and the one by which the office itself looks at the words.
@@ -89,6 +90,15 @@ impl<P: Policy> Office<P> {
         let dirty = self.dirty_blocks(alloc)?;
         self.desk.tick(dirty.as_slice());
         Ok(())
+    }
+
+    /// Gives a setting a value. `BadMessage` for a value out of range or a key that the policy does not have, and then nothing changed.
+    pub(crate) fn set(&mut self, key: Key, value: u64) -> Result<(), Refusal>
+        ensures set { OnOk result (MessageIsTold P.with_setting self.old.desk (Message.Set key value) self.new.desk) }
+        ensures refused { IfErr result (IsRefused P.with_setting self.old.desk (Message.Set key value)) }
+        ensures unchanged { OnErr result (self.new.desk ≡ self.old.desk) }
+    {
+        self.desk.message(&Message::Set(key, value))
     }
 
     /// How many parts of requests counted as this kind.

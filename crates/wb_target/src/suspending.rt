@@ -1,6 +1,6 @@
 //! Where a target is suspended: on the desk and the words under its lock, which is held to the end, and on devices that are lent.
 
-ghost use Rattle.std.specs.Prelude.{◌≡◌, ℕ, List, false, IfOk, IfErr, OnOk, length, replicate};
+ghost use Rattle.std.specs.Prelude.{◌≡◌, ◌<◌, ℕ, List, false, IfOk, IfErr, IfSome, OnOk, length, replicate};
 ghost use Rattle.wb_types.specs.declared.number.OBlock.{OBlock as OBlockValue};
 ghost use Rattle.wb_tasks.specs.Tables.{Suspending};
 ghost use Rattle.wb_tasks.specs.Plan.{table, Fits};
@@ -218,8 +218,9 @@ impl<P: Policy> Office<P> {
 }
 
 /// The block of an entry, where it is there.
-fn block_there(count: u32, entry: Option<Entry>) -> Option<OBlock>
-    ensures { listed result ≡ block_there count entry }
+pub(crate) fn block_there(count: u32, entry: Option<Entry>) -> Option<OBlock>
+    ensures listed { listed result ≡ block_there count entry }
+    ensures there { IfSome result (λ block. block.0 < count) }
 {
     let block = entry?.origin;
     if block.0 < count { Some(block) } else { None }

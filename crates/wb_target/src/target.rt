@@ -7,7 +7,7 @@ ghost use Rattle.wb_table.specs.declared.status.Fields.{Fields as Told};
 ghost use Rattle.wb_desk.specs.Desks.{DeskState, mapped_now};
 ghost use Rattle.wb_target.specs.Carried.{AreSynced};
 ghost use Rattle.wb_target.specs.Suspends.{WasSuspended, SuspendRefused};
-ghost use Rattle.wb_target.specs.Told.{WereSettled, HadTick, WasNext, AreShown};
+ghost use Rattle.wb_target.specs.Told.{WereSettled, HadTick, WasNext, WasSet, WasNotSet, AreShown};
 
 use crate::client::Client;
 use crate::office::Office;
@@ -20,7 +20,7 @@ use wb_policy::{Order, Policy};
 use wb_port::Port;
 use wb_table::status_text;
 use wb_tasks::Answer;
-use wb_types::{Geometry, Mode, OBlock, Refusal};
+use wb_types::{Geometry, Key, Mode, OBlock, Refusal};
 
 /// How many clients a target has at most.
 pub const CLIENTS: usize = 64;
@@ -158,6 +158,14 @@ impl<P: Policy> Target<P> {
         self.office.lock(rt).tick(self.alloc)?;
         self.bell.notify_all();
         Ok(())
+    }
+
+    /// Gives a setting a value. `BadMessage` for a value out of range or a key that the policy does not have, and then nothing changed.
+    pub(crate) fn set<R: Wait>(&self, rt: &R, key: Key, value: u64) -> Result<(), Refusal>
+        ensures set { OnOk result (WasSet P.with_setting key value) }
+        ensures refused { IfErr result (WasNotSet P.with_setting key value) }
+    {
+        self.office.lock(rt).set(key, value)
     }
 
     /// Tells the policy of accesses, in order; whoever waits for an order is woken.

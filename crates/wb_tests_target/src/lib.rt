@@ -13,6 +13,7 @@ mod files;
 mod fixture;
 #[cfg(test)]
 mod memory;
+mod messages;
 #[cfg(test)]
 mod modes;
 #[cfg(test)]

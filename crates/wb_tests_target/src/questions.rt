@@ -3,6 +3,7 @@
 use crate::caching::{caches, caches_and_flushes, replaces, replaces_another};
 use crate::faults::{Rounds, shows_allowed};
 use crate::fixture::{Lent, Memory, client_of, formatted, open_with, shows, worked};
+use crate::messages::{goes_by_threshold, invalidates, is_in_another_mode, takes_settings};
 use crate::modes::{displaces, writes_durably, writes_through};
 use crate::opening::{caches_at_the_third, tells_status, was_opened};
 use crate::requests::{defers, refuses, settles_all, settles_alone};
@@ -44,6 +45,14 @@ pub enum Question {
     WritesThrough,
     /// Whether a write in passthrough takes its block out of the cache.
     Displaces,
+    /// Whether settings are given values that are in their ranges, and no others.
+    TakesSettings,
+    /// Whether an order is given where the threshold has room for its block, and not below.
+    GoesByThreshold,
+    /// Whether blocks leave the cache by ranges of cache blocks that are there.
+    Invalidates,
+    /// Whether that is refused outside passthrough.
+    IsInAnotherMode,
     /// Whether a write with FUA is done.
     WritesDurably,
     /// Whether a block that is accessed four times gets this order.
@@ -135,6 +144,10 @@ fn answer(
         Question::WritesTwice => writes_twice(client),
         Question::WritesThrough => writes_through(rt, alloc, target, client),
         Question::Displaces => displaces(rt, alloc, target, client),
+        Question::TakesSettings => takes_settings(rt, alloc, target, client),
+        Question::GoesByThreshold => goes_by_threshold(rt, client),
+        Question::Invalidates => invalidates(rt, alloc, target, client),
+        Question::IsInAnotherMode => is_in_another_mode(rt, alloc, client),
         Question::WritesDurably => writes_durably(rt, client),
         Question::Finds(order) => worked(rt, client) == Some(order),
         Question::Orders(order) => orders(rt, client, order),

@@ -15,14 +15,14 @@ returns-in-Done-clause-done g c =
     let first = c.args.port.now.geometry in
     let same = ap (λ bs. Flushing bs c.node_count-most.result) c.in-Ok.ensures.blocks ∙ ap (λ n. Flushing (serving c.args.serves) n) c.node_count-most.ensures.value in
     done_then (Runs g.D.Disk.tells g.D.Disk.size g.D.Disk.contents g.D.Disk.faults (WasAsked g.P.Policy.with_entry g.P.Policy.without_entry) first.origin_blocks c.args.held.now) (flush_of first c.args.serves) (client_state c.args.port.now) (client_state c.loop.port) (client_state c.work.new.port) c.loop.invariant.tried
-    (run_of g.D.Disk.tells g.D.Disk.size g.D.Disk.contents g.D.Disk.faults (WasAsked g.P.Policy.with_entry g.P.Policy.without_entry) c.args.held.now _ _ c.new-task.result _ _ _ _ c.work.result _ c.new-task.ensures same (ap (λ geometry. geometry.origin_blocks) c.loop.invariant.geometry) c.in-Done.is c.work.ensures.performed)
+    (run_of g.D.Disk.tells g.D.Disk.size g.D.Disk.contents g.D.Disk.faults (WasAsked g.P.Policy.with_entry g.P.Policy.without_entry) c.args.held.now _ _ c.flush-task.result _ _ _ _ c.work.result _ c.flush-task.ensures same (ap (λ geometry. geometry.origin_blocks) c.loop.invariant.geometry) c.in-Done.is c.work.ensures.performed)
 
 pub returns-in-Refused-clause-refused : goal.returns-in-Refused-clause-refused
 returns-in-Refused-clause-refused g c =
     let first = c.args.port.now.geometry in
     let same = ap (λ bs. Flushing bs c.node_count-most.result) c.in-Ok.ensures.blocks ∙ ap (λ n. Flushing (serving c.args.serves) n) c.node_count-most.ensures.value in
     inl (refused_then (Runs g.D.Disk.tells g.D.Disk.size g.D.Disk.contents g.D.Disk.faults (WasAsked g.P.Policy.with_entry g.P.Policy.without_entry) first.origin_blocks c.args.held.now) (flush_of first c.args.serves) c.in-Refused.refusal (client_state c.args.port.now) (client_state c.loop.port) (client_state c.work.new.port) (client_state c.note_failure.new.port) (not_busy c.in-Refused.refusal (sym c.if-eq.ensures)) c.loop.invariant.tried
-    (run_of g.D.Disk.tells g.D.Disk.size g.D.Disk.contents g.D.Disk.faults (WasAsked g.P.Policy.with_entry g.P.Policy.without_entry) c.args.held.now _ _ c.new-task.result _ _ _ _ c.work.result _ c.new-task.ensures same (ap (λ geometry. geometry.origin_blocks) c.loop.invariant.geometry) c.in-Refused.is c.work.ensures.performed) c.note_failure.ensures.looked)
+    (run_of g.D.Disk.tells g.D.Disk.size g.D.Disk.contents g.D.Disk.faults (WasAsked g.P.Policy.with_entry g.P.Policy.without_entry) c.args.held.now _ _ c.flush-task.result _ _ _ _ c.work.result _ c.flush-task.ensures same (ap (λ geometry. geometry.origin_blocks) c.loop.invariant.geometry) c.in-Refused.is c.work.ensures.performed) c.note_failure.ensures.looked)
 
 pub returns-in-Err-clause-refused : goal.returns-in-Err-clause-refused
 returns-in-Err-clause-refused g c = inr (c.in-Err.ensures.refused, c.loop.invariant.tried)
@@ -33,5 +33,5 @@ loop-preserved g c =
     let same = ap (λ bs. Flushing bs c.node_count-most.result) c.in-Ok.ensures.blocks ∙ ap (λ n. Flushing (serving c.args.serves) n) c.node_count-most.ensures.value in record {
       geometry = c.work.ensures.geometry ∙ c.loop.invariant.geometry;
       tried = again (λ s t. Runs g.D.Disk.tells g.D.Disk.size g.D.Disk.contents g.D.Disk.faults (WasAsked g.P.Policy.with_entry g.P.Policy.without_entry) first.origin_blocks c.args.held.now (flush_of first c.args.serves) s (Refuses Busy) t) (client_state c.args.port.now) (client_state c.loop.port) (client_state c.work.new.port) c.loop.invariant.tried
-          (run_of g.D.Disk.tells g.D.Disk.size g.D.Disk.contents g.D.Disk.faults (WasAsked g.P.Policy.with_entry g.P.Policy.without_entry) c.args.held.now _ _ c.new-task.result _ _ _ _ c.work.result _ c.new-task.ensures same (ap (λ geometry. geometry.origin_blocks) c.loop.invariant.geometry) (c.in-Refused.is ∙ ap Refuses (is_busy c.in-Refused.refusal (sym c.if-eq.ensures))) c.work.ensures.performed);
+          (run_of g.D.Disk.tells g.D.Disk.size g.D.Disk.contents g.D.Disk.faults (WasAsked g.P.Policy.with_entry g.P.Policy.without_entry) c.args.held.now _ _ c.flush-task.result _ _ _ _ c.work.result _ c.flush-task.ensures same (ap (λ geometry. geometry.origin_blocks) c.loop.invariant.geometry) (c.in-Refused.is ∙ ap Refuses (is_busy c.in-Refused.refusal (sym c.if-eq.ensures))) c.work.ensures.performed);
     }
