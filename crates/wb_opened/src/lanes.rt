@@ -18,12 +18,6 @@ use wb_table::Table;
 use wb_target::{Client, Target};
 use wb_types::Refusal;
 
-/// Who opens devices for one more client.
-pub(crate) trait Opens<D> {
-    /// The devices, or why they cannot be had.
-    fn open(&self) -> Result<Devices<D>, Refusal>;
-}
-
 /// The files of a table, opened once more for each client.
 #[derive(Drop)]
 pub(crate) struct Again<'f, 'a, 'w, R, N> {
@@ -32,8 +26,8 @@ pub(crate) struct Again<'f, 'a, 'w, R, N> {
     pub watch: &'w N,
 }
 
-impl<'f, 'a, 'w, R: Files<File = File>, N: Watch> Opens<WatchedDisk<'w, N>>
-    for Again<'f, 'a, 'w, R, N> {
+impl<'f, 'a, 'w, R: Files<File = File>, N: Watch> Again<'f, 'a, 'w, R, N> {
+    /// Their devices, or why they cannot be had.
     fn open(&self) -> Result<Devices<WatchedDisk<'w, N>>, Refusal> {
         match open_unlocked(self.rt, self.table, self.watch) {
             Ok(devices) => Ok(devices),
@@ -47,18 +41,19 @@ type Slot<'t, D, P> = Mutex<Option<Client<'t, D, P>>>;
 
 /// Has a client of a target play, and others in lanes beside it; where a suspend is to come, all are taken back and the target is suspended.
 pub(crate) fn played<
+    'w,
     T: Threads + Wait + Sync,
-    D: Disk + Drop + Send,
     P: Policy + Send,
-    O: Opens<D>,
+    R: Files<File = File>,
+    N: Watch + Sync,
     L: Lanes + Sync,
     V: Play,
 >(
     waits: &T,
     alloc: Global,
     target: &Target<P>,
-    devices: Devices<D>,
-    opens: &O,
+    devices: Devices<WatchedDisk<'w, N>>,
+    again: &Again<'_, '_, 'w, R, N>,
     lanes: &L,
     play: &mut V,
 ) -> Result<(), Refusal> {
@@ -70,7 +65,7 @@ pub(crate) fn played<
                 target,
                 &mut client,
                 slots.as_slice(),
-                opens,
+                again,
                 lanes,
                 play,
             ) {
@@ -113,23 +108,24 @@ fn retire_all<'t, T: Wait, D: Disk + Drop, P: Policy>(
 /// Plays; all threads of lanes have ended then. Whether a suspend is to come.
 fn play_in_scope<
     't,
+    'w,
     T: Threads + Wait + Sync,
-    D: Disk + Drop + Send,
     P: Policy + Send,
-    O: Opens<D>,
+    R: Files<File = File>,
+    N: Watch + Sync,
     L: Lanes + Sync,
     V: Play,
 >(
     waits: &T,
     target: &'t Target<P>,
-    client: &mut Client<'t, D, P>,
-    slots: &[Slot<'t, D, P>],
-    opens: &O,
+    client: &mut Client<'t, WatchedDisk<'w, N>, P>,
+    slots: &[Slot<'t, WatchedDisk<'w, N>, P>],
+    again: &Again<'_, '_, 'w, R, N>,
     lanes: &L,
     play: &mut V,
 ) -> bool {
     thread::scope(thread::scope_env(), waits, |scope| {
-        let is_suspend = play_beside(scope, waits, target, client, slots, opens, lanes, play);
+        let is_suspend = play_beside(scope, waits, target, client, slots, again, lanes, play);
         lanes.close(waits);
         is_suspend
     })
@@ -139,20 +135,21 @@ fn play_in_scope<
 fn play_beside<
     's,
     't,
+    'w,
     E,
     T: Threads + Wait + Sync,
-    D: Disk + Drop + Send,
     P: Policy + Send,
-    O: Opens<D>,
+    R: Files<File = File>,
+    N: Watch + Sync,
     L: Lanes + Sync,
     V: Play,
 >(
     scope: &Scope<'s, E>,
     waits: &'s T,
     target: &'t Target<P>,
-    client: &mut Client<'t, D, P>,
-    slots: &'s [Slot<'t, D, P>],
-    opens: &O,
+    client: &mut Client<'t, WatchedDisk<'w, N>, P>,
+    slots: &'s [Slot<'t, WatchedDisk<'w, N>, P>],
+    again: &Again<'_, '_, 'w, R, N>,
     lanes: &'s L,
     play: &mut V,
 ) -> bool {
@@ -160,7 +157,7 @@ fn play_beside<
     for _ in waits.forever() {
         match play.serve(waits, client) {
             Next::Begin(lane) => {
-                match begin(scope, waits, target, slots, opens, lanes, lane) {
+                match begin(scope, waits, target, slots, again, lanes, lane) {
                     Ok(began) => {
                         if let Some(has) = has_thread.get_mut(lane) {
                             *has = began;
@@ -181,25 +178,26 @@ fn play_beside<
 fn begin<
     's,
     't,
+    'w,
     E,
     T: Threads + Wait + Sync,
-    D: Disk + Drop + Send,
     P: Policy + Send,
-    O: Opens<D>,
+    R: Files<File = File>,
+    N: Watch + Sync,
     L: Lanes + Sync,
 >(
     scope: &Scope<'s, E>,
     waits: &'s T,
     target: &'t Target<P>,
-    slots: &'s [Slot<'t, D, P>],
-    opens: &O,
+    slots: &'s [Slot<'t, WatchedDisk<'w, N>, P>],
+    again: &Again<'_, '_, 'w, R, N>,
     lanes: &'s L,
     lane: usize,
 ) -> Result<bool, Refusal> {
     let Some(slot) = slots.get(lane) else {
         return Err(Refusal::Busy);
     };
-    let devices = opens.open()?;
+    let devices = again.open()?;
     match target.client(waits, devices) {
         Ok(client) => {
             *slot.lock(waits) = Some(client);

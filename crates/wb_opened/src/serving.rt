@@ -3,7 +3,7 @@
 ghost use Rattle.std.specs.Prelude.{◌≡◌, ◌≢◌};
 ghost use Rattle.wb_opened.specs.Tables.{name_of};
 
-use crate::lanes::{Again, Opens, played};
+use crate::lanes::{Again, played};
 use crate::opening::{open_devices, open_named, open_target, open_unlocked};
 use crate::play::{Lanes, Play};
 use crate::policies::by_policy;
@@ -50,7 +50,7 @@ pub fn serve_lanes<
         table: &table,
         watch,
     };
-    by_policy!(table.policy, serve_played[T, _, _, L, V](waits, alloc, devices, &table, &again, lanes, play))
+    by_policy!(table.policy, serve_played[T, R, N, L, V](waits, alloc, devices, &again, lanes, play))
 }
 
 /// Opens the cache so, and has several do their services beside one another, each by a client of its own with files of its own and on a
@@ -103,26 +103,26 @@ pub fn serve_each<
 /// Opens the cache of a table on these devices, with a policy of the name that it has, and has a client play, and others in lanes beside it.
 fn serve_played<
     'a,
+    'w,
     P: Policy + Send,
     T: Threads + Wait + Sync,
-    D: Disk + Drop + Send,
-    O: Opens<D>,
+    R: Files<File = File>,
+    N: Watch + Sync,
     L: Lanes + Sync,
     V: Play + Drop,
 >(
     waits: &T,
     alloc: Global,
-    devices: Devices<D>,
-    table: &Table<'a>,
-    opens: &O,
+    devices: Devices<WatchedDisk<'w, N>>,
+    again: &Again<'_, 'a, 'w, R, N>,
     lanes: &L,
     play: V,
 ) -> Result<V::Told, Unserved<'a>>
-    requires policy { P.name ≡ name_of table.now.policy }
+    requires policy { P.name ≡ name_of again.now.table.policy }
 {
-    let (devices, target) = open_target::<P, D>(alloc, devices, table)?;
+    let (devices, target) = open_target::<P, _>(alloc, devices, again.table)?;
     let mut play = play;
-    match played(waits, alloc, &target, devices, opens, lanes, &mut play) {
+    match played(waits, alloc, &target, devices, again, lanes, &mut play) {
         Ok(()) => Ok(play.told()),
         Err(refusal) => Err(Unserved::Refused(refusal)),
     }
