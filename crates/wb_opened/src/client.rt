@@ -1,7 +1,8 @@
 //! A client of a target, as who stands above it sees it.
 
-ghost use Rattle.std.specs.Prelude.{◌≡◌, ◌*◌, IfErr, length};
+ghost use Rattle.std.specs.Prelude.{◌≡◌, ◌*◌, [], IfErr, length};
 ghost use Rattle.wb_opened.specs.Deeds.{ClientDid, ClientWorked};
+ghost use Rattle.wb_target.specs.Messages.{MessageDid};
 ghost use Rattle.wb_target.specs.Works.{WasAsked};
 ghost use Rattle.wb_target.specs.Told.{WereSettled, HadTick, WasNext};
 ghost use Rattle.wb_opened.specs.Inside.{IsInside};
@@ -11,12 +12,12 @@ use std::sync::Wait;
 use wb_disk::Disk;
 use wb_policy::{Order, Policy};
 use wb_target::{Client, Gate, Target};
-use wb_types::{Content, Geometry, Refusal, Sector};
+use wb_types::{Content, Geometry, Message, Refusal, Sector};
 
 impl<'t, D: Disk + Drop, P: Policy> Served for Client<'t, D, P> {
     ghost sizes = { λ client. client.port.geometry };
 
-    ghost did = { ClientDid D.tells D.size D.contents D.faults (WasAsked P.with_entry P.without_entry) (WereSettled P.ordered P.settled) (HadTick P.cleaned P.ticked) (WasNext P) };
+    ghost did = { ClientDid D.tells D.size D.contents D.faults (WasAsked P.with_entry P.without_entry) (WereSettled P.ordered P.settled) (HadTick P.cleaned P.ticked) (WasNext P) (MessageDid P.with_setting (WasAsked P.with_entry P.without_entry [])) };
 
     ghost worked = { λ {G} answers gate. ClientWorked D.tells D.size D.contents D.faults (WasAsked P.with_entry P.without_entry) (WasNext P) answers gate };
 
@@ -83,6 +84,10 @@ impl<'t, D: Disk + Drop, P: Policy> Served for Client<'t, D, P> {
             Ok(_) => Ok(()),
             Err(refusal) => Err(refusal),
         }
+    }
+
+    fn message<R: Wait>(&mut self, rt: &R, message: &Message) -> Result<(), Refusal> {
+        Client::message(self, rt, message)
     }
 
     fn work_one<R: Wait>(&mut self, rt: &R) -> Result<Option<Order>, Refusal> {

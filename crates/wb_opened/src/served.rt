@@ -5,7 +5,7 @@ ghost use Rattle.std.specs.Bool.{OnTrue};
 ghost use Rattle.wb_types.specs.declared.geometry.Geometry.{Geometry as Sizes};
 ghost use Rattle.wb_target.specs.declared.gate.Point.{Point as WorkPoint};
 ghost use Rattle.wb_target.specs.Workers.{IsFailure};
-ghost use Rattle.wb_opened.specs.Deeds.{Deed, Read, Wrote, WroteDurably, TriedRead, TriedWrite, Settled, Flushed, Ticked, Worked};
+ghost use Rattle.wb_opened.specs.Deeds.{Deed, Read, Wrote, WroteDurably, TriedRead, TriedWrite, Settled, Flushed, Ticked, Worked, Messaged, MayRefuse};
 ghost use Rattle.wb_table.specs.Status.{status_line};
 ghost use Rattle.wb_table.specs.declared.status.Fields.{Fields};
 ghost use Rattle.wb_opened.specs.Inside.{IsInside};
@@ -13,7 +13,7 @@ ghost use Rattle.wb_opened.specs.Inside.{IsInside};
 use std::sync::Wait;
 use wb_policy::Order;
 use wb_target::Gate;
-use wb_types::{Content, Geometry, Refusal, Sector};
+use wb_types::{Content, Geometry, Message, Refusal, Sector};
 
 /// An opened target, by one of its clients.
 pub trait Served {
@@ -79,6 +79,15 @@ pub trait Served {
     /// The policy's tick, and then a flush, refused as that.
     fn tick<R: Wait>(&mut self, rt: &R) -> Result<(), Refusal>
         ensures { OnOk result (did self.old Ticked self.new) };
+
+    /// Does what a message asks for, and settles nothing: a setting gets a value, or the blocks in ranges of cache blocks leave the cache.
+    ///
+    /// `BadMessage` for a value out of range, a key that the policy does not have, or ranges that are empty or go past the cache's end;
+    /// `WrongMode` for ranges outside passthrough; `Failed`. Nothing changed then, but that blocks before one that met the failure have left.
+    fn message<R: Wait>(&mut self, rt: &R, message: &Message) -> Result<(), Refusal>
+        ensures done { OnOk result (did self.old (Messaged message.now) self.new) }
+        ensures refused { IfErr result (MayRefuse (sizes self.old) message.now) }
+        ensures sizes { sizes self.new ≡ sizes self.old };
 
     /// Carries out the order that waits longest, if any, and says which: `Failed`, `Io`, `Memory`, and `GenerationEnd`.
     fn work_one<R: Wait>(&mut self, rt: &R) -> Result<Option<Order>, Refusal>
