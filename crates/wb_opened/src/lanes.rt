@@ -1,6 +1,6 @@
 //! Clients of a target that begin as they are asked for, each with devices of its own and on a thread of its own.
 
-ghost use Rattle.std.specs.Prelude.{◌≡◌};
+ghost use Rattle.std.specs.Thread.{IsSend, IsSync};
 
 use crate::opening::open_unlocked;
 use crate::play::{LANES, Lanes, Next, Play};
@@ -57,23 +57,18 @@ pub(crate) fn played<
     lanes: &L,
     play: &mut V,
 ) -> Result<(), Refusal> {
-    let slots = slots_of(alloc).map_err(|_| Refusal::Memory)?;
     match target.client(waits, devices) {
         Ok(mut client) => {
-            if play_in_scope(
-                waits,
-                target,
-                &mut client,
-                slots.as_slice(),
-                again,
-                lanes,
-                play,
-            ) {
+            let slots = slots_of(alloc).map_err(|_| Refusal::Memory)?;
+            let lent = slots.as_slice();
+            if play_in_scope(waits, target, &mut client, lent, again, lanes, play) {
                 let devices = target.retire(waits, client);
                 retire_all(waits, target, slots);
                 let (devices, suspended) = target.suspend(waits, devices);
                 play.go_on(waits, suspended, target);
                 drop(devices);
+            } else {
+                let_go(slots);
             }
             Ok(())
         }
@@ -105,6 +100,11 @@ fn retire_all<'t, T: Wait, D: Disk + Drop, P: Policy>(
     }
 }
 
+/// Lets the clients of all lanes go, whose accesses are not settled then.
+fn let_go<'t, D: Disk + Drop, P: Policy>(slots: Vec<Slot<'t, D, P>>) {
+    drop(slots);
+}
+
 /// Plays; all threads of lanes have ended then. Whether a suspend is to come.
 fn play_in_scope<
     't,
@@ -124,11 +124,17 @@ fn play_in_scope<
     lanes: &L,
     play: &mut V,
 ) -> bool {
-    thread::scope(thread::scope_env(), waits, |scope| {
-        let is_suspend = play_beside(scope, waits, target, client, slots, again, lanes, play);
-        lanes.close(waits);
-        is_suspend
-    })
+    thread::scope(
+        thread::scope_env(),
+        waits,
+        |scope| -> bool
+            requires { IsSend P.row × IsSync T.row × IsSync N.row × IsSync L.row }
+        {
+            let is_suspend = play_beside(scope, waits, target, client, slots, again, lanes, play);
+            lanes.close(waits);
+            is_suspend
+        },
+    )
 }
 
 /// Plays, and begins lanes as they are asked for. Whether a suspend is to come.

@@ -118,7 +118,7 @@ fn serve_played<
     lanes: &L,
     play: V,
 ) -> Result<V::Told, Unserved<'a>>
-    requires policy { P.name ≡ name_of again.now.table.policy }
+    requires policy { P.name ≡ name_of again.now.table.now.policy }
 {
     let (devices, target) = open_target::<P, _>(alloc, devices, again.table)?;
     let mut play = play;

@@ -28,9 +28,9 @@ spawn-requires-send-F g c κs within =
     let l = c.type_bounds.sync-L in
     let p = port.the_send (param 2 g.row.D) c.type_bounds.send-D in
     let client : IsSend (Client.the_row (record { mir = named 7; lft = κs.1.1.1.1.1.1.1.0 }) (param 2 g.row.D) (param 3 g.row.P) g.P.Policy) =
-        declared_send (Client.the_type (record { mir = named 7; lft = κs.1.1.1.1.1.1.1.0 }) (param 2 g.row.D) (param 3 g.row.P) g.P.Policy) (search (sendable, t), (search (sendable, p), tt)) in
+    declared_send (Client.the_type (record { mir = named 7; lft = κs.1.1.1.1.1.1.1.0 }) (param 2 g.row.D) (param 3 g.row.P) g.P.Policy) (search (sendable, t), (search (sendable, p), tt)) in
     let slot : IsSync (Mutex.the_row (Option.the_row (Client.the_row (record { mir = named 7; lft = κs.1.1.1.1.1.1.1.0 }) (param 2 g.row.D) (param 3 g.row.P) g.P.Policy))) =
-        search (sendable, crosses, option.the_send _ client) in
+    search (sendable, crosses, option.the_send _ client) in
     let A : RattleType = (shr_ref_field (record { mir = named 5; lft = κs.1.1.1.1.1.0 }) (param 1 g.row.T) tt).row in
     let B : RattleType = (shr_ref_field (record { mir = named 6; lft = κs.1.1.1.1.1.1.0 }) (Mutex.the_row (Option.the_row (Client.the_row (record { mir = named 7; lft = κs.1.1.1.1.1.1.1.0 }) (param 2 g.row.D) (param 3 g.row.P) g.P.Policy))) tt).row in
     let C : RattleType = (shr_ref_field (record { mir = named 8; lft = κs.1.1.1.1.1.1.1.1.0 }) (param 4 g.row.L) tt).row in
