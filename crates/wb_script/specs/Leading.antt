@@ -1,5 +1,5 @@
 -- Answers of clients beside the first, as they are printed at a join.
-use Rattle.std.specs.Prelude.{◌≡◌, ◌==◌, ◌+◌, ◌-◌, ◌^◌, ◌++◌, ℕ, suc, zero, min, Bool, true, false, List, [], ◌∷◌, codes}
+use Rattle.std.specs.Prelude.{◌==◌, ◌+◌, ◌-◌, ◌^◌, ◌++◌, ℕ, suc, zero, min, Bool, true, false, List, [], ◌∷◌, codes}
 
 -- what leads each line of a client: '@', its digit, a space
 abbrev pub lead_of : ℕ → List ℕ

@@ -1,5 +1,4 @@
-use Rattle.std.proofs.Common.{rules, sym, ap, ◌∙◌}
-use Rattle.wb_script.specs.Joining.{joined}
+use Rattle.std.proofs.Common.{rules}
 use Rattle.wb_script.proofs.Pieces.{one_of_all}
 use Rattle.wb_script.proofs.printing.print_all.Goals as goal
 
