@@ -3,13 +3,16 @@
 
 mod client;
 mod difference;
+mod lanes;
 mod opening;
+mod play;
 mod policies;
 mod served;
 mod serving;
 mod unserved;
 
 pub use difference::Difference;
+pub use play::{LANES, Lanes, Next, Play};
 pub use served::{Served, Service, Shown, Visit};
-pub use serving::{serve_all, serve_alone, serve_each};
+pub use serving::{serve_all, serve_each, serve_lanes};
 pub use unserved::Unserved;

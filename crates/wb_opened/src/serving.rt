@@ -3,9 +3,11 @@
 ghost use Rattle.std.specs.Prelude.{◌≡◌, ◌≢◌};
 ghost use Rattle.wb_opened.specs.Tables.{name_of};
 
+use crate::lanes::{Again, played};
 use crate::opening::{open_devices, open_named, open_target, open_unlocked};
-use crate::policies::{serve_first, serve_on, serve_rest};
-use crate::served::{Served, Service, Visit};
+use crate::play::{Lanes, Play};
+use crate::policies::by_policy;
+use crate::served::{Served, Service};
 use crate::unserved::Unserved;
 use std::alloc::{AllocError, Global};
 use std::fs::File;
@@ -20,24 +22,38 @@ use wb_table::Table;
 use wb_target::{Client, Errand, Returned, Sent, Target};
 use wb_types::Refusal;
 
-/// Opens the cache over the files of a table, in its mode and with its policy, and has one client do what a visit is for: what it told. The
-/// files are locked as long, and who watches is told of each step on them that fails. Without a suspend nothing is flushed at the end,
-/// which leaves the cache without the clean flag.
+/// Opens the cache over the files of a table, in its mode and with its policy, and has a first client play, and others in lanes beside
+/// it: what it told. Each has files of its own, opened as it begins, and those of the lanes a thread of their own; where none can be made,
+/// what waits for a lane is done as the first client asks for it. The files are locked as long, and who watches is told of each step on
+/// them that fails. Without a suspend nothing is flushed at the end, which leaves the cache without the clean flag.
 ///
 /// An error where the files cannot serve, the opening is refused or there is no memory for a client.
-pub fn serve_alone<'a, R: Files<File = File>, T: Wait, N: Watch, V: Visit + Drop>(
+pub fn serve_lanes<
+    'a,
+    R: Files<File = File>,
+    T: Threads + Wait + Sync,
+    N: Watch + Sync,
+    L: Lanes + Sync,
+    V: Play + Drop,
+>(
     rt: &R,
     waits: &T,
     alloc: Global,
     table: &'a str,
     watch: &N,
-    visit: V,
+    lanes: &L,
+    play: V,
 ) -> Result<V::Told, Unserved<'a>> {
     let (table, devices) = open_devices(rt, table, &mut Hurry, watch)?;
-    serve_on(waits, alloc, devices, &table, visit)
+    let again = Again {
+        rt,
+        table: &table,
+        watch,
+    };
+    by_policy!(table.policy, serve_played[T, R, N, L, V](waits, alloc, devices, &again, lanes, play))
 }
 
-/// As `serve_alone`, by several who do their services beside one another, each by a client of its own with files of its own and on a
+/// Opens the cache so, and has several do their services beside one another, each by a client of its own with files of its own and on a
 /// thread of its own; where no thread can be made, one is done after the other, the last of them first. What each told, in order, or why
 /// it had no client; then the target is suspended, which leaves the cache clean, or that is refused. Files that another program holds are
 /// waited for as long as there is patience.
@@ -59,7 +75,7 @@ pub fn serve_all<
 ) -> Result<(Vec<Result<S::Told, Refusal>>, Result<(), Refusal>), Unserved<'a>> {
     let (table, devices) = open_devices(rt, table, patience, watch)?;
     let errands = errands_of(rt, alloc, &table, watch, services)?;
-    serve_rest(waits, alloc, devices, &table, errands)
+    by_policy!(table.policy, serve_several[T, _, S](waits, alloc, devices, &table, errands))
 }
 
 /// Opens the cache over the files of a table that was read, has one client do a service, and then several, each with files of its
@@ -81,46 +97,34 @@ pub fn serve_each<
     let watch = Unwatched;
     let devices = open_named(rt, table, &watch)?;
     let errands = errands_of(rt, alloc, table, &watch, services)?;
-    serve_first(waits, alloc, devices, table, first, errands)
+    by_policy!(table.policy, serve_one_and_several[T, _, F, S](waits, alloc, devices, table, first, errands))
 }
 
-/// Opens the cache of a table on these devices, with a policy of the name that it has, and has one client do what a visit is for; where a
-/// suspend is to come, the client is taken back and the target suspended.
-pub(crate) fn serve_one<'a, P: Policy, T: Wait, D: Disk + Drop, V: Visit + Drop>(
+/// Opens the cache of a table on these devices, with a policy of the name that it has, and has a client play, and others in lanes beside it.
+fn serve_played<
+    'a,
+    'w,
+    P: Policy + Send,
+    T: Threads + Wait + Sync,
+    R: Files<File = File>,
+    N: Watch + Sync,
+    L: Lanes + Sync,
+    V: Play + Drop,
+>(
     waits: &T,
     alloc: Global,
-    devices: Devices<D>,
-    table: &Table<'a>,
-    visit: V,
+    devices: Devices<WatchedDisk<'w, N>>,
+    again: &Again<'_, 'a, 'w, R, N>,
+    lanes: &L,
+    play: V,
 ) -> Result<V::Told, Unserved<'a>>
-    requires policy { P.name ≡ name_of table.now.policy }
+    requires policy { P.name ≡ name_of again.now.table.now.policy }
 {
-    let (devices, target) = open_target::<P, D>(alloc, devices, table)?;
-    let mut visit = visit;
-    match visited(waits, &target, devices, &mut visit) {
-        Ok(()) => Ok(visit.told()),
+    let (devices, target) = open_target::<P, _>(alloc, devices, again.table)?;
+    let mut play = play;
+    match played(waits, alloc, &target, devices, again, lanes, &mut play) {
+        Ok(()) => Ok(play.told()),
         Err(refusal) => Err(Unserved::Refused(refusal)),
-    }
-}
-
-/// Has a client of a target do what a visit is for, and suspends the target where that is to come.
-fn visited<T: Wait, D: Disk + Drop, P: Policy, V: Visit>(
-    waits: &T,
-    target: &Target<P>,
-    devices: Devices<D>,
-    visit: &mut V,
-) -> Result<(), Refusal> {
-    match target.client(waits, devices) {
-        Ok(mut client) => {
-            if visit.serve(waits, &mut client) {
-                let devices = target.retire(waits, client);
-                let (devices, suspended) = target.suspend(waits, devices);
-                visit.go_on(waits, suspended, target);
-                drop(devices);
-            }
-            Ok(())
-        }
-        Err((_, refusal)) => Err(refusal),
     }
 }
 
@@ -139,7 +143,7 @@ fn serve_by<T: Wait, D: Disk + Drop, P: Policy, S: Service + Drop>(
 
 /// Opens the cache of a table so on these devices, which are kept open as long, has clients do services beside one another, and suspends
 /// the target once all are back.
-pub(crate) fn serve_several<
+fn serve_several<
     'a,
     P: Policy + Send,
     T: Threads + Wait + Sync,
@@ -165,7 +169,7 @@ pub(crate) fn serve_several<
 }
 
 /// Opens the cache of a table so on these devices, has one client do the first service, and the others theirs beside one another.
-pub(crate) fn serve_one_and_several<
+fn serve_one_and_several<
     'a,
     P: Policy + Send,
     T: Threads + Wait + Sync,
@@ -209,7 +213,7 @@ fn beside_one_another<
 
 /// A service, to be done as an errand.
 #[derive(Drop)]
-pub(crate) struct Doing<S> {
+struct Doing<S> {
     service: S,
 }
 

@@ -35,6 +35,11 @@ A script, one answer a line, is read from standard input:
   status      tell how the cache is, on a line as the kernel's dm-cache does
   flush       make all that was written durable: prints 'ok'
   suspend     the same, and leave the cache clean; behind it only status serves
+  @K LINE     one of w, wf, r, tw, tr, flush, settle by client K, 1 to 8, beside
+              the others and in order there; what it prints comes at a join, a
+              line led by '@K '
+  join        wait for these clients, and print what they answered; the end and
+              suspend do so first
   # ..        nothing; empty lines too
 What is refused prints 'refused <number> <Name>'. What was written is durable
 only after a flush. Status: 0 all was answered, 1 something was refused, 2 the

@@ -1,33 +1,20 @@
 //! A write-back block cache over three files: it formats them, and serves a script.
 #![tactic(auto)]
 
-mod answers;
 mod arguments;
-mod ended;
-mod fill;
-mod format;
-mod given_up;
 mod help;
-mod line;
-mod output;
-mod part;
-mod progress;
-mod reason;
-mod script;
-mod status;
-mod tally;
 
 use crate::arguments::{Asked, read_arguments};
-use crate::ended::Ended;
-use crate::given_up::{Consent, GivenUp};
-use crate::progress::Progress;
 use clap::Error;
 use clap::error::ErrorKind;
 use std::io::{BufReader, IsTerminal, Read};
 use std::process::ExitCode;
 use std::sync::Wait;
+use std::thread::Threads;
 use std::{env, io};
 use wb_files::{Alarm, Awaited, hold_streams};
+use wb_opened::Unserved;
+use wb_script::{Consent, Ended, GivenUp, Progress, format_files, refused, run};
 use wb_types::Refusal;
 
 /// What is asked of who calls the program otherwise.
@@ -44,8 +31,8 @@ fn main(rt: HostRuntime) -> ExitCode {
     }
 }
 
-/// Does what the arguments ask, and gives the exit status. Who waits does so by the second handle.
-fn serve<T: Wait>(rt: &HostRuntime, waits: &T) -> u8 {
+/// Does what the arguments ask, and gives the exit status. Who waits or starts threads does so by the second handle.
+fn serve<T: Threads + Wait + Sync>(rt: &HostRuntime, waits: &T) -> u8 {
     let alloc = rt.alloc();
     let Ok(words) = env::args(rt) else {
         return usage(rt);
@@ -61,7 +48,7 @@ fn serve<T: Wait>(rt: &HostRuntime, waits: &T) -> u8 {
     let alarm = Alarm::new(rt, "wbcache");
     let ended = match asked {
         Asked::Format(table, consents) => {
-            format::format_files(
+            format_files(
                 rt,
                 alloc,
                 table,
@@ -72,7 +59,7 @@ fn serve<T: Wait>(rt: &HostRuntime, waits: &T) -> u8 {
         }
         Asked::Run(table) => match BufReader::new(alloc, awaited(rt, rt.reader())) {
             Ok(mut reader) => {
-                script::run(
+                run(
                     rt,
                     waits,
                     alloc,
@@ -158,5 +145,6 @@ fn usage<R: Eprint>(rt: &R) -> u8 {
 
 /// Says that not even a script can be begun.
 fn no_memory<R: AllocGlobal + Print>(rt: &R) -> u8 {
-    output::exit_code(output::refuse(rt.alloc(), Refusal::Memory, &mut io::writer(rt)))
+    let unserved = Unserved::Refused(Refusal::Memory);
+    refused(rt.alloc(), unserved, &mut io::writer(rt)).code
 }

@@ -1,0 +1,244 @@
+//! What a client answers to what it is asked.
+
+ghost use Rattle.std.specs.Prelude.{◌≡◌, ◌<◌, ◌≤◌, ◌+◌, ◌*◌, IfOk, IfErr, OnErr, IsErrOf, length, replicate};
+ghost use Rattle.wb_opened.specs.Inside.{IsInside};
+ghost use Rattle.wb_script.specs.Request.{AsksForSectors, AsksInside};
+
+use crate::fill::Fill;
+use crate::line::Call;
+use crate::part::first_part;
+use crate::progress::Paced;
+use std::alloc::Global;
+use std::fmt::Write;
+use std::sync::Wait;
+use wb_opened::Served;
+use wb_policy::Order;
+use wb_types::{CBlock, Content, Geometry, OBlock, Refusal, SECTOR_BYTES, Sector};
+
+/// Does what a client is asked, and adds what is answered to the text. After a refusal the text may have what was read so far;
+/// finished blocks of a write stay.
+///
+/// `Range` for no sector, or one outside the origin; `Crosses` for sectors of more than one block, where one alone may be asked
+/// for; `Defer` where too many accesses are unsettled; `Busy` where a block is in use; `Io` where a step failed, `Failed` after a
+/// write or sync that failed so, `Memory` where there is none, and `GenerationEnd` where no further commit can be.
+pub fn answer<R: Wait, C: Served, P: Paced>(
+    rt: &R,
+    alloc: Global,
+    client: &mut C,
+    asked: Call,
+    text: &mut String,
+    progress: &mut P,
+) -> Result<(), Refusal>
+    ensures outside { AsksForSectors asked → ¬ AsksInside asked ((C.sizes client.old).block * (C.sizes client.old).origin_blocks) → IsErrOf result Refusal.Range }
+    ensures inside { AsksForSectors asked → IsErrOf result Refusal.Range → ¬ AsksInside asked ((C.sizes client.old).block * (C.sizes client.old).origin_blocks) }
+{
+    match asked {
+        Call::Read { at, count } => return read(rt, alloc, client, at, count, text, progress),
+        Call::TryRead { at, count } => return try_read(alloc, client, at, count, text),
+        Call::Write { at, count, fill } => {
+            write(rt, alloc, client, at, count, fill, false, progress)?
+        }
+        Call::WriteDurably { at, count, fill } => {
+            write(rt, alloc, client, at, count, fill, true, progress)?
+        }
+        Call::TryWrite { at, count, fill } => try_write(alloc, client, at, count, fill)?,
+        Call::Settle => client.settle(rt),
+        Call::Flush => client.flush(rt)?,
+    }
+    done(text)
+}
+
+/// Adds that something was done.
+pub fn done(text: &mut String) -> Result<(), Refusal>
+    ensures refused { IfErr result (λ refusal. refusal ≡ Refusal.Memory) }
+{
+    text.push_str("ok\n")?;
+    Ok(())
+}
+
+/// Reads block by block.
+#[tactic(auto, using(crate::proofs::Ranges::not_refused))]
+fn read<R: Wait, C: Served, P: Paced>(
+    rt: &R,
+    alloc: Global,
+    client: &mut C,
+    at: Sector,
+    count: u64,
+    text: &mut String,
+    progress: &mut P,
+) -> Result<(), Refusal>
+    ensures outside { ¬ IsInside at.0 count ((C.sizes client.old).block * (C.sizes client.old).origin_blocks) → IsErrOf result Refusal.Range }
+    ensures inside { IsErrOf result Refusal.Range → ¬ IsInside at.0 count ((C.sizes client.old).block * (C.sizes client.old).origin_blocks) }
+{
+    let geometry = client.geometry();
+    let end = end_of(&geometry, at, count)?;
+    progress.begin();
+    let Sector(mut first) = at;
+    while first < end {
+        let part = first_part(geometry.block, first, end);
+        let mut contents = filled(alloc, part.count, 0)?;
+        client.read(rt, Sector(first), contents.as_mut_slice())?;
+        show(first, contents.as_slice(), text)?;
+        first += part.count;
+        progress.reach(count.saturating_sub(end - first), count);
+    }
+    Ok(())
+}
+
+/// Writes block by block; where it is to be durable, the last block is followed by a flush.
+#[tactic(auto, using(crate::proofs::Ranges::not_refused))]
+fn write<R: Wait, C: Served, P: Paced>(
+    rt: &R,
+    alloc: Global,
+    client: &mut C,
+    at: Sector,
+    count: u64,
+    fill: u8,
+    is_durable: bool,
+    progress: &mut P,
+) -> Result<(), Refusal>
+    ensures outside { ¬ IsInside at.0 count ((C.sizes client.old).block * (C.sizes client.old).origin_blocks) → IsErrOf result Refusal.Range }
+    ensures inside { IsErrOf result Refusal.Range → ¬ IsInside at.0 count ((C.sizes client.old).block * (C.sizes client.old).origin_blocks) }
+{
+    let geometry = client.geometry();
+    let end = end_of(&geometry, at, count)?;
+    progress.begin();
+    let Sector(mut first) = at;
+    while first < end {
+        let part = first_part(geometry.block, first, end);
+        let contents = filled(alloc, part.count, fill)?;
+        if is_durable && first + part.count == end {
+            client.write_fua(rt, Sector(first), contents.as_slice())?;
+        } else {
+            client.write(rt, Sector(first), contents.as_slice())?;
+        }
+        first += part.count;
+        progress.reach(count.saturating_sub(end - first), count);
+    }
+    Ok(())
+}
+
+/// Reads sectors of one block, if that can be had without waiting.
+#[tactic(auto, using(crate::proofs::Ranges::not_refused))]
+fn try_read<C: Served>(
+    alloc: Global,
+    client: &mut C,
+    at: Sector,
+    count: u64,
+    text: &mut String,
+) -> Result<(), Refusal>
+    ensures outside { ¬ IsInside at.0 count ((C.sizes client.old).block * (C.sizes client.old).origin_blocks) → IsErrOf result Refusal.Range }
+    ensures inside { IsErrOf result Refusal.Range → ¬ IsInside at.0 count ((C.sizes client.old).block * (C.sizes client.old).origin_blocks) }
+{
+    in_one_block(&client.geometry(), at, count)?;
+    let mut contents = filled(alloc, count, 0)?;
+    client.try_read(at, contents.as_mut_slice())?;
+    let Sector(first) = at;
+    show(first, contents.as_slice(), text)
+}
+
+/// Writes sectors of one block, if that can be done without waiting.
+#[tactic(auto, using(crate::proofs::Ranges::not_refused))]
+fn try_write<C: Served>(
+    alloc: Global,
+    client: &mut C,
+    at: Sector,
+    count: u64,
+    fill: u8,
+) -> Result<(), Refusal>
+    ensures outside { ¬ IsInside at.0 count ((C.sizes client.old).block * (C.sizes client.old).origin_blocks) → IsErrOf result Refusal.Range }
+    ensures inside { IsErrOf result Refusal.Range → ¬ IsInside at.0 count ((C.sizes client.old).block * (C.sizes client.old).origin_blocks) }
+{
+    in_one_block(&client.geometry(), at, count)?;
+    let contents = filled(alloc, count, fill)?;
+    client.try_write(at, contents.as_slice())
+}
+
+/// Tells how the cache is, on a line.
+pub fn status<R: Wait, C: Served>(rt: &R, client: &C, text: &mut String) -> Result<(), Refusal> {
+    client.status(rt, text)?;
+    text.push_str("\n")?;
+    Ok(())
+}
+
+/// Carries out an order, if any waits, and says which.
+pub fn work<R: Wait, C: Served>(rt: &R, client: &mut C, text: &mut String) -> Result<(), Refusal> {
+    let Some(order) = client.work_one(rt)? else {
+        text.push_str("idle\n")?;
+        return Ok(());
+    };
+    match order {
+        Order::Promote(OBlock(b), CBlock(c)) => writeln!(text, "promoted {b} to {c}")?,
+        Order::Replace(OBlock(v), OBlock(x), CBlock(c)) => {
+            writeln!(text, "replaced {v} by {x} at {c}")?
+        }
+        Order::Demote(OBlock(b)) => writeln!(text, "demoted {b}")?,
+        Order::Clean(OBlock(b)) => writeln!(text, "cleaned {b}")?,
+    }
+    Ok(())
+}
+
+/// So many sectors that are filled with this byte.
+fn filled(alloc: Global, count: u64, fill: u8) -> Result<Vec<Content>, Refusal>
+    ensures filled { IfOk result (λ contents. contents.items ≡ replicate count (replicate 512 fill)) }
+    ensures many { IfOk result (λ contents. length contents.items ≡ count) }
+    ensures refused { IfErr result (λ refusal. refusal ≡ Refusal.Memory) }
+{
+    let mut contents = Vec::new(alloc);
+    contents.resize(count as usize, [fill; SECTOR_BYTES])?;
+    Ok(contents)
+}
+
+/// Adds a line `<sector> <fill>` for each of these sectors, from `first` on.
+fn show(first: u64, contents: &[Content], text: &mut String) -> Result<(), Refusal>
+    ensures refused { IfErr result (λ refusal. refusal ≡ Refusal.Memory) }
+{
+    let mut sector = first;
+    for content in contents {
+        let fill = Fill::of(content);
+        writeln!(text, "{sector} {fill}")?;
+        sector = sector.saturating_add(1);
+    }
+    Ok(())
+}
+
+/// The sector after the last of a request; `Range` for no sector, or one outside the origin.
+fn end_of(geometry: &Geometry, at: Sector, count: u64) -> Result<u64, Refusal>
+    ensures end { IfOk result (λ end. end ≡ at.0 + count) }
+    ensures some { IfOk result (λ end. at.0 < end) }
+    ensures inside { IfOk result (λ end. end ≤ geometry.now.block * geometry.now.origin_blocks) }
+    ensures refused { IfErr result (λ refusal. refusal ≡ Refusal.Range) }
+    ensures outside { OnErr result (¬ IsInside at.0 count (geometry.now.block * geometry.now.origin_blocks)) }
+{
+    let Sector(first) = at;
+    let sectors = geometry.origin_sectors();
+    if count == 0 || first >= sectors || count > sectors - first {
+        return Err(Refusal::Range);
+    }
+    Ok(first + count)
+}
+
+/// `Range` as `end_of`, and `Crosses` for sectors of more than one block: before there is a buffer for them.
+fn in_one_block(geometry: &Geometry, at: Sector, count: u64) -> Result<(), Refusal>
+    ensures outside { ¬ IsInside at.0 count (geometry.now.block * geometry.now.origin_blocks) → IsErrOf result Refusal.Range }
+    ensures inside { IsErrOf result Refusal.Range → ¬ IsInside at.0 count (geometry.now.block * geometry.now.origin_blocks) }
+{
+    end_of(geometry, at, count)?;
+    let Sector(first) = at;
+    let size = u64::from(geometry.block);
+    if first % size + count > size {
+        return Err(Refusal::Crosses);
+    }
+    Ok(())
+}
+
+/// How many lines an answer may have: one, or one for each sector that is read.
+pub fn most_lines(geometry: &Geometry, asked: Call) -> u64
+    ensures { 0 < result }
+{
+    match asked {
+        Call::Read { at, count } if end_of(geometry, at, count).is_ok() => count.max(1),
+        Call::TryRead { at, count } if in_one_block(geometry, at, count).is_ok() => count.max(1),
+        _ => 1,
+    }
+}

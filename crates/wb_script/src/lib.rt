@@ -1,0 +1,27 @@
+//! Scripts over a reader and a writer, played on a target of files, and the formatting of its metadata.
+#![tactic(auto)]
+
+mod answers;
+mod ended;
+mod fill;
+mod format;
+mod given_up;
+mod lane;
+mod line;
+mod output;
+mod part;
+mod printing;
+mod progress;
+mod queue;
+mod queueing;
+mod reason;
+mod script;
+mod status;
+mod tally;
+mod told;
+
+pub use ended::{Ended, refused};
+pub use format::format_files;
+pub use given_up::{Consent, GivenUp};
+pub use progress::Progress;
+pub use script::run;

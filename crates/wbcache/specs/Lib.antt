@@ -1,4 +1,0 @@
-pub mod Line
-pub mod Request
-pub mod Fill
-pub mod Exit
