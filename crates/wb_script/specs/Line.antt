@@ -7,7 +7,7 @@ use Rattle.wb_table.specs.Sectors.{SpellsSectors, SpellsFill}
 use Rattle.wb_script.specs.declared.line.Call.{Call}
 use Rattle.wb_script.specs.declared.line.Call.TheVariants.{Read, Write, WriteDurably, TryRead, TryWrite, Flush, Settle}
 use Rattle.wb_script.specs.declared.line.Line.{Line}
-use Rattle.wb_script.specs.declared.line.Line.TheVariants.{Nothing, Asks, Beside, Work, Tick, Status, Suspend, Join}
+use Rattle.wb_script.specs.declared.line.Line.TheVariants.{Nothing, Asks, Beside, Work, Tick, Status, Message, Suspend, Join}
 
 -- The words that ask this of a client: one that names the call, or `r`, `tr`, `w`, `wf`, `tw` and what they take.
 abbrev pub WordsAsk : List (List ℕ) → Call → Type 0
@@ -24,7 +24,7 @@ WordsAsk words call = ⊥
 abbrev pub NamesClient : List ℕ → ℕ → Type 0
 NamesClient word client = (0 < client) × (client ≤ 8) × (word ≡ 64 ∷ (client + 48) ∷ [])
 
--- The words of a line: none, what the first client is asked, what one beside it is asked, or one word that names what is done.
+-- The words of a line: none, what the first client is asked, what one beside it is asked, `message` and any words, or one word that names what is done.
 abbrev pub WordsSay : List (List ℕ) → Line → Type 0
 WordsSay [] Nothing = Unit {0}
 WordsSay words (Asks call) = WordsAsk words call
@@ -32,6 +32,7 @@ WordsSay (name ∷ words) (Beside client call) = NamesClient name client × Word
 WordsSay (name ∷ words) Work = (name ≡ codes "work") × (words ≡ [])
 WordsSay (name ∷ words) Tick = (name ≡ codes "tick") × (words ≡ [])
 WordsSay (name ∷ words) Status = (name ≡ codes "status") × (words ≡ [])
+WordsSay (name ∷ words) Message = name ≡ codes "message"
 WordsSay (name ∷ words) Suspend = (name ≡ codes "suspend") × (words ≡ [])
 WordsSay (name ∷ words) Join = (name ≡ codes "join") × (words ≡ [])
 WordsSay words line = ⊥

@@ -1,6 +1,10 @@
 //! What a client answers to what it is asked.
 
-ghost use Rattle.std.specs.Prelude.{◌≡◌, ◌<◌, ◌≤◌, ◌+◌, ◌*◌, IfOk, IfErr, OnErr, IsErrOf, length, replicate};
+ghost use Rattle.std.specs.Prelude.{◌≡◌, ◌<◌, ◌≤◌, ◌+◌, ◌*◌, ◌⊎◌, IfOk, IfErr, OnOk, OnErr, IsErrOf, length, replicate};
+ghost use Rattle.wb_table.specs.Messages.{IsMessage};
+ghost use Rattle.wb_table.specs.Words.{words_of};
+ghost use Rattle.wb_types.specs.declared.message.Message.{Message};
+ghost use Rattle.wb_opened.specs.Deeds.{Messaged};
 ghost use Rattle.wb_opened.specs.Inside.{IsInside};
 ghost use Rattle.wb_script.specs.Request.{AsksForSectors, AsksInside};
 
@@ -13,6 +17,7 @@ use std::fmt::Write;
 use std::sync::Wait;
 use wb_opened::Served;
 use wb_policy::Order;
+use wb_table::read_message;
 use wb_types::{CBlock, Content, Geometry, OBlock, Refusal, SECTOR_BYTES, Sector};
 
 /// Does what a client is asked, and adds what is answered to the text. After a refusal the text may have what was read so far;
@@ -46,6 +51,25 @@ pub fn answer<R: Wait, C: Served, P: Paced>(
         Call::Flush => client.flush(rt)?,
     }
     done(text)
+}
+
+/// Has the client do what a message asks for.
+///
+/// `BadMessage` for a text that is no message, or one with values or blocks out of range; `WrongMode` for ranges of cache blocks outside
+/// passthrough; `Failed`, and `Memory` where there is none for the ranges.
+pub fn follow<R: Wait, C: Served>(
+    rt: &R,
+    alloc: Global,
+    client: &mut C,
+    text: &str,
+) -> Result<(), Refusal>
+    ensures done { OnOk result ((message : Message) × IsMessage (words_of text.now) message × C.did client.old (Messaged message) client.new) }
+    ensures unread { ((message : Message) → ¬ IsMessage (words_of text.now) message) → IsErrOf result Refusal.BadMessage ⊎ IsErrOf result Refusal.Memory }
+{
+    match read_message(alloc, text) {
+        Ok(message) => client.message(rt, &message),
+        Err(refusal) => Err(refusal),
+    }
 }
 
 /// Adds that something was done.

@@ -44,6 +44,8 @@ pub enum Line {
     Tick,
     /// `status`: tells how the cache is.
     Status,
+    /// `message TEXT`: gives the target a message, by the first client.
+    Message,
     /// `suspend`: makes all durable, with what is dirty and how often blocks were asked for, and leaves the cache clean.
     Suspend,
     /// `join`: waits for the clients beside the first, and prints what they answered.
@@ -96,6 +98,7 @@ fn read_first(name: &str, words: SplitSpaces<'_>) -> Option<Line>
 {
     match read_call(name, SplitSpaces(words.0)) {
         Some(call) => Some(Line::Asks(call)),
+        None if name == "message" => Some(Line::Message),
         None => read_word(name, words),
     }
 }
@@ -103,6 +106,7 @@ fn read_first(name: &str, words: SplitSpaces<'_>) -> Option<Line>
 /// Reads a line of one word that neither names a client nor asks something of one.
 fn read_word(name: &str, mut words: SplitSpaces<'_>) -> Option<Line>
     requires unnamed { (client : ℕ) → ¬ NamesClient name.now client }
+    requires other { name.now ≢ codes "message" }
     requires unasked { (asked : Asked) → ¬ WordsAsk (name.now ∷ words_of words.0.now) asked }
     ensures found { IfSome result (WordsSay (name.now ∷ words_of words.entry.0.now)) }
     ensures none { IfNone result ((said : Said) → ¬ WordsSay (name.now ∷ words_of words.entry.0.now) said) }

@@ -2,7 +2,7 @@
 
 ghost use Rattle.std.specs.Prelude.{◌<◌};
 
-use crate::answers::{answer, done, most_lines, status, work};
+use crate::answers::{answer, done, follow, most_lines, status, work};
 use crate::ended::{Ended, refused};
 use crate::lane::Beside;
 use crate::line::{Call, Line, read_line};
@@ -18,11 +18,13 @@ use std::alloc::{AllocError, Global};
 use std::fs::File;
 use std::io::{BufRead, ErrorKind, Read, Write};
 use std::rt::Files;
+use std::str;
 use std::sync::Wait;
 use std::thread::Threads;
 use std::time::Clock;
 use wb_files::Watch;
 use wb_opened::{LANES, Next, Play, Served, Shown, Unserved, serve_lanes};
+use wb_table::SplitSpaces;
 use wb_types::Refusal;
 
 /// Room for an answer of one line, made before the first line is read.
@@ -282,6 +284,15 @@ fn answer_line<R: Wait, C: Served, I: BufRead, W: Write, E: Clock + Eprint>(
             script.tally.flushed();
             done(&mut script.text)
         }
+        Line::Message => {
+            follow(
+                rt,
+                script.alloc,
+                client,
+                behind_first_word(script.line.as_slice()),
+            )?;
+            done(&mut script.text)
+        }
         Line::Work => work(rt, client, &mut script.text),
         Line::Status => status(rt, client, &mut script.text),
         _ => Ok(()),
@@ -464,6 +475,13 @@ fn read_input(line: &[u8]) -> Input {
         Some(said) => Input::Says(said),
         None => Input::Bad,
     }
+}
+
+/// What stands behind the first word of a line.
+fn behind_first_word(line: &[u8]) -> &str {
+    let mut words = SplitSpaces(str::from_utf8(without_break(line)).unwrap_or(""));
+    let _ = words.next();
+    words.0
 }
 
 /// A line without its line break, which the last line of a script may lack.

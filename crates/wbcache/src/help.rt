@@ -34,6 +34,8 @@ A script, one answer a line, is read from standard input:
   tick        let it order write-backs, and flush: prints 'ok'
   status      tell how the cache is, on a line as the kernel's dm-cache does
   flush       make all that was written durable: prints 'ok'
+  message M   give the cache a setting or, in passthrough, take blocks out of it:
+              migration_threshold N, promote_min N, or invalidate_cblocks B E-F ..
   suspend     the same, and leave the cache clean; behind it only status serves
   @K LINE     one of w, wf, r, tw, tr, flush, settle by client K, 1 to 8, beside
               the others and in order there; what it prints comes at a join, a
