@@ -110,7 +110,7 @@ flushed is lost then'
 has 'and of locks' "$said" 'are locked as long as it runs'
 has 'and of ends' "$said" 'To stop it in order, end the client.'
 echo | serve --wait x "$table"
-check 'a wait of no number' "$(status) $(cat told.txt)" '2 usage: wbnbd [-q] [--wait SECONDS] TABLE'
+check 'a wait of no number' "$(status) $(cat told.txt)" '2 usage: wbnbd [-q] [--wait SECONDS] [--control FILE] TABLE'
 
 # --- Files that cannot serve.
 truncate -s 0 n.img

@@ -37,6 +37,7 @@ if test $# != 3; then
 fi
 call "$top/scripts/check-nbd.sh" "$cache" "$server"
 call "$top/scripts/check-replays.sh" "$cache"
+call "$top/scripts/check-clients.sh" "$cache"
 cd "$work" || exit 1
 blank() { # files of zeros
   rm -f m.img c.img o.img
