@@ -13,6 +13,7 @@ mod files;
 mod fixture;
 #[cfg(test)]
 mod memory;
+#[cfg(test)]
 mod messages;
 #[cfg(test)]
 mod modes;
