@@ -1,9 +1,12 @@
--- What a clerk writes down who sees the records, and what an opening shows: the write history of each sector, which of its
--- entries are finished, how far a crash may go back, and what each actor has been told to do. No device, word, task phase,
+-- What a clerk writes down who sees the records, what an opening shows, and in which mode a target was opened: the write history of each sector, which
+-- of its entries are finished, how far a crash may go back, and what each actor has been told to do. No device, word, task phase,
 -- desk or metadata stands in it, nor how a job's sectors were cut.
-use Rattle.std.specs.Prelude.{◌+◌, ◌*◌, ◌/◌, ◌%◌, ℕ, suc, List, [], ◌∷◌, ◌++◌, Option, Some, None, map, replicate, length, slice_get, slice_set, max, unwrap_or}
+use Rattle.std.specs.Prelude.{◌+◌, ◌*◌, ◌/◌, ◌%◌, ℕ, Bool, true, false, cond, suc, List, [], ◌∷◌, ◌++◌, Option, Some, None, map, replicate, length, slice_get, slice_set, max, unwrap_or}
 use Rattle.wb_types.specs.declared.extent.Extent.{Extent}
+use Rattle.wb_types.specs.declared.mode.Mode.{Mode}
+use Rattle.wb_types.specs.declared.mode.Mode.TheVariants.{Writethrough}
 use Rattle.wb_types.specs.declared.mode.Dev.{Dev}
+use Rattle.wb_types.specs.declared.mode.Dev.TheVariants.{Cache}
 use Rattle.wb_types.specs.Extents.{rising}
 use Rattle.wb_disk.specs.Device.{Content as Bytes, History, newest, only, written}
 use Rattle.wb_disk.specs.Memory.{blank}
@@ -138,13 +141,18 @@ entering n doing = record { histories = n.histories; entered = doing.entered }
 abbrev pub write_note : Notes → ℕ → Doing → Entering → Notes
 write_note n a doing e = record n { histories = e.histories; doings = slice_set n.doings a (Some (record doing { entered = e.entered })) }
 
--- A step on a device. A read notes each sector that it was given; a write enters each sector of its extent at that step,
--- failing or not.
-abbrev pub device_note : Shape → Notes → ℕ → Doing → Job → DeviceStep → Got → List Bytes → Notes
-device_note shape n a doing (Read extent) (ReadExtent device e) Done read = read_note n a doing (sector_for shape extent e) read
-device_note shape n a doing (Write extent content) (WriteExtent device e) got read =
-    write_note n a doing (enter_each content (rising (sector_for shape extent e) e.count) (entering n doing))
-device_note shape n a doing job step got read = n
+-- A write is entered where its sectors are written first. In write-through the origin gets them before the cache does.
+abbrev pub is_entered : Mode → Dev → Bool
+is_entered Writethrough Cache = false
+is_entered mode device = true
+
+-- A step on a device. A read notes each sector that it was given; a write enters each sector of its extent at the first step that writes
+-- it, failing or not.
+abbrev pub device_note : Shape → Mode → Notes → ℕ → Doing → Job → DeviceStep → Got → List Bytes → Notes
+device_note shape mode n a doing (Read extent) (ReadExtent device e) Done read = read_note n a doing (sector_for shape extent e) read
+device_note shape mode n a doing (Write extent content) (WriteExtent device e) got read =
+    cond (is_entered mode device) (write_note n a doing (enter_each content (rising (sector_for shape extent e) e.count) (entering n doing))) n
+device_note shape mode n a doing job step got read = n
 
 -- a step that failed is noted, with its device
 abbrev pub failing : Doing → DeviceStep → Got → Doing
@@ -160,24 +168,24 @@ finished_note n a doing (Open mode) shown = begins (length n.doings) shown
 finished_note n a doing job shown = put n a None
 
 -- a step of an actor that is at something
-abbrev pub noted_step : Shape → List Bytes → Notes → ℕ → Option (Option Doing) → Want → Got → List Bytes → Notes
-noted_step shape shown n a (Some (Some doing)) (Device step) got read = device_note shape (put n a (Some (failing doing step got))) a (failing doing step got) doing.job step got read
-noted_step shape shown n a (Some (Some doing)) (End Finished) got read = finished_note n a doing doing.job shown
-noted_step shape shown n a (Some (Some doing)) (End answer) got read = put n a None
-noted_step shape shown n a doing next got read = n
+abbrev pub noted_step : Shape → Mode → List Bytes → Notes → ℕ → Option (Option Doing) → Want → Got → List Bytes → Notes
+noted_step shape mode shown n a (Some (Some doing)) (Device step) got read = device_note shape mode (put n a (Some (failing doing step got))) a (failing doing step got) doing.job step got read
+noted_step shape mode shown n a (Some (Some doing)) (End Finished) got read = finished_note n a doing doing.job shown
+noted_step shape mode shown n a (Some (Some doing)) (End answer) got read = put n a None
+noted_step shape mode shown n a doing next got read = n
 
 -- An opening's start, as a crash, ends what everybody is at. The histories stay.
 abbrev pub starting : Notes → Job → Notes
 starting n (Open mode) = record n { doings = nobody n.doings }
 starting n job = n
 
-abbrev pub noted_what : Shape → List Bytes → Notes → Event → What → List Bytes → Notes
-noted_what shape shown n (Start a job) Started read = put (starting n job) a (Some (begun n (begun_as job)))
-noted_what shape shown n (Step a) (Stepped next got) read = noted_step shape shown n a (slice_get n.doings a) next got read
-noted_what shape shown n (FaultStep a choice) (Stepped next got) read = noted_step shape shown n a (slice_get n.doings a) next got read
-noted_what shape shown n (Stop choice) Stopped read = record n { doings = nobody n.doings }
-noted_what shape shown n event what read = n
+abbrev pub noted_what : Shape → Mode → List Bytes → Notes → Event → What → List Bytes → Notes
+noted_what shape mode shown n (Start a job) Started read = put (starting n job) a (Some (begun n (begun_as job)))
+noted_what shape mode shown n (Step a) (Stepped next got) read = noted_step shape mode shown n a (slice_get n.doings a) next got read
+noted_what shape mode shown n (FaultStep a choice) (Stepped next got) read = noted_step shape mode shown n a (slice_get n.doings a) next got read
+noted_what shape mode shown n (Stop choice) Stopped read = record n { doings = nobody n.doings }
+noted_what shape mode shown n event what read = n
 
--- the notes after a record, after which this is shown
-abbrev pub note : Shape → List Bytes → Notes → Record → Notes
-note shape shown n r = noted_what shape shown n r.event r.what r.read.items
+-- the notes after a record, before which the target was of this mode, and after which this is shown
+abbrev pub note : Shape → Mode → List Bytes → Notes → Record → Notes
+note shape mode shown n r = noted_what shape mode shown n r.event r.what r.read.items

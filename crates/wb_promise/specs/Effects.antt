@@ -48,7 +48,7 @@ use Rattle.wb_promise.specs.declared.event.Event.TheVariants.{Start, Step, Fault
 use Rattle.wb_promise.specs.declared.event.What.{What}
 use Rattle.wb_promise.specs.declared.event.What.TheVariants.{Started, Stepped, Stopped}
 use Rattle.wb_promise.specs.declared.event.Record.{Record}
-use Rattle.wb_promise.specs.States.{Shape, State, Actor, Target, Phase, Stands, Gone, Opens, resting, with_device}
+use Rattle.wb_promise.specs.States.{Shape, State, Actor, Target, Phase, Stands, Gone, Opens, mode_of, resting, with_device}
 use Rattle.wb_promise.specs.Happenings.{Chosen, Cut, Orders, Begins, Reaches, Puts, Commits, Asks, Opened, Happening, begun_as, order_for, task_job, May}
 
 -- ---- devices
@@ -316,9 +316,9 @@ phase_given (Stands t) (Migrate migration block) (Orders cut cache) = Stands (re
 phase_given (Stands t) (Replace old new) (Orders cut cache) = Stands (record { words = t.words; desk = reserved t.desk cache (ReplaceOrder old new cache) false })
 phase_given phase job chosen = phase
 
--- an actor that has been given a job
-abbrev pub given : {P A : Type 0} → Shape → Actor → Job → Chosen P A → Actor
-given shape x job chosen = record x { task = Some (begun_as job, table (task_job shape x.awaiting job (cut_of chosen))); orders = orders_given x.orders job chosen }
+-- an actor that has been given a job, over a target of this mode
+abbrev pub given : {P A : Type 0} → Shape → Mode → Actor → Job → Chosen P A → Actor
+given shape mode x job chosen = record x { task = Some (begun_as job, table (task_job shape mode x.awaiting job (cut_of chosen))); orders = orders_given x.orders job chosen }
 
 -- An opening drops the target that has failed, and whatever anybody was at.
 abbrev pub cleared : {P A : Type 0} → State P A → Job → State P A
@@ -327,7 +327,7 @@ cleared w job = w
 
 abbrev pub started : {P A : Type 0} → Shape → State P A → ℕ → Job → Chosen P A → State P A
 started shape w a job chosen = with_actor (cleared w job) (slice_get (cleared w job).actors a)
-    (λ x. record (cleared w job) { phase = phase_given (cleared w job).phase job chosen; actors = slice_set (cleared w job).actors a (given shape x job chosen) })
+    (λ x. record (cleared w job) { phase = phase_given (cleared w job).phase job chosen; actors = slice_set (cleared w job).actors a (given shape (mode_of (cleared w job).phase) x job chosen) })
 
 abbrev pub all_crashed : Choice → Devices (List History) → Devices (List History)
 all_crashed choice devices = record {

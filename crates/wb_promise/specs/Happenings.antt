@@ -4,7 +4,8 @@ use Rattle.wb_types.specs.Limits.{node_count}
 use Rattle.wb_types.specs.declared.extent.Extent.{Extent}
 use Rattle.wb_types.specs.declared.geometry.Geometry.{Geometry}
 use Rattle.wb_types.specs.Extents.{IsCutInto}
-use Rattle.wb_types.specs.declared.mode.Mode.TheVariants.{Writeback}
+use Rattle.wb_types.specs.declared.mode.Mode.{Mode}
+use Rattle.wb_types.specs.declared.mode.Mode.TheVariants.{Writeback, Passthrough}
 use Rattle.wb_types.specs.declared.mode.Dev.TheVariants.{Metadata, Cache, Origin}
 use Rattle.wb_types.specs.declared.refusal.Refusal.{Refusal}
 use Rattle.wb_types.specs.declared.refusal.Refusal.TheVariants.{Range, Crosses, Busy, Memory}
@@ -95,16 +96,16 @@ extent_of (Open mode) = record { first = 0; count = 0 }
 extent_of (Migrate migration block) = record { first = 0; count = 0 }
 extent_of (Replace old new) = record { first = 0; count = 0 }
 
--- the part of a block that an extent covers, cut so, in write-back mode
-abbrev pub block_range : Shape → Extent → List Extent → BlockRange
-block_range shape extent cut = record {
-  mode = Writeback;
+-- the part of a block that an extent covers, cut so, in this mode
+abbrev pub block_range : Shape → Mode → Extent → List Extent → BlockRange
+block_range shape mode extent cut = record {
+  mode = mode;
   block_sectors = block_size shape;
   block = record { 0 = extent.first / block_size shape };
   extents = cut;
 }
 
--- a whole block, cut so
+-- a whole block, cut so; migrations do not look at the mode
 abbrev pub migrated_range : Shape → OBlock → List Extent → BlockRange
 migrated_range shape block cut = record { mode = Writeback; block_sectors = block_size shape; block = block; extents = cut }
 
@@ -118,15 +119,15 @@ order_for Clean block = CleanOrder block
 abbrev pub blocks_left : List Order → List OBlock
 blocks_left orders = map first_of orders
 
--- The task of a job, whose sectors are cut so. A flush serves the replacements that wait for it; a replacement begins with the demotion of the
--- block that leaves.
-abbrev pub task_job : Shape → List Order → Job → List Extent → TaskJob
-task_job shape awaiting (Read extent) cut = OnBlock (Reading (block_range shape extent cut))
-task_job shape awaiting (Write extent content) cut = OnBlock (Writing (block_range shape extent cut))
-task_job shape awaiting Flush cut = Flushing (blocks_left awaiting) (node_count shape.geometry.cache_blocks)
-task_job shape awaiting (Open mode) cut = Opening shape.geometry.meta_sectors
-task_job shape awaiting (Migrate migration block) cut = OnBlock (Migrating migration (migrated_range shape block cut))
-task_job shape awaiting (Replace old new) cut = OnBlock (Migrating Demote (migrated_range shape old cut))
+-- The task of a job, whose sectors are cut so, over a target of this mode. A flush serves the replacements that wait for it; a replacement begins with
+-- the demotion of the block that leaves.
+abbrev pub task_job : Shape → Mode → List Order → Job → List Extent → TaskJob
+task_job shape mode awaiting (Read extent) cut = OnBlock (Reading (block_range shape mode extent cut))
+task_job shape mode awaiting (Write extent content) cut = OnBlock (Writing (block_range shape mode extent cut))
+task_job shape mode awaiting Flush cut = Flushing (blocks_left awaiting) (node_count shape.geometry.cache_blocks)
+task_job shape mode awaiting (Open opened_in) cut = Opening shape.geometry.meta_sectors
+task_job shape mode awaiting (Migrate migration block) cut = OnBlock (Migrating migration (migrated_range shape block cut))
+task_job shape mode awaiting (Replace old new) cut = OnBlock (Migrating Demote (migrated_range shape old cut))
 
 -- what an actor is at once this job was started
 abbrev pub begun_as : Job → Job
@@ -172,7 +173,7 @@ HasTask w a = AtWork w a (λ job s. Unit {0})
 -- A job is not started where this holds: an opening where a target stands that has not failed, or in a mode in which none is
 -- opened yet; any other where no target stands.
 abbrev pub IsOutOfPlace : {P A : Type 0} → Phase P A → Job → Type 0
-IsOutOfPlace phase (Open mode) = OfTarget phase (λ t. t.words.fail ≡ 0) ⊎ (mode ≢ Writeback)
+IsOutOfPlace phase (Open mode) = OfTarget phase (λ t. t.words.fail ≡ 0) ⊎ (mode ≡ Passthrough)
 IsOutOfPlace phase job = ¬ OfTarget phase (λ t. Unit {0})
 
 -- the device of a step may fail so

@@ -18,7 +18,7 @@ use Rattle.wb_promise.specs.declared.event.Event.{Event}
 use Rattle.wb_promise.specs.declared.event.Event.TheVariants.{Step}
 use Rattle.wb_promise.specs.declared.event.What.{What}
 use Rattle.wb_promise.specs.declared.event.What.TheVariants.{Skipped, Stepped}
-use Rattle.wb_promise.specs.States.{Shape, State, Phase, Stands, block_size, sector_count, start}
+use Rattle.wb_promise.specs.States.{Shape, State, Phase, Stands, mode_of, block_size, sector_count, start}
 use Rattle.wb_promise.specs.Happenings.{Happening, DoesNotApply}
 use Rattle.wb_promise.specs.Effects.{after_happening, after_all, IsRun}
 use Rattle.wb_promise.specs.Clerk.{Notes, Doing, Reading, Position, note, formatted}
@@ -55,7 +55,7 @@ shown shape w = shown_in shape w.devices w.phase
 -- ---- the notes of a run
 
 abbrev pub note_happening : {P A : Type 0} → Shape → State P A → Notes → Happening P A → Notes
-note_happening shape w n h = note shape (shown shape (after_happening shape w h)) n h.record_is
+note_happening shape w n h = note shape (mode_of w.phase) (shown shape (after_happening shape w h)) n h.record_is
 
 abbrev pub noted : {P A : Type 0} → Shape → State P A → Notes → List (Happening P A) → Notes
 noted shape w n [] = n

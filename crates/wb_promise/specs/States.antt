@@ -2,6 +2,7 @@
 use Rattle.std.specs.Prelude.{◌*◌, ℕ, List, [], Option, Some, None, replicate}
 use Rattle.wb_types.specs.declared.geometry.Geometry.{Geometry}
 use Rattle.wb_types.specs.declared.mode.Mode.{Mode}
+use Rattle.wb_types.specs.declared.mode.Mode.TheVariants.{Writeback}
 use Rattle.wb_types.specs.declared.mode.Dev.{Dev}
 use Rattle.wb_types.specs.declared.mode.Dev.TheVariants.{Metadata, Cache, Origin}
 use Rattle.wb_disk.specs.Device.{Content as Bytes, History}
@@ -82,6 +83,11 @@ with_device Cache devices device = record devices { cache = device }
 with_device Origin devices device = record devices { origin = device }
 
 -- ---- what a target shows
+
+-- the mode in which the target that stands was opened; where none stands nothing is read or written in any
+abbrev pub mode_of : {P A : Type 0} → Phase P A → Mode
+mode_of (Stands target) = target.desk.mode
+mode_of phase = Writeback
 
 -- this holds of the target that stands
 abbrev pub OfTarget : {P A : Type 0} → Phase P A → (Target P → Type 0) → Type 0
