@@ -1,17 +1,20 @@
 -- The tables of reads, writes and flushes, and those of the abstract world, step by step.
-use Rattle.std.proofs.Common.{◌≡◌, ◌<◌, ◌%◌, ℕ, Bool, true, false, List, [], ◌∷◌, ◌++◌, Option, Some, None, refl, ap, ◌∙◌, map, mod-lt}
+use Rattle.std.proofs.Common.{◌≡◌, ◌≢◌, ◌<◌, ◌%◌, ℕ, Bool, true, false, List, [], ◌∷◌, ◌++◌, Option, Some, None, refl, ap, map, mod-lt}
 use Rattle.std.proofs.lemmas.Nat.{div-mul-add, mod-mul-add}
 use Rattle.wb_types.specs.declared.extent.Extent.{Extent}
 use Rattle.wb_types.specs.Extents.{rising}
 use Rattle.wb_types.specs.declared.number.CBlock.{CBlock}
-use Rattle.wb_types.specs.declared.mode.Mode.TheVariants.{Writeback}
+use Rattle.wb_types.specs.declared.mode.Mode.{Mode}
+use Rattle.wb_types.specs.declared.mode.Mode.TheVariants.{Writeback, Writethrough, Passthrough}
 use Rattle.wb_types.specs.declared.mode.Dev.TheVariants.{Cache}
 use Rattle.wb_disk.specs.Device.{Content}
-use Rattle.wb_tasks.specs.Tables.{BlockRange, OnBlock, Reading, Writing, cache_extent, read_step, write_step, work}
-use Rattle.wb_tasks.proofs.Working.{read_work_back, write_work_back}
+use Rattle.wb_words.specs.declared.word.Access.TheVariants.{Shared}
+use Rattle.wb_words.specs.declared.step.CellStep.TheVariants.{Release}
+use Rattle.wb_tasks.specs.Tables.{BlockRange, OnBlock, Reading, Writing, cache_extent, place_read, read_step, read_count, writes, writing, work}
 use Rattle.wb_tasks.specs.declared.step.Want.{Want}
-use Rattle.wb_link.specs.Tables.{Read_all, Write_all, Set_seal, Job as AbstractJob, read_each, write_each, abstract_work as work_there}
-use Rattle.wb_refines.specs.Translation.{number_of, location_at, offsets_in, offsets, block_in, job_for, wants_of}
+use Rattle.wb_tasks.specs.declared.step.Want.TheVariants.{Cell}
+use Rattle.wb_link.specs.Tables.{Read_all, Write_all, Set_seal, Job as AbstractJob, read_each, write_each, write_through_each, abstract_work as work_there}
+use Rattle.wb_refines.specs.Translation.{number_of, location_at, offsets_in, offsets, block_in, job_for, writing_in, wants_of}
 use Rattle.wb_refines.specs.Laws.{TablesAgree}
 
 pub tables_agree : TablesAgree
@@ -33,17 +36,42 @@ module _ (part : BlockRange) (some : 0 < part.block_sectors) where
   reads_are job None (e ∷ es) ws = ap (λ us. Read_all None (block_in job) (offsets_in size e) ∷ us) (reads_are job None es ws)
   reads_are job (Some c) (e ∷ es) ws = (λ i. Read_all (at_place c e i) (block_in job) (at_offset c e i) ∷ reads_are job (Some c) es ws i)
 
-  pub writes_are : (job : AbstractJob) (place : Option CBlock) (es : List Extent) (ws : List Want) → wants_of size job (map (write_step part place) es ++ ws) ≡ write_each (number_of place) (block_in job) (offsets size es) (wants_of size job ws)
+  -- an extent is written to one place of its block; or, written through, to the origin and then to its cache block
+  writes_are : (job : AbstractJob) (place : Option CBlock) (es : List Extent) (ws : List Want) → wants_of size job (writes part (place ∷ []) es ++ ws) ≡ write_each (number_of place) (block_in job) (offsets size es) (wants_of size job ws)
   writes_are job place [] ws = refl
   writes_are job None (e ∷ es) ws = ap (λ us. Write_all None (block_in job) (offsets_in size e) ∷ us) (writes_are job None es ws)
   writes_are job (Some c) (e ∷ es) ws = (λ i. Write_all (at_place c e i) (block_in job) (at_offset c e i) ∷ writes_are job (Some c) es ws i)
 
-  -- what a read or write in write-back does once it has seen its block's seal
-  pub read_work : part.mode ≡ Writeback → (content : Content) (place : Option CBlock) (dirty : Bool) → wants_of size (job_for size content (OnBlock (Reading part))) (work (Reading part) place dirty) ≡ work_there (job_for size content (OnBlock (Reading part))) (record { location = number_of place; dirty = dirty })
-  read_work back content None dirty = ap (wants_of size (job_for size content (OnBlock (Reading part)))) (read_work_back part back None dirty) ∙ reads_are (job_for size content (OnBlock (Reading part))) None part.extents _
-  read_work back content (Some c) dirty = ap (wants_of size (job_for size content (OnBlock (Reading part)))) (read_work_back part back (Some c) dirty) ∙ reads_are (job_for size content (OnBlock (Reading part))) (Some c) part.extents _
+  through_are : (job : AbstractJob) (c : CBlock) (es : List Extent) (ws : List Want) → wants_of size job (writes part (None ∷ Some c ∷ []) es ++ ws) ≡ write_through_each (Some c.0) (block_in job) (offsets size es) (wants_of size job ws)
+  through_are job c [] ws = refl
+  through_are job c (e ∷ es) ws = (λ i. Write_all None (block_in job) (offsets_in size e) ∷ Write_all (at_place c e i) (block_in job) (at_offset c e i) ∷ through_are job c es ws i)
 
-  pub write_work : part.mode ≡ Writeback → (content : Content) (place : Option CBlock) (dirty : Bool) → wants_of size (job_for size content (OnBlock (Writing part))) (work (Writing part) place dirty) ≡ work_there (job_for size content (OnBlock (Writing part))) (record { location = number_of place; dirty = dirty })
-  write_work back content None dirty = ap (wants_of size (job_for size content (OnBlock (Writing part)))) (write_work_back part back None dirty) ∙ writes_are (job_for size content (OnBlock (Writing part))) None part.extents _
-  write_work back content (Some c) true = ap (wants_of size (job_for size content (OnBlock (Writing part)))) (write_work_back part back (Some c) true) ∙ writes_are (job_for size content (OnBlock (Writing part))) (Some c) part.extents _
-  write_work back content (Some c) false = ap (wants_of size (job_for size content (OnBlock (Writing part)))) (write_work_back part back (Some c) false) ∙ ap (λ ws. Set_seal part.block.0 (record { location = Some c.0; dirty = true }) ∷ ws) (writes_are (job_for size content (OnBlock (Writing part))) (Some c) part.extents _)
+  -- what a read or write in a mode that caches does once it has seen its block's seal
+  pub read_work : part.mode ≢ Passthrough → (content : Content) (place : Option CBlock) (dirty : Bool) → wants_of size (job_for size content (OnBlock (Reading part))) (work (Reading part) place dirty) ≡ work_there (job_for size content (OnBlock (Reading part))) (record { location = number_of place; dirty = dirty })
+  read_work caches content place dirty = by_mode part.mode caches place
+    where
+      job : AbstractJob
+      job = job_for size content (OnBlock (Reading part))
+
+      by_place : (place : Option CBlock) → wants_of size job (map (read_step part place) part.extents ++ read_count place ∷ Cell (Release Shared part.block) ∷ []) ≡ work_there job (record { location = number_of place; dirty = dirty })
+      by_place None = reads_are job None part.extents _
+      by_place (Some c) = reads_are job (Some c) part.extents _
+
+      by_mode : (mode : Mode) → mode ≢ Passthrough → (place : Option CBlock) → wants_of size job (map (read_step part (place_read mode place)) part.extents ++ read_count (place_read mode place) ∷ Cell (Release Shared part.block) ∷ []) ≡ work_there job (record { location = number_of place; dirty = dirty })
+      by_mode Writeback n place = by_place place
+      by_mode Writethrough n place = by_place place
+      by_mode Passthrough n place = absurd (n refl)
+
+  pub write_work : part.mode ≢ Passthrough → (content : Content) (place : Option CBlock) (dirty : Bool) → wants_of size (job_for size content (OnBlock (Writing part))) (work (Writing part) place dirty) ≡ work_there (job_for size content (OnBlock (Writing part))) (record { location = number_of place; dirty = dirty })
+  write_work caches content place dirty = by_mode part.mode caches place dirty
+    where
+      job : Mode → AbstractJob
+      job mode = writing_in mode part.block.0 (offsets size part.extents) content
+
+      by_mode : (mode : Mode) → mode ≢ Passthrough → (place : Option CBlock) (dirty : Bool) → wants_of size (job mode) (writing mode part place dirty) ≡ work_there (job mode) (record { location = number_of place; dirty = dirty })
+      by_mode Writeback n None dirty = writes_are (job Writeback) None part.extents _
+      by_mode Writeback n (Some c) true = writes_are (job Writeback) (Some c) part.extents _
+      by_mode Writeback n (Some c) false = ap (λ ws. Set_seal part.block.0 (record { location = Some c.0; dirty = true }) ∷ ws) (writes_are (job Writeback) (Some c) part.extents _)
+      by_mode Writethrough n None dirty = writes_are (job Writethrough) None part.extents _
+      by_mode Writethrough n (Some c) dirty = through_are (job Writethrough) c part.extents _
+      by_mode Passthrough n place dirty = absurd (n refl)

@@ -1,6 +1,6 @@
 -- The part that a job on a block plays in an abstract world, and when its steps on the shared words are followed there.
 use Rattle.std.specs.Prelude.{◌≡◌, ◌≢◌, ◌⊎◌, ◌<◌, ℕ, false, List, [], ◌∷◌, Option, Some, None, slice_get}
-use Rattle.wb_types.specs.declared.mode.Mode.TheVariants.{Writeback}
+use Rattle.wb_types.specs.declared.mode.Mode.TheVariants.{Passthrough}
 use Rattle.wb_types.specs.declared.number.OBlock.{OBlock}
 use Rattle.wb_types.specs.declared.refusal.Refusal.{Refusal}
 use Rattle.wb_types.specs.declared.refusal.Refusal.TheVariants.{Busy, Failed}
@@ -100,6 +100,6 @@ StepsFollowed role job = (blocks : ℕ) (words : Words) (cards : List Card) (act
     Suits blocks (plan_of job (Cell step ∷ later) answer) card → IsAs role (plan_of job (Cell step ∷ later) answer) card y →
     DoesToo role actors a s y (words_after words step) (after (plan_of job (Cell step ∷ later) answer) (got_of (result_of words step))) (card_after words step card)
 
--- of a read or write in write-back mode
+-- of a read or write in a mode that caches
 abbrev pub RequestCellsFollowed : Type 0
-RequestCellsFollowed = (size : ℕ) (content : Content) (job : BlockJob) → IsRequest job → (range_of job).mode ≡ Writeback → 0 < size → size ≡ (range_of job).block_sectors → StepsFollowed (request_role size content job) job
+RequestCellsFollowed = (size : ℕ) (content : Content) (job : BlockJob) → IsRequest job → (range_of job).mode ≢ Passthrough → 0 < size → size ≡ (range_of job).block_sectors → StepsFollowed (request_role size content job) job

@@ -4,6 +4,8 @@
 use Rattle.std.specs.Prelude.{◌%◌, ◌/◌, ℕ, false, List, [], ◌∷◌, Option, Some, None}
 use Rattle.wb_types.specs.declared.extent.Extent.{Extent}
 use Rattle.wb_types.specs.Extents.{rising}
+use Rattle.wb_types.specs.declared.mode.Mode.{Mode}
+use Rattle.wb_types.specs.declared.mode.Mode.TheVariants.{Writethrough}
 use Rattle.wb_types.specs.declared.mode.Dev.{Dev}
 use Rattle.wb_types.specs.declared.mode.Dev.TheVariants.{Cache, Origin}
 use Rattle.wb_types.specs.declared.number.CBlock.{CBlock}
@@ -23,7 +25,7 @@ use Rattle.wb_tasks.specs.declared.step.DeskStep.{DeskStep}
 use Rattle.wb_tasks.specs.declared.step.DeskStep.TheVariants.{BeginCommit, EndCommit}
 use Rattle.wb_tasks.specs.declared.step.Want.{Want}
 use Rattle.wb_tasks.specs.declared.step.Want.TheVariants.{Cell, Device, Desk, End}
-use Rattle.wb_link.specs.Tables.{Script, Read_all, Write_all, abstract_acquire, breaking, Job as AbstractJob, Reading as ReadingAt, Writing as WritingAt, Flushing as FlushingFor, Want as AbstractWant, Look_fail, Set_seal, Leave, Disown, Sync_cache_device, Sync_origin_device, Put_root, Sync_metadata, End_running, Answer as AbstractAnswer, Finished as AnsweredDone, Busy as AnsweredBusy, Failed as AnsweredFailed, Io as AnsweredIo}
+use Rattle.wb_link.specs.Tables.{Script, Read_all, Write_all, abstract_acquire, breaking, Job as AbstractJob, Reading as ReadingAt, Writing as WritingAt, Writing_through as WritingThroughAt, Flushing as FlushingFor, Want as AbstractWant, Look_fail, Set_seal, Leave, Disown, Sync_cache_device, Sync_origin_device, Put_root, Sync_metadata, End_running, Answer as AbstractAnswer, Finished as AnsweredDone, Busy as AnsweredBusy, Failed as AnsweredFailed, Io as AnsweredIo}
 
 -- the number of the cache block in which a block stands
 abbrev pub number_of : Option CBlock → Option ℕ
@@ -43,16 +45,22 @@ abbrev pub offsets : ℕ → List Extent → List (List ℕ)
 offsets size [] = []
 offsets size (e ∷ es) = offsets_in size e ∷ offsets size es
 
+-- a write of this content to these sectors of a block, in a mode that caches
+abbrev pub writing_in : Mode → ℕ → List (List ℕ) → Content → AbstractJob
+writing_in Writethrough block os content = WritingThroughAt block os content
+writing_in mode block os content = WritingAt false block os content
+
 -- A read, a write of this content to each sector; and a flush, which serves nobody there.
 abbrev pub job_for : ℕ → Content → TaskJob → AbstractJob
 job_for size content (OnBlock (Reading part)) = ReadingAt false part.block.0 (offsets size part.extents)
-job_for size content (OnBlock (Writing part)) = WritingAt false part.block.0 (offsets size part.extents) content
+job_for size content (OnBlock (Writing part)) = writing_in part.mode part.block.0 (offsets size part.extents) content
 job_for size content job = FlushingFor None
 
 -- the block of a read or write
 abbrev pub block_in : AbstractJob → ℕ
 block_in (ReadingAt past block os) = block
 block_in (WritingAt past block os content) = block
+block_in (WritingThroughAt block os content) = block
 block_in job = 0
 
 -- ---- what steps stand for, before what the later ones do
