@@ -8,6 +8,7 @@ pub mod Extents
 pub mod Moving
 pub mod Flushing
 pub mod Tasks
+pub mod Modes
 pub mod Migrating
 pub mod Carrying
 pub mod Roles

@@ -1,7 +1,6 @@
 -- Reads, writes and migrations play their roles.
 use Rattle.std.proofs.Common.{◌≡◌, ◌≢◌, ◌<◌, ◌∙◌, ℕ, Bool, false, List, [], ◌∷◌, Option, Some, None, refl, sym, ap, subst}
-use Rattle.wb_types.specs.declared.mode.Mode.{Mode}
-use Rattle.wb_types.specs.declared.mode.Mode.TheVariants.{Writeback, Writethrough, Passthrough}
+use Rattle.wb_types.specs.declared.mode.Mode.TheVariants.{Passthrough}
 use Rattle.wb_types.specs.declared.number.CBlock.{CBlock}
 use Rattle.wb_types.specs.declared.refusal.Refusal.{Refusal}
 use Rattle.wb_types.specs.declared.refusal.Refusal.TheVariants.{Busy}
@@ -10,21 +9,22 @@ use Rattle.wb_words.specs.SharedWords.{place_in, dirty_in}
 use Rattle.wb_words.specs.declared.card.Card.{Card}
 use Rattle.wb_tasks.specs.Tables.{BlockJob, TaskJob, BlockRange, Reading, Writing, Displacing, Invalidating, Migrating, OnBlock, range_of, access_of, work}
 use Rattle.wb_tasks.specs.Ready.{block_of}
-use Rattle.wb_tasks.specs.Plan.{Plan, deferring, answer_seeing}
+use Rattle.wb_tasks.specs.Plan.{Plan, answer_seeing}
 use Rattle.wb_tasks.specs.declared.step.Answer.{Answer}
 use Rattle.wb_tasks.specs.declared.step.Want.{Want}
 use Rattle.wb_tasks.specs.declared.step.Answer.TheVariants.{Refused as Refuses}
 use Rattle.wb_tasks.specs.declared.step.Migration.{Migration}
 use Rattle.wb_tasks.specs.declared.step.Migration.TheVariants.{Promote, Demote, Clean}
-use Rattle.wb_link.specs.Tables.{Order, Job as AbstractJob, Seal as SealThere, Answer as AbstractAnswer, Finished as AnsweredDone, abstract_work as work_there, Own, Look_seal, Set_failed, abstract_acquire, breaking, Busy as AnsweredBusy}
+use Rattle.wb_link.specs.Tables.{Order, Job as AbstractJob, Seal as SealThere, Answer as AbstractAnswer, Finished as AnsweredDone, abstract_work as work_there, Look_seal, Set_failed, abstract_acquire, breaking, Busy as AnsweredBusy}
 use Rattle.wb_link.specs.World.{AbstractActor, job_alone}
-use Rattle.wb_refines.specs.Translation.{number_of, offsets, job_for, writing_in, answer_for, wants_of}
+use Rattle.wb_refines.specs.Translation.{number_of, offsets, job_for, answer_for, wants_of}
 use Rattle.wb_refines.specs.Models.{SealAgrees, IsRequest, IsAt, held_for, plan_of}
 use Rattle.wb_refines.specs.Roles.{acting, IsAs, Plays, request_role, RequestCellsFollowed, claim}
 use Rattle.wb_refines.specs.Migrations.{job_under, order_on, Fills, IsWhere}
 use Rattle.wb_refines.specs.Carried.{migration_role, MigrationCellsFollowed}
 use Rattle.wb_refines.proofs.Cells.{refused_undone}
 use Rattle.wb_refines.proofs.Followed.{cell_steps_followed}
+use Rattle.wb_refines.proofs.Modes.{acquires_in, breaks_in, among_in, busy_in, any_in, undeferred_in}
 use Rattle.wb_refines.proofs.Tables.{read_work, write_work}
 use Rattle.wb_refines.proofs.Migrating.{works}
 
@@ -70,45 +70,10 @@ module _ (size : ℕ) (content : Content) (job : BlockJob) (sized : size ≡ (ra
     undone = undone (there size);
   }
 
--- a write takes and breaks alike in both modes that cache
-module _ (size : ℕ) (content : Content) (part : BlockRange) where
-  abbrev in_mode : Mode → AbstractJob
-  in_mode mode = writing_in mode part.block.0 (offsets size part.extents) content
-
-  begins_in : (mode : Mode) → abstract_acquire (in_mode mode) ≡ Own part.block.0 ∷ Look_seal part.block.0 ∷ []
-  begins_in Writeback = refl
-  begins_in Writethrough = refl
-  begins_in Passthrough = refl
-
-  breaks_in : (mode : Mode) → breaking (in_mode mode) ≡ Set_failed ∷ []
-  breaks_in Writeback = refl
-  breaks_in Writethrough = refl
-  breaks_in Passthrough = refl
-
-  among_in : (mode : Mode) → job_alone (in_mode mode) ≡ false
-  among_in Writeback = refl
-  among_in Writethrough = refl
-  among_in Passthrough = refl
-
-  busy_in : (mode : Mode) → AnsweredBusy ≡ answer_for (in_mode mode) (Refuses Busy)
-  busy_in Writeback = refl
-  busy_in Writethrough = refl
-  busy_in Passthrough = refl
-
-  any_in : (mode : Mode) (d e : Bool) → work_there (in_mode mode) (record { location = None; dirty = d }) ≡ work_there (in_mode mode) (record { location = None; dirty = e })
-  any_in Writeback d e = refl
-  any_in Writethrough d e = refl
-  any_in Passthrough d e = refl
-
-  undeferred_in : (mode : Mode) → mode ≢ Passthrough → (place : Option CBlock) (answer : Answer) → deferring mode place answer ≡ answer
-  undeferred_in Writeback n place answer = refl
-  undeferred_in Writethrough n place answer = refl
-  undeferred_in Passthrough n place answer = absurd (n refl)
-
 pub requests_play : (size : ℕ) (content : Content) (job : BlockJob) → IsRequest job → (range_of job).mode ≢ Passthrough → 0 < size → size ≡ (range_of job).block_sectors → Plays (request_role size content job) job
 requests_play size content (Reading part) r caches some e = request_plays size content (Reading part) e refl refl refl refl (λ d e. refl) (λ word answer. refl) (read_work part (subst (λ v. 0 < v) e some) caches content)
-requests_play size content (Writing part) r caches some e = request_plays size content (Writing part) e (begins_in size content part part.mode) (breaks_in size content part part.mode) (among_in size content part part.mode) (busy_in size content part part.mode) (any_in size content part part.mode)
-    (λ word answer. undeferred_in size content part part.mode caches (place_in word) answer) (write_work part (subst (λ v. 0 < v) e some) caches content)
+requests_play size content (Writing part) r caches some e = let b = part.block.0 in let os = offsets size part.extents in request_plays size content (Writing part) e (acquires_in b os content part.mode) (breaks_in b os content part.mode) (among_in b os content part.mode) (busy_in b os content part.mode) (any_in b os content part.mode)
+    (λ word answer. undeferred_in part.mode caches (place_in word) answer) (write_work part (subst (λ v. 0 < v) e some) caches content)
 requests_play size content (Displacing part) r caches some e = absurd r
 requests_play size content (Invalidating part) r caches some e = absurd r
 requests_play size content (Migrating migration part) r caches some e = absurd r

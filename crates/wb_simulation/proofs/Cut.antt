@@ -11,6 +11,7 @@ use Rattle.wb_types.specs.Extents.{rising, sectors_in, sectors_of, IsCutInto}
 use Rattle.wb_tasks.specs.Tables.{whole_block}
 use Rattle.wb_link.specs.World.{AreIn, Covers}
 use Rattle.wb_refines.specs.Translation.{offsets, offsets_in}
+use Rattle.wb_refines.proofs.Tasks.{rising_in}
 use Rattle.wb_runs.proofs.Extents.{Within, AllWithin, cut_within}
 use Rattle.wb_simulation.specs.Steps.{IsOfBlock, IsPart}
 
@@ -19,13 +20,6 @@ rising_has : (first n k : ℕ) → k < n → Contains (rising first n) (first + 
 rising_has first zero k l = absurd (omega (arith, l))
 rising_has first (suc n) zero l = let same : first ≡ first + 0 = omega arith in subst (λ (i : ℕ). Contains (first ∷ rising (first + 1) n) i) same (Contains-first first (rising (first + 1) n))
 rising_has first (suc n) (suc k) l = let same : (first + 1) + k ≡ first + suc k = omega arith in subst (λ (i : ℕ). Contains (first ∷ rising (first + 1) n) i) same (Contains-behind first (rising (first + 1) n) ((first + 1) + k) (rising_has (first + 1) n k (omega (arith, l))))
-
-rising_in : (first n x : ℕ) → Contains (rising first n) x → (k : ℕ) × (k < n) × (x ≡ first + k)
-rising_in first zero x c = absurd (omega (arith, c.1))
-rising_in first (suc n) x c = elim (Contains-append_cases (first ∷ []) (rising (first + 1) n) x c) [
-  | inl s ↦ (zero, omega arith, (let is = Contains-one first x s in omega (arith, is)))
-  | inr r ↦ (let k = rising_in (first + 1) n x r in (suc k.0, (let l = k.1 in omega (arith, l)), (let e = k.2 in omega (arith, e))))
-]
 
 module _ (size : ℕ) (block : OBlock) (some : 0 < size) where
   -- where an extent within the block begins in it
@@ -69,7 +63,7 @@ module _ (size : ℕ) (block : OBlock) (some : 0 < size) where
 
   module _ (cut : List Extent) (i : IsCutInto (whole_block size block) cut) where
     pub whole_part : IsPart size (record { mode = Writeback; block_sectors = size; block = block; extents = cut })
-    whole_part = record { some = some; mode = refl; sized = refl; each = each_of_block cut (cut_within (whole_block size block) cut i) }
+    whole_part = record { some = some; mode = λ e. absurd (cc); sized = refl; each = each_of_block cut (cut_within (whole_block size block) cut i) }
 
     pub whole_covered : Covers size (offsets size cut)
     whole_covered o l = offset_there cut o (cut_within (whole_block size block) cut i) (Contains-permutation (sectors_in (whole_block size block)) (sectors_of cut) (block.0 * size + o) i.each_once (rising_has (block.0 * size) size o l))

@@ -5,7 +5,7 @@ use Rattle.wb_words.specs.SharedWords.{Words, word_at}
 use Rattle.wb_words.specs.Rule.{LockRule}
 use Rattle.wb_words.specs.Effects.{result_of, words_after, card_after}
 use Rattle.wb_words.specs.declared.card.Card.{Card}
-use Rattle.wb_types.specs.declared.mode.Mode.TheVariants.{Writeback}
+use Rattle.wb_types.specs.declared.mode.Mode.TheVariants.{Passthrough}
 use Rattle.wb_words.specs.declared.step.CellStep.{CellStep}
 use Rattle.wb_words.specs.declared.step.CellStep.TheVariants.{Look, Release}
 use Rattle.wb_words.specs.declared.word.Word.TheVariants.{Fail}
@@ -107,8 +107,8 @@ module _ (now : Situation) (blocks : ℕ) (a : ℕ) (x : Actor) (job : Job) (ste
       sized : now.size ≡ (range_of (job_on r.part)).block_sectors
       sized = r.is_part.sized ∙ ap (λ (p : BlockRange). p.block_sectors) (sym (request r.part).1)
 
-      in_back : (range_of (job_on r.part)).mode ≡ Writeback
-      in_back = ap (λ (p : BlockRange). p.mode) (request r.part).1 ∙ r.is_part.mode
+      caches : (range_of (job_on r.part)).mode ≢ Passthrough
+      caches e = r.is_part.mode (ap (λ (p : BlockRange). p.mode) (sym (request r.part).1) ∙ e)
 
       by : (rest : List Want) → Suits blocks (plan_of (job_on r.part) (Cell step ∷ rest) plan.answer) x.card → TellsPlace step × AreOfBlock now.size r.part.block.0 rest → At (plan_of (job_on r.part) (Cell step ∷ rest) plan.answer) → Goal (plan_of (job_on r.part) (Cell step ∷ rest) plan.answer)
       by rest suits t at = among_all of Quietly acted (acted.results, quiet_are_unnoted y.task acted.results acted.quiet, refl) (does acted.failed then_plan then_card _ (record {
@@ -135,7 +135,7 @@ module _ (now : Situation) (blocks : ℕ) (a : ℕ) (x : Actor) (job : Job) (ste
           role = request_role now.size content (job_on r.part)
 
           acts : At of → Acted (IsAs role then_plan then_card) (λ j. Unit {0}) s.actors a s.shared y (words_after now.words step) then_plan then_card
-          acts (inl i) = acts_in_role (job_on r.part) (λ j. Unit {0}) now.words s.actors a x.card s.shared y plan.answer g.words_agree role (requests_play now.size content (job_on r.part) (request r.part).0 in_back r.is_part.some sized) tt blocks (cards_of now.actors) step rest rule (card_there now.actors a x ex)
+          acts (inl i) = acts_in_role (job_on r.part) (λ j. Unit {0}) now.words s.actors a x.card s.shared y plan.answer g.words_agree role (requests_play now.size content (job_on r.part) (request r.part).0 caches r.is_part.some sized) tt blocks (cards_of now.actors) step rest rule (card_there now.actors a x ex)
               (takes now s g role a x.card step (λ b e seal k. tt)) t.0 suits (as_request now.size content (job_on r.part) (Cell step ∷ rest) plan.answer x.card y i)
           acts (inr (inl k)) = acts_over (job_on r.part) (λ j. Unit {0}) now.words s.actors a x.card s.shared y plan.answer g.words_agree st.failed st.has_failed step rest st.below st.among_others (inl (k, tt))
           acts (inr (inr l)) = acts_over (job_on r.part) (λ j. Unit {0}) now.words s.actors a x.card s.shared y plan.answer g.words_agree st.failed st.has_failed step rest st.below st.among_others (inr l)

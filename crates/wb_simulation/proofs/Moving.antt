@@ -1,6 +1,8 @@
 -- Each step of a read or a write on an extent of a device is followed.
 use Rattle.std.proofs.Common.{None, zero, suc, Some, ◌%◌, length, replicate, map, ◌≡◌, ◌≤◌, ◌+◌, ◌∙◌, ◌⊎◌, inl, inr, ℕ, Bool, true, false, List, [], ◌∷◌, Option, refl, sym, ap, subst, slice_get}
 use Rattle.wb_types.specs.declared.extent.Extent.{Extent}
+use Rattle.wb_types.specs.declared.mode.Mode.{Mode}
+use Rattle.wb_types.specs.declared.mode.Mode.TheVariants.{Writeback, Writethrough, Passthrough}
 use Rattle.wb_types.specs.declared.mode.Dev.{Dev}
 use Rattle.wb_types.specs.declared.refusal.Refusal.TheVariants.{Io}
 use Rattle.wb_types.specs.declared.mode.Dev.TheVariants.{Metadata, Cache, Origin}
@@ -21,13 +23,14 @@ use Rattle.wb_tasks.specs.declared.step.Got.{Got}
 use Rattle.wb_tasks.specs.declared.step.Got.TheVariants.{Done, Fault}
 use Rattle.wb_devices.specs.declared.devices.Devices.{Devices}
 use Rattle.wb_devices.specs.Moving.{device_in}
-use Rattle.wb_link.specs.Tables.{Seal, Script, Read_all, Gave, Got as AbstractGot, Done as DoneThere}
-use Rattle.wb_link.specs.World.{World, Shared, AbstractActor, newest_at, is_alone}
+use Rattle.wb_link.specs.Tables.{Seal, Script, Job as AbstractJob, Want as AbstractWant, Read_all, Write_all, Gave, Got as AbstractGot, Done as DoneThere}
+use Rattle.wb_link.specs.World.{World, Shared, AbstractActor, abstract_contents_for, newest_at, is_alone, job_alone}
 use Rattle.wb_refines.specs.Going.{records, shared_after}
-use Rattle.wb_refines.specs.Translation.{location_at, wants_of, job_for, script_for, answer_for, offsets, offsets_in}
-use Rattle.wb_refines.specs.Data.{IsSide, SameBeside, DeviceMoves, read_fault, write_fault}
+use Rattle.wb_refines.specs.Translation.{location_at, wants_of, block_in, job_for, writing_in, script_for, answer_for, offsets, offsets_in}
+use Rattle.wb_refines.specs.Data.{IsInBlock, IsSide, SameBeside, DeviceMoves, read_fault, write_fault}
 use Rattle.wb_refines.specs.Models.{IsAt, HasStopped, plan_of, SealAgrees, WordsAgree}
 use Rattle.wb_refines.proofs.Locks.{has_no_more}
+use Rattle.wb_refines.proofs.Modes.{block_in_mode, contents_in, among_in}
 use Rattle.wb_refines.proofs.Followed.{rest_plain}
 use Rattle.wb_refines.proofs.Moving.{goes_on_at, extents_followed}
 use Rattle.wb_promise.specs.declared.job.Job.{Job}
@@ -36,9 +39,9 @@ use Rattle.wb_promise.specs.States.{Actor, with_device}
 use Rattle.wb_types.specs.Extents.{rising}
 use Rattle.wb_simulation.specs.Steps.{IsPart, AreOfBlock}
 use Rattle.wb_simulation.specs.Actors.{IsLate, IsRequestAt, IsDoing, StandsFor}
-use Rattle.wb_simulation.specs.Telling.{Telling, IsTold, Quietly, Reads, Writes, reading as reading_script, AreUnnoted}
+use Rattle.wb_simulation.specs.Telling.{Telling, IsTold, Quietly, Reads, NotesAt, IsWriting, reading as reading_script, AreUnnoted}
 use Rattle.wb_simulation.specs.Worlds.{Situation, zeros, Agrees, WorldFollows}
-use Rattle.wb_simulation.specs.Laws.{ExtentStepsFollowed, after_step}
+use Rattle.wb_simulation.specs.Laws.{ExtentStepsFollowed, after_step, written_as}
 use Rattle.wb_simulation.proofs.Orders.{MigratesNot, does_none}
 use Rattle.wb_simulation.proofs.Among.{own_there, goes_on}
 use Rattle.wb_simulation.proofs.Followed.{doing_of, begins_by}
@@ -135,39 +138,69 @@ module _ (now : Situation) (blocks : ℕ) (a : ℕ) (x : Actor) (s : World) (y :
       h (by_task [] reading read_fault list _ is (extents_followed.read_fails now.size zeros s.actors a s.shared y _ (location_at now.size device e) part.block.0 (offsets_in now.size e) _ _ list side)) at refl
       (record { part = part; job = refl; is_part = is_part; of_block = tt; at = inl at }) (ap (λ (v : AbstractActor). v.order) is.is) tt)
 
-  -- what it is told as, whatever comes of it
-  write_told : (content : Content) (got : AbstractGot) → IsAt now.size content writing x.card y → IsTold (Writes part.block.0 (e.first % now.size) e.count content) a y.task (records a y.task (got ∷ []))
-  write_told content got is = record {
-    location = location_at now.size device e;
-    all = offsets now.size part.extents;
-    rest = wants_of now.size (job_for now.size content (OnBlock (Writing part))) ws;
-    answer = answer_for (job_for now.size content (OnBlock (Writing part))) answer;
-    got = got;
-    at = ap (λ (v : AbstractActor). v.task) is.is;
-    told_is = refl;
-  }
+  -- a write there
+  abbrev writes : Content → AbstractJob
+  writes content = writing_in part.mode part.block.0 (offsets now.size part.extents) content
+
+  own_block : (content : Content) → block_in (writes content) ≡ part.block.0
+  own_block content = block_in_mode part.block.0 (offsets now.size part.extents) content part.mode
+
+  -- what it is told as, whatever comes of it: in write-through what goes to the cache is noted no more
+  abbrev telling : Content → Telling
+  telling content = written_as part.mode device part.block.0 (e.first % now.size) e.count content
+
+  write_told : (content : Content) (got : AbstractGot) → IsAt now.size content writing x.card y → IsTold (telling content) a y.task (records a y.task (got ∷ []))
+  write_told content got is = by_mode part.mode refl device refl
+    where
+      rest : List AbstractWant
+      rest = wants_of now.size (writes content) ws
+
+      on_extent : Mode → Dev → Script
+      on_extent mode d = record { job = writing_in mode part.block.0 (offsets now.size part.extents) content; steps = Write_all (location_at now.size d e) part.block.0 (offsets_in now.size e) ∷ rest; answer = answer_for (writes content) answer }
+
+      at_extent : (mode : Mode) (d : Dev) → part.mode ≡ mode → device ≡ d → y.task ≡ Some (on_extent mode d)
+      at_extent mode d m same = ap (λ (v : AbstractActor). v.task) is.is ∙ (λ i. Some (record { job = writing_in (m i) part.block.0 (offsets now.size part.extents) content; steps = Write_all (location_at now.size (same i) e) (own_block content i) (offsets_in now.size e) ∷ rest; answer = answer_for (writes content) answer }))
+
+      noted : (mode : Mode) (d : Dev) → part.mode ≡ mode → device ≡ d → NotesAt mode (location_at now.size d e) → IsWriting a part.block.0 (e.first % now.size) e.count content y.task (records a y.task (got ∷ []))
+      noted mode d m same n = record { mode = mode; location = location_at now.size d e; notes = n; all = offsets now.size part.extents; rest = rest; answer = answer_for (writes content) answer; got = got; at = at_extent mode d m same; told_is = refl }
+
+      by_mode : (mode : Mode) → part.mode ≡ mode → (d : Dev) → device ≡ d → IsTold (written_as mode d part.block.0 (e.first % now.size) e.count content) a y.task (records a y.task (got ∷ []))
+      by_mode Writethrough m Cache same = (got ∷ [], subst (λ (t : Option Script). AreUnnoted t (got ∷ [])) (sym (at_extent Writethrough Cache m same)) (tt, tt), refl)
+      by_mode Writethrough m Origin same = noted Writethrough Origin m same tt
+      by_mode Writethrough m Metadata same = noted Writethrough Metadata m same tt
+      by_mode Writeback m d same = noted Writeback d m same tt
+      by_mode Passthrough m d same = noted Passthrough d m same tt
 
   one_content : (content : Content) (count o : ℕ) → map (λ (i : ℕ). content) (rising o count) ≡ replicate count content
   one_content content zero o = refl
   one_content content (suc count) o = ap (λ cs. content ∷ cs) (one_content content count (o + 1))
 
+  all_content : (content : Content) → map (abstract_contents_for (writes content) y.buffer) (offsets_in now.size e) ≡ replicate e.count content
+  all_content content = ap (λ (f : ℕ → Content). map f (offsets_in now.size e)) (contents_in part.block.0 (offsets now.size part.extents) content part.mode y.buffer) ∙ one_content content e.count (e.first % now.size)
+
+  in_own_block : (content : Content) → IsInBlock now.size part.block.0 device e → IsInBlock now.size (block_in (writes content)) device e
+  in_own_block content i = subst (λ (b : ℕ). IsInBlock now.size b device e) (sym (own_block content)) i
+
+  among : (content : Content) → job_alone (writes content) ≡ false
+  among content = among_in part.block.0 (offsets now.size part.extents) content part.mode
+
   write_done : (extent : Extent) (content : Content) → AreOfBlock now.size part.block.0 (Device (WriteExtent device e) ∷ ws) → Suits blocks writing x.card → e.first + e.count ≤ length list → IsAt now.size content writing x.card y →
-      Then (Writes part.block.0 (e.first % now.size) e.count content) (with_device device now.devices (written_each list e.first (replicate e.count content))) (Write extent content) writing Done
+      Then (telling content) (with_device device now.devices (written_each list e.first (replicate e.count content))) (Write extent content) writing Done
   write_done extent content o suits room is =
       let at = goes_on_at now.size content (Writing part) (WriteExtent device e) ws answer x.card y y.buffer (rest_plain (Writing part) suits.1.1.0 ws suits.1.1.1.1) is in
-      subst (λ (cs : List Content). Then (Writes part.block.0 (e.first % now.size) e.count content) (with_device device now.devices (written_each list e.first cs)) (Write extent content) writing Done) (one_content content e.count (e.first % now.size))
-      (moved now a x s y ex ey g (Writes part.block.0 (e.first % now.size) e.count content) (Write extent content) content (after writing Done) device e DoneThere _ _ (write_told content DoneThere is)
-      h (by_task content writing DoneThere _ _ is (extents_followed.write_done now.size zeros s.actors a s.shared y _ part.block.0 device e _ _ list o.0 side room)) at refl
+      subst (λ (cs : List Content). Then (telling content) (with_device device now.devices (written_each list e.first cs)) (Write extent content) writing Done) (all_content content)
+      (moved now a x s y ex ey g (telling content) (Write extent content) content (after writing Done) device e DoneThere _ _ (write_told content DoneThere is)
+      h (by_task content writing DoneThere _ _ is (extents_followed.write_done now.size zeros s.actors a s.shared y _ (block_in (writes content)) device e _ _ list (in_own_block content o.0) side room)) at (among content)
       (record { part = part; job = refl; is_part = is_part; of_block = o.1; at = inl at }) (ap (λ (v : AbstractActor). v.order) is.is) tt)
 
   write_fails : (extent : Extent) (content : Content) (lands : ℕ → Bool) → AreOfBlock now.size part.block.0 (Device (WriteExtent device e) ∷ ws) → e.first + e.count ≤ length list → IsAt now.size content writing x.card y →
-      Then (Writes part.block.0 (e.first % now.size) e.count content) (with_device device now.devices (written_where lands list e.first (replicate e.count content))) (Write extent content) writing Fault
+      Then (telling content) (with_device device now.devices (written_where lands list e.first (replicate e.count content))) (Write extent content) writing Fault
   write_fails extent content lands o room is =
-      let fault = write_fault now.size (location_at now.size device e) part.block.0 lands in
+      let fault = write_fault now.size (location_at now.size device e) (block_in (writes content)) lands in
       let at : IsAt now.size content (after writing Fault) x.card (record y { task = Some (script_for now.size content (after writing Fault)) }) = record { buffer = is.buffer; is = ap (λ (v : AbstractActor). record v { task = Some (script_for now.size content (after writing Fault)) }) is.is; saw = (Io (device_of (WriteExtent device e)), refl) } in
-      subst (λ (cs : List Content). Then (Writes part.block.0 (e.first % now.size) e.count content) (with_device device now.devices (written_where lands list e.first cs)) (Write extent content) writing Fault) (one_content content e.count (e.first % now.size))
-      (moved now a x s y ex ey g (Writes part.block.0 (e.first % now.size) e.count content) (Write extent content) content (after writing Fault) device e fault _ _ (write_told content fault is)
-      h (by_task content writing fault _ _ is (extents_followed.write_fails now.size zeros s.actors a s.shared y _ part.block.0 device e _ _ list lands o.0 side room)) at refl
+      subst (λ (cs : List Content). Then (telling content) (with_device device now.devices (written_where lands list e.first cs)) (Write extent content) writing Fault) (all_content content)
+      (moved now a x s y ex ey g (telling content) (Write extent content) content (after writing Fault) device e fault _ _ (write_told content fault is)
+      h (by_task content writing fault _ _ is (extents_followed.write_fails now.size zeros s.actors a s.shared y _ (block_in (writes content)) device e _ _ list lands (in_own_block content o.0) side room)) at (among content)
       (record { part = part; job = refl; is_part = is_part; of_block = tt; at = inl at }) (ap (λ (v : AbstractActor). v.order) is.is) tt)
 
 -- a request of this part whose next step is on a device, as it is there
@@ -219,11 +252,11 @@ extent_steps_followed = record {
   write_done = λ now blocks a x extent content part plan device e s wants of_part suits h room.
       let y = own_there now s wants.agrees a x wants.here in
       let k = has_step now.size content _ Writing (λ p. refl) part (WriteExtent device e) plan x.card y.0 wants.asks of_part (doing_of now.size now.most now.words x y.0 (Write extent content) plan (wants.agrees.each a x y.0 wants.here y.1) wants.task) in
-      subst (λ (p : Plan). WorldFollows (Writes part.block.0 (e.first % now.size) e.count content) a s (record now { devices = with_device device now.devices (written_each (device_in device now.devices) e.first (replicate e.count content)) }) (after_step (Write extent content) p Done x)) (sym k.is)
+      subst (λ (p : Plan). WorldFollows (written_as part.mode device part.block.0 (e.first % now.size) e.count content) a s (record now { devices = with_device device now.devices (written_each (device_in device now.devices) e.first (replicate e.count content)) }) (after_step (Write extent content) p Done x)) (sym k.is)
       (write_done now blocks a x s y.0 wants.here y.1 wants.agrees part k.is_part device e k.later plan.answer h extent content k.of_block (subst (λ (p : Plan). Suits blocks p x.card) k.is suits) room k.at);
   write_fails = λ now blocks a x extent content part plan device e lands s wants of_part suits h room.
       let y = own_there now s wants.agrees a x wants.here in
       let k = has_step now.size content _ Writing (λ p. refl) part (WriteExtent device e) plan x.card y.0 wants.asks of_part (doing_of now.size now.most now.words x y.0 (Write extent content) plan (wants.agrees.each a x y.0 wants.here y.1) wants.task) in
-      subst (λ (p : Plan). WorldFollows (Writes part.block.0 (e.first % now.size) e.count content) a s (record now { devices = with_device device now.devices (written_where lands (device_in device now.devices) e.first (replicate e.count content)) }) (after_step (Write extent content) p Fault x)) (sym k.is)
+      subst (λ (p : Plan). WorldFollows (written_as part.mode device part.block.0 (e.first % now.size) e.count content) a s (record now { devices = with_device device now.devices (written_where lands (device_in device now.devices) e.first (replicate e.count content)) }) (after_step (Write extent content) p Fault x)) (sym k.is)
       (write_fails now blocks a x s y.0 wants.here y.1 wants.agrees part k.is_part device e k.later plan.answer h extent content lands k.of_block room k.at);
 }

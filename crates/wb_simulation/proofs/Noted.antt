@@ -3,6 +3,8 @@ use Rattle.std.proofs.Common.{◌≡◌, ◌≢◌, ◌<◌, ◌≤◌, ◌+◌,
 use Rattle.std.proofs.lemmas.List.{length-map, length-set}
 use Rattle.std.proofs.lemmas.Bool.{cases_eq}
 use Rattle.wb_types.specs.Extents.{rising}
+use Rattle.wb_types.specs.declared.mode.Mode.{Mode}
+use Rattle.wb_types.specs.declared.mode.Mode.TheVariants.{Writeback, Writethrough, Passthrough}
 use Rattle.wb_types.specs.declared.refusal.Refusal.{Refusal}
 use Rattle.wb_tasks.specs.declared.step.Answer.TheVariants.{Done as Finished, Refused as Refuses}
 use Rattle.wb_disk.specs.Device.{Content, History, only}
@@ -16,13 +18,14 @@ use Rattle.wb_link.specs.Openings.{On, AllEventsRight}
 use Rattle.wb_contents.proofs.Lists.{set_there, set_other, replicated, set_twice, set_same}
 use Rattle.wb_link.proofs.Steps.{in_set}
 use Rattle.wb_refines.specs.Going.{records, shared_after, gone}
+use Rattle.wb_refines.specs.Translation.{writing_in}
 use Rattle.wb_refines.proofs.Going.{own_steps, with_own}
 use Rattle.wb_promise.specs.declared.job.Job.{Job}
 use Rattle.wb_promise.specs.Clerk.{Notes, Doing, Position, Entering, begins, begun, put, nobody, entering, enter, enter_each, write_note, all_raised, greater_of}
 use Rattle.wb_simulation.specs.Noting.{counts_by_block, AreEntries, DoesAlike, IsNotedSo, NotesAgree}
 use Rattle.wb_simulation.specs.Noted.{told, AreNewest, NotesFollowed}
 use Rattle.std.proofs.lemmas.Option.{slice_get_within}
-use Rattle.wb_simulation.specs.Telling.{IsMigrating, IsResumed, Given, Kept, Failing, Nowhere, Rested, AreCarried, IsNoEnd, AreUnnoted, AnswersSo, writing}
+use Rattle.wb_simulation.specs.Telling.{IsMigrating, IsResumed, Given, Kept, Failing, Nowhere, Rested, AreCarried, IsNoEnd, AreUnnoted, AnswersSo, NotesAt, writing}
 use Rattle.wb_simulation.specs.Worlds.{zeros}
 use Rattle.wb_simulation.proofs.Counts.{everywhere, all_raised-length, no_entries_alike, greater_counts, greater-length}
 use Rattle.wb_link.proofs.Actors.{job_on}
@@ -35,15 +38,14 @@ AreGoing None gots = Unit {0}
 AreGoing (Some script) [] = Unit {0}
 AreGoing (Some script) (got ∷ gots) = IsNoEnd (abstract_want script) × AreGoing (task_after script (abstract_want script) got) gots
 
-unnoted_goes : (next : Want) → Rattle.wb_simulation.specs.Telling.IsUnnoted next → IsNoEnd next
-unnoted_goes (Write_all location b os) u = absurd u
-unnoted_goes (End answer) u = u
-unnoted_goes next u = tt
+unnoted_goes : (next : Want) (job : AbstractJob) → Rattle.wb_simulation.specs.Telling.IsUnnoted next job → IsNoEnd next
+unnoted_goes (End answer) job u = u
+unnoted_goes next job u = tt
 
 unnoted_going : (task : Option Script) (gots : List Got) → AreUnnoted task gots → AreGoing task gots
 unnoted_going None gots u = tt
 unnoted_going (Some script) [] u = tt
-unnoted_going (Some script) (got ∷ gots) u = (unnoted_goes (abstract_want script) u.0, unnoted_going (task_after script (abstract_want script) got) gots u.1)
+unnoted_going (Some script) (got ∷ gots) u = (unnoted_goes (abstract_want script) script.job u.0, unnoted_going (task_after script (abstract_want script) got) gots u.1)
 
 task_goes : (script : Script) (next : Want) (got : Got) → IsNoEnd next → task_after script next got ≡ Some (abstract_after script got)
 task_goes script (End answer) got u = absurd u
@@ -170,15 +172,15 @@ module _ (size a : ℕ) (s : World) (y : AbstractActor) (n : Notes) (m : Abstrac
   entering_length content [] e = refl
   entering_length content (at ∷ sectors) e = entering_length content sectors (enter content at e) ∙ length-written e.histories at content
 
-  write_after : (block offset count : ℕ) (content : Content) (location : Option ℕ) (all : List (List ℕ)) (rest : List Want) (answer : AbstractAnswer) (got : Got) (doing : Doing) → y.task ≡ Some (writing block all content (Write_all location block (rising offset count) ∷ rest) answer) →
+  write_after : (block offset count : ℕ) (content : Content) (mode : Mode) (location : Option ℕ) (all : List (List ℕ)) (rest : List Want) (answer : AbstractAnswer) (got : Got) (doing : Doing) → NotesAt mode location → y.task ≡ Some (writing mode block all content (Write_all location block (rising offset count) ∷ rest) answer) →
       slice_get n.doings a ≡ Some (Some doing) → offset + count ≤ size → block * size + offset + count ≤ length n.histories → After (got ∷ []) (write_note n a doing (enter_each content (rising (block * size + offset) count) (entering n doing)))
-  write_after block offset count content location all rest answer got doing at here l inside =
-      let script = writing block all content (Write_all location block (rising offset count) ∷ rest) answer in
-      let d : DoesAlike size (length n.histories) doing (Writing false block all content) a m = subst (λ (t : Option Script). IsNotedSo size (length n.histories) t (Some (Some doing)) a m) at (subst (λ (o : Option (Option Doing)). IsNotedSo size (length n.histories) y.task o a m) here (g.each a y among ey)) in
+  write_after block offset count content mode location all rest answer got doing notes at here l inside =
+      let script = writing mode block all content (Write_all location block (rising offset count) ∷ rest) answer in
+      let d : DoesAlike size (length n.histories) doing (writing_in mode block all content) a m = subst (λ (t : Option Script). IsNotedSo size (length n.histories) t (Some (Some doing)) a m) at (subst (λ (o : Option (Option Doing)). IsNotedSo size (length n.histories) y.task o a m) here (g.each a y among ey)) in
       let e = enter_each content (rising (block * size + offset) count) (entering n doing) in
       let m' = told m (records a y.task (got ∷ [])) in
       let w : Wrote size (length n.histories) a m m' e = subst (λ (t : Option Script). Wrote size (length n.histories) a m (told m (records a t (got ∷ []))) e) (sym at)
-      (writes_told size location block all content a count got offset m n.histories doing.entered d.job_is g.histories d.entered l inside) in
+      (writes_told size mode location block all content a count got offset m n.histories doing.entered notes d.job_is g.histories d.entered l inside) in
       let doing' : Doing = record doing { entered = e.entered } in
       to_world (got ∷ []) (write_note n a doing e) (agree_after s.waiting (write_note n a doing e) m' (shared_after s.shared y y.task (got ∷ [])) (gone y y.task (got ∷ [])) w.histories (w.finished ∙ g.finished) (w.floors ∙ g.floors)
       (entering_length content (rising (block * size + offset) count) (entering n doing)) refl refl (put_others (Some doing')) (length-set n.doings a (Some doing')) (λ b ne. ap (λ (f : ℕ → Option AbstractJob). f b) w.jobs) w.others (λ b ne. ap (λ (f : ℕ → ℕ → ℕ → ℕ). f b) w.asked)
@@ -219,13 +221,22 @@ module _ (size a : ℕ) (s : World) (y : AbstractActor) (n : Notes) (m : Abstrac
   does_alike job script doing at is here = subst (λ (j : AbstractJob). DoesAlike size (length n.histories) doing j a m) is
       (subst (λ (t : Option Script). IsNotedSo size (length n.histories) t (Some (Some doing)) a m) at (subst (λ (o : Option (Option Doing)). IsNotedSo size (length n.histories) y.task o a m) here (g.each a y among ey)))
 
-  write_answers : (block : ℕ) (os : List (List ℕ)) (content : Content) (script : Script) (doing : Doing) → y.task ≡ Some script → script.steps ≡ [] → script.answer ≡ AnsweredDone → script.job ≡ Writing false block os content → slice_get n.doings a ≡ Some (Some doing) →
+  write_answers : (mode : Mode) (block : ℕ) (os : List (List ℕ)) (content : Content) (script : Script) (doing : Doing) → y.task ≡ Some script → script.steps ≡ [] → script.answer ≡ AnsweredDone → script.job ≡ writing_in mode block os content → slice_get n.doings a ≡ Some (Some doing) →
       After (Done ∷ []) (put (record n { finished = all_raised n.finished doing.entered }) a None)
-  write_answers block os content script doing at none ans is here =
-      let d = does_alike (Writing false block os content) script doing at is here in
-      answered (put (record n { finished = all_raised n.finished doing.entered }) a None) script (Writing false block os content) AnsweredDone at none ans is
-      (agree_after s.waiting (put (record n { finished = all_raised n.finished doing.entered }) a None) (noted_step m a (Some (Writing false block os content)) (End AnsweredDone)) s.shared over g.histories
-      (ap (raised_there (m.entered a)) g.finished ∙ d.entered n.finished g.as_many) g.floors refl (all_raised-length n.finished doing.entered) refl (put_others None) (length-set n.doings a None) (λ b ne. changed_other m.jobs a b None ne) (λ b ne. changed_other m.entered a b (m.entered a) ne) (λ b ne. refl) tt)
+  write_answers mode block os content script doing at none ans is here =
+      let d = does_alike (writing_in mode block os content) script doing at is here in
+      let k = ends_here mode in
+      answered (put (record n { finished = all_raised n.finished doing.entered }) a None) script (writing_in mode block os content) AnsweredDone at none ans is
+      (agree_after s.waiting (put (record n { finished = all_raised n.finished doing.entered }) a None) (noted_step m a (Some (writing_in mode block os content)) (End AnsweredDone)) s.shared over (k.0 ∙ g.histories)
+      (k.1 ∙ ap (raised_there (m.entered a)) g.finished ∙ d.entered n.finished g.as_many) (k.2 ∙ g.floors) refl (all_raised-length n.finished doing.entered) refl (put_others None) (length-set n.doings a None) (λ b ne. changed_other m.jobs a b None ne) (λ b ne. changed_other m.entered a b (entered_after m.histories (writing_in mode block os content) (End AnsweredDone) (m.entered a)) ne) (λ b ne. refl) tt)
+
+    where
+      -- what its answer makes finished, whichever of both it is
+      ends_here : (mode : Mode) → (histories_after m.histories (writing_in mode block os content) (End AnsweredDone) ≡ m.histories) × (finished_after (writing_in mode block os content) (End AnsweredDone) (m.entered a) m.finished ≡ raised_there (m.entered a) m.finished)
+          × ((λ b o. abstract_floors_after (writing_in mode block os content) (End AnsweredDone) (m.asked a) m.floors b o) ≡ m.floors)
+      ends_here Writeback = (refl, refl, refl)
+      ends_here Writethrough = (refl, refl, refl)
+      ends_here Passthrough = (refl, refl, refl)
 
   flush_answers : (script : Script) (doing : Doing) → y.task ≡ Some script → script.steps ≡ [] → script.answer ≡ AnsweredDone → script.job ≡ Flushing None → slice_get n.doings a ≡ Some (Some doing) → length doing.then_finished ≡ length n.floors →
       After (Done ∷ []) (put (record n { floors = greater_of n.floors doing.then_finished }) a None)
@@ -402,14 +413,14 @@ notes_followed = record {
       let t = f.told y ey in
       let n' = write_note n a doing (enter_each content (rising (block * now.size + offset) count) (entering n doing)) in
       subst (λ (rs : List Record). NotesAgree now.size n' (abstract_after_all s rs) (told m rs)) (sym t.told_is)
-      (write_after now.size a s y n m ey among g block offset count content t.location t.all t.rest t.answer t.got doing t.at here l inside);
+      (write_after now.size a s y n m ey among g block offset count content t.mode t.location t.all t.rest t.answer t.got doing t.notes t.at here l inside);
   read_answered = λ block os turn a s now x f y n m ey among g.
       let t = f.told y ey in let k = script_of (Reading false block os) y.task t.0 in
       subst (λ (rs : List Record). NotesAgree now.size (put n a None) (abstract_after_all s rs) (told m rs)) (sym t.1) (read_answers now.size a s y n m ey among g block os k.script k.at k.none k.done k.is);
-  write_answered = λ block os content turn a s now x f y n m ey among g doing here.
-      let t = f.told y ey in let k = script_of (Writing false block os content) y.task t.0 in
+  write_answered = λ mode block os content turn a s now x f y n m ey among g doing here.
+      let t = f.told y ey in let k = script_of (writing_in mode block os content) y.task t.0 in
       subst (λ (rs : List Record). NotesAgree now.size (put (record n { finished = all_raised n.finished doing.entered }) a None) (abstract_after_all s rs) (told m rs)) (sym t.1)
-      (write_answers now.size a s y n m ey among g block os content k.script doing k.at k.none k.done k.is here);
+      (write_answers now.size a s y n m ey among g mode block os content k.script doing k.at k.none k.done k.is here);
   flush_answered = λ turn a s now x f y n m ey among g doing here long.
       let t = f.told y ey in let k = script_of (Flushing None) y.task t.0 in
       subst (λ (rs : List Record). NotesAgree now.size (put (record n { floors = greater_of n.floors doing.then_finished }) a None) (abstract_after_all s rs) (told m rs)) (sym t.1)

@@ -24,7 +24,6 @@ use Rattle.wb_simulation.specs.Carried.{live_there}
 use Rattle.wb_simulation.specs.Worlds.{OrdersAgree, OrderIsThere}
 use Rattle.wb_promise.specs.States.{Actor}
 use Rattle.wb_link.specs.Openings.{opened_on}
-use Rattle.wb_types.specs.declared.mode.Mode.TheVariants.{Writeback}
 use Rattle.wb_simulation.specs.Opened.{OpenedFollowed}
 use Rattle.wb_tasks.proofs.Seals.{place_told}
 
@@ -219,7 +218,7 @@ no_orders size words actors caches many t rest = record {
     nothing p (inr h) = nobody h.0 h.1 p h.2 h.3
 
 pub opened_followed : OpenedFollowed
-opened_followed size most origin_blocks cache_blocks clean entries learnt blocks s devices actors mapping few bare located unclean origin cache rest = record {
+opened_followed mode size most origin_blocks cache_blocks clean entries learnt blocks s devices actors caches mapping few bare located unclean origin cache rest = record {
   words_agree = record {
     fail = sym (ap flag (fail_is clean entries 0 (fresh_words origin_blocks)));
     seals = λ block. subst (λ (w : List ℕ). SealAgrees (word_at w block) (record { location = learnt.locations block.0; dirty = cond (learnt.clean block.0) false true })) (sym (seals_are clean entries 0 (fresh_words origin_blocks)))
@@ -230,6 +229,7 @@ opened_followed size most origin_blocks cache_blocks clean entries learnt blocks
   origin = origin;
   cache = cache;
   mode = refl;
+  caches = caches;
   commits = refl;
   broken = λ e. absurd (cc);
   led = λ a y e l. absurd (nobody a y e l);
@@ -243,7 +243,7 @@ opened_followed size most origin_blocks cache_blocks clean entries learnt blocks
     below = holds_nothing idle x.card refl;
     among_others = refl;
   });
-  orders_agree = no_orders size words actors cache_blocks (length actors) (opened_on s Writeback learnt blocks) rest;
+  orders_agree = no_orders size words actors cache_blocks (length actors) (opened_on s mode learnt blocks) rest;
 }
   where
     words : Words

@@ -1,5 +1,5 @@
 -- Crashes, and the steps of an opening until it reads, are followed.
-use Rattle.std.proofs.Common.{◌≡◌, ◌+◌, ◌*◌, ◌∙◌, ◌⊎◌, inl, inr, ℕ, Bool, true, false, List, Option, Some, None, refl, sym, ap, subst, Contains}
+use Rattle.std.proofs.Common.{◌≡◌, ◌≢◌, ◌+◌, ◌*◌, ◌∙◌, ◌⊎◌, inl, inr, ℕ, Bool, true, false, List, Option, Some, None, refl, sym, ap, subst, Contains}
 use Rattle.wb_types.specs.declared.geometry.Geometry.{Geometry}
 use Rattle.wb_types.specs.declared.mode.Mode.{Mode}
 use Rattle.wb_disk.specs.Device.{History, Crashed, synced, newest, entries}
@@ -12,11 +12,11 @@ use Rattle.wb_meta.specs.Roots.{IsSettled}
 use Rattle.wb_meta.specs.RootLaws.{IsDecided}
 use Rattle.wb_meta.proofs.Deciding.{crash_decides, sync_decides, failed_sync_leaves, read_is_committed}
 use Rattle.wb_contents.specs.Volume.{at_location}
-use Rattle.wb_types.specs.declared.mode.Mode.TheVariants.{Writeback}
+use Rattle.wb_types.specs.declared.mode.Mode.TheVariants.{Writeback, Writethrough, Passthrough}
 use Rattle.wb_promise.specs.Headline.{place_of}
 use Rattle.wb_devices.specs.declared.devices.Devices.{Devices}
 use Rattle.wb_link.specs.World.{Shared}
-use Rattle.wb_link.specs.Openings.{Site, AbstractPhase, Gone, Opens, Learnt, Stage, Settling, Caching, Basing, Looking, Rooting, Renewing, Answering, Stopping, Outcome, Settled, Fine, Learns, Refused, Broke, Shown, Stopped, Begins, Advances, Yields, advance, advanced, next_phase, abstract_decided}
+use Rattle.wb_link.specs.Openings.{Site, AbstractPhase, Gone, Opens, Learnt, Stage, Settling, Caching, Basing, Looking, Rooting, Renewing, Answering, Stopping, Outcome, Settled, Fine, Learns, Refused, Broke, Shown, Stopped, Begins, Advances, Admitted, Yields, advance, advanced, next_phase, abstract_decided}
 use Rattle.wb_simulation.specs.Sites.{IsRunning, ImagesAgree, DevicesAgree, LeadsTo, LeadsToOne, OpeningsFollowed, ImagesFollowed}
 use Rattle.wb_simulation.specs.Worlds.{zeros}
 
@@ -94,6 +94,12 @@ module _ (geometry : Geometry) (size : ℕ) (committed : Stored) (later : Option
       stopping : Stopping
       stopping = record { origin = λ b i. newest (by_block size zeros devices'.origin b i); cache = λ b i. newest (by_block size zeros devices'.cache b i); new_root = d.new_root }
 
+-- a mode that caches takes what was read as it is
+admitted : (mode : Mode) → mode ≢ Passthrough → (learnt : Learnt) → Admitted mode learnt
+admitted Writeback caches learnt = tt
+admitted Writethrough caches learnt = tt
+admitted Passthrough caches learnt = absurd (caches refl)
+
 pub openings_followed : OpeningsFollowed
 openings_followed = record {
   crashes = λ geometry size committed later w devices devices' g m c o. crashes geometry size committed later w devices devices' g m c o;
@@ -112,10 +118,10 @@ openings_followed = record {
       (record { origin = ap all_synced g.origin ∙ sym (sync_is_act size zeros devices.origin); cache = g.cache; images = same_images geometry committed later devices.metadata w.world.shared _ refl refl refl g.images });
   origin_fails = λ geometry size committed later mode w devices at g lands. advances geometry size committed later mode Basing (Broke (λ b o. lands (b * size + o))) w (record devices { origin = synced_where lands devices.origin }) at tt
       (record { origin = ap (partly_synced (λ b o. lands (b * size + o))) g.origin ∙ sym (failed_sync_is_act size zeros lands devices.origin); cache = g.cache; images = same_images geometry committed later devices.metadata w.world.shared _ refl refl refl g.images });
-  learns = λ geometry size committed w devices root tree used at g settled represents fits.
+  learns = λ geometry size committed mode w devices root tree used caches at g settled represents fits.
       let learnt : Learnt = record { locations = w.world.shared.committed; clean = w.world.shared.committed_clean } in
       let is = read_is_committed geometry committed devices.metadata root tree used g.images.read settled represents fits in
-      (learnt, g.images.committed_is ∙ (λ i b. place_of (sym is.1 i) b), advances geometry size committed None Writeback Looking (Learns learnt) w devices at (refl, refl, tt) g);
+      (learnt, g.images.committed_is ∙ (λ i b. place_of (sym is.1 i) b), advances geometry size committed None mode Looking (Learns learnt) w devices at (refl, refl, admitted mode caches learnt) g);
   look_stops = λ geometry size committed later mode w devices at g. advances geometry size committed later mode Looking Refused w devices at tt g;
   roots = λ learnt new metadata same geometry size committed later mode w devices at g read. advances geometry size committed (Some new) mode (Rooting learnt) Fine w (record devices { metadata = metadata }) at tt
       (record { origin = g.origin; cache = g.cache; images = record { read = read; committed_is = g.images.committed_is; later_is = (refl, same) } });

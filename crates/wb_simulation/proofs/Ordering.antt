@@ -2,7 +2,6 @@
 use Rattle.std.proofs.Common.{◌++◌, false, ◌⊎◌, ◌≡◌, ◌≢◌, ◌<◌, ◌^◌, ◌∙◌, inl, inr, ℕ, true, List, [], ◌∷◌, Option, Some, None, refl, sym, ap, subst, slice_get, slice_set, Contains}
 use Rattle.std.proofs.lemmas.Bool.{cases_eq}
 use Rattle.wb_types.proofs.Lists.{Contains-first}
-use Rattle.wb_types.specs.declared.mode.Mode.TheVariants.{Writeback}
 use Rattle.wb_types.specs.declared.extent.Extent.{Extent}
 use Rattle.wb_types.specs.declared.number.OBlock.{OBlock}
 use Rattle.wb_types.specs.declared.number.CBlock.{CBlock}
@@ -132,9 +131,9 @@ module _ (now : Situation) (a : ℕ) (x : Actor) (migration : Migration) (block 
     read = tt;
   }
 
-  -- a target in write-back mode is in no other
-  writes_back : s.shared.mode ≢ Passthrough
-  writes_back e = let bad : Writeback ≡ Passthrough = sym g.mode ∙ e in absurd (cc)
+  -- its target caches
+  caches : s.shared.mode ≢ Passthrough
+  caches e = g.caches (sym g.mode ∙ e)
 
   fills_given : (m : Migration) → MayBeGiven m block.0 c.0 s.shared → Fills m c
   fills_given (Promote k) may = λ i. record { 0 = may.0 i }
@@ -145,8 +144,8 @@ module _ (now : Situation) (a : ℕ) (x : Actor) (migration : Migration) (block 
   fills_kept m may = tt
 
   may_start : (m : Migration) → MayBeGiven m block.0 c.0 s.shared → Ungiven s own → ((b : ℕ) → next ≡ Some b → s.shared.mapping b ≡ None) → MayStart now.size s (job_under own (offsets now.size cut) m)
-  may_start (Promote k) may free waits = (within_offsets now.size cut inside, whole_covered now.size block some cut is_cut, free, writes_back, may.1, may.2, waits)
-  may_start m may free waits = (within_offsets now.size cut inside, whole_covered now.size block some cut is_cut, free, writes_back, may.0, may.1, waits)
+  may_start (Promote k) may free waits = (within_offsets now.size cut inside, whole_covered now.size block some cut is_cut, free, caches, may.1, may.2, waits)
+  may_start m may free waits = (within_offsets now.size cut inside, whole_covered now.size block some cut is_cut, free, caches, may.0, may.1, waits)
 
   may_again : (m : Migration) → MayBeKept m c.0 s.shared → MayAgain now.size s.shared (job_under own (offsets now.size cut) m)
   may_again (Promote k) may = (within_offsets now.size cut inside, whole_covered now.size block some cut is_cut, may.1)

@@ -6,11 +6,12 @@ use Rattle.wb_tasks.specs.Tables.{BlockRange, Reading, Writing, OnBlock, Flushin
 use Rattle.wb_tasks.specs.Plan.{Plan, table}
 use Rattle.wb_link.specs.Tables.{Job as AbstractJob, Order as AbstractOrder, Flushing as FlushingFor}
 use Rattle.wb_link.specs.World.{World, Shared, Record, Start, MayStart, IsAbstractRun, AbstractActor, job_alone, abstract_order_of, aside, abstract_given, abstract_reserved, start_actor, abstract_after_all}
-use Rattle.wb_refines.specs.Translation.{job_for, script_for}
+use Rattle.wb_refines.specs.Translation.{job_for, offsets, script_for}
 use Rattle.wb_refines.specs.Models.{WordsAgree, held_of}
 use Rattle.wb_refines.specs.Tasks.{IsResting, AllInBlocks}
 use Rattle.wb_refines.proofs.Holding.{holds_nothing}
-use Rattle.wb_refines.proofs.Tasks.{within_offsets}
+use Rattle.wb_refines.proofs.Modes.{starts_in, reserves_in, order_in, among_in}
+use Rattle.wb_refines.proofs.Tasks.{within_offsets, distinct_offsets}
 use Rattle.wb_promise.specs.declared.job.Job.{Job}
 use Rattle.wb_promise.specs.declared.job.Job.TheVariants.{Read, Write, Flush}
 use Rattle.wb_promise.specs.States.{Actor}
@@ -83,11 +84,14 @@ starts_followed = record {
       starts now a x s ex none g (Read extent) plan (job_for now.size [] (OnBlock (Reading part))) tt (within_offsets now.size part.extents (all_inside now.size part is)) refl refl refl refl
       (λ idle. record { part = part; job = refl; is_part = is; of_block = tt; at = inl (record { buffer = u.buffer; is = λ i. record { task = Some (script_for now.size [] plan); held = (idle.held ∙ ap held_of (sym hold)) i; order = None; leads = idle.leads i; buffer = u.buffer }; saw = tt }) })
       (λ l. record { part = part; job = refl; is_part = is; of_block = tt; at = inr (inr l) });
-  write = λ now a x extent content part s ex none hold is g.
+  write = λ now a x extent content part s ex none hold is mode g.
       let plan = table (OnBlock (Writing part)) in
       let u = y now a x s ex none g in
-      starts now a x s ex none g (Write extent content) plan (job_for now.size content (OnBlock (Writing part))) tt (within_offsets now.size part.extents (all_inside now.size part is), g.mode) refl refl refl refl
-      (λ idle. record { part = part; job = refl; is_part = is; of_block = tt; at = inl (record { buffer = u.buffer; is = λ i. record { task = Some (script_for now.size content plan); held = (idle.held ∙ ap held_of (sym hold)) i; order = None; leads = idle.leads i; buffer = u.buffer }; saw = tt }) })
+      let b = part.block.0 in
+      let os = offsets now.size part.extents in
+      starts now a x s ex none g (Write extent content) plan (job_for now.size content (OnBlock (Writing part))) tt (starts_in b os content part.mode now.size s is.mode (g.mode ∙ sym mode) (within_offsets now.size part.extents (all_inside now.size part is)) (distinct_offsets now.size part.extents))
+      (reserves_in b os content part.mode s.shared) (order_in b os content part.mode) (among_in b os content part.mode) refl
+      (λ idle. record { part = part; job = refl; is_part = is; of_block = tt; at = inl (record { buffer = u.buffer; is = λ i. record { task = Some (script_for now.size content plan); held = (idle.held ∙ ap held_of (sym hold)) i; order = order_in b os content part.mode i; leads = idle.leads i; buffer = u.buffer }; saw = tt }) })
       (λ l. record { part = part; job = refl; is_part = is; of_block = tt; at = inr (inr l) });
   flush = λ now a x serves s ex none g.
       let plan = table (Flushing serves now.most) in

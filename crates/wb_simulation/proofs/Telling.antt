@@ -19,16 +19,16 @@ pub unnoted_none : (task : Option Script) → AreUnnoted task []
 unnoted_none None = tt
 unnoted_none (Some script) = tt
 
-quiet_unnoted : (next : Want) → IsQuiet next → IsUnnoted next
-quiet_unnoted (Write_all location block os) q = q
-quiet_unnoted (End answer) q = q
-quiet_unnoted next q = tt
+quiet_unnoted : (next : Want) (job : AbstractJob) → IsQuiet next → IsUnnoted next job
+quiet_unnoted (Write_all location block os) job q = absurd q
+quiet_unnoted (End answer) job q = q
+quiet_unnoted next job q = tt
 
 -- nothing is noted of what touches no device and is no answer
 pub quiet_are_unnoted : (task : Option Script) (gots : List Got) → AreQuiet task gots → AreUnnoted task gots
 quiet_are_unnoted None gots q = tt
 quiet_are_unnoted (Some script) [] q = tt
-quiet_are_unnoted (Some script) (got ∷ gots) q = (quiet_unnoted (abstract_want script) q.0, quiet_are_unnoted (task_after script (abstract_want script) got) gots q.1)
+quiet_are_unnoted (Some script) (got ∷ gots) q = (quiet_unnoted (abstract_want script) script.job q.0, quiet_are_unnoted (task_after script (abstract_want script) got) gots q.1)
 
 -- nothing is told of who has no task, whatever the results
 pub nothing_told : (a : ℕ) (task : Option Script) (results : List Got) → task ≡ None → records a task [] ≡ records a task results

@@ -3,6 +3,8 @@ use Rattle.std.proofs.Common.{◌≡◌, ◌≢◌, ◌<◌, ◌≤◌, ◌+◌,
 use Rattle.std.proofs.lemmas.Bool.{cases_eq, lt-ltb}
 use Rattle.std.proofs.lemmas.Option.{slice_get-get_or}
 use Rattle.wb_types.specs.Extents.{rising}
+use Rattle.wb_types.specs.declared.mode.Mode.{Mode}
+use Rattle.wb_types.specs.declared.mode.Mode.TheVariants.{Writeback, Writethrough, Passthrough}
 use Rattle.wb_disk.specs.Device.{Content, History, added, newest, only, written, grown}
 use Rattle.wb_contents.specs.Volume.{changed, changed_at}
 use Rattle.wb_contents.specs.Devices.{by_block}
@@ -12,11 +14,12 @@ use Rattle.wb_link.specs.Tables.{Script, Job, Reading, Writing, Writing_through,
 use Rattle.wb_link.specs.World.{AreAlike, Step, task_after}
 use Rattle.wb_link.specs.Clerk.{AbstractNotes, Entry, entry, added_each, entered_each, abstract_note, abstract_noted_step, histories_after, entered_after, finished_after, abstract_floors_after, job_noted, AbstractGivesLatest}
 use Rattle.wb_refines.specs.Going.{records}
+use Rattle.wb_refines.specs.Translation.{writing_in}
 use Rattle.wb_promise.specs.Clerk.{Position, Entering, enter, enter_each, next_position}
 use Rattle.wb_link.proofs.Actors.{job_on}
 use Rattle.wb_simulation.specs.Noting.{AreEntries}
 use Rattle.wb_simulation.specs.Noted.{told, AreNewest}
-use Rattle.wb_simulation.specs.Telling.{IsUnnoted, AreUnnoted}
+use Rattle.wb_simulation.specs.Telling.{IsUnnoted, AreUnnoted, NotesAt}
 use Rattle.wb_simulation.specs.Worlds.{zeros}
 use Rattle.wb_simulation.proofs.Counts.{one_entry_more}
 
@@ -32,31 +35,35 @@ changed_nothing f a v e = λ i b. at b i
 
 -- ---- steps of which nothing is noted
 
-histories_stay : (h : ℕ → ℕ → History) (job : Job) (w : Want) → IsUnnoted w → histories_after h job w ≡ h
-histories_stay h (Writing past b all c) (Write_all location b' os) u = absurd u
-histories_stay h (Writing_through b all c) (Write_all location b' os) u = absurd u
+histories_stay : (h : ℕ → ℕ → History) (job : Job) (w : Want) → IsUnnoted w job → histories_after h job w ≡ h
+histories_stay h (Writing past b all c) (Write_all None b' os) u = absurd u
+histories_stay h (Writing past b all c) (Write_all (Some k) b' os) u = absurd u
+histories_stay h (Writing_through b all c) (Write_all None b' os) u = absurd u
+histories_stay h (Writing_through b all c) (Write_all (Some k) b' os) u = refl
 histories_stay h job w u = refl
 
-entered_stay : (h : ℕ → ℕ → History) (job : Job) (w : Want) (es : List Entry) → IsUnnoted w → entered_after h job w es ≡ es
-entered_stay h (Writing past b all c) (Write_all location b' os) es u = absurd u
-entered_stay h (Writing_through b all c) (Write_all location b' os) es u = absurd u
+entered_stay : (h : ℕ → ℕ → History) (job : Job) (w : Want) (es : List Entry) → IsUnnoted w job → entered_after h job w es ≡ es
+entered_stay h (Writing past b all c) (Write_all None b' os) es u = absurd u
+entered_stay h (Writing past b all c) (Write_all (Some k) b' os) es u = absurd u
+entered_stay h (Writing_through b all c) (Write_all None b' os) es u = absurd u
+entered_stay h (Writing_through b all c) (Write_all (Some k) b' os) es u = refl
 entered_stay h job w es u = refl
 
-finished_stay : (job : Job) (w : Want) (es : List Entry) (f : ℕ → ℕ → ℕ) → IsUnnoted w → finished_after job w es f ≡ f
+finished_stay : (job : Job) (w : Want) (es : List Entry) (f : ℕ → ℕ → ℕ) → IsUnnoted w job → finished_after job w es f ≡ f
 finished_stay (Writing past b all c) (End answer) es f u = absurd u
 finished_stay (Writing_through b all c) (End answer) es f u = absurd u
 finished_stay job w es f u = refl
 
-floors_stay : (job : Job) (w : Want) (asked floors : ℕ → ℕ → ℕ) → IsUnnoted w → (b o : ℕ) → abstract_floors_after job w asked floors b o ≡ floors b o
+floors_stay : (job : Job) (w : Want) (asked floors : ℕ → ℕ → ℕ) → IsUnnoted w job → (b o : ℕ) → abstract_floors_after job w asked floors b o ≡ floors b o
 floors_stay (Flushing order) (End answer) asked floors u b o = absurd u
 floors_stay Suspending (End answer) asked floors u b o = absurd u
 floors_stay job w asked floors u b o = refl
 
-job_stays : (job : Job) (w : Want) → IsUnnoted w → job_noted job w ≡ Some job
+job_stays : (job : Job) (w : Want) → IsUnnoted w job → job_noted job w ≡ Some job
 job_stays job (End answer) u = absurd u
 job_stays job w u = refl
 
-pub unnoted : (m : AbstractNotes) (a : ℕ) (job : Job) (w : Want) (got : Got) → m.jobs a ≡ Some job → IsUnnoted w → abstract_note m (Step a w got) ≡ m
+pub unnoted : (m : AbstractNotes) (a : ℕ) (job : Job) (w : Want) (got : Got) → m.jobs a ≡ Some job → IsUnnoted w job → abstract_note m (Step a w got) ≡ m
 unnoted m a job w got e u = ap (λ (o : Option Job). abstract_noted_step m a o w) e ∙ (λ i. record {
   histories = histories_stay m.histories job w u i;
   finished = finished_stay job w (m.entered a) m.finished u i;
@@ -71,7 +78,7 @@ abbrev pub IsJob : AbstractNotes → ℕ → Option Script → Type 0
 IsJob m a None = Unit {0}
 IsJob m a (Some script) = m.jobs a ≡ Some script.job
 
-pub task_stays : (script : Script) (w : Want) (got : Got) → IsUnnoted w → task_after script w got ≡ Some (abstract_after script got)
+pub task_stays : (script : Script) (w : Want) (got : Got) → IsUnnoted w script.job → task_after script w got ≡ Some (abstract_after script got)
 task_stays script (End answer) got u = absurd u
 task_stays script w got u = refl
 
@@ -141,20 +148,37 @@ each_written size b c (suc count) o f es h entered here are l inside =
     × AreEntries size (length (written h at c)) (enter_each c (rising k count) (enter c at (record { histories = h; entered = entered }))).entered (entered_each (changed_at f b o (added (f b o) c)) b (rising (o + 1) count) c (entry f b o ∷ es))) next later in
     (there.0, subst (λ (k : ℕ). AreEntries size k (enter_each c (rising at (suc count)) (record { histories = h; entered = entered })).entered (entered_each f b (rising o (suc count)) c es)) as_long there.1)
 
--- the notes after a write's step, whatever came of it
-pub writes_told : (size : ℕ) (to : Option ℕ) (b : ℕ) (all : List (List ℕ)) (c : Content) (a count : ℕ) (got : Got) (o : ℕ) (m : AbstractNotes) (h : List History) (entered : List Position) →
-    m.jobs a ≡ Some (Writing false b all c) → m.histories ≡ by_block size zeros h → AreEntries size (length h) entered (m.entered a) → o + count ≤ size → b * size + o + count ≤ length h →
+-- what is noted of a write where it is, whichever of both it is there
+pub record WritesHere (mode : Mode) (b : ℕ) (all : List (List ℕ)) (c : Content) (to : Option ℕ) : Type 0 where
+  pub histories : (h : ℕ → ℕ → History) (os : List ℕ) → histories_after h (writing_in mode b all c) (Write_all to b os) ≡ added_each h b os c
+  pub entered : (h : ℕ → ℕ → History) (os : List ℕ) (es : List Entry) → entered_after h (writing_in mode b all c) (Write_all to b os) es ≡ entered_each h b os c es
+  pub finished : (os : List ℕ) (es : List Entry) (f : ℕ → ℕ → ℕ) → finished_after (writing_in mode b all c) (Write_all to b os) es f ≡ f
+  pub floors : (os : List ℕ) (asked floors : ℕ → ℕ → ℕ) → (λ i o. abstract_floors_after (writing_in mode b all c) (Write_all to b os) asked floors i o) ≡ floors
+
+pub writes_here : (mode : Mode) (b : ℕ) (all : List (List ℕ)) (c : Content) (to : Option ℕ) → NotesAt mode to → WritesHere mode b all c to
+writes_here Writethrough b all c None n = record { histories = λ h os. refl; entered = λ h os es. refl; finished = λ os es f. refl; floors = λ os asked floors. refl }
+writes_here Writethrough b all c (Some k) n = absurd n
+writes_here Writeback b all c to n = record { histories = λ h os. refl; entered = λ h os es. refl; finished = λ os es f. refl; floors = λ os asked floors. refl }
+writes_here Passthrough b all c to n = record { histories = λ h os. refl; entered = λ h os es. refl; finished = λ os es f. refl; floors = λ os asked floors. refl }
+
+-- the notes after a write's step that is noted, whatever came of it
+pub writes_told : (size : ℕ) (mode : Mode) (to : Option ℕ) (b : ℕ) (all : List (List ℕ)) (c : Content) (a count : ℕ) (got : Got) (o : ℕ) (m : AbstractNotes) (h : List History) (entered : List Position) → NotesAt mode to →
+    m.jobs a ≡ Some (writing_in mode b all c) → m.histories ≡ by_block size zeros h → AreEntries size (length h) entered (m.entered a) → o + count ≤ size → b * size + o + count ≤ length h →
     Wrote size (length h) a m (abstract_note m (Step a (Write_all to b (rising o count)) got)) (enter_each c (rising (b * size + o) count) (record { histories = h; entered = entered }))
-writes_told size to b all c a count got o m h entered j here are l inside = subst (λ (m' : AbstractNotes). Wrote size (length h) a m m' (enter_each c (rising (b * size + o) count) (record { histories = h; entered = entered }))) (sym (ap (λ (k : Option Job). abstract_noted_step m a k (Write_all to b (rising o count))) j)) (record {
-  histories = each.0;
-  entered = subst (λ (es : List Entry). AreEntries size (length h) (enter_each c (rising (b * size + o) count) (record { histories = h; entered = entered })).entered es) (sym (changed_same m.entered a (entered_each m.histories b (rising o count) c (m.entered a)))) each.1;
-  others = λ k n. changed_other m.entered a k (entered_each m.histories b (rising o count) c (m.entered a)) n;
-  jobs = changed_nothing m.jobs a (Some (Writing false b all c)) j;
+writes_told size mode to b all c a count got o m h entered notes j here are l inside = subst (λ (m' : AbstractNotes). Wrote size (length h) a m m' (enter_each c (rising (b * size + o) count) (record { histories = h; entered = entered }))) (sym (ap (λ (k : Option Job). abstract_noted_step m a k (Write_all to b (rising o count))) j)) (record {
+  histories = k.histories m.histories (rising o count) ∙ each.0;
+  entered = subst (λ (es : List Entry). AreEntries size (length h) (enter_each c (rising (b * size + o) count) (record { histories = h; entered = entered })).entered es)
+      (sym (changed_same m.entered a (entered_after m.histories (writing_in mode b all c) (Write_all to b (rising o count)) (m.entered a)) ∙ k.entered m.histories (rising o count) (m.entered a))) each.1;
+  others = λ i n. changed_other m.entered a i (entered_after m.histories (writing_in mode b all c) (Write_all to b (rising o count)) (m.entered a)) n;
+  jobs = changed_nothing m.jobs a (Some (writing_in mode b all c)) j;
   asked = refl;
-  finished = refl;
-  floors = refl;
+  finished = k.finished (rising o count) (m.entered a) m.finished;
+  floors = k.floors (rising o count) (m.asked a) m.floors;
 })
   where
+    k : WritesHere mode b all c to
+    k = writes_here mode b all c to notes
+
     each : (added_each m.histories b (rising o count) c ≡ by_block size zeros (enter_each c (rising (b * size + o) count) (record { histories = h; entered = entered })).histories)
         × AreEntries size (length h) (enter_each c (rising (b * size + o) count) (record { histories = h; entered = entered })).entered (entered_each m.histories b (rising o count) c (m.entered a))
     each = each_written size b c count o m.histories (m.entered a) h entered here are l inside

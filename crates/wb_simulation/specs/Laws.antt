@@ -1,6 +1,8 @@
 -- How what actors of a run do is followed in the abstract world, where a target stands.
-use Rattle.std.specs.Prelude.{◌++◌, Contains, ◌%◌, ◌≡◌, ◌≤◌, ◌+◌, ◌⊎◌, ℕ, Bool, true, false, List, [], Some, None, length, replicate, slice_get, slice_set}
+use Rattle.std.specs.Prelude.{◌++◌, Contains, ◌%◌, ◌≡◌, ◌≤◌, ◌+◌, ◌⊎◌, ℕ, Bool, true, false, cond, List, [], Some, None, length, replicate, slice_get, slice_set}
 use Rattle.wb_types.specs.declared.extent.Extent.{Extent}
+use Rattle.wb_types.specs.declared.mode.Mode.{Mode}
+use Rattle.wb_types.specs.declared.mode.Mode.TheVariants.{Writeback}
 use Rattle.wb_types.specs.declared.mode.Dev.{Dev}
 use Rattle.wb_types.specs.declared.mode.Dev.TheVariants.{Metadata}
 use Rattle.wb_types.specs.declared.number.OBlock.{OBlock}
@@ -35,10 +37,11 @@ use Rattle.wb_refines.specs.Flushes.{IsNoBegin, IsWrittenAfter}
 use Rattle.wb_promise.specs.declared.job.Job.{Job}
 use Rattle.wb_promise.specs.declared.job.Job.TheVariants.{Read, Write, Flush}
 use Rattle.wb_promise.specs.States.{Actor, resting, with_device}
+use Rattle.wb_promise.specs.Clerk.{is_entered}
 use Rattle.wb_runs.specs.Holding.{cards_of}
 use Rattle.wb_simulation.specs.Carried.{held}
 use Rattle.wb_simulation.specs.Steps.{IsPart}
-use Rattle.wb_simulation.specs.Telling.{Quietly, Reads, Writes, Answers, Starts, Releases}
+use Rattle.wb_simulation.specs.Telling.{Telling, Quietly, Reads, Writes, Answers, Starts, Releases}
 use Rattle.wb_simulation.specs.Worlds.{zeros, Situation, Agrees, Turn, Stays, Begins, Puts, Ends, GivesUp, WorldFollowsBy, WorldFollows}
 
 -- This actor, which is at this task, wants this next, and the run stands where the world does.
@@ -67,6 +70,10 @@ CellStepsFollowed = (now : Situation) (blocks : ℕ) (a : ℕ) (x : Actor) (job 
 abbrev pub after_step : Job → Plan → Got → Actor → Actor
 after_step job plan got x = record x { task = Some (job, after plan got) }
 
+-- what a write's step on a device is told as: it is noted where its sectors are entered
+abbrev pub written_as : Mode → Dev → (block offset count : ℕ) → Content → Telling
+written_as mode device block offset count content = cond (is_entered mode device) (Writes block offset count content) Quietly
+
 -- A step of a read or a write on an extent of a device, done or failing; of a write that fails each sector has landed or not.
 pub record ExtentStepsFollowed : Type 0 where
   pub read_done : (now : Situation) (blocks : ℕ) (a : ℕ) (x : Actor) (extent : Extent) (part : BlockRange) (plan : Plan) (device : Dev) (e : Extent) (contents : List Content) (s : World) →
@@ -77,10 +84,10 @@ pub record ExtentStepsFollowed : Type 0 where
       WorldFollows Quietly a s now (after_step (Read extent) plan Fault x)
   pub write_done : (now : Situation) (blocks : ℕ) (a : ℕ) (x : Actor) (extent : Extent) (content : Content) (part : BlockRange) (plan : Plan) (device : Dev) (e : Extent) (s : World) →
       WantsNext now a x s (Write extent content) plan (Device (WriteExtent device e)) → plan.job ≡ OnBlock (Writing part) → Suits blocks plan x.card → HoldsBlocks device → e.first + e.count ≤ length (device_in device now.devices) →
-      WorldFollows (Writes part.block.0 (e.first % now.size) e.count content) a s (record now { devices = with_device device now.devices (written_each (device_in device now.devices) e.first (replicate e.count content)) }) (after_step (Write extent content) plan Done x)
+      WorldFollows (written_as part.mode device part.block.0 (e.first % now.size) e.count content) a s (record now { devices = with_device device now.devices (written_each (device_in device now.devices) e.first (replicate e.count content)) }) (after_step (Write extent content) plan Done x)
   pub write_fails : (now : Situation) (blocks : ℕ) (a : ℕ) (x : Actor) (extent : Extent) (content : Content) (part : BlockRange) (plan : Plan) (device : Dev) (e : Extent) (lands : ℕ → Bool) (s : World) →
       WantsNext now a x s (Write extent content) plan (Device (WriteExtent device e)) → plan.job ≡ OnBlock (Writing part) → Suits blocks plan x.card → HoldsBlocks device → e.first + e.count ≤ length (device_in device now.devices) →
-      WorldFollows (Writes part.block.0 (e.first % now.size) e.count content) a s (record now { devices = with_device device now.devices (written_where lands (device_in device now.devices) e.first (replicate e.count content)) }) (after_step (Write extent content) plan Fault x)
+      WorldFollows (written_as part.mode device part.block.0 (e.first % now.size) e.count content) a s (record now { devices = with_device device now.devices (written_where lands (device_in device now.devices) e.first (replicate e.count content)) }) (after_step (Write extent content) plan Fault x)
 
 -- The job is given to the actor there too, or to nobody, since the actor has kept something at a failure.
 abbrev pub Begun : AbstractJob → ℕ → World → Situation → Actor → Type 0
@@ -92,7 +99,7 @@ pub record StartsFollowed : Type 0 where
       slice_get now.actors a ≡ Some x → x.task ≡ None → x.card.hold ≡ Nothing → IsPart now.size part → Agrees now s →
       Begun (job_for now.size [] (OnBlock (Reading part))) a s now (record x { task = Some (Read extent, table (OnBlock (Reading part))) })
   pub write : (now : Situation) (a : ℕ) (x : Actor) (extent : Extent) (content : Content) (part : BlockRange) (s : World) →
-      slice_get now.actors a ≡ Some x → x.task ≡ None → x.card.hold ≡ Nothing → IsPart now.size part → Agrees now s →
+      slice_get now.actors a ≡ Some x → x.task ≡ None → x.card.hold ≡ Nothing → IsPart now.size part → part.mode ≡ now.mode → Agrees now s →
       Begun (job_for now.size content (OnBlock (Writing part))) a s now (record x { task = Some (Write extent content, table (OnBlock (Writing part))) })
   pub flush : (now : Situation) (a : ℕ) (x : Actor) (serves : List OBlock) (s : World) →
       slice_get now.actors a ≡ Some x → x.task ≡ None → Agrees now s →
@@ -162,6 +169,7 @@ pub record FlushStepsFollowed : Type 0 where
 -- a target that was just made over empty devices of these sizes, with so many actors who have nothing to do, and no order
 abbrev pub CanAgree : Type 0
 CanAgree = (size most blocks caches cache origin many : ℕ) → Agrees (record {
+  mode = Writeback;
   size = size;
   most = most;
   words = fresh_words blocks;

@@ -1,7 +1,8 @@
 -- What a target that an opening has made is in the abstract world.
-use Rattle.std.specs.Prelude.{◌≡◌, ◌≤◌, ◌^◌, ℕ, Bool, true, false, List, Option, Some, None, length, replicate, slice_get}
+use Rattle.std.specs.Prelude.{◌≡◌, ◌≢◌, ◌≤◌, ◌^◌, ℕ, Bool, true, false, List, Option, Some, None, length, replicate, slice_get}
 use Rattle.wb_types.specs.declared.entry.Entry.{Entry}
-use Rattle.wb_types.specs.declared.mode.Mode.TheVariants.{Writeback}
+use Rattle.wb_types.specs.declared.mode.Mode.{Mode}
+use Rattle.wb_types.specs.declared.mode.Mode.TheVariants.{Passthrough}
 use Rattle.wb_disk.specs.Device.{History}
 use Rattle.wb_contents.specs.Devices.{by_block}
 use Rattle.wb_words.specs.SharedWords.{fresh_words}
@@ -22,13 +23,14 @@ located entries block = place_of entries block
 abbrev pub AreAtRest : List Actor → Type 0
 AreAtRest actors = (a : ℕ) (x : Actor) → slice_get actors a ≡ Some x → x.task ≡ None
 
--- Once each mapped block of a tree that was read is sealed, words, devices and actors are those of the target that the abstract opening
+-- Once each mapped block of a tree that was read is sealed, words, devices and actors are those of the target that the abstract opening, in the same mode,
 -- makes of what it has learnt: where the tree has each block, and that none is clean. A root that is marked clean has no entries.
 abbrev pub OpenedFollowed : Type 0
-OpenedFollowed = (size most origin_blocks cache_blocks : ℕ) (clean : Bool) (entries : List (Option Entry)) (learnt : Learnt) (blocks : ℕ → Block) (s : Shared) (devices : Devices (List History)) (actors : List Actor) →
-    IsMapping cache_blocks origin_blocks entries → cache_blocks ≤ 2 ^ 32 → (clean ≡ true → (block : ℕ) → located entries block ≡ None) → learnt.locations ≡ located entries → ((block : ℕ) → learnt.clean block ≡ false) →
+OpenedFollowed = (mode : Mode) (size most origin_blocks cache_blocks : ℕ) (clean : Bool) (entries : List (Option Entry)) (learnt : Learnt) (blocks : ℕ → Block) (s : Shared) (devices : Devices (List History)) (actors : List Actor) →
+    mode ≢ Passthrough → IsMapping cache_blocks origin_blocks entries → cache_blocks ≤ 2 ^ 32 → (clean ≡ true → (block : ℕ) → located entries block ≡ None) → learnt.locations ≡ located entries → ((block : ℕ) → learnt.clean block ≡ false) →
     s.origin ≡ by_block size zeros devices.origin → s.cache ≡ by_block size zeros devices.cache → AreAtRest actors →
     Agrees (record {
+      mode = mode;
       size = size;
       most = most;
       words = words_by (fresh_words origin_blocks) (sealing_steps clean 0 entries);
@@ -36,4 +38,4 @@ OpenedFollowed = (size most origin_blocks cache_blocks : ℕ) (clean : Bool) (en
       orders = replicate cache_blocks None;
       devices = devices;
       actors = actors;
-    }) (record { shared = opened_on s Writeback learnt blocks; actors = replicate (length actors) idle; waiting = λ k. None })
+    }) (record { shared = opened_on s mode learnt blocks; actors = replicate (length actors) idle; waiting = λ k. None })

@@ -1,31 +1,40 @@
 -- What the abstract world's clerk is told, who sees the records of one actor.
 use Rattle.std.specs.Prelude.{false, true, ◌≡◌, ◌≢◌, ℕ, List, [], ◌∷◌, Option, Some, None, length, map}
 use Rattle.wb_types.specs.Extents.{rising}
+use Rattle.wb_types.specs.declared.mode.Mode.{Mode}
+use Rattle.wb_types.specs.declared.mode.Mode.TheVariants.{Writethrough}
 use Rattle.wb_disk.specs.Device.{Content}
 use Rattle.wb_tasks.specs.declared.step.Answer.{Answer}
 use Rattle.wb_tasks.specs.declared.step.Answer.TheVariants.{Done as Finished, Refused as Refuses}
-use Rattle.wb_link.specs.Tables.{Script, Flag, abstract_table, Job, Reading, Writing, Promoting, Returning, Want, Read_all, Write_all, End, Got, Gave, Done, Finished as AnsweredDone, Answer as AbstractAnswer, abstract_want}
+use Rattle.wb_link.specs.Tables.{Script, Flag, abstract_table, Job, Reading, Writing_through, Promoting, Returning, Want, Read_all, Write_all, End, Got, Gave, Done, Finished as AnsweredDone, Answer as AbstractAnswer, abstract_want}
 use Rattle.wb_link.specs.World.{Release, Record, Start, Again, task_after}
 use Rattle.wb_refines.specs.Going.{records}
+use Rattle.wb_refines.specs.Translation.{writing_in}
 
--- A step of which nothing is noted: no write, and no answer.
-abbrev pub IsUnnoted : Want → Type 0
-IsUnnoted (Write_all location block os) = ⊥
-IsUnnoted (End answer) = ⊥
-IsUnnoted next = Unit {0}
+-- A step of a job of which nothing is noted: no answer, and no write but that by which a write in write-through puts on the cache what the origin has.
+abbrev pub IsUnnoted : Want → Job → Type 0
+IsUnnoted (Write_all (Some cache) block os) (Writing_through b all content) = Unit {0}
+IsUnnoted (Write_all location block os) job = ⊥
+IsUnnoted (End answer) job = ⊥
+IsUnnoted next job = Unit {0}
 
 -- so is each of the steps that have these results
 abbrev pub AreUnnoted : Option Script → List Got → Type 0
 AreUnnoted None gots = Unit {0}
 AreUnnoted (Some script) [] = Unit {0}
-AreUnnoted (Some script) (got ∷ gots) = IsUnnoted (abstract_want script) × AreUnnoted (task_after script (abstract_want script) got) gots
+AreUnnoted (Some script) (got ∷ gots) = IsUnnoted (abstract_want script) script.job × AreUnnoted (task_after script (abstract_want script) got) gots
 
 -- a job of one block
 abbrev pub reading : ℕ → List (List ℕ) → List Want → AbstractAnswer → Script
 reading block all steps answer = record { job = Reading false block all; steps = steps; answer = answer }
 
-abbrev pub writing : ℕ → List (List ℕ) → Content → List Want → AbstractAnswer → Script
-writing block all content steps answer = record { job = Writing false block all content; steps = steps; answer = answer }
+abbrev pub writing : Mode → ℕ → List (List ℕ) → Content → List Want → AbstractAnswer → Script
+writing mode block all content steps answer = record { job = writing_in mode block all content; steps = steps; answer = answer }
+
+-- what it puts there is noted: in write-through what goes to the origin alone
+abbrev pub NotesAt : Mode → Option ℕ → Type 0
+NotesAt Writethrough (Some cache) = ⊥
+NotesAt mode location = Unit {0}
 
 -- a job of which nothing is noted: a migration writes nothing new, and its answer makes nothing finished or durable
 abbrev pub IsMigrating : Job → Type 0
@@ -69,14 +78,16 @@ pub record IsReadNext (a block offset : ℕ) (contents : List Content) (task : O
   pub at : task ≡ Some (reading block all (Read_all location block (rising offset (length contents)) ∷ rest) answer)
   pub told_is : told ≡ records a task (Gave there ∷ [])
 
--- and that of a write
+-- and that of a write, which is noted
 pub record IsWriting (a block offset count : ℕ) (content : Content) (task : Option Script) (told : List Record) : Type 0 where
+  pub mode : Mode
   pub location : Option ℕ
+  pub notes : NotesAt mode location
   pub all : List (List ℕ)
   pub rest : List Want
   pub answer : AbstractAnswer
   pub got : Got
-  pub at : task ≡ Some (writing block all content (Write_all location block (rising offset count) ∷ rest) answer)
+  pub at : task ≡ Some (writing mode block all content (Write_all location block (rising offset count) ∷ rest) answer)
   pub told_is : told ≡ records a task (got ∷ [])
 
 -- nothing is left but the answer: this job is done there too, or some job is not; who is late has no task there

@@ -1,6 +1,7 @@
 -- When a state of a run, where a target stands, is a state of the abstract world; and when what happens there is a run of that world.
 use Rattle.std.specs.Prelude.{◌≡◌, ◌≢◌, ◌⊎◌, ℕ, Bool, true, false, List, [], Option, Some, None, length, replicate, slice_get, slice_set}
-use Rattle.wb_types.specs.declared.mode.Mode.TheVariants.{Writeback}
+use Rattle.wb_types.specs.declared.mode.Mode.{Mode}
+use Rattle.wb_types.specs.declared.mode.Mode.TheVariants.{Passthrough}
 use Rattle.wb_disk.specs.Device.{Content, History}
 use Rattle.wb_contents.specs.Devices.{by_block}
 use Rattle.wb_contents.specs.Volume.{Locations, changed}
@@ -46,9 +47,10 @@ pub record OrdersAgree (size : ℕ) (words : Words) (orders : List (Option Order
   -- and what the run's actor migrates it migrates there
   pub carried : (a : ℕ) (x : Actor) (y : AbstractActor) (migration : Migration) (block : OBlock) (plan : Plan) → slice_get actors a ≡ Some x → slice_get s.actors a ≡ Some y → x.task ≡ Some (Migrate migration block, plan) → IsAtMigration size words orders migration block plan x y
 
--- Where a run stands, with a target: how many sectors blocks have, and how many nodes an image has at most; the target's words, whether its
--- desk has a commit that runs, and the orders that live there, by cache block; the devices, and the actors.
+-- Where a run stands, with a target: the target's mode; how many sectors blocks have, and how many nodes an image has at most; the target's words, whether
+-- its desk has a commit that runs, and the orders that live there, by cache block; the devices, and the actors.
 pub record Situation : Type 0 where
+  pub mode : Mode
   pub size : ℕ
   pub most : ℕ
   pub words : Words
@@ -57,12 +59,13 @@ pub record Situation : Type 0 where
   pub devices : Devices (List History)
   pub actors : List Actor
 
--- The run stands where this state of the world stands for it. Each actor of the run is one of the world.
+-- The run stands where this state of the world stands for it, in the same mode, which is one that caches. Each actor of the run is one of the world.
 pub record Agrees (now : Situation) (s : World) : Type 0 where
   pub words_agree : WordsAgree now.words s.shared
   pub origin : s.shared.origin ≡ by_block now.size zeros now.devices.origin
   pub cache : s.shared.cache ≡ by_block now.size zeros now.devices.cache
-  pub mode : s.shared.mode ≡ Writeback
+  pub mode : s.shared.mode ≡ now.mode
+  pub caches : now.mode ≢ Passthrough
   pub commits : s.shared.committing ≡ now.committing
   -- a commit that was broken runs for good
   pub broken : s.shared.broken ≡ true → s.shared.committing ≡ true
