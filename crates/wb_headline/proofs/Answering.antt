@@ -5,7 +5,7 @@ use Rattle.std.proofs.lemmas.Bool.{ltb-true, ltb-false}
 use Rattle.std.proofs.lemmas.Nat.{div-mul-add, mod-mul-add}
 use Rattle.std.proofs.lemmas.Option.{slice_get_past}
 use Rattle.wb_types.specs.declared.entry.Entry.{Entry}
-use Rattle.wb_types.specs.declared.mode.Mode.TheVariants.{Writeback}
+use Rattle.wb_types.specs.declared.mode.Mode.{Mode}
 use Rattle.wb_disk.specs.Device.{Content as Bytes, History, newest, only}
 use Rattle.wb_contents.specs.Devices.{by_block}
 use Rattle.wb_contents.specs.Volume.{at_location}
@@ -62,20 +62,20 @@ view_of v i b o = newest (at_location v.world.shared.origin v.world.shared.cache
 abbrev pub answer_of : Site → Learnt → List (Option Entry) → Event
 answer_of v i tree = Advances (Shown (λ k. block_there (opened_state tree k)) (view_of v i))
 
-pub answer_may : (sectors : ℕ) (v : Site) (i : Learnt) (tree : List (Option Entry)) → v.phase ≡ OpensThere Writeback (Answering i) → i.locations ≡ located tree → MayHappen sectors v (answer_of v i tree)
-answer_may sectors v i tree ph same = (
-  Writeback,
+pub answer_may : (sectors : ℕ) (mode : Mode) (v : Site) (i : Learnt) (tree : List (Option Entry)) → v.phase ≡ OpensThere mode (Answering i) → i.locations ≡ located tree → MayHappen sectors v (answer_of v i tree)
+answer_may sectors mode v i tree ph same = (
+  mode,
   Answering i,
   ph,
   ((λ k. subst (λ l. (block_there (opened_state tree k) ≡ MappedThere) ⊎ ((block_there (opened_state tree k) ≡ FreeThere) × IsUnnamed l k)) (sym same) (free_or_mapped tree k)), λ b o. refl),
 )
 
 -- the site of the target that it makes
-abbrev pub opened_site : Site → Learnt → List (Option Entry) → Site
-opened_site v i tree = record { world = emptied v.world (opened_on v.world.shared Writeback i (λ k. block_there (opened_state tree k))); phase = StandsThere }
+abbrev pub opened_site : Mode → Site → Learnt → List (Option Entry) → Site
+opened_site mode v i tree = record { world = emptied v.world (opened_on v.world.shared mode i (λ k. block_there (opened_state tree k))); phase = StandsThere }
 
-pub answer_leads : (v : Site) (i : Learnt) (tree : List (Option Entry)) → v.phase ≡ OpensThere Writeback (Answering i) → after_event v (answer_of v i tree) ≡ opened_site v i tree
-answer_leads v i tree ph = ap (λ (p : PhaseThere). advance v.world p (Shown (λ k. block_there (opened_state tree k)) (view_of v i))) ph
+pub answer_leads : (mode : Mode) (v : Site) (i : Learnt) (tree : List (Option Entry)) → v.phase ≡ OpensThere mode (Answering i) → after_event v (answer_of v i tree) ≡ opened_site mode v i tree
+answer_leads mode v i tree ph = ap (λ (p : PhaseThere). advance v.world p (Shown (λ k. block_there (opened_state tree k)) (view_of v i))) ph
 
 -- ---- what it shows
 

@@ -9,7 +9,7 @@ use Rattle.wb_link.specs.Openings.{Site, Stage, Answering, Outcome, Shown, Event
 use Rattle.wb_contents.proofs.Lists.{replicated}
 use Rattle.wb_promise.specs.Clerk.{Notes, Doing, nobody}
 use Rattle.wb_simulation.specs.Noting.{NotesAgree, IsNotedSo}
-use Rattle.wb_types.specs.declared.mode.Mode.TheVariants.{Writeback}
+use Rattle.wb_types.specs.declared.mode.Mode.TheVariants.{Passthrough}
 use Rattle.wb_disk.specs.Device.{History}
 use Rattle.wb_meta.specs.Representing.{Stored}
 use Rattle.wb_meta.specs.declared.read_steps.ReadSteps.{ReadSteps}
@@ -147,10 +147,10 @@ module _ (P A : Type 0) (shape : Shape) where
     }
 
     -- an opening is at work
-    pub opens : (mode : Mode) (reading : Option (ReadSteps A)) (commit : Option RunningCommit) → mode ≡ Writeback → MetadataKept {P = P} {A = A} shape.geometry images (Opens mode reading) commit devices.metadata →
-        ((a : ℕ) (x : Actor) (job : Job) (plan : Plan) → slice_get actors a ≡ Some x → x.task ≡ Some (job, plan) → AtStage reading commit later plan phase ⊎ IsOver plan phase) →
+    pub opens : (mode : Mode) (reading : Option (ReadSteps A)) (commit : Option RunningCommit) → mode ≢ Passthrough → MetadataKept {P = P} {A = A} shape.geometry images (Opens mode reading) commit devices.metadata →
+        ((a : ℕ) (x : Actor) (job : Job) (plan : Plan) → slice_get actors a ≡ Some x → x.task ≡ Some (job, plan) → AtStage mode reading commit later plan phase ⊎ IsOver plan phase) →
         Goes P A shape (record { devices = devices; commit = commit; phase = Opens mode reading; actors = actors }) n
-    opens mode reading commit writeback known each = record {
+    opens mode reading commit caches known each = record {
       images = images;
       known = known;
       followed = record {
@@ -163,8 +163,8 @@ module _ (P A : Type 0) (shape : Shape) where
         phase = record {
           later = later;
           devices_follow = follow;
-          writeback = writeback;
-          each = λ a x job plan e t. subst (λ (p : PhaseThere). AtStage reading commit later plan p ⊎ IsOver plan p) (sym r.phase_is) (each a x job plan e t);
+          caches = caches;
+          each = λ a x job plan e t. subst (λ (p : PhaseThere). AtStage mode reading commit later plan p ⊎ IsOver plan p) (sym r.phase_is) (each a x job plan e t);
         };
       };
     }

@@ -5,6 +5,7 @@ use Rattle.std.proofs.lemmas.List.Elements.{Contains-append_cases, Contains-appe
 use Rattle.wb_types.specs.declared.number.OBlock.{OBlock}
 use Rattle.wb_types.specs.declared.geometry.Geometry.{Geometry}
 use Rattle.wb_types.specs.declared.number.Place.{Place}
+use Rattle.wb_types.specs.declared.mode.Mode.{Mode}
 use Rattle.wb_types.specs.declared.mode.Dev.{Dev}
 use Rattle.wb_types.specs.declared.mode.Dev.TheVariants.{Metadata, Cache, Origin}
 use Rattle.wb_types.specs.declared.refusal.Refusal.{Refusal}
@@ -169,9 +170,9 @@ module _ (P A : Type 0) (shape : Shape) (images : Images) (t : Target P) (commit
   noted_less : Rattle.std.proofs.Common.◌<◌ a (length n.doings)
   noted_less = noted_within P A shape images t commit devices actors n known f a x ex
 
-  quiet_notes : {turn : Turn} {words' : Words} {committing' : Bool} {orders' : List (Option Order)} {devices' : Devices (List History)} {y : Actor} (g : WorldFollowsBy turn Quietly a f.site.world (record (situation shape t devices' actors) { words = words'; committing = committing'; orders = orders' }) y) →
+  quiet_notes : {turn : Turn} {mode' : Mode} {words' : Words} {committing' : Bool} {orders' : List (Option Order)} {devices' : Devices (List History)} {y : Actor} (g : WorldFollowsBy turn Quietly a f.site.world (record (situation shape t devices' actors) { mode = mode'; words = words'; committing = committing'; orders = orders' }) y) →
       NotesAgree (size P A shape) n (abstract_after_all f.site.world g.records) (told f.notes g.records)
-  quiet_notes {turn} {words'} {committing'} {orders'} {devices'} {y} g =
+  quiet_notes {turn} {mode'} {words'} {committing'} {orders'} {devices'} {y} g =
       let b = beside P A shape images t commit devices actors n known f a x ex in
       notes_followed.quiet turn a f.site.world _ _ g b.0 n f.notes b.1 noted_less f.notes_agree
 
@@ -183,16 +184,16 @@ module _ (P A : Type 0) (shape : Shape) (images : Images) (t : Target P) (commit
     device_notes = let e = failing_same doing step got in notes_followed.redone (size P A shape) n (abstract_after_all f.site.world g.records) (told f.notes g.records) a doing (failing doing step got) (quiet_notes g) noted e.0 e.1
 
     on_device : AtDesk shape.geometry images' t'.desk commit' devices'.metadata → DeskAgrees t'.desk (abstract_after_all f.site.world g.records).shared → ImagesAgree shape.geometry images'.committed (later_of images') devices'.metadata (abstract_after_all f.site.world g.records).shared →
-        ((state : Stored) → images'.running ≡ Some state → (abstract_after_all f.site.world g.records).shared.running ≡ locations state) → Goes P A shape (then_is t' commit' devices' (Device step) got) (noted_step shape [] n a (Some (Some doing)) (Device step) got contents)
+        ((state : Stored) → images'.running ≡ Some state → (abstract_after_all f.site.world g.records).shared.running ≡ locations state) → Goes P A shape (then_is t' commit' devices' (Device step) got) (noted_step shape t.desk.mode [] n a (Some (Some doing)) (Device step) got contents)
     on_device known' desk images_agree running =
-        subst (λ (q : Job). Goes P A shape (then_is t' commit' devices' (Device step) got) (device_note shape (device_n step got) a (failing doing step got) q step got contents)) (sym job_is)
+        subst (λ (q : Job). Goes P A shape (then_is t' commit' devices' (Device step) got) (device_note shape t.desk.mode (device_n step got) a (failing doing step got) q step got contents)) (sym job_is)
         (subst (λ (y : Actor). Goes P A shape (record { devices = devices'; commit = commit'; phase = Stands t'; actors = slice_set actors a y }) (device_n step got)) (sym (actor_is P A shape (Stands t) devices x Flush plan (Device step) got xt ∙ (λ i. record (after_step Flush plan got x) { buffer = plain i })))
         (leads_on P A shape images t commit devices actors n known f a x ex turn Quietly t' commit' devices' (after_step Flush plan got x) (device_n step got) images' (live_orders t'.desk) g tt device_notes (length-set n.doings a (Some (failing doing step got))) refl known' refl desk images_agree running))
 
   -- cache and origin are synced, or fail to be
   module _ (device : Dev) (holds : HoldsBlocks device) (next : Device (Sync device) ≡ want plan) (contents : List Bytes) where
     synced_so : (got : Got) → (list : List History) → WorldFollows Quietly a f.site.world (situation shape t (with_device device devices list) actors) (after_step Flush plan got x) →
-        Goes P A shape (then_is t commit (with_device device devices list) (Device (Sync device)) got) (noted_step shape [] n a (Some (Some doing)) (Device (Sync device)) got contents)
+        Goes P A shape (then_is t commit (with_device device devices list) (Device (Sync device)) got) (noted_step shape t.desk.mode [] n a (Some (Some doing)) (Device (Sync device)) got contents)
     synced_so got list g =
         let known' = subst (λ (m : List History). AtDesk shape.geometry images t.desk commit m) (sym (data_device device holds devices list)) known in
         let s' = (abstract_after_all f.site.world g.records).shared in
@@ -200,10 +201,10 @@ module _ (P A : Type 0) (shape : Shape) (images : Images) (t : Target P) (commit
         on_device Stays (Sync device) got contents t commit (with_device device devices list) images refl g known' (desk_stays P t.desk s s' f.phase.desk t.desk refl refl g.desk.0 g.desk.1)
         (images_followed.stay shape.geometry images.committed (later_of images) devices.metadata (with_device device devices list).metadata s s' f.phase.images_agree g.turned readable.read) (λ state e. g.turned.1 ∙ f.phase.running state e)
 
-    syncs : Goes P A shape (then_is t commit (with_device device devices (synced (device_in device devices))) (Device (Sync device)) Done) (noted_step shape [] n a (Some (Some doing)) (Device (Sync device)) Done contents)
+    syncs : Goes P A shape (then_is t commit (with_device device devices (synced (device_in device devices))) (Device (Sync device)) Done) (noted_step shape t.desk.mode [] n a (Some (Some doing)) (Device (Sync device)) Done contents)
     syncs = synced_so Done (synced (device_in device devices)) (flush_steps_followed.syncs now device a x plan f.site.world holds (wants next))
 
-    sync_fails : (lands : ℕ → Bool) → Goes P A shape (then_is t commit (with_device device devices (synced_where lands (device_in device devices))) (Device (Sync device)) Fault) (noted_step shape [] n a (Some (Some doing)) (Device (Sync device)) Fault contents)
+    sync_fails : (lands : ℕ → Bool) → Goes P A shape (then_is t commit (with_device device devices (synced_where lands (device_in device devices))) (Device (Sync device)) Fault) (noted_step shape t.desk.mode [] n a (Some (Some doing)) (Device (Sync device)) Fault contents)
     sync_fails lands = synced_so Fault (synced_where lands (device_in device devices)) (flush_steps_followed.sync_fails now device lands a x plan f.site.world holds (wants next))
 
   -- ---- steps of the commit on the metadata
@@ -236,7 +237,7 @@ module _ (P A : Type 0) (shape : Shape) (images : Images) (t : Target P) (commit
     parts WriteRoot coming s' d u = (d.0, d.1, u.0, u.1, λ w. u.2)
     parts v coming s' d u = (d.0, d.1, u.0, u.1, λ w. u.2 ∙ written_now (written_before c.image c.steps v coming (λ e. absurd (cc)) w))
 
-    put_done : Rattle.wb_promise.specs.Effects.buffer_then devices x.buffer (Device step) Done Flush ≡ x.buffer → DoesStep c.image c.steps devices.metadata new → Goes P A shape (then_is t (led commit Done) devices' (Device step) Done) (noted_step shape [] n a (Some (Some doing)) (Device step) Done contents)
+    put_done : Rattle.wb_promise.specs.Effects.buffer_then devices x.buffer (Device step) Done Flush ≡ x.buffer → DoesStep c.image c.steps devices.metadata new → Goes P A shape (then_is t (led commit Done) devices' (Device step) Done) (noted_step shape t.desk.mode [] n a (Some (Some doing)) (Device step) Done contents)
     put_done plain does =
         let g = flush_steps_followed.on_metadata now step new a x plan f.site.world of_metadata (wants next) in
         let s' = (abstract_after_all f.site.world g.records).shared in
@@ -246,7 +247,7 @@ module _ (P A : Type 0) (shape : Shape) (images : Images) (t : Target P) (commit
         let known' : AtDesk shape.geometry u.now t.desk (Some c') new = record { is = k.is; stands = record { of = l.of; under = u.kept; edited = l.edited; entries = l.entries; places = l.places; generation = l.generation; busy = l.busy } } in
         let readable = kept_readable shape.geometry u.now new P A (Stands t) (Some c') known' in
         let there : s'.running ≡ locations l.of.new = so.3 ∙ f.phase.running l.of.new running_now in
-        subst (λ (m : Option RunningCommit). Goes P A shape (then_is t m devices' (Device step) Done) (noted_step shape [] n a (Some (Some doing)) (Device step) Done contents)) (sym (ap (λ (m : Option RunningCommit). led m Done) runs))
+        subst (λ (m : Option RunningCommit). Goes P A shape (then_is t m devices' (Device step) Done) (noted_step shape t.desk.mode [] n a (Some (Some doing)) (Device step) Done contents)) (sym (ap (λ (m : Option RunningCommit). led m Done) runs))
         (on_device (turn_of step) step Done contents t (Some c') devices' u.now plain g known' (desk_stays P t.desk s s' f.phase.desk t.desk refl refl so.0 so.1)
         (record {
           read = readable.read;
@@ -255,7 +256,7 @@ module _ (P A : Type 0) (shape : Shape) (images : Images) (t : Target P) (commit
         })
         (λ state e. there ∙ ap locations (some_is l.of.new state (sym (ap (λ (i : Images). i.running) u.kept.are) ∙ e))))
 
-    put_failed : Rattle.wb_promise.specs.Effects.buffer_then devices x.buffer (Device step) Fault Flush ≡ x.buffer → FailsStep c.image c.steps devices.metadata new → Goes P A shape (then_is t (led commit Fault) devices' (Device step) Fault) (noted_step shape [] n a (Some (Some doing)) (Device step) Fault contents)
+    put_failed : Rattle.wb_promise.specs.Effects.buffer_then devices x.buffer (Device step) Fault Flush ≡ x.buffer → FailsStep c.image c.steps devices.metadata new → Goes P A shape (then_is t (led commit Fault) devices' (Device step) Fault) (noted_step shape t.desk.mode [] n a (Some (Some doing)) (Device step) Fault contents)
     put_failed plain bad =
         let fails = flush_steps_followed.metadata_fails now step new a x plan f.site.world of_metadata (wants next) in
         let written = fails.0 in
@@ -264,7 +265,7 @@ module _ (P A : Type 0) (shape : Shape) (images : Images) (t : Target P) (commit
         let s' = (abstract_after_all f.site.world g.records).shared in
         let readable = failed_read shape.geometry images c l.of devices.metadata new l.under bad in
         let there : s'.running ≡ locations l.of.new = g.turned.1 ∙ f.phase.running l.of.new running_now in
-        subst (λ (m : Option RunningCommit). Goes P A shape (then_is t m devices' (Device step) Fault) (noted_step shape [] n a (Some (Some doing)) (Device step) Fault contents)) (sym (ap (λ (m : Option RunningCommit). led m Fault) runs))
+        subst (λ (m : Option RunningCommit). Goes P A shape (then_is t m devices' (Device step) Fault) (noted_step shape t.desk.mode [] n a (Some (Some doing)) (Device step) Fault contents)) (sym (ap (λ (m : Option RunningCommit). led m Fault) runs))
         (on_device (Puts written) step Fault contents t None devices' images' plain g (record { is = k.is; stands = inr (record { readable = readable; busy = l.busy }) }) (desk_stays P t.desk s s' f.phase.desk t.desk refl refl g.desk.0 g.desk.1)
         (record {
           read = readable.read;
@@ -357,7 +358,7 @@ module _ (P A : Type 0) (shape : Shape) (images : Images) (t : Target P) (commit
       (told_so SetFailed (ap (λ (v : CellStep). Cell v) (sym is) ∙ next)
       (flush_steps_followed.fails now _ _ a x plan f.site.world rule.logs.fail (wants (ap (λ (v : CellStep). Cell v) (sym is) ∙ next))))
 
-  answers : (answer : Answer) (shown contents : List Bytes) → End answer ≡ want plan → length doing.then_finished ≡ length n.floors → Goes P A shape (then_is t commit devices (End answer) Done) (noted_step shape shown n a (Some (Some doing)) (End answer) Done contents)
+  answers : (answer : Answer) (shown contents : List Bytes) → End answer ≡ want plan → length doing.then_finished ≡ length n.floors → Goes P A shape (then_is t commit devices (End answer) Done) (noted_step shape t.desk.mode shown n a (Some (Some doing)) (End answer) Done contents)
   answers answer shown contents next asked = by_answer answer next
     where
       b : (y : Rattle.wb_link.specs.World.AbstractActor) × (slice_get f.site.world.actors a ≡ Some y)
@@ -377,7 +378,7 @@ module _ (P A : Type 0) (shape : Shape) (images : Images) (t : Target P) (commit
       served : (o : Order) → Contains (held_of x) o → Contains ((x.awaiting ++ x.orders) ++ []) o
       served o h = Contains-append_left (x.awaiting ++ x.orders) [] o (elim (Contains-append_cases x.orders x.awaiting o h) [ inl i ↦ Contains-append_right x.awaiting x.orders o i | inr i ↦ Contains-append_left x.awaiting x.orders o i ])
 
-      by_answer : (v : Answer) → End v ≡ want plan → Goes P A shape (then_is t commit devices (End v) Done) (noted_step shape shown n a (Some (Some doing)) (End v) Done contents)
+      by_answer : (v : Answer) → End v ≡ want plan → Goes P A shape (then_is t commit devices (End v) Done) (noted_step shape t.desk.mode shown n a (Some (Some doing)) (End v) Done contents)
       by_answer (Refuses refusal) e =
           let g = given (Refuses refusal) x.orders x.awaiting (λ o h. h) e in
           finish (Refuses refusal) (record x { task = None }) refl (put n a None) g (notes_followed.refused (FlushingFor None) refusal Stays a f.site.world _ _ g b.0 n f.notes b.1 noted_less f.notes_agree)
@@ -434,11 +435,11 @@ module _ (P A : Type 0) (shape : Shape) (images : Images) (t : Target P) (commit
 
     abbrev Done_by : Want → Got → List Bytes → Chosen P A → Type 0
     Done_by next got read chosen = Goes P A shape (stepped shape w a x next got chosen (λ step. device_done Flush x.buffer step chosen))
-        (noted_step shape (shown shape (stepped shape w a x next got chosen (λ step. device_done Flush x.buffer step chosen))) n a (Some (Some doing)) next got read)
+        (noted_step shape t.desk.mode (shown shape (stepped shape w a x next got chosen (λ step. device_done Flush x.buffer step chosen))) n a (Some (Some doing)) next got read)
 
     abbrev Failed_by : Choice → Want → List Bytes → Chosen P A → Type 0
     Failed_by choice next read chosen = Goes P A shape (stepped shape w a x next Fault chosen (λ step. device_failed (lands (device_of step) choice) Flush x.buffer step chosen))
-        (noted_step shape (shown shape (stepped shape w a x next Fault chosen (λ step. device_failed (lands (device_of step) choice) Flush x.buffer step chosen))) n a (Some (Some doing)) next Fault read)
+        (noted_step shape t.desk.mode (shown shape (stepped shape w a x next Fault chosen (λ step. device_failed (lands (device_of step) choice) Flush x.buffer step chosen))) n a (Some (Some doing)) next Fault read)
 
     mine : (next : Want) → next ≡ want plan → IsOwnStep (Flushing serving.0 (most P A shape)) next
     mine next e = subst (λ (v : Want). IsOwnStep (Flushing serving.0 (most P A shape)) v) (sym e) (subst (λ (q : TaskJob). IsOwnStep q (want plan)) serving.1 (is_own_step shape.geometry.origin_blocks plan x.card suits))
@@ -451,7 +452,7 @@ module _ (P A : Type 0) (shape : Shape) (images : Images) (t : Target P) (commit
     -- a step of the commit, done or failing
     module _ (step : DeviceStep) (of_metadata : device_of step ≡ Metadata) (next : Device step ≡ want plan) (read : List Bytes) where
       abbrev Put_to : Got → List History → Type 0
-      Put_to got new = Goes P A shape (then_is t (led commit got) (record devices { metadata = new }) (Device step) got) (noted_step shape [] n a (Some (Some doing)) (Device step) got read)
+      Put_to got new = Goes P A shape (then_is t (led commit got) (record devices { metadata = new }) (Device step) got) (noted_step shape t.desk.mode [] n a (Some (Some doing)) (Device step) got read)
 
       by_put : Rattle.wb_promise.specs.Effects.buffer_then devices x.buffer (Device step) Done Flush ≡ x.buffer → (chosen : Chosen P A) (o : Option RunningCommit) → commit ≡ o → DoesPut o step devices.metadata chosen → (new : List History) × (chosen ≡ Puts new) × Put_to Done new
       by_put plain (Puts new) (Some c) runs d = (new, refl, put_done step of_metadata next read c runs (and_true _ _ d.0).0 new plain d.1)

@@ -2,7 +2,7 @@
 use Rattle.std.proofs.Common.{◌≡◌, ◌≢◌, ◌⊎◌, ℕ, true, false, List, [], ◌∷◌, Option, Some, None, length, slice_get}
 use Rattle.wb_types.specs.Limits.{node_count}
 use Rattle.wb_types.specs.declared.mode.Mode.{Mode}
-use Rattle.wb_types.specs.declared.mode.Mode.TheVariants.{Writeback}
+use Rattle.wb_types.specs.declared.mode.Mode.TheVariants.{Passthrough}
 use Rattle.wb_types.specs.declared.mode.Dev.TheVariants.{Metadata, Cache, Origin}
 use Rattle.wb_disk.specs.Device.{History}
 use Rattle.wb_meta.specs.Representing.{Stored}
@@ -70,12 +70,12 @@ HasReadAt {A} (Answering i) reading commit later = HasLearnt reading commit i ×
 HasReadAt {A} stage reading commit later = ((now : ReadSteps A) × (reading ≡ Some now)) × (commit ≡ None) × (later ≡ None)
 
 -- The abstract opening is at what is left of it.
-pub record AtStage {A : Type 0} (reading : Option (ReadSteps A)) (commit : Option RunningCommit) (later : Option Stored) (plan : Plan) (phase : PhaseThere) : Type 0 where
+pub record AtStage {A : Type 0} (mode : Mode) (reading : Option (ReadSteps A)) (commit : Option RunningCommit) (later : Option Stored) (plan : Plan) (phase : PhaseThere) : Type 0 where
   pub total : ℕ
   pub left : ℕ
   pub stage : Stage
   pub is : plan ≡ opening_at total left stage
-  pub phase_is : phase ≡ OpensThere Writeback stage
+  pub phase_is : phase ≡ OpensThere mode stage
   pub read : HasReadAt stage reading commit later
 
 -- Refused, it has only to answer, and the abstract one is over.
@@ -89,6 +89,7 @@ pub record IsOver (plan : Plan) (phase : PhaseThere) : Type 0 where
 -- where the machine stands, with this target
 abbrev pub situation : {P : Type 0} → Shape → Target P → Devices (List History) → List Actor → Situation
 situation shape t devices actors = record {
+  mode = t.desk.mode;
   size = block_size shape;
   most = node_count shape.geometry.cache_blocks;
   words = t.words;
@@ -131,8 +132,8 @@ module _ (P A : Type 0) (shape : Shape) where
   pub record OpeningFollows (images : Images) (mode : Mode) (reading : Option (ReadSteps A)) (commit : Option RunningCommit) (devices : Devices (List History)) (actors : List Actor) (v : Site) : Type 0 where
     pub later : Option Stored
     pub devices_follow : DevicesFollow images later devices v
-    pub writeback : mode ≡ Writeback
-    pub each : (a : ℕ) (x : Actor) (job : Job) (plan : Plan) → slice_get actors a ≡ Some x → x.task ≡ Some (job, plan) → AtStage reading commit later plan v.phase ⊎ IsOver plan v.phase
+    pub caches : mode ≢ Passthrough
+    pub each : (a : ℕ) (x : Actor) (job : Job) (plan : Plan) → slice_get actors a ≡ Some x → x.task ≡ Some (job, plan) → AtStage mode reading commit later plan v.phase ⊎ IsOver plan v.phase
 
   abbrev pub PhaseFollows : Images → Phase P A → Option RunningCommit → Devices (List History) → List Actor → Site → Type 0
   PhaseFollows images (Stands t) commit devices actors v = TargetFollows images t devices actors v

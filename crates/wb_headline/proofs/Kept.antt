@@ -104,7 +104,7 @@ gives_done P A shape w x job (Migrating m part) step got read chosen i g = absur
 module _ (P A : Type 0) (shape : Shape) (images : Images) (t : Target P) (commit : Option RunningCommit) (devices : Devices (List History)) (actors : List Actor) (n : Notes) (known : MetadataKept {P = P} {A = A} shape.geometry images (Stands t) commit devices.metadata)
     (f : Followed P A shape images (standing P A shape images t commit devices actors n) n) (rule : LockRule shape.geometry.origin_blocks t.words (cards_of actors)) (all_suited : AllSuited shape.geometry.origin_blocks actors) (k : KeepingAt t actors) (a : ℕ) (x : Actor) (ex : slice_get actors a ≡ Some x) where
   -- it is given a job
-  pub start_keeps : x.task ≡ None → (job : Job) (chosen : Chosen P A) → StartGives shape (Stands t) (Some x) job Started chosen → Keeping (phase_given {P = P} {A = A} (Stands t) job chosen) (slice_set actors a (given shape x job chosen))
+  pub start_keeps : x.task ≡ None → (job : Job) (chosen : Chosen P A) → StartGives shape (Stands t) (Some x) job Started chosen → Keeping (phase_given {P = P} {A = A} (Stands t) job chosen) (slice_set actors a (given shape t.desk.mode x job chosen))
   start_keeps xt job chosen h = by_job job chosen h
     where
       nothing : x.card.hold ≡ Nothing
@@ -129,18 +129,18 @@ module _ (P A : Type 0) (shape : Shape) (images : Images) (t : Target P) (commit
       parted_with : (order : Order) (c : CBlock) → MayReserve t.desk c order → (o : Order) → Contains (order ∷ x.orders) o → Contains x.awaiting o → ⊥
       parted_with order c may o h w = first_or order o x.orders ⊥ h (λ same. fresh order c may (subst (λ (p : Order). Contains x.awaiting p) same w)) (λ later. k.parted a x ex o later w)
 
-      by_job : (job : Job) (chosen : Chosen P A) → StartGives shape (Stands t) (Some x) job Started chosen → Keeping (phase_given {P = P} {A = A} (Stands t) job chosen) (slice_set actors a (given shape x job chosen))
-      by_job (Migrate m b) (Cut cut) h = plain (Migrate m b) (given {P = P} {A = A} shape x (Migrate m b) (Cut cut)) _ refl refl refl (k.parted a x ex)
+      by_job : (job : Job) (chosen : Chosen P A) → StartGives shape (Stands t) (Some x) job Started chosen → Keeping (phase_given {P = P} {A = A} (Stands t) job chosen) (slice_set actors a (given shape t.desk.mode x job chosen))
+      by_job (Migrate m b) (Cut cut) h = plain (Migrate m b) (given {P = P} {A = A} shape t.desk.mode x (Migrate m b) (Cut cut)) _ refl refl refl (k.parted a x ex)
       by_job (Migrate m b) (Orders cut c) h =
-          let y : Actor = given {P = P} {A = A} shape x (Migrate m b) (Orders cut c) in
+          let y : Actor = given {P = P} {A = A} shape t.desk.mode x (Migrate m b) (Orders cut c) in
           kept (record { words = t.words; desk = Rattle.wb_desk.specs.Calls.reserved t.desk c (order_for m b) false }) y (Migrate m b) _ refl refl refl (λ i. refl) (owned_given P t.desk actors a x y ex k.owned c (order_for m b) known.is.orders h.1 refl) (parted_with (order_for m b) c h.1)
       by_job (Migrate m b) chosen h = absurd h
-      by_job (Replace old new) (Cut cut) h = plain (Migrate Demote old) (given {P = P} {A = A} shape x (Replace old new) (Cut cut)) _ refl refl refl (k.parted a x ex)
+      by_job (Replace old new) (Cut cut) h = plain (Migrate Demote old) (given {P = P} {A = A} shape t.desk.mode x (Replace old new) (Cut cut)) _ refl refl refl (k.parted a x ex)
       by_job (Replace old new) (Orders cut c) h =
-          let y : Actor = given {P = P} {A = A} shape x (Replace old new) (Orders cut c) in
+          let y : Actor = given {P = P} {A = A} shape t.desk.mode x (Replace old new) (Orders cut c) in
           kept (record { words = t.words; desk = Rattle.wb_desk.specs.Calls.reserved t.desk c (ReplaceOrder old new c) false }) y (Migrate Demote old) _ refl refl refl (λ i. refl) (owned_given P t.desk actors a x y ex k.owned c (ReplaceOrder old new c) known.is.orders h.1 refl) (parted_with (ReplaceOrder old new c) c h.1)
       by_job (Replace old new) chosen h = absurd h
-      by_job job chosen h = plain job (given shape x job chosen) _ refl refl refl (k.parted a x ex)
+      by_job job chosen h = plain job (given shape t.desk.mode x job chosen) _ refl refl refl (k.parted a x ex)
 
   module _ (plan : Plan) where
     abbrev After : Want → Got → Chosen P A → Type 0

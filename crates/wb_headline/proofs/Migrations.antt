@@ -2,6 +2,7 @@
 use Rattle.std.proofs.Common.{◌≡◌, ◌∙◌, ◌<◌, ◌≤◌, ◌+◌, ℕ, Bool, List, [], Option, Some, None, refl, sym, subst, length, slice_get, slice_set, ◌≢◌, if◌then◌else◌, false, inl, inr, true, ◌++◌, ap, arith, Contains}
 use Rattle.std.proofs.lemmas.List.{length-set}
 use Rattle.wb_types.specs.declared.extent.Extent.{Extent}
+use Rattle.wb_types.specs.declared.mode.Mode.{Mode}
 use Rattle.wb_types.specs.declared.mode.Dev.{Dev}
 use Rattle.wb_types.specs.declared.number.OBlock.{OBlock}
 use Rattle.wb_types.specs.declared.number.CBlock.{CBlock}
@@ -106,9 +107,9 @@ module _ (P A : Type 0) (shape : Shape) (images : Images) (t : Target P) (commit
   noted_less = noted_within P A shape images t commit devices actors n known f a x ex
 
   -- a migration's steps are not noted
-  pub carried_notes : {turn : Turn} {words' : Words} {committing' : Bool} {orders' : List (Option Order)} {devices' : Devices (List History)} {y : Actor} (g : WorldFollowsBy turn Carries a f.site.world (record (situation shape t devices' actors) { words = words'; committing = committing'; orders = orders' }) y) →
+  pub carried_notes : {turn : Turn} {mode' : Mode} {words' : Words} {committing' : Bool} {orders' : List (Option Order)} {devices' : Devices (List History)} {y : Actor} (g : WorldFollowsBy turn Carries a f.site.world (record (situation shape t devices' actors) { mode = mode'; words = words'; committing = committing'; orders = orders' }) y) →
       NotesAgree (size P A shape) n (abstract_after_all f.site.world g.records) (told f.notes g.records)
-  carried_notes {turn} {words'} {committing'} {orders'} {devices'} {y} g =
+  carried_notes {turn} {mode'} {words'} {committing'} {orders'} {devices'} {y} g =
       let b = beside P A shape images t commit devices actors n known f a x ex in
       notes_followed.carries turn a f.site.world _ _ g b.0 n f.notes b.1 noted_less f.notes_agree
 
@@ -133,37 +134,37 @@ module _ (P A : Type 0) (shape : Shape) (images : Images) (t : Target P) (commit
     -- on a device
     module _ (step : DeviceStep) (got : Got) (contents : List Bytes) (devices' : Devices (List History)) (y : Actor) (is : actor_then {P = P} {A = A} shape (Stands t) devices x (Device step) got ≡ y)
         (g : WorldFollows Carries a f.site.world (situation shape t devices' actors) y) where
-      on_device : devices'.metadata ≡ devices.metadata → Goes P A shape (record { devices = devices'; commit = commit; phase = Stands t; actors = slice_set actors a (actor_then {P = P} {A = A} shape (Stands t) devices x (Device step) got) }) (noted_step shape [] n a (Some (Some doing)) (Device step) got contents)
+      on_device : devices'.metadata ≡ devices.metadata → Goes P A shape (record { devices = devices'; commit = commit; phase = Stands t; actors = slice_set actors a (actor_then {P = P} {A = A} shape (Stands t) devices x (Device step) got) }) (noted_step shape t.desk.mode [] n a (Some (Some doing)) (Device step) got contents)
       on_device same =
           let mid = failing doing step got in
           let e = failing_same doing step got in
           let notes = notes_followed.redone (size P A shape) n (abstract_after_all f.site.world g.records) (told f.notes g.records) a doing mid (carried_notes g) noted e.0 e.1 in
-          subst (λ (q : Job). Goes P A shape (record { devices = devices'; commit = commit; phase = Stands t; actors = slice_set actors a (actor_then {P = P} {A = A} shape (Stands t) devices x (Device step) got) }) (device_note shape (put n a (Some mid)) a mid q step got contents)) (sym job_is)
+          subst (λ (q : Job). Goes P A shape (record { devices = devices'; commit = commit; phase = Stands t; actors = slice_set actors a (actor_then {P = P} {A = A} shape (Stands t) devices x (Device step) got) }) (device_note shape t.desk.mode (put n a (Some mid)) a mid q step got contents)) (sym job_is)
           (subst (λ (v : Actor). Goes P A shape (record { devices = devices'; commit = commit; phase = Stands t; actors = slice_set actors a v }) (put n a (Some mid))) (sym is)
           (stays_on P A shape images t commit devices actors n known f a x ex Carries t.words devices' y (put n a (Some mid)) g tt notes (length-set n.doings a (Some mid)) refl same))
 
     pub read_done : (device : Dev) (e : Extent) (contents : List Bytes) → Device (ReadExtent device e) ≡ want plan → e.first + e.count ≤ length (device_in device devices) →
-        Goes P A shape (record { devices = devices; commit = commit; phase = Stands t; actors = slice_set actors a (actor_then {P = P} {A = A} shape (Stands t) devices x (Device (ReadExtent device e)) Done) }) (noted_step shape [] n a (Some (Some doing)) (Device (ReadExtent device e)) Done contents)
+        Goes P A shape (record { devices = devices; commit = commit; phase = Stands t; actors = slice_set actors a (actor_then {P = P} {A = A} shape (Stands t) devices x (Device (ReadExtent device e)) Done) }) (noted_step shape t.desk.mode [] n a (Some (Some doing)) (Device (ReadExtent device e)) Done contents)
     read_done device e contents next inside =
         let y : Actor = record x { task = Some (migrating_job, after plan Done); buffer = contents_at (device_in device devices) e } in
         on_device (ReadExtent device e) Done contents devices y (actor_is P A shape (Stands t) devices x migrating_job plan (Device (ReadExtent device e)) Done xt)
         (migrations_followed.read_done now shape.geometry.origin_blocks a x migration block plan device e f.site.world (wants next) suits inside) refl
 
     pub read_fails : (device : Dev) (e : Extent) (contents : List Bytes) → Device (ReadExtent device e) ≡ want plan →
-        Goes P A shape (record { devices = devices; commit = commit; phase = Stands t; actors = slice_set actors a (actor_then {P = P} {A = A} shape (Stands t) devices x (Device (ReadExtent device e)) Fault) }) (noted_step shape [] n a (Some (Some doing)) (Device (ReadExtent device e)) Fault contents)
+        Goes P A shape (record { devices = devices; commit = commit; phase = Stands t; actors = slice_set actors a (actor_then {P = P} {A = A} shape (Stands t) devices x (Device (ReadExtent device e)) Fault) }) (noted_step shape t.desk.mode [] n a (Some (Some doing)) (Device (ReadExtent device e)) Fault contents)
     read_fails device e contents next =
         on_device (ReadExtent device e) Fault contents devices (after_step migrating_job plan Fault x) (actor_is P A shape (Stands t) devices x migrating_job plan (Device (ReadExtent device e)) Fault xt)
         (migrations_followed.read_fails now shape.geometry.origin_blocks a x migration block plan device e f.site.world (wants next) suits) refl
 
     pub write_done : (device : Dev) (e : Extent) (contents : List Bytes) → HoldsBlocks device → Device (WriteExtent device e) ≡ want plan → e.first + e.count ≤ length (device_in device devices) →
-        Goes P A shape (record { devices = with_device device devices (written_each (device_in device devices) e.first x.buffer); commit = commit; phase = Stands t; actors = slice_set actors a (actor_then {P = P} {A = A} shape (Stands t) devices x (Device (WriteExtent device e)) Done) }) (noted_step shape [] n a (Some (Some doing)) (Device (WriteExtent device e)) Done contents)
+        Goes P A shape (record { devices = with_device device devices (written_each (device_in device devices) e.first x.buffer); commit = commit; phase = Stands t; actors = slice_set actors a (actor_then {P = P} {A = A} shape (Stands t) devices x (Device (WriteExtent device e)) Done) }) (noted_step shape t.desk.mode [] n a (Some (Some doing)) (Device (WriteExtent device e)) Done contents)
     write_done device e contents holds next inside =
         on_device (WriteExtent device e) Done contents (with_device device devices (written_each (device_in device devices) e.first x.buffer)) (after_step migrating_job plan Done x) (actor_is P A shape (Stands t) devices x migrating_job plan (Device (WriteExtent device e)) Done xt)
         (migrations_followed.write_done now shape.geometry.origin_blocks a x migration block plan device e f.site.world (wants next) suits inside)
         (data_device device holds devices (written_each (device_in device devices) e.first x.buffer))
 
     pub write_fails : (device : Dev) (e : Extent) (contents : List Bytes) (lands : ℕ → Bool) → HoldsBlocks device → Device (WriteExtent device e) ≡ want plan → e.first + e.count ≤ length (device_in device devices) →
-        Goes P A shape (record { devices = with_device device devices (written_where lands (device_in device devices) e.first x.buffer); commit = commit; phase = Stands t; actors = slice_set actors a (actor_then {P = P} {A = A} shape (Stands t) devices x (Device (WriteExtent device e)) Fault) }) (noted_step shape [] n a (Some (Some doing)) (Device (WriteExtent device e)) Fault contents)
+        Goes P A shape (record { devices = with_device device devices (written_where lands (device_in device devices) e.first x.buffer); commit = commit; phase = Stands t; actors = slice_set actors a (actor_then {P = P} {A = A} shape (Stands t) devices x (Device (WriteExtent device e)) Fault) }) (noted_step shape t.desk.mode [] n a (Some (Some doing)) (Device (WriteExtent device e)) Fault contents)
     write_fails device e contents lands holds next inside =
         on_device (WriteExtent device e) Fault contents (with_device device devices (written_where lands (device_in device devices) e.first x.buffer)) (after_step migrating_job plan Fault x) (actor_is P A shape (Stands t) devices x migrating_job plan (Device (WriteExtent device e)) Fault xt)
         (migrations_followed.write_fails now shape.geometry.origin_blocks a x migration block plan device e lands f.site.world (wants next) suits inside)
@@ -181,7 +182,7 @@ module _ (P A : Type 0) (shape : Shape) (images : Images) (t : Target P) (commit
 
     -- it is answered
     pub answers : (answer : Answer) (shown contents : List Bytes) → End answer ≡ want plan →
-        Goes P A shape (record { devices = devices; commit = commit; phase = Stands t; actors = slice_set actors a (actor_then {P = P} {A = A} shape (Stands t) devices x (End answer) Done) }) (noted_step shape shown n a (Some (Some doing)) (End answer) Done contents)
+        Goes P A shape (record { devices = devices; commit = commit; phase = Stands t; actors = slice_set actors a (actor_then {P = P} {A = A} shape (Stands t) devices x (End answer) Done) }) (noted_step shape t.desk.mode shown n a (Some (Some doing)) (End answer) Done contents)
     answers answer shown contents next = by_answer answer next
       where
         y : Actor
@@ -195,7 +196,7 @@ module _ (P A : Type 0) (shape : Shape) (images : Images) (t : Target P) (commit
             (stays_on P A shape images t commit devices actors n known f a x ex Rests t.words devices (record x { task = None }) (put n a None) g tt
             (notes_followed.rests Stays a f.site.world _ _ g b.0 n f.notes b.1 noted_less f.notes_agree) (length-set n.doings a None) refl refl)
 
-        by_answer : (v : Answer) → End v ≡ want plan → Goes P A shape (record { devices = devices; commit = commit; phase = Stands t; actors = slice_set actors a (actor_then {P = P} {A = A} shape (Stands t) devices x (End v) Done) }) (noted_step shape shown n a (Some (Some doing)) (End v) Done contents)
+        by_answer : (v : Answer) → End v ≡ want plan → Goes P A shape (record { devices = devices; commit = commit; phase = Stands t; actors = slice_set actors a (actor_then {P = P} {A = A} shape (Stands t) devices x (End v) Done) }) (noted_step shape t.desk.mode shown n a (Some (Some doing)) (End v) Done contents)
         by_answer (Refuses refusal) e = rested (Refuses refusal) e
         by_answer Finished e = subst (λ (q : Job). Goes P A shape (record { devices = devices; commit = commit; phase = Stands t; actors = slice_set actors a (actor_then {P = P} {A = A} shape (Stands t) devices x (End Finished) Done) }) (finished_note n a doing q shown)) (sym job_is) (rested Finished e)
 
@@ -262,7 +263,7 @@ module _ (P A : Type 0) (shape : Shape) (t : Target P) (commit : Option RunningC
 
   -- the desk and its orders turn, and whatever is read of the metadata stays
   goes_to : (turn : Turn) (desk' : DeskState P) (y : Actor) (next : Want) (orders' : List (Option Order)) → actor_then {P = P} {A = A} shape (Stands t) devices x next Done ≡ y →
-      (g : WorldFollowsBy turn Carries a f.site.world (record now_at_desk { committing = desk'.space.committing; orders = orders' }) y) → (TurnedTo turn s (abstract_after_all f.site.world g.records).shared → TurnedTo Stays s (abstract_after_all f.site.world g.records).shared) →
+      (g : WorldFollowsBy turn Carries a f.site.world (record now_at_desk { mode = desk'.mode; committing = desk'.space.committing; orders = orders' }) y) → (TurnedTo turn s (abstract_after_all f.site.world g.records).shared → TurnedTo Stays s (abstract_after_all f.site.world g.records).shared) →
       AtDesk shape.geometry b.goes.images desk' commit devices.metadata → orders' ≡ live_orders desk' → DeskAgrees desk' (abstract_after_all f.site.world g.records).shared →
       Goes P A shape (record { devices = devices; commit = commit; phase = Stands (record { words = t.words; desk = desk' }); actors = slice_set actors a (actor_then {P = P} {A = A} shape (Stands t) devices x next Done) }) n
   goes_to turn desk' y next orders' is g stays known' same desk =
@@ -358,7 +359,7 @@ module _ (P A : Type 0) (shape : Shape) (t : Target P) (commit : Option RunningC
       (cells P A shape b.goes.images t commit devices actors n b.goes.known f a x ex migration block plan xt suits doing noted job_is b.used.here step e (sees step e))
   any_step (Device (ReadExtent d ext)) got read chosen e g = subst (λ (v : Got). To (Device (ReadExtent d ext)) v read chosen) (sym g.2)
       (subst (λ (c : Chosen P A). To (Device (ReadExtent d ext)) Done read c) (sym g.1.1)
-      (subst (λ (ds : Devices (List History)). Goes P A shape (record { devices = ds; commit = commit; phase = Stands t; actors = slice_set actors a (actor_then {P = P} {A = A} shape (Stands t) devices x (Device (ReadExtent d ext)) Done) }) (noted_step shape [] n a (Some (Some doing)) (Device (ReadExtent d ext)) Done read)) (sym (same_device d devices g.0))
+      (subst (λ (ds : Devices (List History)). Goes P A shape (record { devices = ds; commit = commit; phase = Stands t; actors = slice_set actors a (actor_then {P = P} {A = A} shape (Stands t) devices x (Device (ReadExtent d ext)) Done) }) (noted_step shape t.desk.mode [] n a (Some (Some doing)) (Device (ReadExtent d ext)) Done read)) (sym (same_device d devices g.0))
       (read_done P A shape b.goes.images t commit devices actors n b.goes.known f a x ex migration block plan xt suits doing noted job_is d ext read e g.3)))
   any_step (Device (WriteExtent d ext)) got read chosen e g = subst (λ (v : Got). To (Device (WriteExtent d ext)) v read chosen) (sym g.2)
       (subst (λ (c : Chosen P A). To (Device (WriteExtent d ext)) Done read c) (sym g.1.1)
@@ -385,7 +386,7 @@ module _ (P A : Type 0) (shape : Shape) (t : Target P) (commit : Option RunningC
   -- any step that fails
   pub any_fault : (choice : Choice) (next : Want) (read : List Bytes) (chosen : Chosen P A) → next ≡ want plan → MayFailAt devices choice next → Falters w choice next chosen → Fails choice next read chosen
   any_fault choice (Device (ReadExtent d ext)) read chosen e m g = subst (λ (c : Chosen P A). Fails choice (Device (ReadExtent d ext)) read c) (sym g.0)
-      (subst (λ (ds : Devices (List History)). Goes P A shape (record { devices = ds; commit = commit; phase = Stands t; actors = slice_set actors a (actor_then {P = P} {A = A} shape (Stands t) devices x (Device (ReadExtent d ext)) Fault) }) (noted_step shape [] n a (Some (Some doing)) (Device (ReadExtent d ext)) Fault read)) (sym (same_device d devices g.1))
+      (subst (λ (ds : Devices (List History)). Goes P A shape (record { devices = ds; commit = commit; phase = Stands t; actors = slice_set actors a (actor_then {P = P} {A = A} shape (Stands t) devices x (Device (ReadExtent d ext)) Fault) }) (noted_step shape t.desk.mode [] n a (Some (Some doing)) (Device (ReadExtent d ext)) Fault read)) (sym (same_device d devices g.1))
       (read_fails P A shape b.goes.images t commit devices actors n b.goes.known f a x ex migration block plan xt suits doing noted job_is d ext read e))
   any_fault choice (Device (WriteExtent d ext)) read chosen e m g = subst (λ (c : Chosen P A). Fails choice (Device (WriteExtent d ext)) read c) (sym g.0)
       (write_fails P A shape b.goes.images t commit devices actors n b.goes.known f a x ex migration block plan xt suits doing noted job_is d ext read (lands d choice) g.1 e (room d ext g.1 (inside (Device (WriteExtent d ext)) e)))

@@ -89,7 +89,7 @@ module _ (P A : Type 0) (shape : Shape) (images : Images) (devices : Devices (Li
     -- one that is answered done has read all, and its root is durable
     pub record Answered (chosen : Chosen P A) : Type 0 where
       pub learnt : Learnt
-      pub phase_is : f.site.phase ≡ OpensThere Writeback (Answering learnt)
+      pub phase_is : f.site.phase ≡ OpensThere mode (Answering learnt)
       pub read : HasReadAt (Answering learnt) reading commit f.phase.later
       pub policy : P
       pub done : is_all_done commit ≡ true
@@ -98,19 +98,19 @@ module _ (P A : Type 0) (shape : Shape) (images : Images) (devices : Devices (Li
     pub answered : (chosen : Chosen P A) → End Finished ≡ want plan → DoesOpen (Opens mode reading) commit chosen → Answered chosen
     answered chosen next d = by_at (f.phase.each a x (Open opened_in) plan ex xt)
       where
-        by_chosen : (i : Learnt) → f.site.phase ≡ OpensThere Writeback (Answering i) → HasReadAt (Answering i) reading commit f.phase.later → (c : Chosen P A) → DoesOpen (Opens mode reading) commit c → Answered c
+        by_chosen : (i : Learnt) → f.site.phase ≡ OpensThere mode (Answering i) → HasReadAt (Answering i) reading commit f.phase.later → (c : Chosen P A) → DoesOpen (Opens mode reading) commit c → Answered c
         by_chosen i ph rd (Opened policy) d = record { learnt = i; phase_is = ph; read = rd; policy = policy; done = d.1; stands = ap (λ (r : Option (ReadSteps A)). phase_opened shape mode r (Opened policy)) rd.0.reading_is }
         by_chosen i ph rd c d = absurd d
 
-        by_stage : (total left : ℕ) (stage : Stage) → f.site.phase ≡ OpensThere Writeback stage → HasReadAt stage reading commit f.phase.later → End Finished ≡ want (opening_at total left stage) → Answered chosen
+        by_stage : (total left : ℕ) (stage : Stage) → f.site.phase ≡ OpensThere mode stage → HasReadAt stage reading commit f.phase.later → End Finished ≡ want (opening_at total left stage) → Answered chosen
         by_stage total left (Answering i) ph rd e = by_chosen i ph rd chosen d
         by_stage total left stage ph rd e = absurd (cc)
 
-        by_at : AtStage reading commit f.phase.later plan f.site.phase ⊎ IsOver plan f.site.phase → Answered chosen
+        by_at : AtStage mode reading commit f.phase.later plan f.site.phase ⊎ IsOver plan f.site.phase → Answered chosen
         by_at (inl s) = by_stage s.total s.left s.stage s.phase_is s.read (next ∙ ap want s.is)
         by_at (inr over) = absurd (over.refused (let same : End Finished ≡ End plan.answer = next ∙ ap (λ (ws : List Want). first_step ws plan.answer) over.nothing in let is : Finished ≡ plan.answer = cc in sym is))
 
-    module _ (i : Learnt) (ph : f.site.phase ≡ OpensThere Writeback (Answering i)) (rd : HasReadAt (Answering i) reading commit f.phase.later) (policy : P) (done : is_all_done commit ≡ true) (cache_size : length devices.cache ≡ cache_sector_count shape) (origin_size : length devices.origin ≡ sector_count shape) where
+    module _ (i : Learnt) (ph : f.site.phase ≡ OpensThere mode (Answering i)) (rd : HasReadAt (Answering i) reading commit f.phase.later) (policy : P) (done : is_all_done commit ≡ true) (cache_size : length devices.cache ≡ cache_sector_count shape) (origin_size : length devices.origin ≡ sector_count shape) where
       abbrev stored : StoredThere A
       stored = rd.0.stored
 
@@ -181,15 +181,15 @@ module _ (P A : Type 0) (shape : Shape) (images : Images) (devices : Devices (Li
       blocks_now k = block_there (opened_state tree k)
 
       abbrev site_now : Site
-      site_now = opened_site f.site i tree
+      site_now = opened_site mode f.site i tree
 
       agrees_now : Agrees (situation shape (target_over shape mode policy stored) devices (slice_set actors a y)) site_now.world
       agrees_now =
           let many_then : length (slice_set actors a y) ≡ length f.site.world.actors = length-set actors a y ∙ f.sized.actors_many ∙ sym f.as_many in
           let few : shape.geometry.cache_blocks ≤ 2 ^ 32 = (let l = shape.geometry.within.cache_to in omega (arith, l)) in
           subst (λ (os : List (Option Order)). Agrees (record (situation shape (target_over shape mode policy stored) devices (slice_set actors a y)) { orders = os }) site_now.world) (sym (no_orders_live shape.geometry.cache_blocks))
-          (subst (λ (k : ℕ). Agrees (record (situation shape (target_over shape mode policy stored) devices (slice_set actors a y)) { orders = replicate shape.geometry.cache_blocks None }) (record { shared = opened_on f.site.world.shared Writeback i blocks_now; actors = replicate k idle; waiting = λ c. None })) many_then
-          (opened_followed (size P A shape) (most P A shape) shape.geometry.origin_blocks shape.geometry.cache_blocks stored.root.clean tree i blocks_now f.site.world.shared devices (slice_set actors a y) mapping few rd.0.bare rd.0.same rd.0.unclean d.origin d.cache at_rest))
+          (subst (λ (k : ℕ). Agrees (record (situation shape (target_over shape mode policy stored) devices (slice_set actors a y)) { orders = replicate shape.geometry.cache_blocks None }) (record { shared = opened_on f.site.world.shared mode i blocks_now; actors = replicate k idle; waiting = λ c. None })) many_then
+          (opened_followed mode (size P A shape) (most P A shape) shape.geometry.origin_blocks shape.geometry.cache_blocks stored.root.clean tree i blocks_now f.site.world.shared devices (slice_set actors a y) f.phase.caches mapping few rd.0.bare rd.0.same rd.0.unclean d.origin d.cache at_rest))
 
       -- the seals tell where the tree has each block
       pub opened_tells : (block : OBlock) → number_there (place_in (word_at (target_over shape mode policy stored).words.seals block)) ≡ place_of tree block.0
@@ -197,8 +197,8 @@ module _ (P A : Type 0) (shape : Shape) (images : Images) (devices : Devices (Li
 
       pub opened_goes : Goes P A shape stands_now (begins (length n.doings) shown_now)
       opened_goes =
-          let may = answer_may (size P A shape) f.site i tree ph rd.0.same in
-          let leads = answer_leads f.site i tree ph in
+          let may = answer_may (size P A shape) mode f.site i tree ph rd.0.same in
+          let leads = answer_leads mode f.site i tree ph in
           let readable = kept_readable shape.geometry one.now devices.metadata P A (Stands (target_over shape mode policy stored)) None one.kept in
           record {
             images = one.now;
@@ -208,7 +208,7 @@ module _ (P A : Type 0) (shape : Shape) (images : Images) (devices : Devices (Li
               notes = opened_notes (view_of f.site i);
               reached = subst (λ (v : Site). Reached (size P A shape) (many P A shape) v (opened_notes (view_of f.site i))) leads (event_reaches (size P A shape) (many P A shape) f.site f.notes (answer_of f.site i tree) f.reached may tt);
               as_many = length-replicate (length f.site.world.actors) idle ∙ f.as_many;
-              notes_agree = notes_followed.anew (size P A shape) (length n.doings) shown_now (view_of f.site i) f.site.world (opened_on f.site.world.shared Writeback i blocks_now)
+              notes_agree = notes_followed.anew (size P A shape) (length n.doings) shown_now (view_of f.site i) f.site.world (opened_on f.site.world.shared mode i blocks_now)
                   (shown_view shape devices cache_size origin_size tree mapping ∙ (λ j b o. only (view_is b o j)));
               sized = record {
                 actors_many = length-set actors a y ∙ f.sized.actors_many;
@@ -234,14 +234,14 @@ module _ (P A : Type 0) (shape : Shape) (images : Images) (devices : Devices (Li
     -- what a step leads to, and what it shows
     abbrev Done_by : Job → List Bytes → Want → Got → List Bytes → Chosen P A → Type 0
     Done_by job buffer next got read chosen = Goes P A shape (stepped shape w a x next got chosen (λ step. device_done job buffer step chosen))
-        (noted_step shape (shown shape (stepped shape w a x next got chosen (λ step. device_done job buffer step chosen))) n a (Some (Some doing)) next got read)
+        (noted_step shape Writeback (shown shape (stepped shape w a x next got chosen (λ step. device_done job buffer step chosen))) n a (Some (Some doing)) next got read)
 
     abbrev Failed_by : Choice → Job → List Bytes → Want → List Bytes → Chosen P A → Type 0
     Failed_by choice job buffer next read chosen = Goes P A shape (stepped shape w a x next Fault chosen (λ step. device_failed (lands (device_of step) choice) job buffer step chosen))
-        (noted_step shape (shown shape (stepped shape w a x next Fault chosen (λ step. device_failed (lands (device_of step) choice) job buffer step chosen))) n a (Some (Some doing)) next Fault read)
+        (noted_step shape Writeback (shown shape (stepped shape w a x next Fault chosen (λ step. device_failed (lands (device_of step) choice) job buffer step chosen))) n a (Some (Some doing)) next Fault read)
 
     module _ (total left : ℕ) (job : Job) (buffer : List Bytes) (got : Got) (read : List Bytes) (chosen : Chosen P A) where
-      by_stage : (stage : Stage) → f.site.phase ≡ OpensThere Writeback stage → HasReadAt stage reading commit f.phase.later → x.task ≡ Some (Open opened_in, opening_at total left stage) → Gives shape w x (Open opened_in) (want (opening_at total left stage)) got read chosen → Done_by job buffer (want (opening_at total left stage)) got read chosen
+      by_stage : (stage : Stage) → f.site.phase ≡ OpensThere mode stage → HasReadAt stage reading commit f.phase.later → x.task ≡ Some (Open opened_in, opening_at total left stage) → Gives shape w x (Open opened_in) (want (opening_at total left stage)) got read chosen → Done_by job buffer (want (opening_at total left stage)) got read chosen
       by_stage Settling ph rd xt g = subst (λ (v : Got). Done_by job buffer (Device (Sync Metadata)) v read chosen) (sym g.1)
           (settle_done P A shape images devices commit mode reading actors n known f alone a x ex opened_in [] doing job_is total left ph rd xt read chosen g.2)
       by_stage Caching ph rd xt g = subst (λ (v : Got). Done_by job buffer (Device (Sync Cache)) v read chosen) (sym g.1)
@@ -278,7 +278,7 @@ module _ (P A : Type 0) (shape : Shape) (images : Images) (devices : Devices (Li
 
     -- a step that fails
     module _ (total left : ℕ) (choice : Choice) (job : Job) (buffer : List Bytes) (read : List Bytes) (chosen : Chosen P A) where
-      fails_at : (stage : Stage) → f.site.phase ≡ OpensThere Writeback stage → HasReadAt stage reading commit f.phase.later → x.task ≡ Some (Open opened_in, opening_at total left stage) → Falters w choice (want (opening_at total left stage)) chosen → Failed_by choice job buffer (want (opening_at total left stage)) read chosen
+      fails_at : (stage : Stage) → f.site.phase ≡ OpensThere mode stage → HasReadAt stage reading commit f.phase.later → x.task ≡ Some (Open opened_in, opening_at total left stage) → Falters w choice (want (opening_at total left stage)) chosen → Failed_by choice job buffer (want (opening_at total left stage)) read chosen
       fails_at Settling ph rd xt g = settle_fails P A shape images devices commit mode reading actors n known f alone a x ex opened_in [] doing job_is total left ph rd xt read chosen (lands Metadata choice)
       fails_at Caching ph rd xt g = cache_fails P A shape images devices commit mode reading actors n known f alone a x ex opened_in [] doing job_is total left ph rd xt read chosen (lands Cache choice)
       fails_at Basing ph rd xt g = origin_fails P A shape images devices commit mode reading actors n known f alone a x ex opened_in [] doing job_is total left ph rd xt read chosen (lands Origin choice)
@@ -311,7 +311,7 @@ module _ (P A : Type 0) (shape : Shape) (images : Images) (devices : Devices (Li
               subst (λ (v : Want). Done_by job buffer v got read chosen) (sym en) (subst (λ (c : Chosen P A). Done_by job buffer (End (Refuses refusal)) got read c) (sym g'.0.1)
               (refused_goes known f alone a x ex opened_in plan xt got refusal over))
 
-          by_at : AtStage reading commit f.phase.later plan f.site.phase ⊎ IsOver plan f.site.phase → Done_by job buffer next got read chosen
+          by_at : AtStage mode reading commit f.phase.later plan f.site.phase ⊎ IsOver plan f.site.phase → Done_by job buffer next got read chosen
           by_at (inl s) =
               let en : next ≡ want (opening_at s.total s.left s.stage) = e ∙ ap want s.is in
               subst (λ (v : Want). Done_by job buffer v got read chosen) (sym en) (by_stage s.total s.left job buffer got read chosen s.stage s.phase_is s.read (xt ∙ ap (λ (p : Plan). Some (Open opened_in, p)) s.is)
@@ -321,7 +321,7 @@ module _ (P A : Type 0) (shape : Shape) (images : Images) (devices : Devices (Li
       pub opening_faults : (choice : Choice) (next : Want) (read : List Bytes) (chosen : Chosen P A) → next ≡ want plan → Falters w choice next chosen → Failed_by choice job buffer next read chosen
       opening_faults choice next read chosen e g = by_at (f.phase.each a x (Open opened_in) plan ex xt)
         where
-          by_at : AtStage reading commit f.phase.later plan f.site.phase ⊎ IsOver plan f.site.phase → Failed_by choice job buffer next read chosen
+          by_at : AtStage mode reading commit f.phase.later plan f.site.phase ⊎ IsOver plan f.site.phase → Failed_by choice job buffer next read chosen
           by_at (inl s) =
               let en : next ≡ want (opening_at s.total s.left s.stage) = e ∙ ap want s.is in
               subst (λ (v : Want). Failed_by choice job buffer v read chosen) (sym en) (fails_at s.total s.left choice job buffer read chosen s.stage s.phase_is s.read (xt ∙ ap (λ (p : Plan). Some (Open opened_in, p)) s.is)

@@ -41,17 +41,17 @@ use Rattle.wb_link.specs.World.{Shared}
 use Rattle.wb_link.specs.Openings.{AbstractPhase as PhaseThere, Stands as StandsThere, Gone as GoneThere, Opens as OpensThere, Learnt, Stage, Settling, Caching, Basing, Looking, Rooting, Renewing, Answering, Learns, Advances, advance}
 use Rattle.wb_simulation.specs.Opened.{located}
 use Rattle.wb_simulation.specs.Sites.{DevicesAgree, LeadsTo, locations}
-use Rattle.wb_simulation.proofs.Opening.{openings_followed}
+use Rattle.wb_simulation.proofs.Opening.{admitted, openings_followed}
 use Rattle.wb_headline.proofs.Events.{never_clean}
 use Rattle.wb_headline.proofs.Following.{opening_at, HasLearnt, HasRoot, HasReadAt, AtStage, IsOver, many, size, Followed, Goes}
 use Rattle.wb_headline.proofs.Arriving.{SameSectors, sized_so, Arrived, arrives, rests, opens, one_fit}
 use Rattle.wb_headline.proofs.Rooted.{same_one, rooted_on, leads_so, two_read, two_left, both_left, nowhere}
 
 -- of a step of an opening on a device nothing of the sectors is noted
-pub opening_same : (shape : Shape) (shown : List Bytes) (n : Notes) (a : ℕ) (doing : Doing) (mode : Mode) (step : DeviceStep) (got : Got) (read : List Bytes) → doing.job ≡ Open mode → SameSectors n (noted_step shape shown n a (Some (Some doing)) (Device step) got read)
+pub opening_same : (shape : Shape) (shown : List Bytes) (n : Notes) (a : ℕ) (doing : Doing) (mode : Mode) (step : DeviceStep) (got : Got) (read : List Bytes) → doing.job ≡ Open mode → SameSectors n (noted_step shape Writeback shown n a (Some (Some doing)) (Device step) got read)
 opening_same shape shown n a doing mode step got read j =
     let mid = failing doing step got in
-    subst (λ (q : Job). SameSectors n (device_note shape (put n a (Some mid)) a mid q step got read)) (sym j)
+    subst (λ (q : Job). SameSectors n (device_note shape Writeback (put n a (Some mid)) a mid q step got read)) (sym j)
     (record { histories = refl; finished = refl; floors = refl; doings = length-set n.doings a (Some mid) })
 
 -- the images as they are, read so, beside a root that leads to this state
@@ -78,7 +78,7 @@ module _ (P A : Type 0) (shape : Shape) (images : Images) (devices : Devices (Li
 
     -- what is noted then
     abbrev n' : DeviceStep → Got → List Bytes → Notes
-    n' step got read = noted_step shape shown n a (Some (Some doing)) (Device step) got read
+    n' step got read = noted_step shape Writeback shown n a (Some (Some doing)) (Device step) got read
 
     -- the state after a step
     abbrev after_it : DeviceStep → Got → Chosen P A → Devices (List History) → State P A
@@ -105,18 +105,18 @@ module _ (P A : Type 0) (shape : Shape) (images : Images) (devices : Devices (Li
       -- it goes on so
       goes_to : (step : DeviceStep) (got : Got) (read : List Bytes) (chosen : Chosen P A) (images' : Images) (later' : Option Stored) (phase' : PhaseThere) (devices' : Devices (List History)) (reading' : Option (ReadSteps A)) (commit' : Option RunningCommit) (plan' : Plan) →
           reading_then reading (Device step) got chosen ≡ reading' → commit_then {P = P} {A = A} (Opens mode reading) commit (Device step) got chosen ≡ commit' → after plan got ≡ plan' → Arrived P A shape images'.committed later' phase' devices' (n' step got read) → IsFitToo later' → phase' ≢ StandsThere →
-          MetadataKept {P = P} {A = A} shape.geometry images' (Opens mode reading') commit' devices'.metadata → AtStage reading' commit' later' plan' phase' ⊎ IsOver plan' phase' → Goes P A shape (after_it step got chosen devices') (n' step got read)
+          MetadataKept {P = P} {A = A} shape.geometry images' (Opens mode reading') commit' devices'.metadata → AtStage mode reading' commit' later' plan' phase' ⊎ IsOver plan' phase' → Goes P A shape (after_it step got chosen devices') (n' step got read)
       goes_to step got read chosen images' later' phase' devices' reading' commit' plan' er ec ep v fit down known' at =
           let y = actor_then {P = P} {A = A} shape (Opens mode reading) devices x (Device step) got in
           subst (λ (r : Option (ReadSteps A)). Goes P A shape (record { devices = devices'; commit = commit_then {P = P} {A = A} (Opens mode reading) commit (Device step) got chosen; phase = Opens mode r; actors = slice_set actors a y }) (n' step got read)) (sym er)
           (subst (λ (c : Option RunningCommit). Goes P A shape (record { devices = devices'; commit = c; phase = Opens mode reading'; actors = slice_set actors a y }) (n' step got read)) (sym ec)
-          (opens P A shape images' later' phase' devices' (n' step got read) v fit down (slice_set actors a y) (sized_so P A shape actors (slice_set actors a y) n (n' step got read) (same step got read) (length-set actors a y) f.sized) mode reading' commit' f.phase.writeback known'
-          (each_then y plan' (λ (p : Plan). AtStage reading' commit' later' p phase' ⊎ IsOver p phase') (ap (λ (t : Option (Job × Plan)). task_then t (Device step) got) xt ∙ ap (λ (p : Plan). Some (Open opened_in, p)) ep) at)))
+          (opens P A shape images' later' phase' devices' (n' step got read) v fit down (slice_set actors a y) (sized_so P A shape actors (slice_set actors a y) n (n' step got read) (same step got read) (length-set actors a y) f.sized) mode reading' commit' f.phase.caches known'
+          (each_then y plan' (λ (p : Plan). AtStage mode reading' commit' later' p phase' ⊎ IsOver p phase') (ap (λ (t : Option (Job × Plan)). task_then t (Device step) got) xt ∙ ap (λ (p : Plan). Some (Open opened_in, p)) ep) at)))
 
     over : (total : ℕ) (refusal : Refusal) → IsOver (record { job = Opening total; steps = []; answer = Rattle.wb_tasks.specs.declared.step.Answer.TheVariants.Refused refusal }) GoneThere
     over total refusal = record { nothing = refl; refused = λ e. absurd (cc); phase_is = refl }
 
-    no_stand : (stage : Stage) → OpensThere Writeback stage ≢ StandsThere
+    no_stand : (stage : Stage) → OpensThere mode stage ≢ StandsThere
     no_stand stage e = absurd (cc)
 
     no_gone : GoneThere ≢ StandsThere
@@ -125,7 +125,7 @@ module _ (P A : Type 0) (shape : Shape) (images : Images) (devices : Devices (Li
     module _ (total left : ℕ) where
       -- ---- the first sync of the metadata
 
-      module _ (ph : f.site.phase ≡ OpensThere Writeback Settling) (rd : HasReadAt Settling reading commit f.phase.later) (xt : x.task ≡ Some (Open opened_in, opening_at total left Settling)) where
+      module _ (ph : f.site.phase ≡ OpensThere mode Settling) (rd : HasReadAt Settling reading commit f.phase.later) (xt : x.task ≡ Some (Open opened_in, opening_at total left Settling)) where
         begins_of : (chosen : Chosen P A) → DoesSync (Opens mode reading) None device chosen → (now : ReadSteps A) × (chosen ≡ Begins now) × (sectors_read now ≡ 0)
         begins_of (Begins now) s = (now, refl, s)
         begins_of chosen s = absurd s
@@ -137,17 +137,17 @@ module _ (P A : Type 0) (shape : Shape) (images : Images) (devices : Devices (Li
         pub settle_done : (read : List Bytes) (chosen : Chosen P A) → DoesSync (Opens mode reading) commit device chosen → Goes P A shape (after_it (Sync Metadata) Done chosen (record devices { metadata = synced device })) (n' (Sync Metadata) Done read)
         settle_done read chosen s =
             let b = begins_of chosen (subst (λ (c : Option RunningCommit). DoesSync (Opens mode reading) c device chosen) rd.1 s) in
-            let l = openings_followed.settles shape.geometry (size P A shape) images.committed f.phase.later Writeback f.site devices ph f.phase.devices_follow.agree in
+            let l = openings_followed.settles shape.geometry (size P A shape) images.committed f.phase.later mode f.site devices ph f.phase.devices_follow.agree in
             let found : Found shape.geometry (one_image l.state) (synced device) = record { committed = l.state; are = refl; read = l.leads.agrees.images.read; settled = l.settled; fit = one_fit images f.phase.later l.state readable.fit f.phase.devices_follow.fit l.one_of } in
-            goes_to (opening_at total left Settling) xt (Sync Metadata) Done read chosen (one_image l.state) None (OpensThere Writeback Caching) (record devices { metadata = synced device }) (Some b.0) None (opening_at total left Caching)
+            goes_to (opening_at total left Settling) xt (Sync Metadata) Done read chosen (one_image l.state) None (OpensThere mode Caching) (record devices { metadata = synced device }) (Some b.0) None (opening_at total left Caching)
             (ap (λ (c : Chosen P A). reading_then reading (Device (Sync Metadata)) Done c) b.1) (ap (λ (c : Option RunningCommit). led c Done) rd.1) refl
-            (arrives P A shape images w n (n' (Sync Metadata) Done read) f (same (Sync Metadata) Done read) l.state None (OpensThere Writeback Caching) (record devices { metadata = synced device }) l.leads (no_stand Caching)) tt (no_stand Caching)
+            (arrives P A shape images w n (n' (Sync Metadata) Done read) f (same (Sync Metadata) Done read) l.state None (OpensThere mode Caching) (record devices { metadata = synced device }) l.leads (no_stand Caching)) tt (no_stand Caching)
             (reached_at b.0 (one_image l.state) (synced device) b.2 found)
             (inl (record { total = total; left = left; stage = Caching; is = refl; phase_is = refl; read = ((b.0, refl), refl, refl) }))
 
         pub settle_fails : (read : List Bytes) (chosen : Chosen P A) (lands : ℕ → Bool) → Goes P A shape (after_it (Sync Metadata) Fault chosen (record devices { metadata = synced_where lands device })) (n' (Sync Metadata) Fault read)
         settle_fails read chosen lands =
-            let l = openings_followed.settling_fails shape.geometry (size P A shape) images.committed f.phase.later Writeback f.site devices ph f.phase.devices_follow.agree (synced_where lands device) (partly_synced lands device) in
+            let l = openings_followed.settling_fails shape.geometry (size P A shape) images.committed f.phase.later mode f.site devices ph f.phase.devices_follow.agree (synced_where lands device) (partly_synced lands device) in
             goes_to (opening_at total left Settling) xt (Sync Metadata) Fault read chosen images f.phase.later GoneThere (record devices { metadata = synced_where lands device }) None None _
             refl (ap (λ (c : Option RunningCommit). led c Fault) rd.1) refl
             (arrives P A shape images w n (n' (Sync Metadata) Fault read) f (same (Sync Metadata) Fault read) images.committed f.phase.later GoneThere (record devices { metadata = synced_where lands device }) l no_gone) f.phase.devices_follow.fit no_gone
@@ -156,37 +156,37 @@ module _ (P A : Type 0) (shape : Shape) (images : Images) (devices : Devices (Li
 
       -- ---- the syncs of cache and origin
 
-      module _ (ph : f.site.phase ≡ OpensThere Writeback Caching) (rd : HasReadAt Caching reading commit f.phase.later) (xt : x.task ≡ Some (Open opened_in, opening_at total left Caching)) where
+      module _ (ph : f.site.phase ≡ OpensThere mode Caching) (rd : HasReadAt Caching reading commit f.phase.later) (xt : x.task ≡ Some (Open opened_in, opening_at total left Caching)) where
         pub cache_done : (read : List Bytes) (chosen : Chosen P A) → Goes P A shape (after_it (Sync Cache) Done chosen (record devices { cache = synced devices.cache })) (n' (Sync Cache) Done read)
         cache_done read chosen =
-            let l = openings_followed.syncs_cache shape.geometry (size P A shape) images.committed f.phase.later Writeback f.site devices ph f.phase.devices_follow.agree in
-            goes_to (opening_at total left Caching) xt (Sync Cache) Done read chosen images f.phase.later (OpensThere Writeback Basing) (record devices { cache = synced devices.cache }) reading commit (opening_at total left Basing) refl refl refl
-            (arrives P A shape images w n (n' (Sync Cache) Done read) f (same (Sync Cache) Done read) images.committed f.phase.later (OpensThere Writeback Basing) (record devices { cache = synced devices.cache }) l (no_stand Basing)) f.phase.devices_follow.fit (no_stand Basing) known
+            let l = openings_followed.syncs_cache shape.geometry (size P A shape) images.committed f.phase.later mode f.site devices ph f.phase.devices_follow.agree in
+            goes_to (opening_at total left Caching) xt (Sync Cache) Done read chosen images f.phase.later (OpensThere mode Basing) (record devices { cache = synced devices.cache }) reading commit (opening_at total left Basing) refl refl refl
+            (arrives P A shape images w n (n' (Sync Cache) Done read) f (same (Sync Cache) Done read) images.committed f.phase.later (OpensThere mode Basing) (record devices { cache = synced devices.cache }) l (no_stand Basing)) f.phase.devices_follow.fit (no_stand Basing) known
             (inl (record { total = total; left = left; stage = Basing; is = refl; phase_is = refl; read = rd }))
 
         pub cache_fails : (read : List Bytes) (chosen : Chosen P A) (lands : ℕ → Bool) → Goes P A shape (after_it (Sync Cache) Fault chosen (record devices { cache = synced_where lands devices.cache })) (n' (Sync Cache) Fault read)
         cache_fails read chosen lands =
-            let l = openings_followed.cache_fails shape.geometry (size P A shape) images.committed f.phase.later Writeback f.site devices ph f.phase.devices_follow.agree lands in
+            let l = openings_followed.cache_fails shape.geometry (size P A shape) images.committed f.phase.later mode f.site devices ph f.phase.devices_follow.agree lands in
             goes_to (opening_at total left Caching) xt (Sync Cache) Fault read chosen images f.phase.later GoneThere (record devices { cache = synced_where lands devices.cache }) reading commit _ refl refl refl
             (arrives P A shape images w n (n' (Sync Cache) Fault read) f (same (Sync Cache) Fault read) images.committed f.phase.later GoneThere (record devices { cache = synced_where lands devices.cache }) l no_gone) f.phase.devices_follow.fit no_gone known (inr (over total _))
 
-      module _ (ph : f.site.phase ≡ OpensThere Writeback Basing) (rd : HasReadAt Basing reading commit f.phase.later) (xt : x.task ≡ Some (Open opened_in, opening_at total left Basing)) where
+      module _ (ph : f.site.phase ≡ OpensThere mode Basing) (rd : HasReadAt Basing reading commit f.phase.later) (xt : x.task ≡ Some (Open opened_in, opening_at total left Basing)) where
         pub origin_done : (read : List Bytes) (chosen : Chosen P A) → Goes P A shape (after_it (Sync Origin) Done chosen (record devices { origin = synced devices.origin })) (n' (Sync Origin) Done read)
         origin_done read chosen =
-            let l = openings_followed.syncs_origin shape.geometry (size P A shape) images.committed f.phase.later Writeback f.site devices ph f.phase.devices_follow.agree in
-            goes_to (opening_at total left Basing) xt (Sync Origin) Done read chosen images f.phase.later (OpensThere Writeback Looking) (record devices { origin = synced devices.origin }) reading commit (opening_at total left Looking) refl refl refl
-            (arrives P A shape images w n (n' (Sync Origin) Done read) f (same (Sync Origin) Done read) images.committed f.phase.later (OpensThere Writeback Looking) (record devices { origin = synced devices.origin }) l (no_stand Looking)) f.phase.devices_follow.fit (no_stand Looking) known
+            let l = openings_followed.syncs_origin shape.geometry (size P A shape) images.committed f.phase.later mode f.site devices ph f.phase.devices_follow.agree in
+            goes_to (opening_at total left Basing) xt (Sync Origin) Done read chosen images f.phase.later (OpensThere mode Looking) (record devices { origin = synced devices.origin }) reading commit (opening_at total left Looking) refl refl refl
+            (arrives P A shape images w n (n' (Sync Origin) Done read) f (same (Sync Origin) Done read) images.committed f.phase.later (OpensThere mode Looking) (record devices { origin = synced devices.origin }) l (no_stand Looking)) f.phase.devices_follow.fit (no_stand Looking) known
             (inl (record { total = total; left = left; stage = Looking; is = refl; phase_is = refl; read = rd }))
 
         pub origin_fails : (read : List Bytes) (chosen : Chosen P A) (lands : ℕ → Bool) → Goes P A shape (after_it (Sync Origin) Fault chosen (record devices { origin = synced_where lands devices.origin })) (n' (Sync Origin) Fault read)
         origin_fails read chosen lands =
-            let l = openings_followed.origin_fails shape.geometry (size P A shape) images.committed f.phase.later Writeback f.site devices ph f.phase.devices_follow.agree lands in
+            let l = openings_followed.origin_fails shape.geometry (size P A shape) images.committed f.phase.later mode f.site devices ph f.phase.devices_follow.agree lands in
             goes_to (opening_at total left Basing) xt (Sync Origin) Fault read chosen images f.phase.later GoneThere (record devices { origin = synced_where lands devices.origin }) reading commit _ refl refl refl
             (arrives P A shape images w n (n' (Sync Origin) Fault read) f (same (Sync Origin) Fault read) images.committed f.phase.later GoneThere (record devices { origin = synced_where lands devices.origin }) l no_gone) f.phase.devices_follow.fit no_gone known (inr (over total _))
 
       -- ---- the reading
 
-      module _ (ph : f.site.phase ≡ OpensThere Writeback Looking) (rd : HasReadAt Looking reading commit f.phase.later) (xt : x.task ≡ Some (Open opened_in, opening_at total left Looking)) where
+      module _ (ph : f.site.phase ≡ OpensThere mode Looking) (rd : HasReadAt Looking reading commit f.phase.later) (xt : x.task ≡ Some (Open opened_in, opening_at total left Looking)) where
         none : commit ≡ None
         none = rd.1
 
@@ -204,7 +204,7 @@ module _ (P A : Type 0) (shape : Shape) (images : Images) (devices : Devices (Li
         look_stops : (got : Got) (read : List Bytes) (chosen : Chosen P A) (refusal : Refusal) → reading_then reading (Device (ReadMetadata left)) got chosen ≡ None → commit_then {P = P} {A = A} (Opens mode reading) commit (Device (ReadMetadata left)) got chosen ≡ None →
             after (opening_at total left Looking) got ≡ record { job = Opening total; steps = []; answer = Rattle.wb_tasks.specs.declared.step.Answer.TheVariants.Refused refusal } → Goes P A shape (after_it (ReadMetadata left) got chosen devices) (n' (ReadMetadata left) got read)
         look_stops got read chosen refusal er ec ep =
-            let l = openings_followed.look_stops shape.geometry (size P A shape) images.committed None Writeback f.site devices ph agree in
+            let l = openings_followed.look_stops shape.geometry (size P A shape) images.committed None mode f.site devices ph agree in
             goes_to (opening_at total left Looking) xt (ReadMetadata left) got read chosen images None GoneThere devices None None _ er ec ep
             (arrives P A shape images w n (n' (ReadMetadata left) got read) f (same (ReadMetadata left) got read) images.committed None GoneThere devices l no_gone) tt no_gone readable (inr (over total refusal))
 
@@ -212,8 +212,8 @@ module _ (P A : Type 0) (shape : Shape) (images : Images) (devices : Devices (Li
         look_on : (now : ReadSteps A) (read : List Bytes) (chosen : Chosen P A) → HasReached shape.geometry images now device → reading_then reading (Device (ReadMetadata left)) More chosen ≡ Some now → commit_then {P = P} {A = A} (Opens mode reading) commit (Device (ReadMetadata left)) More chosen ≡ None →
             Goes P A shape (after_it (ReadMetadata left) More chosen devices) (n' (ReadMetadata left) More read)
         look_on now read chosen k er ec =
-            goes_to (opening_at total left Looking) xt (ReadMetadata left) More read chosen images None (OpensThere Writeback Looking) devices (Some now) None (opening_at total (left - 1) Looking) er ec refl
-            (rests P A shape images w n (n' (ReadMetadata left) More read) f (same (ReadMetadata left) More read) images.committed None (OpensThere Writeback Looking) devices f.phase.devices_follow.idle ph agree) tt (no_stand Looking) k
+            goes_to (opening_at total left Looking) xt (ReadMetadata left) More read chosen images None (OpensThere mode Looking) devices (Some now) None (opening_at total (left - 1) Looking) er ec refl
+            (rests P A shape images w n (n' (ReadMetadata left) More read) f (same (ReadMetadata left) More read) images.committed None (OpensThere mode Looking) devices f.phase.devices_follow.idle ph agree) tt (no_stand Looking) k
             (inl (record { total = total; left = left - 1; stage = Looking; is = refl; phase_is = refl; read = ((now, refl), refl, refl) }))
 
         -- all was read: the abstract opening learns where each block is
@@ -227,17 +227,17 @@ module _ (P A : Type 0) (shape : Shape) (images : Images) (devices : Devices (Li
             let one : images.committed ≡ k.found.committed = ap (λ (i : Images). i.committed) k.found.are in
             let entries_are : stored.tree.entries ≡ images.committed.found.entries = is.1 ∙ ap (λ (s : Stored). s.found.entries) (sym one) in
             let located_so : learnt.locations ≡ located stored.tree.entries = agree.images.committed_is ∙ ap (λ es. located es) (sym entries_are) in
-            let l : LeadsTo shape.geometry (size P A shape) images.committed None f.site (OpensThere Writeback (Rooting learnt)) devices = record {
+            let l : LeadsTo shape.geometry (size P A shape) images.committed None f.site (OpensThere mode (Rooting learnt)) devices = record {
               event = Advances (Learns learnt);
-              may = (Writeback, Looking, ph, (refl, refl, tt));
+              may = (mode, Looking, ph, (refl, refl, admitted mode f.phase.caches learnt));
               phase_is = ap (λ (p : PhaseThere). (advance f.site.world p (Learns learnt)).phase) ph;
               agrees = subst (λ (p : PhaseThere). DevicesAgree shape.geometry (size P A shape) images.committed None devices (advance f.site.world p (Learns learnt)).world.shared) (sym ph) agree;
             } in
             let t = root_begins A shape.geometry images device (AllRead stored) (Some running) k next in
             let committed_same = same_one t.turn images t.now alone_now t.turned in
-            let v = arrives P A shape images w n (n' (ReadMetadata left) Done read) f (same (ReadMetadata left) Done read) images.committed None (OpensThere Writeback (Rooting learnt)) devices l (no_stand (Rooting learnt)) in
-            goes_to (opening_at total left Looking) xt (ReadMetadata left) Done read chosen t.now None (OpensThere Writeback (Rooting learnt)) devices (Some (AllRead stored)) (Some running) (opening_at total left (Rooting learnt)) er ec refl
-            (subst (λ (s : Stored). Arrived P A shape s None (OpensThere Writeback (Rooting learnt)) devices (n' (ReadMetadata left) Done read)) (sym committed_same) v) tt (no_stand (Rooting learnt)) t.kept
+            let v = arrives P A shape images w n (n' (ReadMetadata left) Done read) f (same (ReadMetadata left) Done read) images.committed None (OpensThere mode (Rooting learnt)) devices l (no_stand (Rooting learnt)) in
+            goes_to (opening_at total left Looking) xt (ReadMetadata left) Done read chosen t.now None (OpensThere mode (Rooting learnt)) devices (Some (AllRead stored)) (Some running) (opening_at total left (Rooting learnt)) er ec refl
+            (subst (λ (s : Stored). Arrived P A shape s None (OpensThere mode (Rooting learnt)) devices (n' (ReadMetadata left) Done read)) (sym committed_same) v) tt (no_stand (Rooting learnt)) t.kept
             (inl (record {
               total = total;
               left = left;
@@ -303,7 +303,7 @@ module _ (P A : Type 0) (shape : Shape) (images : Images) (devices : Devices (Li
       old_is i h = ap (λ (j : Images). j.committed) (sym (rooting i h).under.are)
 
       -- a root that is written, or fails to be
-      module _ (i : Learnt) (ph : f.site.phase ≡ OpensThere Writeback (Rooting i)) (rd : HasReadAt (Rooting i) reading commit f.phase.later) (xt : x.task ≡ Some (Open opened_in, opening_at total left (Rooting i))) (new : List History) where
+      module _ (i : Learnt) (ph : f.site.phase ≡ OpensThere mode (Rooting i)) (rd : HasReadAt (Rooting i) reading commit f.phase.later) (xt : x.task ≡ Some (Open opened_in, opening_at total left (Rooting i))) (new : List History) where
         abbrev devices' : Devices (List History)
         devices' = record devices { metadata = new }
 
@@ -318,25 +318,25 @@ module _ (P A : Type 0) (shape : Shape) (images : Images) (devices : Devices (Li
             let old : t.kept.of.old ≡ images.committed = ap (λ (c : Rattle.wb_meta.specs.Roots.Commit). c.old) t.of_is ∙ old_is i rd.0 in
             let read_so = subst (λ (s : Stored). Rattle.wb_meta.specs.Roots.MayBeReadAs shape.geometry s (Some goal) new) old (two_read shape.geometry t.kept.of new t.now _ t.kept.under) in
             let leads : i.locations ≡ locations goal = leads_to i rd.0 ∙ ap locations (sym same_new) in
-            let l = openings_followed.roots i goal new leads shape.geometry (size P A shape) images.committed f.phase.later Writeback f.site devices ph f.phase.devices_follow.agree read_so in
-            let v = arrives P A shape images w n (n' WriteRoot Done read) f (same WriteRoot Done read) images.committed (Some goal) (OpensThere Writeback (Renewing i)) devices' l (no_stand (Renewing i)) in
-            goes_to (opening_at total left (Rooting i)) xt WriteRoot Done read (Puts new) t.now (Some goal) (OpensThere Writeback (Renewing i)) devices' (Some (AllRead rd.0.stored)) (Some _) (opening_at total left (Renewing i))
+            let l = openings_followed.roots i goal new leads shape.geometry (size P A shape) images.committed f.phase.later mode f.site devices ph f.phase.devices_follow.agree read_so in
+            let v = arrives P A shape images w n (n' WriteRoot Done read) f (same WriteRoot Done read) images.committed (Some goal) (OpensThere mode (Renewing i)) devices' l (no_stand (Renewing i)) in
+            goes_to (opening_at total left (Rooting i)) xt WriteRoot Done read (Puts new) t.now (Some goal) (OpensThere mode (Renewing i)) devices' (Some (AllRead rd.0.stored)) (Some _) (opening_at total left (Renewing i))
             rd.0.reading_is (ap (λ (c : Option RunningCommit). led c Done) rd.0.commit_is) refl
-            (subst (λ (s : Stored). Arrived P A shape s (Some goal) (OpensThere Writeback (Renewing i)) devices' (n' WriteRoot Done read)) (sym t.committed_is) v) t.kept.under.fit_new (no_stand (Renewing i)) t.kept
+            (subst (λ (s : Stored). Arrived P A shape s (Some goal) (OpensThere mode (Renewing i)) devices' (n' WriteRoot Done read)) (sym t.committed_is) v) t.kept.under.fit_new (no_stand (Renewing i)) t.kept
             (inl (record { total = total; left = left; stage = Renewing i; is = refl; phase_is = refl; read = (learnt_still i rd.0 _, (goal, refl, leads)) }))
 
         pub root_fails : (read : List Bytes) → FailsStep rd.0.running.image rd.0.running.steps device new → Goes P A shape (after_it WriteRoot Fault (Puts new) devices') (n' WriteRoot Fault read)
         root_fails read bad =
             let goal = k.of.new in
             let read_so = subst (λ (s : Stored). Rattle.wb_meta.specs.Roots.MayBeReadAs shape.geometry s (Some goal) new) (old_is i rd.0) (two_left shape.geometry k.of device images rd.0.running new k.under bad) in
-            let l = openings_followed.root_fails i goal new (leads_to i rd.0) shape.geometry (size P A shape) images.committed f.phase.later Writeback f.site devices ph f.phase.devices_follow.agree read_so in
+            let l = openings_followed.root_fails i goal new (leads_to i rd.0) shape.geometry (size P A shape) images.committed f.phase.later mode f.site devices ph f.phase.devices_follow.agree read_so in
             let v = arrives P A shape images w n (n' WriteRoot Fault read) f (same WriteRoot Fault read) images.committed (Some goal) GoneThere devices' l no_gone in
             goes_to (opening_at total left (Rooting i)) xt WriteRoot Fault read (Puts new) (Rattle.wb_runs.proofs.Underway.images_of k.of true) (Some goal) GoneThere devices' None None _
             refl (ap (λ (c : Option RunningCommit). led c Fault) rd.0.commit_is) refl
             (subst (λ (s : Stored). Arrived P A shape s (Some goal) GoneThere devices' (n' WriteRoot Fault read)) (sym (old_is i rd.0)) v) k.under.fit_new no_gone (both_left shape.geometry k.of device images rd.0.running new k.under bad) (inr (over total _))
 
       -- and the sync after it
-      module _ (i : Learnt) (ph : f.site.phase ≡ OpensThere Writeback (Renewing i)) (rd : HasReadAt (Renewing i) reading commit f.phase.later) (xt : x.task ≡ Some (Open opened_in, opening_at total left (Renewing i))) (new : List History) where
+      module _ (i : Learnt) (ph : f.site.phase ≡ OpensThere mode (Renewing i)) (rd : HasReadAt (Renewing i) reading commit f.phase.later) (xt : x.task ≡ Some (Open opened_in, opening_at total left (Renewing i))) (new : List History) where
         abbrev renewed : Devices (List History)
         renewed = record devices { metadata = new }
 
@@ -355,18 +355,18 @@ module _ (P A : Type 0) (shape : Shape) (images : Images) (devices : Devices (Li
             let old : t.kept.of.old ≡ images.committed = ap (λ (c : Rattle.wb_meta.specs.Roots.Commit). c.old) t.of_is ∙ old_is i rd.0 in
             let read_so = subst (λ (s : Stored). Rattle.wb_meta.specs.Roots.MayBeReadAs shape.geometry images.committed (Some s) new) new_is
             (subst (λ (s : Stored). Rattle.wb_meta.specs.Roots.MayBeReadAs shape.geometry s (Some t.kept.of.new) new) old (two_read shape.geometry t.kept.of new t.now _ t.kept.under)) in
-            let l = openings_followed.renews i new shape.geometry (size P A shape) images.committed (Some goal) Writeback f.site devices ph agree_so read_so in
-            let v = arrives P A shape images w n (n' (Sync Metadata) Done read) f (same (Sync Metadata) Done read) images.committed (Some goal) (OpensThere Writeback (Answering i)) renewed l (no_stand (Answering i)) in
-            goes_to (opening_at total left (Renewing i)) xt (Sync Metadata) Done read Plain t.now (Some goal) (OpensThere Writeback (Answering i)) renewed (Some (AllRead rd.0.stored)) (Some _) (opening_at total left (Answering i))
+            let l = openings_followed.renews i new shape.geometry (size P A shape) images.committed (Some goal) mode f.site devices ph agree_so read_so in
+            let v = arrives P A shape images w n (n' (Sync Metadata) Done read) f (same (Sync Metadata) Done read) images.committed (Some goal) (OpensThere mode (Answering i)) renewed l (no_stand (Answering i)) in
+            goes_to (opening_at total left (Renewing i)) xt (Sync Metadata) Done read Plain t.now (Some goal) (OpensThere mode (Answering i)) renewed (Some (AllRead rd.0.stored)) (Some _) (opening_at total left (Answering i))
             rd.0.reading_is (ap (λ (c : Option RunningCommit). led c Done) rd.0.commit_is) refl
-            (subst (λ (s : Stored). Arrived P A shape s (Some goal) (OpensThere Writeback (Answering i)) renewed (n' (Sync Metadata) Done read)) (sym t.committed_is) v) kept.under.fit_new (no_stand (Answering i)) t.kept
+            (subst (λ (s : Stored). Arrived P A shape s (Some goal) (OpensThere mode (Answering i)) renewed (n' (Sync Metadata) Done read)) (sym t.committed_is) v) kept.under.fit_new (no_stand (Answering i)) t.kept
             (inl (record { total = total; left = left; stage = Answering i; is = refl; phase_is = refl; read = (learnt_still i rd.0 _, (goal, refl, leads_to i rd.0)) }))
 
         pub renew_fails : (read : List Bytes) → FailsStep rd.0.running.image rd.0.running.steps device new → Goes P A shape (after_it (Sync Metadata) Fault Plain renewed) (n' (Sync Metadata) Fault read)
         renew_fails read bad =
             let goal = kept.of.new in
             let read_so = subst (λ (s : Stored). Rattle.wb_meta.specs.Roots.MayBeReadAs shape.geometry s (Some goal) new) (old_is i rd.0) (two_left shape.geometry kept.of device images rd.0.running new kept.under bad) in
-            let l = openings_followed.renewing_fails i new shape.geometry (size P A shape) images.committed (Some goal) Writeback f.site devices ph agree_so read_so in
+            let l = openings_followed.renewing_fails i new shape.geometry (size P A shape) images.committed (Some goal) mode f.site devices ph agree_so read_so in
             let v = arrives P A shape images w n (n' (Sync Metadata) Fault read) f (same (Sync Metadata) Fault read) images.committed (Some goal) GoneThere renewed l no_gone in
             goes_to (opening_at total left (Renewing i)) xt (Sync Metadata) Fault read Plain (Rattle.wb_runs.proofs.Underway.images_of kept.of true) (Some goal) GoneThere renewed None None _
             refl (ap (λ (c : Option RunningCommit). led c Fault) rd.0.commit_is) refl

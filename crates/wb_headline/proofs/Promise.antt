@@ -1,6 +1,7 @@
 -- One recursion over a run: what each kind of event leads to, and that every answer on the way is right.
 use Rattle.std.proofs.Common.{arith, ◌≡◌, ◌∙◌, inl, inr, ℕ, List, [], ◌∷◌, Option, Some, None, All, refl, sym, ap, subst, length, slice_get, slice_set}
 use Rattle.wb_types.specs.declared.mode.Mode.{Mode}
+use Rattle.wb_types.specs.declared.mode.Mode.TheVariants.{Writeback}
 use Rattle.wb_types.specs.declared.refusal.Refusal.{Refusal}
 use Rattle.wb_types.specs.declared.extent.Extent.{Extent}
 use Rattle.wb_types.specs.declared.mode.Dev.{Dev}
@@ -23,7 +24,7 @@ use Rattle.wb_promise.specs.declared.event.Event.{Event}
 use Rattle.wb_promise.specs.declared.event.Event.TheVariants.{Step, FaultStep, Start, Stop}
 use Rattle.wb_promise.specs.declared.event.What.{What}
 use Rattle.wb_promise.specs.declared.event.What.TheVariants.{Stepped, Started, Stopped}
-use Rattle.wb_promise.specs.States.{resting, Shape, State, Actor, Phase, Stands, Gone, Opens, start, Target, sector_count}
+use Rattle.wb_promise.specs.States.{resting, Shape, State, Actor, Phase, Stands, Gone, Opens, start, Target, sector_count, mode_of}
 use Rattle.wb_promise.specs.Happenings.{IsOutOfPlace, Plain, Chosen, Happening, OfSome, Gives, MayBe, Cut, Falters, MayFailAt, StartGives, begun_as}
 use Rattle.wb_promise.specs.Effects.{all_resting, stepped, with_actor, device_done, job_of, phase_then, after_what, after_happening, after_all, IsRun, device_failed, given, cleared, phase_given, started, actor_then}
 use Rattle.wb_promise.specs.Clerk.{Notes, Doing, formatted, noted_step, noted_what, put, begun, starting}
@@ -70,7 +71,7 @@ module _ (P A : Type 0) (shape : Shape) where
     abbrev Keeps : Phase P A → Want → Got → Chosen P A → Type 0
     Keeps phase next got chosen = Keeping (phase_then shape phase next got chosen) (slice_set actors a (actor_then shape phase devices x next got))
 
-    step_by_phase : (phase : Phase P A) → Whole P A shape (in_phase phase) n → (job : Job) (plan : Plan) → x.task ≡ Some (job, plan) → (d : Noted shape job plan (slice_get n.doings a)) (next : Want) (got : Got) (read : List Bytes) (chosen : Chosen P A) → next ≡ want plan → Gives shape (in_phase phase) x job next got read chosen →
+    step_by_phase : (phase : Phase P A) → Whole P A shape (in_phase phase) n → (job : Job) (plan : Plan) → x.task ≡ Some (job, plan) → (d : Noted shape (mode_of phase) job plan (slice_get n.doings a)) (next : Want) (got : Got) (read : List Bytes) (chosen : Chosen P A) → next ≡ want plan → Gives shape (in_phase phase) x job next got read chosen →
         Stepped_to P A shape (in_phase phase) n a x job next got read chosen d.doing × Keeps phase next got chosen
     step_by_phase (Stands t) b job plan xt d next got read chosen e g =
         (by_job job xt d g, step_keeps P A shape b.goes.images t commit devices actors n b.goes.known b.goes.followed b.used.here b.used.suited b.keeping a x ex plan job xt next got read chosen e g)
@@ -81,7 +82,7 @@ module _ (P A : Type 0) (shape : Shape) where
         asked : (doing : Doing) → slice_get n.doings a ≡ Some (Some doing) → length doing.then_finished ≡ length n.floors
         asked doing noted = (b.noted_so a doing noted).0 ∙ sym b.goes.followed.sized.sectors ∙ sym b.goes.followed.notes_agree.floors_as_many
 
-        by_job : (job : Job) → x.task ≡ Some (job, plan) → (d : Noted shape job plan (slice_get n.doings a)) → Gives shape (in_phase (Stands t)) x job next got read chosen → Stepped_to P A shape (in_phase (Stands t)) n a x job next got read chosen d.doing
+        by_job : (job : Job) → x.task ≡ Some (job, plan) → (d : Noted shape t.desk.mode job plan (slice_get n.doings a)) → Gives shape (in_phase (Stands t)) x job next got read chosen → Stepped_to P A shape (in_phase (Stands t)) n a x job next got read chosen d.doing
         by_job (Read extent) xt d g = read_steps P A shape b.goes.images t commit devices actors n b.goes.known b.goes.followed b.used.here a x ex plan suits d.doing d.is extent xt d.job_is d.claim next got read chosen e g
         by_job (Write extent content) xt d g = write_steps P A shape b.goes.images t commit devices actors n b.goes.known b.goes.followed b.used.here a x ex plan suits d.doing d.is extent content xt d.job_is d.claim next got read chosen e g
         by_job Flush xt d g = flush_steps P A shape b.goes.images t commit devices actors n b.goes.known b.goes.followed b.used.here a x ex plan xt d.doing d.is d.job_is suits b.keeping.owned next got read chosen (asked d.doing d.is) e g
@@ -95,7 +96,7 @@ module _ (P A : Type 0) (shape : Shape) where
         keeps m jt (End answer) e g = opening_keeps P A shape b.goes.images devices commit mode reading actors n b.goes.known b.goes.followed b.linked.alone b.keeping a x ex m plan jt b.inside.cache b.inside.origin got read answer chosen e g
         keeps m jt v e g = none_goes P A shape (Opens mode reading) devices actors a x v got ex b.keeping
 
-        by_job : (job : Job) → x.task ≡ Some (job, plan) → (d : Noted shape job plan (slice_get n.doings a)) → Gives shape (in_phase (Opens mode reading)) x job next got read chosen → InPhase {P = P} {A = A} (Opens mode reading) job → Stepped_to P A shape (in_phase (Opens mode reading)) n a x job next got read chosen d.doing × Keeps (Opens mode reading) next got chosen
+        by_job : (job : Job) → x.task ≡ Some (job, plan) → (d : Noted shape Writeback job plan (slice_get n.doings a)) → Gives shape (in_phase (Opens mode reading)) x job next got read chosen → InPhase {P = P} {A = A} (Opens mode reading) job → Stepped_to P A shape (in_phase (Opens mode reading)) n a x job next got read chosen d.doing × Keeps (Opens mode reading) next got chosen
         by_job (Open m) xt d g h = (opening_steps P A shape b.goes.images devices commit mode reading actors n b.goes.known b.goes.followed b.linked.alone b.keeping a x ex m d.doing d.job_is b.inside.cache b.inside.origin plan xt (Open m) x.buffer next got read chosen e g, keeps m xt next e g)
         by_job job xt d g h = absurd h
 
@@ -104,7 +105,7 @@ module _ (P A : Type 0) (shape : Shape) where
     keep_fault phase b job plan xt choice (Device step) chosen e m = none_goes P A shape phase devices actors a x (Device step) Fault ex b.keeping
     keep_fault phase b job plan xt choice next chosen e m = absurd m
 
-    fault_by_phase : (phase : Phase P A) → Whole P A shape (in_phase phase) n → (job : Job) (plan : Plan) → x.task ≡ Some (job, plan) → (d : Noted shape job plan (slice_get n.doings a)) (choice : Choice) (next : Want) (read : List Bytes) (chosen : Chosen P A) → next ≡ want plan → MayFailAt devices choice next → Falters (in_phase phase) choice next chosen →
+    fault_by_phase : (phase : Phase P A) → Whole P A shape (in_phase phase) n → (job : Job) (plan : Plan) → x.task ≡ Some (job, plan) → (d : Noted shape (mode_of phase) job plan (slice_get n.doings a)) (choice : Choice) (next : Want) (read : List Bytes) (chosen : Chosen P A) → next ≡ want plan → MayFailAt devices choice next → Falters (in_phase phase) choice next chosen →
         Faulted_to P A shape (in_phase phase) n a x choice job next read chosen d.doing
     fault_by_phase (Stands t) b job plan xt d choice next read chosen e m g = by_job job xt d
       where
@@ -114,7 +115,7 @@ module _ (P A : Type 0) (shape : Shape) where
         inside : Rattle.wb_runs.specs.Inside.StepInside shape next
         inside = subst (λ (v : Want). Rattle.wb_runs.specs.Inside.StepInside shape v) (sym e) (want_inside shape plan (subst (λ (o : Option (Job × Plan)). Rattle.wb_runs.proofs.InsideRuns.PlanInside shape o) xt (b.inside.tasks a x ex)).1)
 
-        by_job : (job : Job) → x.task ≡ Some (job, plan) → (d : Noted shape job plan (slice_get n.doings a)) → Faulted_to P A shape (in_phase (Stands t)) n a x choice job next read chosen d.doing
+        by_job : (job : Job) → x.task ≡ Some (job, plan) → (d : Noted shape t.desk.mode job plan (slice_get n.doings a)) → Faulted_to P A shape (in_phase (Stands t)) n a x choice job next read chosen d.doing
         by_job (Read extent) xt d = read_faults P A shape b.goes.images t commit devices actors n b.goes.known b.goes.followed b.used.here a x ex plan suits d.doing d.is extent xt d.job_is d.claim choice next read chosen e m g
         by_job (Write extent content) xt d = write_faults P A shape b.goes.images t commit devices actors n b.goes.known b.goes.followed b.used.here a x ex plan suits d.doing d.is extent content xt d.job_is d.claim choice next read chosen inside b.inside.cache b.inside.origin e m g
         by_job Flush xt d = flush_faults P A shape b.goes.images t commit devices actors n b.goes.known b.goes.followed b.used.here a x ex plan xt d.doing d.is d.job_is suits b.keeping.owned choice next read chosen e m g
@@ -124,21 +125,21 @@ module _ (P A : Type 0) (shape : Shape) where
     fault_by_phase Gone b job plan xt d choice next read chosen e m g = absurd (subst (λ (o : Option (Job × Plan)). TaskHere {P = P} {A = A} Gone o) xt (b.linked.here a x ex))
     fault_by_phase (Opens mode reading) b job plan xt d choice next read chosen e m g = by_job job xt d (subst (λ (o : Option (Job × Plan)). TaskHere {P = P} {A = A} (Opens mode reading) o) xt (b.linked.here a x ex))
       where
-        by_job : (job : Job) → x.task ≡ Some (job, plan) → (d : Noted shape job plan (slice_get n.doings a)) → InPhase {P = P} {A = A} (Opens mode reading) job → Faulted_to P A shape (in_phase (Opens mode reading)) n a x choice job next read chosen d.doing
+        by_job : (job : Job) → x.task ≡ Some (job, plan) → (d : Noted shape Writeback job plan (slice_get n.doings a)) → InPhase {P = P} {A = A} (Opens mode reading) job → Faulted_to P A shape (in_phase (Opens mode reading)) n a x choice job next read chosen d.doing
         by_job (Open md) xt d h = opening_faults P A shape b.goes.images devices commit mode reading actors n b.goes.known b.goes.followed b.linked.alone b.keeping a x ex md d.doing d.job_is b.inside.cache b.inside.origin plan xt (Open md) x.buffer choice next read chosen e g
         by_job job xt d h = absurd h
 
   -- whoever has a task does its next step, done or failing
   module _ (w : State P A) (n : Notes) (b : Whole P A shape w n) (a : ℕ) (next : Want) (got : Got) (read : List Bytes) (chosen : Chosen P A) (change : Job → List Bytes → DeviceStep → List History → List History) (May : Actor → Job → Plan → Type 0) where
     abbrev To : Actor → Job → Option (Option Doing) → Type 0
-    To x job doing = Onward (stepped shape w a x next got chosen (change job x.buffer)) (noted_step shape (shown shape (stepped shape w a x next got chosen (change job x.buffer))) n a doing next got read)
+    To x job doing = Onward (stepped shape w a x next got chosen (change job x.buffer)) (noted_step shape (mode_of w.phase) (shown shape (stepped shape w a x next got chosen (change job x.buffer))) n a doing next got read)
 
     abbrev Went : Option Actor → State P A
     Went o = with_actor w o (λ x. stepped shape w a x next got chosen (change (job_of x.task) x.buffer))
 
-    task_goes : ((x : Actor) (job : Job) (plan : Plan) → slice_get w.actors a ≡ Some x → x.task ≡ Some (job, plan) → (d : Noted shape job plan (slice_get n.doings a)) → May x job plan → To x job (Some (Some d.doing))) →
-        (o : Option Actor) → slice_get w.actors a ≡ o → OfSome o (λ x. OfSome x.task (λ doing. May x doing.0 doing.1)) → Onward (Went o) (noted_step shape (shown shape (Went o)) n a (slice_get n.doings a) next got read)
-    task_goes each o e h = with_task o (λ x doing. May x doing.0 doing.1) (λ o. Onward (Went o) (noted_step shape (shown shape (Went o)) n a (slice_get n.doings a) next got read)) h
+    task_goes : ((x : Actor) (job : Job) (plan : Plan) → slice_get w.actors a ≡ Some x → x.task ≡ Some (job, plan) → (d : Noted shape (mode_of w.phase) job plan (slice_get n.doings a)) → May x job plan → To x job (Some (Some d.doing))) →
+        (o : Option Actor) → slice_get w.actors a ≡ o → OfSome o (λ x. OfSome x.task (λ doing. May x doing.0 doing.1)) → Onward (Went o) (noted_step shape (mode_of w.phase) (shown shape (Went o)) n a (slice_get n.doings a) next got read)
+    task_goes each o e h = with_task o (λ x doing. May x doing.0 doing.1) (λ o. Onward (Went o) (noted_step shape (mode_of w.phase) (shown shape (Went o)) n a (slice_get n.doings a) next got read)) h
         (λ x task is xt h.
         let d = noted_for P A shape w n b a x task.0 task.1 (e ∙ is) xt in
         subst (λ (v : Option (Option Doing)). To x (job_of x.task) v) (sym d.is) (subst (λ (j : Job). To x j (Some (Some d.doing))) (sym (ap job_of xt)) (each x task.0 task.1 (e ∙ is) xt d h)))
@@ -146,16 +147,16 @@ module _ (P A : Type 0) (shape : Shape) where
   -- ---- a start
 
   -- whoever is there is given it
-  put_there : (w : State P A) (n' : Notes) (a : ℕ) (x : Actor) (job : Job) (chosen : Chosen P A) → slice_get w.actors a ≡ Some x → Onward (record w { phase = phase_given w.phase job chosen; actors = slice_set w.actors a (given shape x job chosen) }) n' →
-      Onward (with_actor w (slice_get w.actors a) (λ y. record w { phase = phase_given w.phase job chosen; actors = slice_set w.actors a (given shape y job chosen) })) n'
-  put_there w n' a x job chosen ex g = subst (λ (o : Option Actor). Onward (with_actor w o (λ y. record w { phase = phase_given w.phase job chosen; actors = slice_set w.actors a (given shape y job chosen) })) n') (sym ex) g
+  put_there : (w : State P A) (n' : Notes) (a : ℕ) (x : Actor) (job : Job) (chosen : Chosen P A) → slice_get w.actors a ≡ Some x → Onward (record w { phase = phase_given w.phase job chosen; actors = slice_set w.actors a (given shape (mode_of w.phase) x job chosen) }) n' →
+      Onward (with_actor w (slice_get w.actors a) (λ y. record w { phase = phase_given w.phase job chosen; actors = slice_set w.actors a (given shape (mode_of w.phase) y job chosen) })) n'
+  put_there w n' a x job chosen ex g = subst (λ (o : Option Actor). Onward (with_actor w o (λ y. record w { phase = phase_given w.phase job chosen; actors = slice_set w.actors a (given shape (mode_of w.phase) y job chosen) })) n') (sym ex) g
 
   abbrev Begun_to : State P A → Notes → ℕ → Job → Chosen P A → Type 0
   Begun_to w n a job chosen = Onward (started shape w a job chosen) (put (starting n job) a (Some (begun n (begun_as job))))
 
   start_opening : (w : State P A) (n : Notes) → Whole P A shape w n → (a : ℕ) (x : Actor) (mode : Mode) (chosen : Chosen P A) → slice_get w.actors a ≡ Some x → (¬ IsOutOfPlace w.phase (Open mode)) → Begun_to w n a (Open mode) chosen
   start_opening w n b a x mode chosen ex place = put_there (cleared w (Open mode)) (put (starting n (Open mode)) a (Some (begun n (Open mode)))) a resting (Open mode) chosen (there_rests w.actors a x ex)
-      (opening_starts P A shape b.goes.images w n b.goes.known b.goes.followed a mode (given shape resting (Open mode) chosen) (λ o. place (inl o)) (λ o. place (inr o)) refl, none_set (all_resting w.actors) a (given shape resting (Open mode) chosen) (λ order h. absurd (omega (arith, h.1))) (none_rest w.actors))
+      (opening_starts P A shape b.goes.images w n b.goes.known b.goes.followed a mode (given shape Writeback resting (Open mode) chosen) (λ o. place (inl o)) (λ o. place (inr o)) refl, none_set (all_resting w.actors) a (given shape Writeback resting (Open mode) chosen) (λ order h. absurd (omega (arith, h.1))) (none_rest w.actors))
 
   module _ (t : Target P) (commit : Option RunningCommit) (devices : Devices (List History)) (actors : List Actor) (n : Notes) (b : Whole P A shape (at_target P A shape t commit devices actors) n) (a : ℕ) (x : Actor) (ex : slice_get actors a ≡ Some x) (xt : x.task ≡ None) where
     abbrev w_now : State P A
@@ -164,8 +165,8 @@ module _ (P A : Type 0) (shape : Shape) where
     holds_none : TaskSuits shape.geometry.origin_blocks x.card None
     holds_none = subst (λ (o : Option (Job × Plan)). TaskSuits shape.geometry.origin_blocks x.card o) xt (b.used.suited a x ex)
 
-    goes_and : (job : Job) (chosen : Chosen P A) → StartGives shape (Stands t) (Some x) job Started chosen → Goes P A shape (record w_now { phase = phase_given {P = P} {A = A} (Stands t) job chosen; actors = slice_set actors a (given shape x job chosen) }) (put n a (Some (begun n (begun_as job)))) →
-        Onward (with_actor w_now (slice_get actors a) (λ y. record w_now { phase = phase_given {P = P} {A = A} (Stands t) job chosen; actors = slice_set actors a (given shape y job chosen) })) (put n a (Some (begun n (begun_as job))))
+    goes_and : (job : Job) (chosen : Chosen P A) → StartGives shape (Stands t) (Some x) job Started chosen → Goes P A shape (record w_now { phase = phase_given {P = P} {A = A} (Stands t) job chosen; actors = slice_set actors a (given shape t.desk.mode x job chosen) }) (put n a (Some (begun n (begun_as job)))) →
+        Onward (with_actor w_now (slice_get actors a) (λ y. record w_now { phase = phase_given {P = P} {A = A} (Stands t) job chosen; actors = slice_set actors a (given shape t.desk.mode y job chosen) })) (put n a (Some (begun n (begun_as job))))
     goes_and job chosen g goes = put_there w_now (put n a (Some (begun n (begun_as job)))) a x job chosen ex (goes, start_keeps P A shape b.goes.images t commit devices actors n b.goes.known b.goes.followed b.used.here b.used.suited b.keeping a x ex xt job chosen g)
 
     start_at_target : (job : Job) (chosen : Chosen P A) → (¬ IsOutOfPlace {P = P} {A = A} (Stands t) job) → StartGives shape (Stands t) (Some x) job Started chosen → Begun_to w_now n a job chosen
@@ -187,14 +188,14 @@ module _ (P A : Type 0) (shape : Shape) where
 
   -- ---- every event
 
-  on_what : (w : State P A) (n : Notes) → Whole P A shape w n → (event : Event) (what : What) (read : List Bytes) (chosen : Chosen P A) → MayBe shape w event what read chosen → Onward (after_what shape w event what chosen) (noted_what shape (shown shape (after_what shape w event what chosen)) n event what read)
+  on_what : (w : State P A) (n : Notes) → Whole P A shape w n → (event : Event) (what : What) (read : List Bytes) (chosen : Chosen P A) → MayBe shape w event what read chosen → Onward (after_what shape w event what chosen) (noted_what shape (mode_of w.phase) (shown shape (after_what shape w event what chosen)) n event what read)
   on_what w n b (Start a job) Started read chosen h =
       let x = free P A w a job h.1 in
       start_by_phase w w.phase refl n b a x.0 job chosen x.1 x.2 (λ o. h.1 (inr (inr o))) (subst (λ (o : Option Actor). StartGives shape w.phase o job Started chosen) x.1 h.2)
   on_what w n b (Step a) (Stepped next got) read chosen h = task_goes w n b a next got read chosen (λ job buffer step. device_done job buffer step chosen) (λ x job plan. (next ≡ want plan) × Gives shape w x job next got read chosen)
       (λ x job plan ex xt d g. step_by_phase w.devices w.commit w.actors n a x ex w.phase b job plan xt d next got read chosen g.0 g.1) (slice_get w.actors a) refl h
   on_what w n b (FaultStep a choice) (Stepped next got) read chosen h =
-      subst (λ (g : Got). Onward (after_what shape w (FaultStep a choice) (Stepped next g) chosen) (noted_what shape (shown shape (after_what shape w (FaultStep a choice) (Stepped next g) chosen)) n (FaultStep a choice) (Stepped next g) read)) (sym h.1)
+      subst (λ (g : Got). Onward (after_what shape w (FaultStep a choice) (Stepped next g) chosen) (noted_what shape (mode_of w.phase) (shown shape (after_what shape w (FaultStep a choice) (Stepped next g) chosen)) n (FaultStep a choice) (Stepped next g) read)) (sym h.1)
       (task_goes w n b a next Fault read chosen (λ job buffer step. device_failed (lands (device_of step) choice) job buffer step chosen) (λ x job plan. (next ≡ want plan) × MayFailAt w.devices choice next × Falters w choice next chosen)
       (λ x job plan ex xt d g. (fault_by_phase w.devices w.commit w.actors n a x ex w.phase b job plan xt d choice next read chosen g.0 g.1 g.2, keep_fault w.devices w.commit w.actors n a x ex w.phase b job plan xt choice next chosen g.0 g.1)) (slice_get w.actors a) refl h.2)
   on_what w n b (Stop choice) Stopped read chosen h = (crash_goes P A shape b.goes.images w n b.goes.known b.goes.followed choice, none_rest w.actors)
@@ -203,7 +204,7 @@ module _ (P A : Type 0) (shape : Shape) where
   -- ---- reads
 
   read_by_phase : (devices : Devices (List History)) (commit : Option RunningCommit) (phase : Phase P A) (actors : List Actor) (n : Notes) → Whole P A shape (record { devices = devices; commit = commit; phase = phase; actors = actors }) n → (a : ℕ) (x : Actor) (job : Job) (plan : Plan) → slice_get actors a ≡ Some x → x.task ≡ Some (job, plan) →
-      (d : Noted shape job plan (slice_get n.doings a)) (device : Dev) (e : Extent) (read : List Bytes) (chosen : Chosen P A) → Device (ReadExtent device e) ≡ want plan → Gives shape (record { devices = devices; commit = commit; phase = phase; actors = actors }) x job (Device (ReadExtent device e)) Done read chosen → GivesLatest shape n job e read
+      (d : Noted shape (mode_of phase) job plan (slice_get n.doings a)) (device : Dev) (e : Extent) (read : List Bytes) (chosen : Chosen P A) → Device (ReadExtent device e) ≡ want plan → Gives shape (record { devices = devices; commit = commit; phase = phase; actors = actors }) x job (Device (ReadExtent device e)) Done read chosen → GivesLatest shape n job e read
   read_by_phase devices commit (Stands t) actors n b a x (Read extent) plan ex xt d device e read chosen next g =
       given_latest P A shape b.goes.images t commit devices actors n b.goes.known b.goes.followed a x ex plan (subst (λ (o : Option (Job × Plan)). TaskSuits shape.geometry.origin_blocks x.card o) xt (b.used.suited a x ex)) d.doing d.is extent xt d.job_is d.claim device e next g.0 read g.3 g.4
   read_by_phase devices commit (Stands t) actors n b a x (Migrate migration block) plan ex xt d device e read chosen next g = g.1.0
@@ -275,7 +276,7 @@ module _ (P A : Type 0) (shape : Shape) where
         used = used_what P A shape w event what read h.chosen known b.used m;
         linked = links_what P A shape (shown shape (after_happening shape w h)) w n event what read h.chosen known b.used b.linked m;
         inside = inside_what P A shape w n event what read h.chosen (base_of P A shape w n b) b.inside m;
-        noted_so = what_noted (sector_count shape) shape (shown shape (after_happening shape w h)) n read (b.goes.followed.notes_agree.as_many ∙ b.goes.followed.sized.sectors) b.noted_so event what (reads_rightly w n b event what read h.chosen m) (fault_is w event what read h.chosen m);
+        noted_so = what_noted (sector_count shape) shape (mode_of w.phase) (shown shape (after_happening shape w h)) n read (b.goes.followed.notes_agree.as_many ∙ b.goes.followed.sized.sectors) b.noted_so event what (reads_rightly w n b event what read h.chosen m) (fault_is w event what read h.chosen m);
         keeping = on.1;
       }
 

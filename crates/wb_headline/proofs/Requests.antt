@@ -1,6 +1,6 @@
 -- Each step of a read or a write, done or failing, and its answer, is followed; what a step of a read is given is the last entry of each of its
 -- sectors' histories.
-use Rattle.std.proofs.Common.{◌≡◌, ◌∙◌, ◌<◌, ◌≤◌, ◌+◌, ◌*◌, ◌%◌, ℕ, Bool, List, [], ◌∷◌, ◌++◌, Option, Some, None, refl, sym, ap, subst, arith, length, replicate, slice_get, slice_set, mul_comm, suc, All}
+use Rattle.std.proofs.Common.{◌≡◌, ◌∙◌, ◌<◌, ◌≤◌, ◌+◌, ◌*◌, ◌%◌, ℕ, Bool, List, [], ◌∷◌, ◌++◌, Option, Some, None, refl, sym, ap, subst, arith, length, replicate, slice_get, slice_set, mul_comm, suc, All, true, false, cond}
 use Rattle.std.proofs.Math.Nat.{mul-le-mul_right}
 use Rattle.std.proofs.lemmas.List.{length-set}
 use Rattle.std.proofs.lemmas.Nat.{div_below}
@@ -33,7 +33,7 @@ use Rattle.wb_promise.specs.States.{Shape, State, Actor, Target, Stands, with_de
 use Rattle.wb_promise.specs.Happenings.{block_range, Chosen, Gives, Falters, MayFailAt}
 use Rattle.wb_promise.specs.Effects.{actor_then, orders_then, awaiting_then, device_done, device_failed, stepped}
 use Rattle.wb_runs.specs.Holding.{cards_of}
-use Rattle.wb_promise.specs.Clerk.{Notes, Doing, noted_step, device_note, failing, put, readings_from, sector_for, write_note, enter_each, entering, finished_note, all_raised, Entering, enter}
+use Rattle.wb_promise.specs.Clerk.{Notes, Doing, noted_step, device_note, failing, put, readings_from, sector_for, write_note, enter_each, entering, finished_note, all_raised, Entering, enter, is_entered}
 use Rattle.wb_contents.proofs.Lists.{set_there}
 use Rattle.wb_runs.proofs.Images.{Images}
 use Rattle.wb_runs.proofs.Metadata.{MetadataKept}
@@ -105,9 +105,9 @@ module _ (P A : Type 0) (shape : Shape) (images : Images) (t : Target P) (commit
     (f : Followed P A shape images (standing P A shape images t commit devices actors n) n) (a : ℕ) (x : Actor) (ex : slice_get actors a ≡ Some x) (shown : List Bytes) (doing : Doing) (noted : slice_get n.doings a ≡ Some (Some doing)) where
   -- ---- a read
 
-  module _ (extent : Extent) (plan : Plan) (xt : x.task ≡ Some (Read extent, plan)) (suits : Suits shape.geometry.origin_blocks plan x.card) (job_is : doing.job ≡ Read extent) (claim : JobClaim shape (Read extent) plan doing) (device : Dev) (e : Extent) (next : Device (ReadExtent device e) ≡ want plan) (holds : HoldsBlocks device) where
+  module _ (extent : Extent) (plan : Plan) (xt : x.task ≡ Some (Read extent, plan)) (suits : Suits shape.geometry.origin_blocks plan x.card) (job_is : doing.job ≡ Read extent) (claim : JobClaim shape t.desk.mode (Read extent) plan doing) (device : Dev) (e : Extent) (next : Device (ReadExtent device e) ≡ want plan) (holds : HoldsBlocks device) where
     abbrev part : BlockRange
-    part = block_range shape extent claim.cut
+    part = block_range shape t.desk.mode extent claim.cut
 
     -- what it is told there
     pub read_follows : (contents : List Bytes) → length contents ≡ e.count → GivesEach (device_in device devices) e.first contents →
@@ -116,7 +116,7 @@ module _ (P A : Type 0) (shape : Shape) (images : Images) (t : Target P) (commit
 
     pub reads : (contents : List Bytes) → length contents ≡ e.count → GivesEach (device_in device devices) e.first contents →
         Goes P A shape (record { devices = devices; commit = commit; phase = Stands (record { words = t.words; desk = t.desk }); actors = slice_set actors a (actor_then {P = P} {A = A} shape (Stands t) devices x (Device (ReadExtent device e)) Done) })
-        (noted_step shape shown n a (Some (Some doing)) (Device (ReadExtent device e)) Done contents)
+        (noted_step shape t.desk.mode shown n a (Some (Some doing)) (Device (ReadExtent device e)) Done contents)
     reads contents many gives =
         let g = read_follows contents many gives in
         let b = beside P A shape images t commit devices actors n known f a x ex in
@@ -128,13 +128,13 @@ module _ (P A : Type 0) (shape : Shape) (images : Images) (t : Target P) (commit
         let second = notes_followed.redone (size P A shape) (put n a (Some doing)) s' m' a doing doing2 first (set_there n.doings a (Some doing) (Some doing) noted) refl refl in
         let y = after_step (Read extent) plan Done x in
         let n2 = put (put n a (Some doing)) a (Some doing2) in
-        subst (λ (q : Job). Goes P A shape (record { devices = devices; commit = commit; phase = Stands (record { words = t.words; desk = t.desk }); actors = slice_set actors a (actor_then {P = P} {A = A} shape (Stands t) devices x (Device (ReadExtent device e)) Done) }) (device_note shape (put n a (Some doing)) a doing q (ReadExtent device e) Done contents)) (sym job_is)
+        subst (λ (q : Job). Goes P A shape (record { devices = devices; commit = commit; phase = Stands (record { words = t.words; desk = t.desk }); actors = slice_set actors a (actor_then {P = P} {A = A} shape (Stands t) devices x (Device (ReadExtent device e)) Done) }) (device_note shape t.desk.mode (put n a (Some doing)) a doing q (ReadExtent device e) Done contents)) (sym job_is)
         (subst (λ (y : Actor). Goes P A shape (record { devices = devices; commit = commit; phase = Stands (record { words = t.words; desk = t.desk }); actors = slice_set actors a y }) n2) (sym (actor_is P A shape (Stands t) devices x (Read extent) plan (Device (ReadExtent device e)) Done xt))
         (stays_on P A shape images t commit devices actors n known f a x ex (Reads part.block.0 (e.first % size P A shape) contents) t.words devices y n2 g tt second (length-set (put n a (Some doing)).doings a (Some doing2) ∙ length-set n.doings a (Some doing)) refl refl))
 
     pub read_fails : (contents : List Bytes) →
         Goes P A shape (record { devices = devices; commit = commit; phase = Stands (record { words = t.words; desk = t.desk }); actors = slice_set actors a (actor_then {P = P} {A = A} shape (Stands t) devices x (Device (ReadExtent device e)) Fault) })
-        (noted_step shape shown n a (Some (Some doing)) (Device (ReadExtent device e)) Fault contents)
+        (noted_step shape t.desk.mode shown n a (Some (Some doing)) (Device (ReadExtent device e)) Fault contents)
     read_fails contents =
         let g = extent_steps_followed.read_fails (situation shape t devices actors) shape.geometry.origin_blocks a x extent part plan device e f.site.world (record { here = ex; task = xt; asks = sym next; agrees = f.phase.agrees }) claim.is_job suits holds in
         let b = beside P A shape images t commit devices actors n known f a x ex in
@@ -144,15 +144,15 @@ module _ (P A : Type 0) (shape : Shape) (images : Images) (t : Target P) (commit
         let once = notes_followed.quiet Stays a f.site.world _ _ g b.0 n f.notes b.1 (noted_within P A shape images t commit devices actors n known f a x ex) f.notes_agree in
         let first = notes_followed.redone (size P A shape) n s' m' a doing mid once noted refl refl in
         let y = after_step (Read extent) plan Fault x in
-        subst (λ (q : Job). Goes P A shape (record { devices = devices; commit = commit; phase = Stands (record { words = t.words; desk = t.desk }); actors = slice_set actors a (actor_then {P = P} {A = A} shape (Stands t) devices x (Device (ReadExtent device e)) Fault) }) (device_note shape (put n a (Some mid)) a mid q (ReadExtent device e) Fault contents)) (sym job_is)
+        subst (λ (q : Job). Goes P A shape (record { devices = devices; commit = commit; phase = Stands (record { words = t.words; desk = t.desk }); actors = slice_set actors a (actor_then {P = P} {A = A} shape (Stands t) devices x (Device (ReadExtent device e)) Fault) }) (device_note shape t.desk.mode (put n a (Some mid)) a mid q (ReadExtent device e) Fault contents)) (sym job_is)
         (subst (λ (y : Actor). Goes P A shape (record { devices = devices; commit = commit; phase = Stands (record { words = t.words; desk = t.desk }); actors = slice_set actors a y }) (put n a (Some mid))) (sym (actor_is P A shape (Stands t) devices x (Read extent) plan (Device (ReadExtent device e)) Fault xt))
         (stays_on P A shape images t commit devices actors n known f a x ex Quietly t.words devices y (put n a (Some mid)) g tt first (length-set n.doings a (Some mid)) refl refl))
 
   -- ---- a write
 
-  module _ (extent : Extent) (content : Bytes) (plan : Plan) (xt : x.task ≡ Some (Write extent content, plan)) (suits : Suits shape.geometry.origin_blocks plan x.card) (job_is : doing.job ≡ Write extent content) (claim : JobClaim shape (Write extent content) plan doing) (device : Dev) (e : Extent) (next : Device (WriteExtent device e) ≡ want plan) (holds : HoldsBlocks device) where
+  module _ (extent : Extent) (content : Bytes) (plan : Plan) (xt : x.task ≡ Some (Write extent content, plan)) (suits : Suits shape.geometry.origin_blocks plan x.card) (job_is : doing.job ≡ Write extent content) (claim : JobClaim shape t.desk.mode (Write extent content) plan doing) (device : Dev) (e : Extent) (next : Device (WriteExtent device e) ≡ want plan) (holds : HoldsBlocks device) where
     abbrev written_part : BlockRange
-    written_part = block_range shape extent claim.cut
+    written_part = block_range shape t.desk.mode extent claim.cut
 
     -- the extent is inside its block
     in_block : e.first % size P A shape + e.count ≤ size P A shape
@@ -180,16 +180,22 @@ module _ (P A : Type 0) (shape : Shape) (images : Images) (t : Target P) (commit
         by None = refl
         by (Some h) = length-set en.histories s (added h content)
 
-    module _ (got : Got) (mid : Doing) (same_entered : mid.entered ≡ doing.entered) (same_then : mid.then_finished ≡ doing.then_finished) (list : List History)
-        (g : WorldFollows (Writes written_part.block.0 (e.first % size P A shape) e.count content) a f.site.world (situation shape t (with_device device devices list) actors) (after_step (Write extent content) plan got x)) where
+    module _ (got : Got) (mid : Doing) (same_entered : mid.entered ≡ doing.entered) (same_then : mid.then_finished ≡ doing.then_finished) (list : List History) where
       abbrev n1 : Notes
       n1 = put n a (Some mid)
 
       abbrev n2 : Notes
       n2 = write_note n1 a mid (enter_each content (rising (sector_for shape extent e) e.count) (entering n1 mid))
 
-      writes_on : Goes P A shape (record { devices = with_device device devices list; commit = commit; phase = Stands (record { words = t.words; desk = t.desk }); actors = slice_set actors a (after_step (Write extent content) plan got x) }) n2
-      writes_on =
+      -- where its sectors are entered
+      writes_on : (entered : Bool) → WorldFollows (cond entered (Writes written_part.block.0 (e.first % size P A shape) e.count content) Quietly) a f.site.world (situation shape t (with_device device devices list) actors) (after_step (Write extent content) plan got x) →
+          Goes P A shape (record { devices = with_device device devices list; commit = commit; phase = Stands (record { words = t.words; desk = t.desk }); actors = slice_set actors a (after_step (Write extent content) plan got x) }) (cond entered n2 n1)
+      writes_on false g =
+          let b = beside P A shape images t commit devices actors n known f a x ex in
+          let once = notes_followed.quiet Stays a f.site.world _ _ g b.0 n f.notes b.1 (noted_within P A shape images t commit devices actors n known f a x ex) f.notes_agree in
+          let first = notes_followed.redone (size P A shape) n (abstract_after_all f.site.world g.records) (told f.notes g.records) a doing mid once noted same_entered same_then in
+          stays_on P A shape images t commit devices actors n known f a x ex Quietly t.words (with_device device devices list) (after_step (Write extent content) plan got x) n1 g tt first (length-set n.doings a (Some mid)) refl (data_device device holds devices list)
+      writes_on true g =
           let b = beside P A shape images t commit devices actors n known f a x ex in
           let first = notes_followed.redone (size P A shape) n f.site.world f.notes a doing mid f.notes_agree noted same_entered same_then in
           let less1 = subst (λ (k : ℕ). a < k) (sym (length-set n.doings a (Some mid))) (noted_within P A shape images t commit devices actors n known f a x ex) in
@@ -199,24 +205,24 @@ module _ (P A : Type 0) (shape : Shape) (images : Images) (t : Target P) (commit
 
     pub writes : (contents : List Bytes) → e.first + e.count ≤ length (device_in device devices) →
         Goes P A shape (record { devices = with_device device devices (written_each (device_in device devices) e.first (replicate e.count content)); commit = commit; phase = Stands (record { words = t.words; desk = t.desk }); actors = slice_set actors a (actor_then {P = P} {A = A} shape (Stands t) devices x (Device (WriteExtent device e)) Done) })
-        (noted_step shape shown n a (Some (Some doing)) (Device (WriteExtent device e)) Done contents)
+        (noted_step shape t.desk.mode shown n a (Some (Some doing)) (Device (WriteExtent device e)) Done contents)
     writes contents inside =
         let list = written_each (device_in device devices) e.first (replicate e.count content) in
         let g = extent_steps_followed.write_done (situation shape t devices actors) shape.geometry.origin_blocks a x extent content written_part plan device e f.site.world (record { here = ex; task = xt; asks = sym next; agrees = f.phase.agrees }) claim.is_job suits holds inside in
-        subst (λ (q : Job). Goes P A shape (record { devices = with_device device devices list; commit = commit; phase = Stands (record { words = t.words; desk = t.desk }); actors = slice_set actors a (actor_then {P = P} {A = A} shape (Stands t) devices x (Device (WriteExtent device e)) Done) }) (device_note shape (put n a (Some doing)) a doing q (WriteExtent device e) Done contents)) (sym job_is)
-        (subst (λ (y : Actor). Goes P A shape (record { devices = with_device device devices list; commit = commit; phase = Stands (record { words = t.words; desk = t.desk }); actors = slice_set actors a y }) (write_note (put n a (Some doing)) a doing (enter_each content (rising (sector_for shape extent e) e.count) (entering (put n a (Some doing)) doing))))
-        (sym (actor_is P A shape (Stands t) devices x (Write extent content) plan (Device (WriteExtent device e)) Done xt)) (writes_on Done doing refl refl list g))
+        subst (λ (q : Job). Goes P A shape (record { devices = with_device device devices list; commit = commit; phase = Stands (record { words = t.words; desk = t.desk }); actors = slice_set actors a (actor_then {P = P} {A = A} shape (Stands t) devices x (Device (WriteExtent device e)) Done) }) (device_note shape t.desk.mode (put n a (Some doing)) a doing q (WriteExtent device e) Done contents)) (sym job_is)
+        (subst (λ (y : Actor). Goes P A shape (record { devices = with_device device devices list; commit = commit; phase = Stands (record { words = t.words; desk = t.desk }); actors = slice_set actors a y }) (cond (is_entered t.desk.mode device) (write_note (put n a (Some doing)) a doing (enter_each content (rising (sector_for shape extent e) e.count) (entering (put n a (Some doing)) doing))) (put n a (Some doing))))
+        (sym (actor_is P A shape (Stands t) devices x (Write extent content) plan (Device (WriteExtent device e)) Done xt)) (writes_on Done doing refl refl list (is_entered t.desk.mode device) g))
 
     pub write_fails : (contents : List Bytes) (lands : ℕ → Bool) → e.first + e.count ≤ length (device_in device devices) →
         Goes P A shape (record { devices = with_device device devices (written_where lands (device_in device devices) e.first (replicate e.count content)); commit = commit; phase = Stands (record { words = t.words; desk = t.desk }); actors = slice_set actors a (actor_then {P = P} {A = A} shape (Stands t) devices x (Device (WriteExtent device e)) Fault) })
-        (noted_step shape shown n a (Some (Some doing)) (Device (WriteExtent device e)) Fault contents)
+        (noted_step shape t.desk.mode shown n a (Some (Some doing)) (Device (WriteExtent device e)) Fault contents)
     write_fails contents lands inside =
         let list = written_where lands (device_in device devices) e.first (replicate e.count content) in
         let mid = failing doing (WriteExtent device e) Fault in
         let g = extent_steps_followed.write_fails (situation shape t devices actors) shape.geometry.origin_blocks a x extent content written_part plan device e lands f.site.world (record { here = ex; task = xt; asks = sym next; agrees = f.phase.agrees }) claim.is_job suits holds inside in
-        subst (λ (q : Job). Goes P A shape (record { devices = with_device device devices list; commit = commit; phase = Stands (record { words = t.words; desk = t.desk }); actors = slice_set actors a (actor_then {P = P} {A = A} shape (Stands t) devices x (Device (WriteExtent device e)) Fault) }) (device_note shape (put n a (Some mid)) a mid q (WriteExtent device e) Fault contents)) (sym job_is)
-        (subst (λ (y : Actor). Goes P A shape (record { devices = with_device device devices list; commit = commit; phase = Stands (record { words = t.words; desk = t.desk }); actors = slice_set actors a y }) (write_note (put n a (Some mid)) a mid (enter_each content (rising (sector_for shape extent e) e.count) (entering (put n a (Some mid)) mid))))
-        (sym (actor_is P A shape (Stands t) devices x (Write extent content) plan (Device (WriteExtent device e)) Fault xt)) (writes_on Fault mid refl refl list g))
+        subst (λ (q : Job). Goes P A shape (record { devices = with_device device devices list; commit = commit; phase = Stands (record { words = t.words; desk = t.desk }); actors = slice_set actors a (actor_then {P = P} {A = A} shape (Stands t) devices x (Device (WriteExtent device e)) Fault) }) (device_note shape t.desk.mode (put n a (Some mid)) a mid q (WriteExtent device e) Fault contents)) (sym job_is)
+        (subst (λ (y : Actor). Goes P A shape (record { devices = with_device device devices list; commit = commit; phase = Stands (record { words = t.words; desk = t.desk }); actors = slice_set actors a y }) (cond (is_entered t.desk.mode device) (write_note (put n a (Some mid)) a mid (enter_each content (rising (sector_for shape extent e) e.count) (entering (put n a (Some mid)) mid))) (put n a (Some mid))))
+        (sym (actor_is P A shape (Stands t) devices x (Write extent content) plan (Device (WriteExtent device e)) Fault xt)) (writes_on Fault mid refl refl list (is_entered t.desk.mode device) g))
 
   -- ---- answers
 
@@ -235,15 +241,15 @@ module _ (P A : Type 0) (shape : Shape) (images : Images) (t : Target P) (commit
         (stays_on P A shape images t commit devices actors n known f a x ex (Answers of there) t.words devices (record x { task = None }) n' g tt notes d h refl)
 
   -- by its job
-  pub answers : (job : Job) → IsRequestJob job → (plan : Plan) → x.task ≡ Some (job, plan) → Suits shape.geometry.origin_blocks plan x.card → doing.job ≡ job → JobClaim shape job plan doing → (answer : Answer) → End answer ≡ want plan → (contents : List Bytes) →
-      Goes P A shape (record { devices = devices; commit = commit; phase = Stands (record { words = t.words; desk = t.desk }); actors = slice_set actors a (actor_then {P = P} {A = A} shape (Stands t) devices x (End answer) Done) }) (noted_step shape shown n a (Some (Some doing)) (End answer) Done contents)
+  pub answers : (job : Job) → IsRequestJob job → (plan : Plan) → x.task ≡ Some (job, plan) → Suits shape.geometry.origin_blocks plan x.card → doing.job ≡ job → JobClaim shape t.desk.mode job plan doing → (answer : Answer) → End answer ≡ want plan → (contents : List Bytes) →
+      Goes P A shape (record { devices = devices; commit = commit; phase = Stands (record { words = t.words; desk = t.desk }); actors = slice_set actors a (actor_then {P = P} {A = A} shape (Stands t) devices x (End answer) Done) }) (noted_step shape t.desk.mode shown n a (Some (Some doing)) (End answer) Done contents)
   answers job q plan xt suits job_is claim (Refuses refusal) next contents =
       let g = answer_follows job q plan xt suits (Refuses refusal) next in
       let b = beside P A shape images t commit devices actors n known f a x ex in
       answered_with job q plan xt suits (Refuses refusal) next (Refuses refusal) _ (put n a None) (length-set n.doings a None) refl g
       (notes_followed.refused (job_for (size P A shape) (job_content job) plan.job) refusal Stays a f.site.world _ _ g b.0 n f.notes b.1 (noted_within P A shape images t commit devices actors n known f a x ex) f.notes_agree)
   answers (Read extent) q plan xt suits job_is claim Finished next contents =
-      let part = block_range shape extent claim.cut in
+      let part = block_range shape t.desk.mode extent claim.cut in
       let of = job_for (size P A shape) [] (OnBlock (ReadingPart part)) in
       let g = subst (λ (k : TaskJob). WorldFollows (Answers (job_for (size P A shape) [] k) Finished) a f.site.world (situation shape t devices actors) (record x { task = None })) claim.is_job (answer_follows (Read extent) q plan xt suits Finished next) in
       let b = beside P A shape images t commit devices actors n known f a x ex in
@@ -251,13 +257,13 @@ module _ (P A : Type 0) (shape : Shape) (images : Images) (t : Target P) (commit
       (answered_with (Read extent) q plan xt suits Finished next Finished of (put n a None) (length-set n.doings a None) refl g
       (notes_followed.read_answered part.block.0 _ Stays a f.site.world _ _ g b.0 n f.notes b.1 (noted_within P A shape images t commit devices actors n known f a x ex) f.notes_agree))
   answers (Write extent content) q plan xt suits job_is claim Finished next contents =
-      let part = block_range shape extent claim.cut in
+      let part = block_range shape t.desk.mode extent claim.cut in
       let of = job_for (size P A shape) content (OnBlock (WritingPart part)) in
       let g = subst (λ (k : TaskJob). WorldFollows (Answers (job_for (size P A shape) content k) Finished) a f.site.world (situation shape t devices actors) (record x { task = None })) claim.is_job (answer_follows (Write extent content) q plan xt suits Finished next) in
       let b = beside P A shape images t commit devices actors n known f a x ex in
       subst (λ (k : Job). Goes P A shape (record { devices = devices; commit = commit; phase = Stands (record { words = t.words; desk = t.desk }); actors = slice_set actors a (actor_then {P = P} {A = A} shape (Stands t) devices x (End Finished) Done) }) (finished_note n a doing k shown)) (sym job_is)
       (answered_with (Write extent content) q plan xt suits Finished next Finished of (record n { finished = all_raised n.finished doing.entered; doings = slice_set n.doings a None }) (length-set n.doings a None) refl g
-      (notes_followed.write_answered part.block.0 _ content Stays a f.site.world _ _ g b.0 n f.notes b.1 (noted_within P A shape images t commit devices actors n known f a x ex) f.notes_agree doing noted))
+      (notes_followed.write_answered t.desk.mode part.block.0 _ content Stays a f.site.world _ _ g b.0 n f.notes b.1 (noted_within P A shape images t commit devices actors n known f a x ex) f.notes_agree doing noted))
   answers job q plan xt suits job_is claim Finished next contents = absurd q
 
 -- newest by block and offset is latest by sector
@@ -276,13 +282,13 @@ newest_latest sectors histories b o (c ∷ contents) room inside all =
 
 module _ (P A : Type 0) (shape : Shape) (images : Images) (t : Target P) (commit : Option RunningCommit) (devices : Devices (List History)) (actors : List Actor) (n : Notes) (known : MetadataKept {P = P} {A = A} shape.geometry images (Stands t) commit devices.metadata)
     (f : Followed P A shape images (standing P A shape images t commit devices actors n) n) (a : ℕ) (x : Actor) (ex : slice_get actors a ≡ Some x) (plan : Plan) (suits : Suits shape.geometry.origin_blocks plan x.card)
-    (doing : Doing) (noted : slice_get n.doings a ≡ Some (Some doing)) (extent : Extent) (xt : x.task ≡ Some (Read extent, plan)) (job_is : doing.job ≡ Read extent) (claim : JobClaim shape (Read extent) plan doing) (device : Dev) (e : Extent) (next : Device (ReadExtent device e) ≡ want plan) (holds : HoldsBlocks device) where
+    (doing : Doing) (noted : slice_get n.doings a ≡ Some (Some doing)) (extent : Extent) (xt : x.task ≡ Some (Read extent, plan)) (job_is : doing.job ≡ Read extent) (claim : JobClaim shape t.desk.mode (Read extent) plan doing) (device : Dev) (e : Extent) (next : Device (ReadExtent device e) ≡ want plan) (holds : HoldsBlocks device) where
   pub given_latest : (contents : List Bytes) → length contents ≡ e.count → GivesEach (device_in device devices) e.first contents → All IsLatest (readings_from n.histories (sector_for shape extent e) contents)
   given_latest contents many_read gives =
       let g = read_follows P A shape images t commit devices actors n known f a x ex [] doing noted extent plan xt suits job_is claim device e next holds contents many_read gives in
       let b = beside P A shape images t commit devices actors n known f a x ex in
       let less = noted_within P A shape images t commit devices actors n known f a x ex in
-      let part = block_range shape extent claim.cut in
+      let part = block_range shape t.desk.mode extent claim.cut in
       let right = is_right (size P A shape) (many P A shape) f.site f.notes f.reached _ (records_happen (size P A shape) f.site g.records f.phase.phase_is g.run) in
       let newest = notes_followed.newest_read Stays part.block.0 (e.first % size P A shape) contents a f.site.world _ _ g b.0 n f.notes b.1 less f.notes_agree right in
       let r : IsRequestAt (size P A shape) [] _ ReadingPart plan x.card b.0 = doing_of (size P A shape) (most P A shape) t.words x b.0 (Read extent) plan (f.phase.agrees.each a x b.0 ex b.1) xt in
@@ -304,27 +310,27 @@ module _ (P A : Type 0) (shape : Shape) (images : Images) (t : Target P) (commit
 
   abbrev Done_by : Job → Want → Got → List Bytes → Chosen P A → Type 0
   Done_by job next got read chosen = Goes P A shape (stepped shape w a x next got chosen (λ step. device_done job x.buffer step chosen))
-      (noted_step shape (shown shape (stepped shape w a x next got chosen (λ step. device_done job x.buffer step chosen))) n a (Some (Some doing)) next got read)
+      (noted_step shape t.desk.mode (shown shape (stepped shape w a x next got chosen (λ step. device_done job x.buffer step chosen))) n a (Some (Some doing)) next got read)
 
   abbrev Failed_by : Choice → Job → Want → List Bytes → Chosen P A → Type 0
   Failed_by choice job next read chosen = Goes P A shape (stepped shape w a x next Fault chosen (λ step. device_failed (lands (device_of step) choice) job x.buffer step chosen))
-      (noted_step shape (shown shape (stepped shape w a x next Fault chosen (λ step. device_failed (lands (device_of step) choice) job x.buffer step chosen))) n a (Some (Some doing)) next Fault read)
+      (noted_step shape t.desk.mode (shown shape (stepped shape w a x next Fault chosen (λ step. device_failed (lands (device_of step) choice) job x.buffer step chosen))) n a (Some (Some doing)) next Fault read)
 
   own : (job : TaskJob) (next : Want) → plan.job ≡ job → next ≡ want plan → IsOwnStep job next
   own job next j h = subst (λ (v : Want). IsOwnStep job v) (sym h) (subst (λ (q : TaskJob). IsOwnStep q (want plan)) j (is_own_step shape.geometry.origin_blocks plan x.card suits))
 
   -- ---- reads
 
-  module _ (extent : Extent) (xt : x.task ≡ Some (Read extent, plan)) (job_is : doing.job ≡ Read extent) (claim : JobClaim shape (Read extent) plan doing) where
+  module _ (extent : Extent) (xt : x.task ≡ Some (Read extent, plan)) (job_is : doing.job ≡ Read extent) (claim : JobClaim shape t.desk.mode (Read extent) plan doing) where
     abbrev of_read : TaskJob
-    of_read = OnBlock (ReadingPart (block_range shape extent claim.cut))
+    of_read = OnBlock (ReadingPart (block_range shape t.desk.mode extent claim.cut))
 
     pub read_steps : (next : Want) (got : Got) (read : List Bytes) (chosen : Chosen P A) → next ≡ want plan → Gives shape w x (Read extent) next got read chosen → Done_by (Read extent) next got read chosen
     read_steps (Cell step) got read chosen e g = subst (λ (v : Got). Done_by (Read extent) (Cell step) v read chosen) (sym g.1)
         (on_words P A shape images t commit devices actors n known f rule a x ex (Read extent) plan xt suits step tt e)
     read_steps (Device (ReadExtent d ex')) got read chosen e g = subst (λ (v : Got). Done_by (Read extent) (Device (ReadExtent d ex')) v read chosen) (sym g.2)
         (subst (λ (c : Chosen P A). Done_by (Read extent) (Device (ReadExtent d ex')) Done read c) (sym g.1)
-        (subst (λ (ds : Devices (List History)). Goes P A shape (record { devices = ds; commit = commit; phase = Stands t; actors = slice_set actors a (actor_then {P = P} {A = A} shape (Stands t) devices x (Device (ReadExtent d ex')) Done) }) (noted_step shape [] n a (Some (Some doing)) (Device (ReadExtent d ex')) Done read)) (sym (same_device d devices g.0))
+        (subst (λ (ds : Devices (List History)). Goes P A shape (record { devices = ds; commit = commit; phase = Stands t; actors = slice_set actors a (actor_then {P = P} {A = A} shape (Stands t) devices x (Device (ReadExtent d ex')) Done) }) (noted_step shape t.desk.mode [] n a (Some (Some doing)) (Device (ReadExtent d ex')) Done read)) (sym (same_device d devices g.0))
         (reads P A shape images t commit devices actors n known f a x ex [] doing noted extent plan xt suits job_is claim d ex' e g.0 read g.3 g.4)))
     read_steps (End answer) got read chosen e g = subst (λ (v : Got). Done_by (Read extent) (End answer) v read chosen) (sym g.1) (subst (λ (c : Chosen P A). Done_by (Read extent) (End answer) Done read c) (sym g.0.1)
         (answers P A shape images t commit devices actors n known f a x ex _ doing noted (Read extent) tt plan xt suits job_is claim answer e read))
@@ -333,16 +339,16 @@ module _ (P A : Type 0) (shape : Shape) (images : Images) (t : Target P) (commit
 
     pub read_faults : (choice : Choice) (next : Want) (read : List Bytes) (chosen : Chosen P A) → next ≡ want plan → MayFailAt devices choice next → Falters w choice next chosen → Failed_by choice (Read extent) next read chosen
     read_faults choice (Device (ReadExtent d ex')) read chosen e m g = subst (λ (c : Chosen P A). Failed_by choice (Read extent) (Device (ReadExtent d ex')) read c) (sym g.0)
-        (subst (λ (ds : Devices (List History)). Goes P A shape (record { devices = ds; commit = commit; phase = Stands t; actors = slice_set actors a (actor_then {P = P} {A = A} shape (Stands t) devices x (Device (ReadExtent d ex')) Fault) }) (noted_step shape [] n a (Some (Some doing)) (Device (ReadExtent d ex')) Fault read)) (sym (same_device d devices g.1))
+        (subst (λ (ds : Devices (List History)). Goes P A shape (record { devices = ds; commit = commit; phase = Stands t; actors = slice_set actors a (actor_then {P = P} {A = A} shape (Stands t) devices x (Device (ReadExtent d ex')) Fault) }) (noted_step shape t.desk.mode [] n a (Some (Some doing)) (Device (ReadExtent d ex')) Fault read)) (sym (same_device d devices g.1))
         (read_fails P A shape images t commit devices actors n known f a x ex [] doing noted extent plan xt suits job_is claim d ex' e g.1 read))
     read_faults choice (Device step) read chosen e m g = absurd (own of_read (Device step) claim.is_job e)
     read_faults choice next read chosen e m g = absurd m
 
   -- ---- writes
 
-  module _ (extent : Extent) (content : Bytes) (xt : x.task ≡ Some (Write extent content, plan)) (job_is : doing.job ≡ Write extent content) (claim : JobClaim shape (Write extent content) plan doing) where
+  module _ (extent : Extent) (content : Bytes) (xt : x.task ≡ Some (Write extent content, plan)) (job_is : doing.job ≡ Write extent content) (claim : JobClaim shape t.desk.mode (Write extent content) plan doing) where
     abbrev of_write : TaskJob
-    of_write = OnBlock (WritingPart (block_range shape extent claim.cut))
+    of_write = OnBlock (WritingPart (block_range shape t.desk.mode extent claim.cut))
 
     pub write_steps : (next : Want) (got : Got) (read : List Bytes) (chosen : Chosen P A) → next ≡ want plan → Gives shape w x (Write extent content) next got read chosen → Done_by (Write extent content) next got read chosen
     write_steps (Cell step) got read chosen e g = subst (λ (v : Got). Done_by (Write extent content) (Cell step) v read chosen) (sym g.1)

@@ -6,7 +6,7 @@ use Rattle.wb_types.proofs.Lists.{set_cases}
 use Rattle.wb_types.specs.Extents.{IsCutInto}
 use Rattle.wb_types.specs.declared.extent.Extent.{Extent}
 use Rattle.wb_types.specs.declared.mode.Mode.{Mode}
-use Rattle.wb_types.specs.declared.mode.Mode.TheVariants.{Writeback, Writethrough, Passthrough}
+use Rattle.wb_types.specs.declared.mode.Mode.TheVariants.{Writeback, Passthrough}
 use Rattle.wb_disk.specs.Device.{Content as Bytes, History}
 use Rattle.wb_words.specs.SharedWords.{flag}
 use Rattle.wb_words.specs.declared.card.Hold.TheVariants.{Nothing}
@@ -28,7 +28,8 @@ use Rattle.wb_runs.proofs.Lists.{rests}
 use Rattle.wb_link.specs.Tables.{Job as AbstractJob, Flushing as FlushingFor}
 use Rattle.wb_link.specs.World.{World, abstract_after_all, job_alone, Shared, Mapped as MappedThere, NamesBlock as NamesThere}
 use Rattle.wb_link.specs.Openings.{Opens as OpensThere, Settling, MayOpen}
-use Rattle.wb_refines.specs.Translation.{job_for}
+use Rattle.wb_refines.specs.Translation.{job_for, offsets}
+use Rattle.wb_refines.proofs.Modes.{among_in}
 use Rattle.wb_simulation.specs.Actors.{IsBusyAt}
 use Rattle.wb_simulation.specs.Steps.{IsPart}
 use Rattle.wb_simulation.specs.Telling.{Quietly, Starts, Resumes}
@@ -76,10 +77,10 @@ use Rattle.wb_headline.proofs.Whole.{Whole, at_target}
 
 -- ---- the extents of a request are of its block
 
-pub part_of : (shape : Shape) (extent : Extent) (cut : List Extent) → extent_refusal shape extent ≡ None → IsCutInto extent cut → IsPart (block_size shape) (block_range shape extent cut)
-part_of shape extent cut inside cuts = record {
+pub part_of : (shape : Shape) (mode : Mode) → mode ≢ Passthrough → (extent : Extent) (cut : List Extent) → extent_refusal shape extent ≡ None → IsCutInto extent cut → IsPart (block_size shape) (block_range shape mode extent cut)
+part_of shape mode caches extent cut inside cuts = record {
   some = some_sectors shape extent m;
-  mode = refl;
+  mode = caches;
   sized = refl;
   each = λ e c.
       let w = some_there extent cut all e c in
@@ -123,18 +124,18 @@ module _ (P A : Type 0) (shape : Shape) (images : Images) (t : Target P) (commit
           (notes_followed.starts_late job Stays a f.site.world _ _ g y.0 n f.notes y.1 less f.notes_agree none) (length-set n.doings a (Some (begun n job))) refl refl
 
   pub read_starts : (extent : Extent) (cut : List Extent) → x.card.hold ≡ Nothing → extent_refusal shape extent ≡ None → IsCutInto extent cut →
-      Goes P A shape (record { devices = devices; commit = commit; phase = Stands (record { words = t.words; desk = t.desk }); actors = slice_set actors a (record x { task = Some (Read extent, table (task_job shape x.awaiting (Read extent) cut)) }) }) (put n a (Some (begun n (Read extent))))
-  read_starts extent cut holds inside cuts = begins_so (Read extent) (table (task_job shape x.awaiting (Read extent) cut)) (job_for (size P A shape) [] (OnBlock (ReadingPart (block_range shape extent cut)))) refl
-      (starts_followed.read (situation shape t devices actors) a x extent (block_range shape extent cut) f.site.world ex xt holds (part_of shape extent cut inside cuts) f.phase.agrees)
+      Goes P A shape (record { devices = devices; commit = commit; phase = Stands (record { words = t.words; desk = t.desk }); actors = slice_set actors a (record x { task = Some (Read extent, table (task_job shape t.desk.mode x.awaiting (Read extent) cut)) }) }) (put n a (Some (begun n (Read extent))))
+  read_starts extent cut holds inside cuts = begins_so (Read extent) (table (task_job shape t.desk.mode x.awaiting (Read extent) cut)) (job_for (size P A shape) [] (OnBlock (ReadingPart (block_range shape t.desk.mode extent cut)))) refl
+      (starts_followed.read (situation shape t devices actors) a x extent (block_range shape t.desk.mode extent cut) f.site.world ex xt holds (part_of shape t.desk.mode f.phase.agrees.caches extent cut inside cuts) f.phase.agrees)
 
   pub write_starts : (extent : Extent) (content : Bytes) (cut : List Extent) → x.card.hold ≡ Nothing → extent_refusal shape extent ≡ None → IsCutInto extent cut →
-      Goes P A shape (record { devices = devices; commit = commit; phase = Stands (record { words = t.words; desk = t.desk }); actors = slice_set actors a (record x { task = Some (Write extent content, table (task_job shape x.awaiting (Write extent content) cut)) }) }) (put n a (Some (begun n (Write extent content))))
-  write_starts extent content cut holds inside cuts = begins_so (Write extent content) (table (task_job shape x.awaiting (Write extent content) cut)) (job_for (size P A shape) content (OnBlock (WritingPart (block_range shape extent cut)))) refl
-      (starts_followed.write (situation shape t devices actors) a x extent content (block_range shape extent cut) f.site.world ex xt holds (part_of shape extent cut inside cuts) f.phase.agrees)
+      Goes P A shape (record { devices = devices; commit = commit; phase = Stands (record { words = t.words; desk = t.desk }); actors = slice_set actors a (record x { task = Some (Write extent content, table (task_job shape t.desk.mode x.awaiting (Write extent content) cut)) }) }) (put n a (Some (begun n (Write extent content))))
+  write_starts extent content cut holds inside cuts = begins_so (Write extent content) (table (task_job shape t.desk.mode x.awaiting (Write extent content) cut)) (job_for (size P A shape) content (OnBlock (WritingPart (block_range shape t.desk.mode extent cut)))) (among_in (extent.first / block_size shape) (offsets (size P A shape) cut) content t.desk.mode)
+      (starts_followed.write (situation shape t devices actors) a x extent content (block_range shape t.desk.mode extent cut) f.site.world ex xt holds (part_of shape t.desk.mode f.phase.agrees.caches extent cut inside cuts) refl f.phase.agrees)
 
   -- a flush
-  pub flush_starts : (cut : List Extent) → Goes P A shape (record { devices = devices; commit = commit; phase = Stands (record { words = t.words; desk = t.desk }); actors = slice_set actors a (record x { task = Some (Flush, table (task_job shape x.awaiting Flush cut)) }) }) (put n a (Some (begun n Flush)))
-  flush_starts cut = begins_so Flush (table (task_job shape x.awaiting Flush cut)) (FlushingFor None) refl
+  pub flush_starts : (cut : List Extent) → Goes P A shape (record { devices = devices; commit = commit; phase = Stands (record { words = t.words; desk = t.desk }); actors = slice_set actors a (record x { task = Some (Flush, table (task_job shape t.desk.mode x.awaiting Flush cut)) }) }) (put n a (Some (begun n Flush)))
+  flush_starts cut = begins_so Flush (table (task_job shape t.desk.mode x.awaiting Flush cut)) (FlushingFor None) refl
       (starts_followed.flush (situation shape t devices actors) a x (blocks_left x.awaiting) f.site.world ex xt f.phase.agrees)
 
 -- ---- an opening, over whatever is there
@@ -153,27 +154,22 @@ module _ (P A : Type 0) (shape : Shape) (images : Images) (w : State P A) (n : N
   may_open Gone e not = inl (subst (λ (q : Phase P A). Rattle.wb_headline.proofs.Following.PhaseFollows P A shape images q w.commit w.devices w.actors f.site) e f.phase).devices_follow.down
   may_open (Opens mode reading) e not = inl (subst (λ (q : Phase P A). Rattle.wb_headline.proofs.Following.PhaseFollows P A shape images q w.commit w.devices w.actors f.site) e f.phase).devices_follow.down
 
-  in_writeback : (mode : Mode) → ((mode ≢ Writeback) → ⊥) → mode ≡ Writeback
-  in_writeback Writeback not = refl
-  in_writeback Writethrough not = absurd (not (λ e. absurd (cc)))
-  in_writeback Passthrough not = absurd (not (λ e. absurd (cc)))
-
   -- an opening begins
-  pub opening_starts : (a : ℕ) (mode : Mode) (y : Actor) → (OfTarget w.phase (λ t. t.words.fail ≡ 0) → ⊥) → ((mode ≢ Writeback) → ⊥) → y.task ≡ Some (Open mode, table (task_job shape y.awaiting (Open mode) [])) →
+  pub opening_starts : (a : ℕ) (mode : Mode) (y : Actor) → (OfTarget w.phase (λ t. t.words.fail ≡ 0) → ⊥) → mode ≢ Passthrough → y.task ≡ Some (Open mode, table (task_job shape Writeback y.awaiting (Open mode) [])) →
       Goes P A shape (record { devices = w.devices; commit = None; phase = Opens mode None; actors = slice_set (all_resting w.actors) a y }) (put (record n { doings = nobody n.doings }) a (Some (begun n (Open mode))))
-  opening_starts a mode y not writeback yt =
+  opening_starts a mode y not caches yt =
       let d = agreeing P A shape images w.phase w.commit w.devices w.actors f.site known f.phase in
-      let l = openings_followed.begins shape.geometry (size P A shape) images.committed d.later Writeback f.site w.devices d.agree (may_open w.phase refl not) in
+      let l = openings_followed.begins shape.geometry (size P A shape) images.committed d.later mode f.site w.devices d.agree (may_open w.phase refl not) in
       let n' = put (record n { doings = nobody n.doings }) a (Some (begun n (Open mode))) in
       let same : SameSectors n n' = record { histories = refl; finished = refl; floors = refl; doings = length-set (nobody n.doings) a (Some (begun n (Open mode))) ∙ length-map n.doings (λ (o : Option Doing). None) } in
-      let v = arrives P A shape images w n n' f same images.committed d.later (OpensThere Writeback Settling) w.devices l (λ e. absurd (cc)) in
-      opens P A shape images d.later (OpensThere Writeback Settling) w.devices n' v d.fit (λ e. absurd (cc)) (slice_set (all_resting w.actors) a y)
-      (sized_so P A shape w.actors (slice_set (all_resting w.actors) a y) n n' same (length-set (all_resting w.actors) a y ∙ length-map w.actors (λ (z : Actor). resting)) f.sized) mode None None (in_writeback mode writeback)
+      let v = arrives P A shape images w n n' f same images.committed d.later (OpensThere mode Settling) w.devices l (λ e. absurd (cc)) in
+      opens P A shape images d.later (OpensThere mode Settling) w.devices n' v d.fit (λ e. absurd (cc)) (slice_set (all_resting w.actors) a y)
+      (sized_so P A shape w.actors (slice_set (all_resting w.actors) a y) n n' same (length-set (all_resting w.actors) a y ∙ length-map w.actors (λ (z : Actor). resting)) f.sized) mode None None caches
       (kept_readable shape.geometry images w.devices.metadata P A w.phase w.commit known)
       (λ b z job plan e zt. elim (set_cases (all_resting w.actors) a b y z e) [
         | inl here ↦
-            let both : Some (Open mode, table (task_job shape y.awaiting (Open mode) [])) ≡ Some (job, plan) = sym yt ∙ ap (λ (q : Actor). q.task) (sym here.1) ∙ zt in
-            let is = (Rattle.std.proofs.lemmas.Option.some_pair_parts (Open mode) job (table (task_job shape y.awaiting (Open mode) [])) plan both).1 in
+            let both : Some (Open mode, table (task_job shape Writeback y.awaiting (Open mode) [])) ≡ Some (job, plan) = sym yt ∙ ap (λ (q : Actor). q.task) (sym here.1) ∙ zt in
+            let is = (Rattle.std.proofs.lemmas.Option.some_pair_parts (Open mode) job (table (task_job shape Writeback y.awaiting (Open mode) [])) plan both).1 in
             inl (record { total = shape.geometry.meta_sectors; left = shape.geometry.meta_sectors; stage = Settling; is = sym is; phase_is = refl; read = (refl, refl) })
         | inr other ↦ absurd (let none : z.task ≡ None = (rests w.actors b z other.1).0 in let bad : None ≡ Some (job, plan) = sym none ∙ zt in cc)
       ])
@@ -353,7 +349,7 @@ module _ (P A : Type 0) (shape : Shape) (t : Target P) (commit : Option RunningC
       )
 
   pub any_start : (migration : Migration) (block : OBlock) (chosen : Chosen P A) → StartGives shape (Stands t) (Some x) (Migrate migration block) Started chosen →
-      Goes P A shape (record { devices = devices; commit = commit; phase = phase_given {P = P} {A = A} (Stands t) (Migrate migration block) chosen; actors = slice_set actors a (given shape x (Migrate migration block) chosen) }) (put n a (Some (begun n (Migrate migration block))))
+      Goes P A shape (record { devices = devices; commit = commit; phase = phase_given {P = P} {A = A} (Stands t) (Migrate migration block) chosen; actors = slice_set actors a (given shape t.desk.mode x (Migrate migration block) chosen) }) (put n a (Some (begun n (Migrate migration block))))
   any_start (Promote cache) block (Cut cut) h = elim h.1 [
     | inl has ↦ again_plain (Promote cache) block cut h.0 has
     | inr (old, has, at) ↦ again (Promote cache) block cut h.0 (ReplaceOrder old block cache) None has (inr (refl, refl, refl)) (follows_there old block cache at)
@@ -368,7 +364,7 @@ module _ (P A : Type 0) (shape : Shape) (t : Target P) (commit : Option RunningC
   leaves_there old new k c at = ap (λ (l : Option ℕ). replacement_there (is_at l c) old.0 new.0 c) (mapped_here old c at).0 ∙ ap (λ (v : Bool). replacement_there v old.0 new.0 c) (eq-eqb c c refl)
 
   pub any_replacement : (old new : OBlock) (chosen : Chosen P A) → StartGives shape (Stands t) (Some x) (Replace old new) Started chosen →
-      Goes P A shape (record { devices = devices; commit = commit; phase = phase_given {P = P} {A = A} (Stands t) (Replace old new) chosen; actors = slice_set actors a (given shape x (Replace old new) chosen) }) (put n a (Some (begun n (begun_as (Replace old new)))))
+      Goes P A shape (record { devices = devices; commit = commit; phase = phase_given {P = P} {A = A} (Stands t) (Replace old new) chosen; actors = slice_set actors a (given shape t.desk.mode x (Replace old new) chosen) }) (put n a (Some (begun n (begun_as (Replace old new)))))
   any_replacement old new (Cut cut) (cuts, (cache, has, m)) = again Demote old cut cuts (ReplaceOrder old new cache) (Some new.0) has (inr (refl, refl))
       (λ c here. let v = names c.0 (ReplaceOrder old new cache) here in let at = subst (λ (k : ℕ). IsMappedAt (holdings t.desk) old.0 k) (sym v.0) m in (leaves_there old new cache c.0 at, (mapped_here old c.0 at).1))
   any_replacement old new (Orders cut c) h = under_given Demote old cut h.0 (ReplaceOrder old new c) c (Some new.0) h.1 (inr (refl, refl)) (leaves_there old new c c.0 h.1.lawful.1) named_by

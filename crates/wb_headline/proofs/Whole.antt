@@ -20,7 +20,7 @@ use Rattle.wb_tasks.specs.declared.step.Got.TheVariants.{Fault}
 use Rattle.wb_devices.specs.declared.devices.Devices.{Devices}
 use Rattle.wb_devices.specs.declared.running.RunningCommit.{RunningCommit}
 use Rattle.wb_promise.specs.declared.job.Job.{Job}
-use Rattle.wb_promise.specs.States.{Shape, State, Actor, Target, Stands, sector_count}
+use Rattle.wb_promise.specs.States.{Shape, State, Actor, Target, Stands, sector_count, mode_of}
 use Rattle.wb_promise.specs.Happenings.{Chosen, OfSome}
 use Rattle.wb_promise.specs.Effects.{device_done, device_failed, stepped}
 use Rattle.wb_promise.specs.Clerk.{Notes, Doing, noted_step}
@@ -63,18 +63,18 @@ module _ (P A : Type 0) (shape : Shape) where
   base_of w n b = record { known = known_of w n b; used = b.used; linked = b.linked }
 
   -- what is noted of an actor's task
-  pub noted_for : (w : State P A) (n : Notes) → Whole w n → (a : ℕ) (x : Actor) (job : Job) (plan : Plan) → slice_get w.actors a ≡ Some x → x.task ≡ Some (job, plan) → Noted shape job plan (slice_get n.doings a)
-  noted_for w n b a x job plan e xt = noted_of shape job plan (slice_get n.doings a) (subst (λ (t : Option (Job × Plan)). TaskClaim shape t (slice_get n.doings a)) xt (b.linked.claims a x e))
+  pub noted_for : (w : State P A) (n : Notes) → Whole w n → (a : ℕ) (x : Actor) (job : Job) (plan : Plan) → slice_get w.actors a ≡ Some x → x.task ≡ Some (job, plan) → Noted shape (mode_of w.phase) job plan (slice_get n.doings a)
+  noted_for w n b a x job plan e xt = noted_of shape (mode_of w.phase) job plan (slice_get n.doings a) (subst (λ (t : Option (Job × Plan)). TaskClaim shape (mode_of w.phase) t (slice_get n.doings a)) xt (b.linked.claims a x e))
 
   -- ---- one step of one actor
 
   abbrev pub Stepped_to : State P A → Notes → ℕ → Actor → Job → Want → Got → List Bytes → Chosen P A → Doing → Type 0
   Stepped_to w n a x job next got read chosen doing = Goes P A shape (stepped shape w a x next got chosen (λ step. device_done job x.buffer step chosen))
-      (noted_step shape (shown shape (stepped shape w a x next got chosen (λ step. device_done job x.buffer step chosen))) n a (Some (Some doing)) next got read)
+      (noted_step shape (mode_of w.phase) (shown shape (stepped shape w a x next got chosen (λ step. device_done job x.buffer step chosen))) n a (Some (Some doing)) next got read)
 
   abbrev pub Faulted_to : State P A → Notes → ℕ → Actor → Choice → Job → Want → List Bytes → Chosen P A → Doing → Type 0
   Faulted_to w n a x choice job next read chosen doing = Goes P A shape (stepped shape w a x next Fault chosen (λ step. device_failed (lands (device_of step) choice) job x.buffer step chosen))
-      (noted_step shape (shown shape (stepped shape w a x next Fault chosen (λ step. device_failed (lands (device_of step) choice) job x.buffer step chosen))) n a (Some (Some doing)) next Fault read)
+      (noted_step shape (mode_of w.phase) (shown shape (stepped shape w a x next Fault chosen (λ step. device_failed (lands (device_of step) choice) job x.buffer step chosen))) n a (Some (Some doing)) next Fault read)
 
   abbrev pub at_target : Target P → Option RunningCommit → Devices (List History) → List Actor → State P A
   at_target t commit devices actors = record { devices = devices; commit = commit; phase = Stands t; actors = actors }

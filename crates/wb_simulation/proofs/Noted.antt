@@ -229,7 +229,6 @@ module _ (size a : ℕ) (s : World) (y : AbstractActor) (n : Notes) (m : Abstrac
       answered (put (record n { finished = all_raised n.finished doing.entered }) a None) script (writing_in mode block os content) AnsweredDone at none ans is
       (agree_after s.waiting (put (record n { finished = all_raised n.finished doing.entered }) a None) (noted_step m a (Some (writing_in mode block os content)) (End AnsweredDone)) s.shared over (k.0 ∙ g.histories)
       (k.1 ∙ ap (raised_there (m.entered a)) g.finished ∙ d.entered n.finished g.as_many) (k.2 ∙ g.floors) refl (all_raised-length n.finished doing.entered) refl (put_others None) (length-set n.doings a None) (λ b ne. changed_other m.jobs a b None ne) (λ b ne. changed_other m.entered a b (entered_after m.histories (writing_in mode block os content) (End AnsweredDone) (m.entered a)) ne) (λ b ne. refl) tt)
-
     where
       -- what its answer makes finished, whichever of both it is
       ends_here : (mode : Mode) → (histories_after m.histories (writing_in mode block os content) (End AnsweredDone) ≡ m.histories) × (finished_after (writing_in mode block os content) (End AnsweredDone) (m.entered a) m.finished ≡ raised_there (m.entered a) m.finished)

@@ -95,7 +95,7 @@ module _ (geometry : Geometry) (size : ℕ) (committed : Stored) (later : Option
       stopping = record { origin = λ b i. newest (by_block size zeros devices'.origin b i); cache = λ b i. newest (by_block size zeros devices'.cache b i); new_root = d.new_root }
 
 -- a mode that caches takes what was read as it is
-admitted : (mode : Mode) → mode ≢ Passthrough → (learnt : Learnt) → Admitted mode learnt
+pub admitted : (mode : Mode) → mode ≢ Passthrough → (learnt : Learnt) → Admitted mode learnt
 admitted Writeback caches learnt = tt
 admitted Writethrough caches learnt = tt
 admitted Passthrough caches learnt = absurd (caches refl)
