@@ -90,6 +90,7 @@ module _ (P A : Type 0) (shape : Shape) (metadata : List History) (f : IsFormatt
               images = record {
                 read = (none_readable shape.geometry metadata (formatted_none shape.geometry metadata f) sized).read;
                 committed_is = λ i block. sym (nowhere f.root.geometry.cache_blocks block 0) i;
+                clean_is = λ block cache e. absurd (let bad : None ≡ Some cache = sym (nowhere f.root.geometry.cache_blocks block 0) ∙ e in cc);
                 later_is = tt;
               };
             };

@@ -59,7 +59,7 @@ use Rattle.wb_promise.specs.Clerk.{Notes, Doing, noted_step, device_note, failin
 use Rattle.wb_runs.proofs.Desks.{given_up_stands}
 use Rattle.wb_runs.proofs.Owning.{Owned}
 use Rattle.wb_runs.proofs.Ordering.{held_of}
-use Rattle.wb_runs.proofs.Images.{Images, later_of, one_image}
+use Rattle.wb_runs.proofs.Images.{Images, later_of, one_image, IsFit}
 use Rattle.wb_runs.proofs.Underway.{Underway, Readable, images_of, is_written, led_on, sync_does, sync_fails as commit_sync_fails, put_fails, IsPut}
 use Rattle.wb_runs.proofs.Metadata.{MetadataKept, AtDesk, Leading, Quiet, begins_over, ends_over, kept_readable}
 use Rattle.wb_link.specs.Tables.{Flushing as FlushingFor}
@@ -69,7 +69,7 @@ use Rattle.wb_simulation.specs.Actors.{IsFlushAt}
 use Rattle.wb_simulation.proofs.Followed.{doing_of}
 use Rattle.wb_simulation.specs.Noting.{NotesAgree}
 use Rattle.wb_simulation.specs.Noted.{told}
-use Rattle.wb_simulation.specs.Sites.{ImagesAgree, IsRunning, locations}
+use Rattle.wb_simulation.specs.Sites.{ImagesAgree, IsRunning, locations, StateTakesClean}
 use Rattle.wb_simulation.specs.Telling.{Quietly, Releases, Answers}
 use Rattle.wb_simulation.specs.Worlds.{Situation, TurnedTo, DeskTurnedTo, Turn, Stays, Begins, Puts, Ends, GivesUp, WorldFollowsBy, WorldFollows}
 use Rattle.wb_simulation.specs.Laws.{WantsNext, stepped_actor, after_step, turn_of}
@@ -79,7 +79,7 @@ use Rattle.wb_simulation.proofs.Opening.{images_followed}
 use Rattle.wb_headline.specs.Desks.{DeskAgrees, live_orders}
 use Rattle.wb_headline.proofs.Desking.{desk_stays, desk_begins, desk_ends, desk_releases}
 use Rattle.wb_headline.proofs.Following.{situation, size, most, Followed, Goes}
-use Rattle.wb_headline.proofs.Rooted.{same_one}
+use Rattle.wb_headline.proofs.Rooted.{same_one, none_clean}
 use Rattle.wb_headline.proofs.Seeing.{orders_set, slot_there, slot_within}
 use Rattle.wb_headline.proofs.Orders.{found_of, none_dropped}
 use Rattle.wb_headline.proofs.Targets.{landed_or, standing, actor_is, beside, failing_same, noted_within, leads_on, stays_on}
@@ -131,9 +131,9 @@ module _ (g : Geometry) (images : Images) (commit : RunningCommit) (of : Commit)
       by_steps Committed f = absurd f
 
 -- a target's images while a commit is under way
-runs_there : (of : Commit) (written : Bool) (s : Shared) → (written ≡ true → s.root_written ≡ true) → s.running ≡ locations of.new → IsRunning (later_of (images_of of written)) s
-runs_there of true s w r = (w refl, r)
-runs_there of false s w r = tt
+runs_there : (of : Commit) (written : Bool) (s : Shared) → (written ≡ true → s.root_written ≡ true) → s.running ≡ locations of.new → StateTakesClean of.new s.running_clean → IsRunning (later_of (images_of of written)) s
+runs_there of true s w r c = (w refl, r, c)
+runs_there of false s w r c = tt
 
 some_is : {X : Type 0} (a b : X) → ◌≡◌ {A = Option X} (Some a) (Some b) → a ≡ b
 some_is a b e = ap (λ o. Rattle.std.proofs.Common.unwrap_or o a) e
@@ -184,7 +184,7 @@ module _ (P A : Type 0) (shape : Shape) (images : Images) (t : Target P) (commit
     device_notes = let e = failing_same doing step got in notes_followed.redone (size P A shape) n (abstract_after_all f.site.world g.records) (told f.notes g.records) a doing (failing doing step got) (quiet_notes g) noted e.0 e.1
 
     on_device : AtDesk shape.geometry images' t'.desk commit' devices'.metadata → DeskAgrees t'.desk (abstract_after_all f.site.world g.records).shared → ImagesAgree shape.geometry images'.committed (later_of images') devices'.metadata (abstract_after_all f.site.world g.records).shared →
-        ((state : Stored) → images'.running ≡ Some state → (abstract_after_all f.site.world g.records).shared.running ≡ locations state) → Goes P A shape (then_is t' commit' devices' (Device step) got) (noted_step shape t.desk.mode [] n a (Some (Some doing)) (Device step) got contents)
+        ((state : Stored) → images'.running ≡ Some state → ((abstract_after_all f.site.world g.records).shared.running ≡ locations state) × StateTakesClean state (abstract_after_all f.site.world g.records).shared.running_clean) → Goes P A shape (then_is t' commit' devices' (Device step) got) (noted_step shape t.desk.mode [] n a (Some (Some doing)) (Device step) got contents)
     on_device known' desk images_agree running =
         subst (λ (q : Job). Goes P A shape (then_is t' commit' devices' (Device step) got) (device_note shape t.desk.mode (device_n step got) a (failing doing step got) q step got contents)) (sym job_is)
         (subst (λ (y : Actor). Goes P A shape (record { devices = devices'; commit = commit'; phase = Stands t'; actors = slice_set actors a y }) (device_n step got)) (sym (actor_is P A shape (Stands t) devices x Flush plan (Device step) got xt ∙ (λ i. record (after_step Flush plan got x) { buffer = plain i })))
@@ -199,7 +199,7 @@ module _ (P A : Type 0) (shape : Shape) (images : Images) (t : Target P) (commit
         let s' = (abstract_after_all f.site.world g.records).shared in
         let readable = kept_readable shape.geometry images (with_device device devices list).metadata P A (Stands t) commit known' in
         on_device Stays (Sync device) got contents t commit (with_device device devices list) images refl g known' (desk_stays P t.desk s s' f.phase.desk t.desk refl refl g.desk.0 g.desk.1)
-        (images_followed.stay shape.geometry images.committed (later_of images) devices.metadata (with_device device devices list).metadata s s' f.phase.images_agree g.turned readable.read) (λ state e. g.turned.1 ∙ f.phase.running state e)
+        (images_followed.stay shape.geometry images.committed (later_of images) devices.metadata (with_device device devices list).metadata s s' f.phase.images_agree g.turned readable.read) (λ state e. let r = f.phase.running state e in (g.turned.1 ∙ r.0, subst (StateTakesClean state) (sym g.turned.4) r.1))
 
     syncs : Goes P A shape (then_is t commit (with_device device devices (synced (device_in device devices))) (Device (Sync device)) Done) (noted_step shape t.desk.mode [] n a (Some (Some doing)) (Device (Sync device)) Done contents)
     syncs = synced_so Done (synced (device_in device devices)) (flush_steps_followed.syncs now device a x plan f.site.world holds (wants next))
@@ -233,9 +233,9 @@ module _ (P A : Type 0) (shape : Shape) (images : Images) (t : Target P) (commit
     c' = record c { steps = steps_after c.image c.steps }
 
     -- what comes there of one that was done
-    parts : (v : DeviceStep) → is_coming c.image c.steps v ≡ true → (s' : Shared) → DeskTurnedTo (turn_of v) s s' → TurnedTo (turn_of v) s s' → (s'.mapping ≡ s.mapping) × (s'.blocks ≡ s.blocks) × (s'.committed ≡ s.committed) × (s'.running ≡ s.running) × (is_written (steps_after c.image c.steps) ≡ true → s'.root_written ≡ true)
-    parts WriteRoot coming s' d u = (d.0, d.1, u.0, u.1, λ w. u.2)
-    parts v coming s' d u = (d.0, d.1, u.0, u.1, λ w. u.2 ∙ written_now (written_before c.image c.steps v coming (λ e. absurd (cc)) w))
+    parts : (v : DeviceStep) → is_coming c.image c.steps v ≡ true → (s' : Shared) → DeskTurnedTo (turn_of v) s s' → TurnedTo (turn_of v) s s' → (s'.mapping ≡ s.mapping) × (s'.blocks ≡ s.blocks) × (s'.committed ≡ s.committed) × (s'.running ≡ s.running) × (is_written (steps_after c.image c.steps) ≡ true → s'.root_written ≡ true) × (s'.committed_clean ≡ s.committed_clean) × (s'.running_clean ≡ s.running_clean)
+    parts WriteRoot coming s' d u = (d.0, d.1, u.0, u.1, λ w. u.2, u.3, u.4)
+    parts v coming s' d u = (d.0, d.1, u.0, u.1, λ w. u.2 ∙ written_now (written_before c.image c.steps v coming (λ e. absurd (cc)) w), u.3, u.4)
 
     put_done : Rattle.wb_promise.specs.Effects.buffer_then devices x.buffer (Device step) Done Flush ≡ x.buffer → DoesStep c.image c.steps devices.metadata new → Goes P A shape (then_is t (led commit Done) devices' (Device step) Done) (noted_step shape t.desk.mode [] n a (Some (Some doing)) (Device step) Done contents)
     put_done plain does =
@@ -246,15 +246,18 @@ module _ (P A : Type 0) (shape : Shape) (images : Images) (t : Target P) (commit
         let same : u.now.committed ≡ images.committed = ap (λ (i : Images). i.committed) u.kept.are ∙ committed_now in
         let known' : AtDesk shape.geometry u.now t.desk (Some c') new = record { is = k.is; stands = record { of = l.of; under = u.kept; edited = l.edited; entries = l.entries; places = l.places; generation = l.generation; busy = l.busy } } in
         let readable = kept_readable shape.geometry u.now new P A (Stands t) (Some c') known' in
-        let there : s'.running ≡ locations l.of.new = so.3 ∙ f.phase.running l.of.new running_now in
+        let runs_now = f.phase.running l.of.new running_now in
+        let there : s'.running ≡ locations l.of.new = so.3 ∙ runs_now.0 in
+        let clean_there = subst (StateTakesClean l.of.new) (sym so.6) runs_now.1 in
         subst (λ (m : Option RunningCommit). Goes P A shape (then_is t m devices' (Device step) Done) (noted_step shape t.desk.mode [] n a (Some (Some doing)) (Device step) Done contents)) (sym (ap (λ (m : Option RunningCommit). led m Done) runs))
         (on_device (turn_of step) step Done contents t (Some c') devices' u.now plain g known' (desk_stays P t.desk s s' f.phase.desk t.desk refl refl so.0 so.1)
         (record {
           read = readable.read;
           committed_is = so.2 ∙ f.phase.images_agree.committed_is ∙ ap locations (sym same);
-          later_is = subst (λ (i : Images). IsRunning (later_of i) s') (sym u.kept.are) (runs_there l.of (is_written (steps_after c.image c.steps)) s' so.4 there);
+          clean_is = subst (λ (v : Stored). StateTakesClean v s'.committed_clean) (sym same) (subst (StateTakesClean images.committed) (sym so.5) f.phase.images_agree.clean_is);
+          later_is = subst (λ (i : Images). IsRunning (later_of i) s') (sym u.kept.are) (runs_there l.of (is_written (steps_after c.image c.steps)) s' so.4 there clean_there);
         })
-        (λ state e. there ∙ ap locations (some_is l.of.new state (sym (ap (λ (i : Images). i.running) u.kept.are) ∙ e))))
+        (λ state e. let is = some_is l.of.new state (sym (ap (λ (i : Images). i.running) u.kept.are) ∙ e) in (there ∙ ap locations is, subst (λ (v : Stored). StateTakesClean v s'.running_clean) is clean_there)))
 
     put_failed : Rattle.wb_promise.specs.Effects.buffer_then devices x.buffer (Device step) Fault Flush ≡ x.buffer → FailsStep c.image c.steps devices.metadata new → Goes P A shape (then_is t (led commit Fault) devices' (Device step) Fault) (noted_step shape t.desk.mode [] n a (Some (Some doing)) (Device step) Fault contents)
     put_failed plain bad =
@@ -264,15 +267,18 @@ module _ (P A : Type 0) (shape : Shape) (images : Images) (t : Target P) (commit
         let images' = images_of l.of (failed_written c.steps) in
         let s' = (abstract_after_all f.site.world g.records).shared in
         let readable = failed_read shape.geometry images c l.of devices.metadata new l.under bad in
-        let there : s'.running ≡ locations l.of.new = g.turned.1 ∙ f.phase.running l.of.new running_now in
+        let runs_now = f.phase.running l.of.new running_now in
+        let there : s'.running ≡ locations l.of.new = g.turned.1 ∙ runs_now.0 in
+        let clean_there = subst (StateTakesClean l.of.new) (sym g.turned.4) runs_now.1 in
         subst (λ (m : Option RunningCommit). Goes P A shape (then_is t m devices' (Device step) Fault) (noted_step shape t.desk.mode [] n a (Some (Some doing)) (Device step) Fault contents)) (sym (ap (λ (m : Option RunningCommit). led m Fault) runs))
         (on_device (Puts written) step Fault contents t None devices' images' plain g (record { is = k.is; stands = inr (record { readable = readable; busy = l.busy }) }) (desk_stays P t.desk s s' f.phase.desk t.desk refl refl g.desk.0 g.desk.1)
         (record {
           read = readable.read;
           committed_is = g.turned.0 ∙ f.phase.images_agree.committed_is ∙ ap locations (sym committed_now);
-          later_is = runs_there l.of (failed_written c.steps) s' (λ e. g.turned.2 ∙ written_there c.image c.steps step s.root_written written coming written_now fails.1 e) there;
+          clean_is = subst (λ (v : Stored). StateTakesClean v s'.committed_clean) (sym committed_now) (subst (StateTakesClean images.committed) (sym g.turned.3) f.phase.images_agree.clean_is);
+          later_is = runs_there l.of (failed_written c.steps) s' (λ e. g.turned.2 ∙ written_there c.image c.steps step s.root_written written coming written_now fails.1 e) there clean_there;
         })
-        (λ state e. there ∙ ap locations (some_is l.of.new state e)))
+        (λ state e. let is = some_is l.of.new state e in (there ∙ ap locations is, subst (λ (v : Stored). StateTakesClean v s'.running_clean) is clean_there)))
 
   -- ---- the desk
 
@@ -304,7 +310,8 @@ module _ (P A : Type 0) (shape : Shape) (images : Images) (t : Target P) (commit
           let same : b.now.committed ≡ images.committed = same_one b.turn images b.now (ap (λ (i : Images). i.running) q.are) b.turned in
           let later : later_of b.now ≡ None = ap later_of l.under.are ∙ ap (λ (v : CommitSteps). if is_written v then Some l.of.new else None) steps in
           subst (λ (y : Actor). Goes P A shape (record { devices = devices; commit = Some c; phase = Stands t'; actors = slice_set actors a y }) n) (sym (actor_is P A shape (Stands t) devices x Flush plan (Desk (BeginCommit clean allowed)) (Began nodes) xt))
-          (leads_on P A shape images t commit devices actors n known f a x ex Begins Quietly t' (Some c) devices y n b.now (live_orders t'.desk) g tt (quiet_notes g) refl refl b.kept.0 refl (desk_begins P t.desk s s' f.phase.desk tree begun.image_is.same_entries g.desk.0 g.desk.1) (subst (λ (o : Option Stored). ImagesAgree shape.geometry b.now.committed o devices.metadata s') (sym later) (subst (λ (v : Stored). ImagesAgree shape.geometry v None devices.metadata s') (sym same) begun_there.0)) (λ state e. begun_there.1 ∙ f.phase.desk.mapping ∙ ap (λ es. Rattle.wb_simulation.specs.Opened.located es) (sym b.kept.1.2) ∙ ap locations (some_is b.kept.1.0 state (sym b.kept.1.1 ∙ e))))
+          (leads_on P A shape images t commit devices actors n known f a x ex Begins Quietly t' (Some c) devices y n b.now (live_orders t'.desk) g tt (quiet_notes g) refl refl b.kept.0 refl (desk_begins P t.desk s s' f.phase.desk tree begun.image_is.same_entries g.desk.0 g.desk.1) (subst (λ (o : Option Stored). ImagesAgree shape.geometry b.now.committed o devices.metadata s') (sym later) (subst (λ (v : Stored). ImagesAgree shape.geometry v None devices.metadata s') (sym same) begun_there.0)) (λ state e. let is = some_is b.kept.1.0 state (sym b.kept.1.1 ∙ e) in (begun_there.1 ∙ f.phase.desk.mapping ∙ ap (λ es. Rattle.wb_simulation.specs.Opened.located es) (sym b.kept.1.2) ∙ ap locations is,
+          subst (StateTakesClean state) (sym g.turned.4) (none_clean state (subst IsFit (some_is l.of.new state (sym (ap (λ (i : Images). i.running) l.under.are) ∙ e)) l.under.fit_new)))))
 
       by_commit : (o : Option RunningCommit) → commit ≡ o → AtDesk shape.geometry images t.desk commit devices.metadata → Goes P A shape (then_is (record { words = t.words; desk = commit_begun t.desk tree }) (Some c) devices (Desk (BeginCommit clean allowed)) (Began nodes)) n
       by_commit (Some d) e k = absurd (let k' = subst (λ (m : Option RunningCommit). AtDesk shape.geometry images t.desk m devices.metadata) e k in let busy = k'.stands.busy in let bad : false ≡ true = sym idle ∙ busy in cc)
@@ -335,7 +342,7 @@ module _ (P A : Type 0) (shape : Shape) (images : Images) (t : Target P) (commit
       let readable = kept_readable shape.geometry e.now devices.metadata P A (Stands t') None known' in
       let one : e.now ≡ one_image e.kept.1.0 = e.kept.1.2 in
       let read = subst (λ (i : Images). MayBeReadAs shape.geometry i.committed (later_of i) devices.metadata) one readable.read in
-      let agree = images_followed.end shape.geometry e.kept.1.0 devices.metadata s s' g.turned (f.phase.running e.kept.1.0 e.kept.1.1) read in
+      let agree = images_followed.end shape.geometry e.kept.1.0 devices.metadata s s' g.turned (f.phase.running e.kept.1.0 e.kept.1.1).0 (f.phase.running e.kept.1.0 e.kept.1.1).1 read in
       subst (λ (d : DeskState P). Goes P A shape (then_is (record { words = t.words; desk = d }) None devices (Desk EndCommit) Done) n) (sym is)
       (subst (λ (y : Actor). Goes P A shape (record { devices = devices; commit = None; phase = Stands t'; actors = slice_set actors a y }) n) (sym (actor_is P A shape (Stands t) devices x Flush plan (Desk EndCommit) Done xt))
       (leads_on P A shape images t commit devices actors n known f a x ex Ends Quietly t' None devices y n e.now (live_orders t'.desk) g tt (quiet_notes g) refl refl known' refl (desk_ends P t.desk s s' f.phase.desk g.desk.0 g.desk.1) (subst (λ (i : Images). ImagesAgree shape.geometry i.committed (later_of i) devices.metadata s') (sym one) agree) (λ state r. absurd (let bad : None ≡ Some state = sym (ap (λ (i : Images). i.running) one) ∙ r in cc))))
@@ -425,7 +432,7 @@ module _ (P A : Type 0) (shape : Shape) (images : Images) (t : Target P) (commit
           (notes_followed.released (GivesUp l.cache.0) a f.site.world _ _ g b.0 n f.notes b.1 noted_less f.notes_agree)
           refl refl (subst (λ (v : DeskState P). AtDesk shape.geometry images v commit devices.metadata) is (given_up_stands P shape.geometry images t.desk commit devices.metadata new order known d))
           (sym (orders_set t.desk.orders.slots l.cache.0 None)) (desk_releases P t.desk s s' f.phase.desk l.cache (omega (arith, inside, many_slots, many_blocks)) g.desk.0 g.desk.1)
-          (images_followed.stay shape.geometry images.committed (later_of images) devices.metadata devices.metadata s s' f.phase.images_agree g.turned readable.read) (λ state e. g.turned.1 ∙ f.phase.running state e))
+          (images_followed.stay shape.geometry images.committed (later_of images) devices.metadata devices.metadata s s' f.phase.images_agree g.turned readable.read) (λ state e. let r = f.phase.running state e in (g.turned.1 ∙ r.0, subst (StateTakesClean state) (sym g.turned.4) r.1)))
 
   -- ---- any step
 

@@ -25,9 +25,9 @@ use Rattle.wb_runs.proofs.Metadata.{MetadataKept}
 use Rattle.wb_link.specs.World.{AbstractActor}
 use Rattle.wb_link.specs.Clerk.{AbstractNotes}
 use Rattle.wb_link.specs.Openings.{Site, AbstractPhase as PhaseThere, Stands as StandsThere, Gone as GoneThere, Opens as OpensThere, Learnt, Stage, Settling, Caching, Basing, Looking, Rooting, Renewing, Answering}
-use Rattle.wb_simulation.specs.Opened.{located}
+use Rattle.wb_simulation.specs.Opened.{located, TakesClean}
 use Rattle.wb_simulation.specs.Noting.{NotesAgree}
-use Rattle.wb_simulation.specs.Sites.{ImagesAgree, DevicesAgree, locations}
+use Rattle.wb_simulation.specs.Sites.{ImagesAgree, DevicesAgree, StateTakesClean, locations}
 use Rattle.wb_simulation.specs.Worlds.{Situation, Agrees}
 use Rattle.wb_headline.specs.Desks.{DeskAgrees, live_orders}
 use Rattle.wb_headline.proofs.Events.{Reached}
@@ -54,12 +54,11 @@ pub record HasLearnt {A : Type 0} (reading : Option (ReadSteps A)) (commit : Opt
   pub running : RunningCommit
   pub commit_is : commit ≡ Some running
   pub same : learnt.locations ≡ located stored.tree.entries
-  pub unclean : (block : ℕ) → learnt.clean block ≡ false
-  pub bare : stored.root.clean ≡ true → (block : ℕ) → located stored.tree.entries block ≡ None
+  pub clean : TakesClean stored.root.clean stored.tree.entries learnt.clean
 
--- the root that it has written leads to what it has read
+-- the root that it has written leads to what it has read, and says of no block that it is clean
 abbrev pub HasRoot : Learnt → Option Stored → Type 0
-HasRoot learnt later = (new : Stored) × (later ≡ Some new) × (learnt.locations ≡ locations new)
+HasRoot learnt later = (new : Stored) × (later ≡ Some new) × (learnt.locations ≡ locations new) × StateTakesClean new (λ block. false)
 
 -- what it has read at a stage, and as what the metadata may be read beside the committed state
 abbrev pub HasReadAt : {A : Type 0} → Stage → Option (ReadSteps A) → Option RunningCommit → Option Stored → Type 0
@@ -123,7 +122,7 @@ module _ (P A : Type 0) (shape : Shape) where
     pub desk : DeskAgrees t.desk v.world.shared
     pub images_agree : ImagesAgree shape.geometry images.committed (later_of images) devices.metadata v.world.shared
     -- the running image is that of the commit that runs, or was broken
-    pub running : (state : Stored) → images.running ≡ Some state → v.world.shared.running ≡ locations state
+    pub running : (state : Stored) → images.running ≡ Some state → (v.world.shared.running ≡ locations state) × StateTakesClean state v.world.shared.running_clean
 
   pub record GoneFollows (images : Images) (devices : Devices (List History)) (v : Site) : Type 0 where
     pub later : Option Stored

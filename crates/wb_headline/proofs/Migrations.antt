@@ -37,6 +37,7 @@ use Rattle.wb_promise.specs.Clerk.{Notes, Doing, noted_step, device_note, finish
 use Rattle.wb_runs.proofs.Images.{Images, later_of}
 use Rattle.wb_runs.proofs.Metadata.{MetadataKept, AtDesk, unknowing, kept_readable}
 use Rattle.wb_link.specs.World.{abstract_after_all, Shared, removed}
+use Rattle.wb_simulation.specs.Sites.{StateTakesClean}
 use Rattle.wb_simulation.specs.Noting.{NotesAgree}
 use Rattle.wb_simulation.specs.Noted.{told}
 use Rattle.wb_simulation.specs.Telling.{Carries, Rests}
@@ -274,7 +275,7 @@ module _ (P A : Type 0) (shape : Shape) (t : Target P) (commit : Option RunningC
       (leads_on P A shape b.goes.images t commit devices actors n b.goes.known f a x ex turn Carries (record { words = t.words; desk = desk' }) commit devices y n b.goes.images orders' g tt
       (carried_notes P A shape b.goes.images t commit devices actors n b.goes.known f a x ex g) refl refl known' same desk
       (images_followed.stay shape.geometry b.goes.images.committed (later_of b.goes.images) devices.metadata devices.metadata s s' f.phase.images_agree turned readable.read)
-      (λ state e. turned.1 ∙ f.phase.running state e))
+      (λ state e. let r = f.phase.running state e in (turned.1 ∙ r.0, subst (StateTakesClean state) (sym turned.4) r.1)))
 
   -- a block that was promoted is mapped
   maps_on : (bl : OBlock) (c : CBlock) (tree : Mapping) (policy : P) (read : List Bytes) → MayMap t.desk bl c → IsChangedAt t.desk.tree tree c.0 (Some (entry_of bl)) → Desk (Map bl c) ≡ want plan → To (Desk (Map bl c)) Done read (Asks (mapped t.desk c tree policy))

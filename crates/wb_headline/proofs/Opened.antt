@@ -40,6 +40,7 @@ use Rattle.wb_runs.proofs.Linking.{IsTask, AtPhase}
 use Rattle.wb_link.specs.World.{World, abstract_resting as idle}
 use Rattle.wb_link.specs.Clerk.{abstract_opened as opened_notes}
 use Rattle.wb_link.specs.Openings.{Site, Gone as GoneThere, Opens as OpensThere, Learnt, Answering, opened_on, Stage, Settling, Caching, Basing, Looking, Rooting, Renewing}
+use Rattle.wb_headline.proofs.Rooted.{none_clean}
 use Rattle.wb_simulation.specs.Opened.{located}
 use Rattle.wb_simulation.specs.Sites.{DevicesAgree, IsRunning}
 use Rattle.wb_simulation.specs.Worlds.{zeros, Agrees}
@@ -189,7 +190,7 @@ module _ (P A : Type 0) (shape : Shape) (images : Images) (devices : Devices (Li
           let few : shape.geometry.cache_blocks ≤ 2 ^ 32 = (let l = shape.geometry.within.cache_to in omega (arith, l)) in
           subst (λ (os : List (Option Order)). Agrees (record (situation shape (target_over shape mode policy stored) devices (slice_set actors a y)) { orders = os }) site_now.world) (sym (no_orders_live shape.geometry.cache_blocks))
           (subst (λ (k : ℕ). Agrees (record (situation shape (target_over shape mode policy stored) devices (slice_set actors a y)) { orders = replicate shape.geometry.cache_blocks None }) (record { shared = opened_on f.site.world.shared mode i blocks_now; actors = replicate k idle; waiting = λ c. None })) many_then
-          (opened_followed mode (size P A shape) (most P A shape) shape.geometry.origin_blocks shape.geometry.cache_blocks stored.root.clean tree i blocks_now f.site.world.shared devices (slice_set actors a y) f.phase.caches mapping few rd.0.bare rd.0.same rd.0.unclean d.origin d.cache at_rest))
+          (opened_followed mode (size P A shape) (most P A shape) shape.geometry.origin_blocks shape.geometry.cache_blocks stored.root.clean tree i blocks_now f.site.world.shared devices (slice_set actors a y) f.phase.caches mapping few rd.0.same rd.0.clean d.origin d.cache at_rest))
 
       -- the seals tell where the tree has each block
       pub opened_tells : (block : OBlock) → number_there (place_in (word_at (target_over shape mode policy stored).words.seals block)) ≡ place_of tree block.0
@@ -222,6 +223,7 @@ module _ (P A : Type 0) (shape : Shape) (images : Images) (devices : Devices (Li
                 images_agree = record {
                   read = readable.read;
                   committed_is = rd.0.same ∙ ap (λ es. located es) (sym one.entries_are);
+                  clean_is = none_clean one.now.committed readable.fit;
                   later_is = subst (λ (l : Option Stored). IsRunning l site_now.world.shared) (sym one.later_is) tt;
                 };
                 running = λ state e. absurd (let bad : None ≡ Some state = sym one.alone_is ∙ e in cc);

@@ -1,5 +1,5 @@
 -- Each step of an opening, done, refused or failing, is followed.
-use Rattle.std.proofs.Common.{◌≡◌, ◌≢◌, ◌∙◌, ◌-◌, ◌⊎◌, inl, inr, ℕ, Bool, true, List, [], Option, Some, None, refl, sym, ap, subst, arith, map, slice_get, slice_set}
+use Rattle.std.proofs.Common.{◌≡◌, ◌≢◌, ◌∙◌, ◌-◌, ◌⊎◌, inl, inr, ℕ, Bool, true, List, [], Option, Some, None, refl, sym, ap, subst, arith, map, slice_get, slice_set, false}
 use Rattle.std.proofs.lemmas.Option.{some_pair_parts}
 use Rattle.std.proofs.lemmas.List.{length-set}
 use Rattle.wb_types.proofs.Lists.{set_cases}
@@ -40,12 +40,11 @@ use Rattle.wb_runs.proofs.Linking.{IsTask, AtPhase}
 use Rattle.wb_link.specs.World.{Shared}
 use Rattle.wb_link.specs.Openings.{AbstractPhase as PhaseThere, Stands as StandsThere, Gone as GoneThere, Opens as OpensThere, Learnt, Stage, Settling, Caching, Basing, Looking, Rooting, Renewing, Answering, Learns, Advances, advance}
 use Rattle.wb_simulation.specs.Opened.{located}
-use Rattle.wb_simulation.specs.Sites.{DevicesAgree, LeadsTo, locations}
-use Rattle.wb_simulation.proofs.Opening.{admitted, openings_followed}
-use Rattle.wb_headline.proofs.Events.{never_clean}
+use Rattle.wb_simulation.specs.Sites.{DevicesAgree, LeadsTo, locations, StateTakesClean}
+use Rattle.wb_simulation.proofs.Opening.{admitted, openings_followed, read_clean}
 use Rattle.wb_headline.proofs.Following.{opening_at, HasLearnt, HasRoot, HasReadAt, AtStage, IsOver, many, size, Followed, Goes}
 use Rattle.wb_headline.proofs.Arriving.{SameSectors, sized_so, Arrived, arrives, rests, opens, one_fit}
-use Rattle.wb_headline.proofs.Rooted.{same_one, rooted_on, leads_so, two_read, two_left, both_left, nowhere}
+use Rattle.wb_headline.proofs.Rooted.{same_one, rooted_on, leads_so, two_read, two_left, both_left, nowhere, none_clean}
 
 -- of a step of an opening on a device nothing of the sectors is noted
 pub opening_same : (shape : Shape) (shown : List Bytes) (n : Notes) (a : ℕ) (doing : Doing) (mode : Mode) (step : DeviceStep) (got : Got) (read : List Bytes) → doing.job ≡ Open mode → SameSectors n (noted_step shape Writeback shown n a (Some (Some doing)) (Device step) got read)
@@ -55,14 +54,14 @@ opening_same shape shown n a doing mode step got read j =
     (record { histories = refl; finished = refl; floors = refl; doings = length-set n.doings a (Some mid) })
 
 -- the images as they are, read so, beside a root that leads to this state
-with_root : (shape : Shape) (sectors : ℕ) (committed new : Stored) (later : Option Stored) (learnt : Learnt) (old now : Devices (List History)) (s : Shared) → DevicesAgree shape.geometry sectors committed later old s → HasRoot learnt later → learnt.locations ≡ locations new →
+with_root : (shape : Shape) (sectors : ℕ) (committed new : Stored) (later : Option Stored) (learnt : Learnt) (old now : Devices (List History)) (s : Shared) → DevicesAgree shape.geometry sectors committed later old s → HasRoot learnt later → learnt.locations ≡ locations new → StateTakesClean new (λ block. false) →
     now.origin ≡ old.origin → now.cache ≡ old.cache → Rattle.wb_meta.specs.Roots.MayBeReadAs shape.geometry committed (Some new) now.metadata → DevicesAgree shape.geometry sectors committed (Some new) now s
-with_root shape sectors committed new later learnt old now s d r same o c read =
+with_root shape sectors committed new later learnt old now s d r same none o c read =
     let runs = subst (λ (l : Option Stored). Rattle.wb_simulation.specs.Sites.IsRunning l s) r.1 d.images.later_is in
     record {
       origin = d.origin ∙ ap (λ (x : List History). Rattle.wb_contents.specs.Devices.by_block sectors Rattle.wb_simulation.specs.Worlds.zeros x) (sym o);
       cache = d.cache ∙ ap (λ (x : List History). Rattle.wb_contents.specs.Devices.by_block sectors Rattle.wb_simulation.specs.Worlds.zeros x) (sym c);
-      images = record { read = read; committed_is = d.images.committed_is; later_is = (runs.0, runs.1 ∙ sym r.2 ∙ same) };
+      images = record { read = read; committed_is = d.images.committed_is; clean_is = d.images.clean_is; later_is = (runs.0, runs.1 ∙ sym r.2 ∙ same, λ b c e. (let there = ap (λ (m : ℕ → Option ℕ). m b) (sym r.2 ∙ same) ∙ e in runs.2 b c there ∙ sym (r.3 b c there) ∙ none b c e)) };
     }
 
 module _ (P A : Type 0) (shape : Shape) (images : Images) (devices : Devices (List History)) (commit : Option RunningCommit) (mode : Mode) (reading : Option (ReadSteps A)) (actors : List Actor) (n : Notes) where
@@ -251,8 +250,7 @@ module _ (P A : Type 0) (shape : Shape) (images : Images) (devices : Devices (Li
                   running = running;
                   commit_is = refl;
                   same = located_so;
-                  unclean = never_clean (size P A shape) (many P A shape) f.site f.notes f.reached;
-                  bare = λ c block. nowhere stored.tree.entries (ap (λ es. Rattle.std.specs.List.count_by Rattle.std.specs.Prelude.is_some es) entries_are ∙ readable.fit (ap (λ (s : Stored). s.root.clean) one ∙ ap (λ r. r.clean) (sym is.0) ∙ c)) block;
+                  clean = read_clean stored.root stored.tree images.committed learnt.clean (is.0 ∙ ap (λ (s : Stored). s.root) (sym one)) entries_are agree.images.clean_is;
                 },
                 refl,
               );
@@ -293,7 +291,7 @@ module _ (P A : Type 0) (shape : Shape) (images : Images) (devices : Devices (Li
 
       -- the same has been learnt while the commit goes on
       learnt_still : (i : Learnt) (h : HasLearnt reading commit i) (running' : RunningCommit) → HasLearnt (Some (AllRead h.stored)) (Some running') i
-      learnt_still i h running' = record { stored = h.stored; reading_is = refl; running = running'; commit_is = refl; same = h.same; unclean = h.unclean; bare = h.bare }
+      learnt_still i h running' = record { stored = h.stored; reading_is = refl; running = running'; commit_is = refl; same = h.same; clean = h.clean }
 
       -- the state that its root leads to
       leads_to : (i : Learnt) (h : HasLearnt reading commit i) → i.locations ≡ locations (rooting i h).of.new
@@ -318,18 +316,19 @@ module _ (P A : Type 0) (shape : Shape) (images : Images) (devices : Devices (Li
             let old : t.kept.of.old ≡ images.committed = ap (λ (c : Rattle.wb_meta.specs.Roots.Commit). c.old) t.of_is ∙ old_is i rd.0 in
             let read_so = subst (λ (s : Stored). Rattle.wb_meta.specs.Roots.MayBeReadAs shape.geometry s (Some goal) new) old (two_read shape.geometry t.kept.of new t.now _ t.kept.under) in
             let leads : i.locations ≡ locations goal = leads_to i rd.0 ∙ ap locations (sym same_new) in
-            let l = openings_followed.roots i goal new leads shape.geometry (size P A shape) images.committed f.phase.later mode f.site devices ph f.phase.devices_follow.agree read_so in
+            let none = none_clean goal t.kept.under.fit_new in
+            let l = openings_followed.roots i goal new leads none shape.geometry (size P A shape) images.committed f.phase.later mode f.site devices ph f.phase.devices_follow.agree read_so in
             let v = arrives P A shape images w n (n' WriteRoot Done read) f (same WriteRoot Done read) images.committed (Some goal) (OpensThere mode (Renewing i)) devices' l (no_stand (Renewing i)) in
             goes_to (opening_at total left (Rooting i)) xt WriteRoot Done read (Puts new) t.now (Some goal) (OpensThere mode (Renewing i)) devices' (Some (AllRead rd.0.stored)) (Some _) (opening_at total left (Renewing i))
             rd.0.reading_is (ap (λ (c : Option RunningCommit). led c Done) rd.0.commit_is) refl
             (subst (λ (s : Stored). Arrived P A shape s (Some goal) (OpensThere mode (Renewing i)) devices' (n' WriteRoot Done read)) (sym t.committed_is) v) t.kept.under.fit_new (no_stand (Renewing i)) t.kept
-            (inl (record { total = total; left = left; stage = Renewing i; is = refl; phase_is = refl; read = (learnt_still i rd.0 _, (goal, refl, leads)) }))
+            (inl (record { total = total; left = left; stage = Renewing i; is = refl; phase_is = refl; read = (learnt_still i rd.0 _, (goal, refl, leads, none)) }))
 
         pub root_fails : (read : List Bytes) → FailsStep rd.0.running.image rd.0.running.steps device new → Goes P A shape (after_it WriteRoot Fault (Puts new) devices') (n' WriteRoot Fault read)
         root_fails read bad =
             let goal = k.of.new in
             let read_so = subst (λ (s : Stored). Rattle.wb_meta.specs.Roots.MayBeReadAs shape.geometry s (Some goal) new) (old_is i rd.0) (two_left shape.geometry k.of device images rd.0.running new k.under bad) in
-            let l = openings_followed.root_fails i goal new (leads_to i rd.0) shape.geometry (size P A shape) images.committed f.phase.later mode f.site devices ph f.phase.devices_follow.agree read_so in
+            let l = openings_followed.root_fails i goal new (leads_to i rd.0) (none_clean goal k.under.fit_new) shape.geometry (size P A shape) images.committed f.phase.later mode f.site devices ph f.phase.devices_follow.agree read_so in
             let v = arrives P A shape images w n (n' WriteRoot Fault read) f (same WriteRoot Fault read) images.committed (Some goal) GoneThere devices' l no_gone in
             goes_to (opening_at total left (Rooting i)) xt WriteRoot Fault read (Puts new) (Rattle.wb_runs.proofs.Underway.images_of k.of true) (Some goal) GoneThere devices' None None _
             refl (ap (λ (c : Option RunningCommit). led c Fault) rd.0.commit_is) refl
@@ -344,7 +343,7 @@ module _ (P A : Type 0) (shape : Shape) (images : Images) (devices : Devices (Li
         kept = rooting i rd.0
 
         agree_so : DevicesAgree shape.geometry (size P A shape) images.committed (Some kept.of.new) devices f.site.world.shared
-        agree_so = with_root shape (size P A shape) images.committed kept.of.new f.phase.later i devices devices f.site.world.shared f.phase.devices_follow.agree rd.1 (leads_to i rd.0) refl refl
+        agree_so = with_root shape (size P A shape) images.committed kept.of.new f.phase.later i devices devices f.site.world.shared f.phase.devices_follow.agree rd.1 (leads_to i rd.0) (none_clean kept.of.new kept.under.fit_new) refl refl
             (subst (λ (s : Stored). Rattle.wb_meta.specs.Roots.MayBeReadAs shape.geometry s (Some kept.of.new) device) (old_is i rd.0) (two_read shape.geometry kept.of device images rd.0.running kept.under))
 
         pub renew_done : (read : List Bytes) → DoesStep rd.0.running.image rd.0.running.steps device new → Goes P A shape (after_it (Sync Metadata) Done Plain renewed) (n' (Sync Metadata) Done read)
@@ -360,7 +359,7 @@ module _ (P A : Type 0) (shape : Shape) (images : Images) (devices : Devices (Li
             goes_to (opening_at total left (Renewing i)) xt (Sync Metadata) Done read Plain t.now (Some goal) (OpensThere mode (Answering i)) renewed (Some (AllRead rd.0.stored)) (Some _) (opening_at total left (Answering i))
             rd.0.reading_is (ap (λ (c : Option RunningCommit). led c Done) rd.0.commit_is) refl
             (subst (λ (s : Stored). Arrived P A shape s (Some goal) (OpensThere mode (Answering i)) renewed (n' (Sync Metadata) Done read)) (sym t.committed_is) v) kept.under.fit_new (no_stand (Answering i)) t.kept
-            (inl (record { total = total; left = left; stage = Answering i; is = refl; phase_is = refl; read = (learnt_still i rd.0 _, (goal, refl, leads_to i rd.0)) }))
+            (inl (record { total = total; left = left; stage = Answering i; is = refl; phase_is = refl; read = (learnt_still i rd.0 _, (goal, refl, leads_to i rd.0, none_clean goal kept.under.fit_new)) }))
 
         pub renew_fails : (read : List Bytes) → FailsStep rd.0.running.image rd.0.running.steps device new → Goes P A shape (after_it (Sync Metadata) Fault Plain renewed) (n' (Sync Metadata) Fault read)
         renew_fails read bad =

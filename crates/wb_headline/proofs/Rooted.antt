@@ -6,6 +6,7 @@ use Rattle.wb_types.specs.declared.entry.Entry.{Entry}
 use Rattle.wb_types.specs.declared.geometry.Geometry.{Geometry}
 use Rattle.wb_disk.specs.Device.{History}
 use Rattle.wb_tree.specs.declared.image.Image.{Image}
+use Rattle.wb_meta.specs.Representing.{Stored}
 use Rattle.wb_meta.specs.Steps.{DoesStep, FailsStep, steps_after}
 use Rattle.wb_meta.specs.declared.read_steps.ReadSteps.{ReadSteps}
 use Rattle.wb_meta.specs.declared.read_steps.ReadSteps.TheVariants.{Done as AllRead}
@@ -15,7 +16,9 @@ use Rattle.wb_devices.specs.declared.running.RunningCommit.{RunningCommit}
 use Rattle.wb_meta.specs.Roots.{MayBeReadAs, Commit}
 use Rattle.wb_meta.proofs.Leading.{after_failure}
 use Rattle.wb_promise.specs.Headline.{cached_from, place_of}
-use Rattle.wb_runs.proofs.Images.{Images, Turn, Ends, Settles, Turned, later_of}
+use Rattle.wb_simulation.specs.Opened.{is_clean_in}
+use Rattle.wb_simulation.specs.Sites.{StateTakesClean}
+use Rattle.wb_runs.proofs.Images.{Images, Turn, Ends, Settles, Turned, later_of, IsFit}
 use Rattle.wb_runs.proofs.Underway.{Underway, Readable, images_of, underway_readable, led_on}
 use Rattle.wb_runs.proofs.Metadata.{Rooting as RootingKept}
 
@@ -57,6 +60,14 @@ nowhere entries e block = by entries 0 e
     by [] c e = refl
     by (None ∷ es) c e = by es (suc c) e
     by (Some entry ∷ es) c e = absurd (let bad : count_by is_some es + 1 ≡ 0 = (let f : Option Entry → ℕ = λ x. cond (is_some x) 1 0 in let one : 1 + count_by is_some es ≡ 0 = sym (sum_by-cons f (Some entry) es) ∙ e in omega (arith, one)) in omega (arith, bad))
+
+-- where its root is marked clean only if it has no entry, a state takes no block as clean
+pub none_clean : (state : Stored) → IsFit state → StateTakesClean state (λ block. false)
+none_clean state fit block cache e = by state.root.clean refl
+  where
+    by : (t : Bool) → state.root.clean ≡ t → false ≡ cond t (is_clean_in state.found.entries block) false
+    by true c = absurd (let none = nowhere state.found.entries (fit c) block in let bad : None ≡ Some cache = sym none ∙ e in cc)
+    by false c = refl
 
 -- ---- an opening's root
 

@@ -30,6 +30,7 @@ use Rattle.wb_link.specs.World.{World, abstract_after_all, job_alone, Shared, Ma
 use Rattle.wb_link.specs.Openings.{Opens as OpensThere, Settling, MayOpen}
 use Rattle.wb_refines.specs.Translation.{job_for, offsets}
 use Rattle.wb_refines.proofs.Modes.{among_in}
+use Rattle.wb_simulation.specs.Sites.{StateTakesClean}
 use Rattle.wb_simulation.specs.Actors.{IsBusyAt}
 use Rattle.wb_simulation.specs.Steps.{IsPart}
 use Rattle.wb_simulation.specs.Telling.{Quietly, Starts, Resumes}
@@ -303,7 +304,7 @@ module _ (P A : Type 0) (shape : Shape) (t : Target P) (commit : Option RunningC
         (notes_then (given_by migration c.0) (slice_set slots_now c.0 (Some o)) y h refl) (length-set n.doings a (Some (begun n begun_job))) refl (reserved_stands P shape.geometry b.goes.images t.desk commit devices.metadata c o b.goes.known may)
         (sym (orders_set t.desk.orders.slots c.0 (Some (record { order = o; sectors = sectors_asked t.desk.geometry o; threshold = t.desk.threshold; number = t.desk.orders.given; waits = false })))) (desk_then s' h.desk)
         (images_followed.stay shape.geometry b.goes.images.committed (later_of b.goes.images) devices.metadata devices.metadata s s' g.phase.images_agree turned readable.read)
-        (λ state e. turned.1 ∙ g.phase.running state e)
+        (λ state e. let r = g.phase.running state e in (turned.1 ∙ r.0, subst (StateTakesClean state) (sym turned.4) r.1))
 
     -- one under an order that its actor has kept
     again : (o : Order) (next : Option ℕ) → Contains x.orders o → IsOrderFor migration block next o → ((c : CBlock) → slice_get slots_now c.0 ≡ Some (Some o) → (order_there g.site.world.shared.mapping c.0 o ≡ order_of_block block c next) × MayBeKept migration c.0 g.site.world.shared) →

@@ -23,7 +23,7 @@ use Rattle.wb_link.specs.Tables.{Flag, abstract_table, Script, Order as Abstract
 use Rattle.wb_link.specs.World.{World, Record, Start, Again, Step, Release, release_order, AbstractActor, abstract_after_all, after_record, start_actor, again_actor, step_actor, step_task, actor_after, abstract_given, job_alone}
 use Rattle.wb_simulation.specs.Noting.{NotesAgree}
 use Rattle.wb_simulation.specs.Noted.{told}
-use Rattle.wb_simulation.specs.Sites.{ImagesAgree, locations}
+use Rattle.wb_simulation.specs.Sites.{ImagesAgree, locations, StateTakesClean}
 use Rattle.wb_simulation.specs.Telling.{Telling, Quietly, Reads, Writes, Answers, Starts, Resumes, Carries, Releases, Rests, IsTold, IsMigrating, IsResumed, Given, Kept, Failing, Nowhere}
 use Rattle.wb_simulation.specs.Worlds.{Agrees, Turn, Stays, WorldFollowsBy, WorldFollows}
 use Rattle.wb_simulation.proofs.Opening.{images_followed}
@@ -148,7 +148,7 @@ module _ (P A : Type 0) (shape : Shape) (images : Images) (t : Target P) (commit
         (g : WorldFollowsBy turn telling a f.site.world (record (situation shape t' devices' actors) { orders = orders' }) y) → IsPlainTelling telling → NotesAgree (size P A shape) n' (abstract_after_all f.site.world g.records) (told f.notes g.records) → length n'.doings ≡ length n.doings → length n'.histories ≡ length n.histories →
         AtDesk shape.geometry images' t'.desk commit' devices'.metadata → orders' ≡ live_orders t'.desk →
         DeskAgrees t'.desk (abstract_after_all f.site.world g.records).shared → ImagesAgree shape.geometry images'.committed (later_of images') devices'.metadata (abstract_after_all f.site.world g.records).shared →
-        ((state : Stored) → images'.running ≡ Some state → (abstract_after_all f.site.world g.records).shared.running ≡ locations state) → Goes P A shape (record { devices = devices'; commit = commit'; phase = Stands t'; actors = slice_set actors a y }) n'
+        ((state : Stored) → images'.running ≡ Some state → ((abstract_after_all f.site.world g.records).shared.running ≡ locations state) × StateTakesClean state (abstract_after_all f.site.world g.records).shared.running_clean) → Goes P A shape (record { devices = devices'; commit = commit'; phase = Stands t'; actors = slice_set actors a y }) n'
     leads_on turn telling t' commit' devices' y n' images' orders' g plain notes d h known' same desk images_agree running = record {
       images = images';
       known = known';
@@ -182,4 +182,4 @@ module _ (P A : Type 0) (shape : Shape) (images : Images) (t : Target P) (commit
         leads_on Stays telling (record { words = words'; desk = t.desk }) commit devices' y n' images (live_orders t.desk) g plain notes d h known' refl
         (desk_stays P t.desk s s' f.phase.desk t.desk refl refl g.desk.0 g.desk.1)
         (images_followed.stay shape.geometry images.committed (later_of images) devices.metadata devices'.metadata s s' f.phase.images_agree g.turned readable.read)
-        (λ state e. g.turned.1 ∙ f.phase.running state e)
+        (λ state e. let r = f.phase.running state e in (g.turned.1 ∙ r.0, subst (StateTakesClean state) (sym g.turned.4) r.1))

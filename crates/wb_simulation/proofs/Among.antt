@@ -169,7 +169,7 @@ module _ (now : Situation) (words' : Words) (up : flag now.words.fail ≡ true �
 module _ (now : Situation) (a : ℕ) (x x' : Actor) (s : World) (y : AbstractActor) (g : Agrees now s) (ex : slice_get now.actors a ≡ Some x) (ey : slice_get s.actors a ≡ Some y) where
   pub stays_there : (telling : Telling) → IsTold telling a y.task (records a y.task []) → StandsFor now.size now.most now.words x' y → ((o : Order) → Contains (held x) o → Contains (held x') o) → IsDone now.size now.words now.orders x' y → WorldFollows telling a s now x'
   stays_there telling told st own its = goes_on now now.words (λ f. f) a x x' s y g ex ey telling now.devices [] s.shared told tt (shared_stays s.shared y y.task)
-      (subst (λ (z : AbstractActor). StandsFor now.size now.most now.words x' z) (sym nowhere) st) (subst (Leading y) (sym nowhere) (λ l. (l, λ more. more))) g.words_agree g.origin g.cache refl refl refl (refl, refl, refl) (refl, refl) (ap (λ (v : AbstractActor). v.order) nowhere) own
+      (subst (λ (z : AbstractActor). StandsFor now.size now.most now.words x' z) (sym nowhere) st) (subst (Leading y) (sym nowhere) (λ l. (l, λ more. more))) g.words_agree g.origin g.cache refl refl refl (refl, refl, refl, refl, refl) (refl, refl) (ap (λ (v : AbstractActor). v.order) nowhere) own
       (subst (λ (z : AbstractActor). IsDone now.size now.words now.orders x' z) (sym nowhere) its)
     where
       nowhere : gone y y.task [] ≡ y

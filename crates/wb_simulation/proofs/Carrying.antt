@@ -151,7 +151,7 @@ module _ (now : Situation) (words' : Words) (up : flag now.words.fail ≡ true �
   -- under the order that it had
   pub carry_on : IsCarried now.size now.orders migration block part plan.steps plan.answer x' z → z.order ≡ y.order → ((o : Order) → Contains (held x) o → Contains (held x') o) → SameImages s.shared t → WorldFollows Carries a s (record now { words = words'; devices = devices' }) x'
   carry_on f same own k = goes_on now words' up a x x' s y g ex ey Carries devices' results t (results, going results y y.task (carried_task now.size now.orders migration block part plan.steps plan.answer x' z f) migrates, refl) may is
-      (carried_stands now.size now.orders migration block part plan x' z f words' task now.most) (λ l. let bad : true ≡ false = sym l ∙ carried_leads now.size now.orders migration block part plan.steps plan.answer x' z f in absurd (cc)) words_agree origin cache k.mode k.committing k.broken (k.committed, k.running, k.root_written) (k.mapping, k.blocks)
+      (carried_stands now.size now.orders migration block part plan x' z f words' task now.most) (λ l. let bad : true ≡ false = sym l ∙ carried_leads now.size now.orders migration block part plan.steps plan.answer x' z f in absurd (cc)) words_agree origin cache k.mode k.committing k.broken (k.committed, k.running, k.root_written, k.committed_clean, k.running_clean) (k.mapping, k.blocks)
       same own (is_done now.size now.orders migration block part plan x' z f words' task job)
 
   -- its order is over

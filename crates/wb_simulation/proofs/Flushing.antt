@@ -71,11 +71,11 @@ module _ (now : Situation) (serves : List OBlock) (a : ℕ) (x : Actor) (s : Wor
       On (with_device device now.devices (synced (device_in device now.devices))) (after (flushing serves now.most (Device (Sync device) ∷ later) answer) Done)
   syncs Cache h (Device (Sync Origin) ∷ ws) answer o is =
       goes now serves a x s y ex ey g Stays (with_device Cache now.devices (synced now.devices.cache)) (Device (Sync Cache)) (Device (Sync Origin) ∷ ws) answer _ _ is (λ e. absurd (cc)) (followed_alone.syncs_cache (Device (Sync Origin) ∷ ws) now.size serves now.most [] s.actors a s.shared y answer is) refl o refl (λ n. absurd (cc))
-      (record { fail = g.words_agree.fail; seals = g.words_agree.seals }) g.origin (ap all_synced g.cache ∙ sym (sync_is_act now.size zeros now.devices.cache)) refl refl refl (refl, refl, refl) (refl, refl) refl
+      (record { fail = g.words_agree.fail; seals = g.words_agree.seals }) g.origin (ap all_synced g.cache ∙ sym (sync_is_act now.size zeros now.devices.cache)) refl refl refl (refl, refl, refl, refl, refl) (refl, refl) refl
   syncs Cache h later answer o is = absurd o
   syncs Origin h later answer o is =
       goes now serves a x s y ex ey g Stays (with_device Origin now.devices (synced now.devices.origin)) (Device (Sync Origin)) later answer (flushing serves now.most later answer) (record s.shared { origin = all_synced s.shared.origin }) is (λ e. absurd (cc)) (followed_alone.syncs_origin later now.size serves now.most [] s.actors a s.shared y answer is) refl (commits_on now.most later o).0 (commits_on now.most later o).1 (some_on later o)
-      (record { fail = g.words_agree.fail; seals = g.words_agree.seals }) (ap all_synced g.origin ∙ sym (sync_is_act now.size zeros now.devices.origin)) g.cache refl refl refl (refl, refl, refl) (refl, refl) refl
+      (record { fail = g.words_agree.fail; seals = g.words_agree.seals }) (ap all_synced g.origin ∙ sym (sync_is_act now.size zeros now.devices.origin)) g.cache refl refl refl (refl, refl, refl, refl, refl) (refl, refl) refl
   syncs Metadata h later answer o is = absurd h
 
   pub sync_falls : (lands : ℕ → Bool) (device : Dev) → HoldsBlocks device → (later : List Want) (answer : Answer) → IsFlushing now.size [] (flushing serves now.most (Device (Sync device) ∷ later) answer) true y →
@@ -83,11 +83,11 @@ module _ (now : Situation) (serves : List OBlock) (a : ℕ) (x : Actor) (s : Wor
   sync_falls lands Cache h later answer is =
       goes now serves a x s y ex ey g Stays (with_device Cache now.devices (synced_where lands now.devices.cache)) (Device (Sync Cache)) later answer (after (flushing serves now.most (Device (Sync Cache) ∷ later) answer) Fault) (record s.shared { cache = partly_synced (λ b o. lands (b * now.size + o)) s.shared.cache }) is (λ e. absurd (cc))
       (followed_alone.fails_cache (λ b o. lands (b * now.size + o)) later now.size serves now.most [] s.actors a s.shared y answer is) refl refl refl (λ n. absurd (cc))
-      (record { fail = g.words_agree.fail; seals = g.words_agree.seals }) g.origin (ap (partly_synced (λ b o. lands (b * now.size + o))) g.cache ∙ sym (failed_sync_is_act now.size zeros lands now.devices.cache)) refl refl refl (refl, refl, refl) (refl, refl) refl
+      (record { fail = g.words_agree.fail; seals = g.words_agree.seals }) g.origin (ap (partly_synced (λ b o. lands (b * now.size + o))) g.cache ∙ sym (failed_sync_is_act now.size zeros lands now.devices.cache)) refl refl refl (refl, refl, refl, refl, refl) (refl, refl) refl
   sync_falls lands Origin h later answer is =
       goes now serves a x s y ex ey g Stays (with_device Origin now.devices (synced_where lands now.devices.origin)) (Device (Sync Origin)) later answer (after (flushing serves now.most (Device (Sync Origin) ∷ later) answer) Fault) (record s.shared { origin = partly_synced (λ b o. lands (b * now.size + o)) s.shared.origin }) is (λ e. absurd (cc))
       (followed_alone.fails_origin (λ b o. lands (b * now.size + o)) later now.size serves now.most [] s.actors a s.shared y answer is) refl refl refl (λ n. absurd (cc))
-      (record { fail = g.words_agree.fail; seals = g.words_agree.seals }) (ap (partly_synced (λ b o. lands (b * now.size + o))) g.origin ∙ sym (failed_sync_is_act now.size zeros lands now.devices.origin)) g.cache refl refl refl (refl, refl, refl) (refl, refl) refl
+      (record { fail = g.words_agree.fail; seals = g.words_agree.seals }) (ap (partly_synced (λ b o. lands (b * now.size + o))) g.origin ∙ sym (failed_sync_is_act now.size zeros lands now.devices.origin)) g.cache refl refl refl (refl, refl, refl, refl, refl) (refl, refl) refl
   sync_falls lands Metadata h later answer is = absurd h
 
   -- a step on the metadata is done, or fails; the data devices are as they were
@@ -97,11 +97,11 @@ module _ (now : Situation) (serves : List OBlock) (a : ℕ) (x : Actor) (s : Wor
       goes now serves a x s y ex ey g turn (with_device Metadata now.devices metadata) (Device step) later answer (flushing serves now.most later answer) t is (has_wants now.size (Device step ∷ later) on) l refl (commits_on now.most later m).0 (commits_on now.most later m).1 (some_on later m) w (og ∙ g.origin) (ca ∙ g.cache) mo co br turned desk same_map
 
   pub metadata_done : (metadata : List History) (step : DeviceStep) (later : List Want) (answer : Answer) → device_of step ≡ Metadata → IsOfFlush now.most (Device step ∷ later) → IsFlushing now.size [] (flushing serves now.most (Device step ∷ later) answer) true y → OnBy (turn_of step) (with_device Metadata now.devices metadata) (after (flushing serves now.most (Device step ∷ later) answer) Done)
-  metadata_done metadata (WriteNode number) later answer d o is = metadata_goes Stays metadata (WriteNode number) later answer s.shared o o is (followed_alone.nodes number later now.size serves now.most [] s.actors a s.shared y answer is) g.words_agree refl refl refl refl refl (refl, refl, refl) (refl, refl) refl
-  metadata_done metadata (Sync Metadata) later answer d o is = metadata_goes Stays metadata (Sync Metadata) later answer s.shared o o is (followed_alone.syncs_metadata later now.size serves now.most [] s.actors a s.shared y answer is) g.words_agree refl refl refl refl refl (refl, refl, refl) (refl, refl) refl
+  metadata_done metadata (WriteNode number) later answer d o is = metadata_goes Stays metadata (WriteNode number) later answer s.shared o o is (followed_alone.nodes number later now.size serves now.most [] s.actors a s.shared y answer is) g.words_agree refl refl refl refl refl (refl, refl, refl, refl, refl) (refl, refl) refl
+  metadata_done metadata (Sync Metadata) later answer d o is = metadata_goes Stays metadata (Sync Metadata) later answer s.shared o o is (followed_alone.syncs_metadata later now.size serves now.most [] s.actors a s.shared y answer is) g.words_agree refl refl refl refl refl (refl, refl, refl, refl, refl) (refl, refl) refl
   metadata_done metadata (Sync Cache) later answer d o is = absurd (cc)
   metadata_done metadata (Sync Origin) later answer d o is = absurd (cc)
-  metadata_done metadata WriteRoot later answer d o is = metadata_goes (Puts true) metadata WriteRoot later answer (record s.shared { root_written = true }) o o is (followed_alone.writes_root later now.size serves now.most [] s.actors a s.shared y answer is) (record { fail = g.words_agree.fail; seals = g.words_agree.seals }) refl refl refl refl refl (refl, refl, refl) (refl, refl) refl
+  metadata_done metadata WriteRoot later answer d o is = metadata_goes (Puts true) metadata WriteRoot later answer (record s.shared { root_written = true }) o o is (followed_alone.writes_root later now.size serves now.most [] s.actors a s.shared y answer is) (record { fail = g.words_agree.fail; seals = g.words_agree.seals }) refl refl refl refl refl (refl, refl, refl, refl, refl) (refl, refl) refl
   metadata_done metadata step later answer d o is = absurd o
 
   pub metadata_failed : (metadata : List History) (step : DeviceStep) (later : List Want) (answer : Answer) → IsOnMetadata (Device step ∷ later) → IsFlushing now.size [] (flushing serves now.most (Device step ∷ later) answer) true y → (written : Bool) × IsWrittenAfter step s.shared.root_written written × OnBy (Puts written) (with_device Metadata now.devices metadata) (after (flushing serves now.most (Device step ∷ later) answer) Fault)
@@ -110,7 +110,7 @@ module _ (now : Situation) (serves : List OBlock) (a : ℕ) (x : Actor) (s : Wor
         l.0,
         l.1,
         goes now serves a x s y ex ey g (Puts l.0) (with_device Metadata now.devices metadata) (Device step) later answer (after (flushing serves now.most (Device step ∷ later) answer) Fault) (record s.shared { root_written = l.0 }) is (has_wants now.size (Device step ∷ later) m) l.2 refl refl refl (λ n. absurd (cc))
-            (record { fail = g.words_agree.fail; seals = g.words_agree.seals }) g.origin g.cache refl refl refl (refl, refl, refl) (refl, refl) refl,
+            (record { fail = g.words_agree.fail; seals = g.words_agree.seals }) g.origin g.cache refl refl refl (refl, refl, refl, refl, refl) (refl, refl) refl,
       )
 
   pub is_on_metadata : (step : DeviceStep) (later : List Want) → device_of step ≡ Metadata → IsOfFlush now.most (Device step ∷ later) → IsOnMetadata (Device step ∷ later)
@@ -129,7 +129,7 @@ module _ (now : Situation) (serves : List OBlock) (a : ℕ) (x : Actor) (s : Wor
   follows_alone devices' plan' card' j o at l d own = subst (λ (ds : Devices (List History)). WorldFollows Quietly a s (record now { devices = ds }) (record x { task = Some (Flush, plan'); card = card' })) (sym d)
       (goes_on now now.words (λ f. f) a x (record x { task = Some (Flush, plan'); card = card' }) s y g ex ey Quietly now.devices l.results s.shared (l.results, quiet_are_unnoted y.task l.results l.quiet, refl) l.may l.shared
       (stands now serves a x s y ex ey g now.words plan' card' false (gone y y.task l.results) j o at (λ e n. absurd (cc)) l.at)
-      (λ k. let bad : true ≡ false = sym k ∙ ap (λ (v : AbstractActor). v.leads) l.at.is in absurd (cc)) g.words_agree g.origin g.cache refl refl refl (refl, refl, refl) (refl, refl) (ap (λ (v : AbstractActor). v.order) l.at.is ∙ sym own) (λ o h. h) (does_none _ _ _ _ _ tt))
+      (λ k. let bad : true ≡ false = sym k ∙ ap (λ (v : AbstractActor). v.leads) l.at.is in absurd (cc)) g.words_agree g.origin g.cache refl refl refl (refl, refl, refl, refl, refl) (refl, refl) (ap (λ (v : AbstractActor). v.order) l.at.is ∙ sym own) (λ o h. h) (does_none _ _ _ _ _ tt))
 
   -- where nothing is left but orders to give up, it leads no commit
   released : (blocks : List OBlock) → IsOfFlush now.most (release_orders blocks) × LeadsAt false (release_orders blocks) × AreReleases (release_orders blocks)
@@ -176,7 +176,7 @@ module _ (now : Situation) (serves : List OBlock) (a : ℕ) (x : Actor) (s : Wor
       let l = followed_alone.begins now.size serves now.most nodes [] s.actors a s.shared y [] answer none (by_broken s.shared.broken refl) is in
       goes_leading now now.words (λ f. f) a x (record x { task = Some (Flush, plan') }) s y g ex ey Begins true l.results (effect s.shared (FlushingFor None) (λ o. []) (Begin None) DoneThere) (l.results, quiet_are_unnoted y.task l.results l.quiet, refl) l.may l.shared
       (stands now serves a x s y ex ey g now.words plan' x.card true (gone y y.task l.results) refl (nodes_on_metadata nodes 0) refl (λ e n. absurd (cc)) l.at)
-      (record { fail = g.words_agree.fail; seals = g.words_agree.seals }) refl refl refl refl (λ e. refl) (λ b v n ev k. runs (g.led b v ev k)) (λ k. (refl, λ u. by_broken s.shared.broken refl)) (refl, refl, refl) (refl, refl) (ap (λ (v : AbstractActor). v.order) l.at.is ∙ sym (ap (λ (v : AbstractActor). v.order) is.is)) refl refl tt
+      (record { fail = g.words_agree.fail; seals = g.words_agree.seals }) refl refl refl refl (λ e. refl) (λ b v n ev k. runs (g.led b v ev k)) (λ k. (refl, λ u. by_broken s.shared.broken refl)) (refl, refl, refl, refl, refl) (refl, refl) (ap (λ (v : AbstractActor). v.order) l.at.is ∙ sym (ap (λ (v : AbstractActor). v.order) is.is)) refl refl tt
     where
       runs : s.shared.committing ≡ true → ⊥
       runs e = let bad : true ≡ false = sym e ∙ g.commits ∙ quiet in absurd (cc)
@@ -196,7 +196,7 @@ module _ (now : Situation) (serves : List OBlock) (a : ℕ) (x : Actor) (s : Wor
       goes_leading now now.words (λ f. f) a x (record x { task = Some (Flush, plan') }) s y g ex ey Ends false l.results (effect s.shared (FlushingFor None) (λ o. []) End_running DoneThere) (l.results, quiet_are_unnoted y.task l.results l.quiet, refl) l.may l.shared
       (stands now serves a x s y ex ey g now.words plan' x.card false (gone y y.task l.results) refl tt tt (λ e n. absurd (cc)) l.at)
       (record { fail = g.words_agree.fail; seals = g.words_agree.seals }) refl refl refl refl (λ e. let bad : true ≡ false = sym e ∙ whole in absurd (cc)) (leads_alone now serves a x s y ex ey g lead)
-      (λ k. let bad : true ≡ false = sym k ∙ ap (λ (v : AbstractActor). v.leads) l.at.is in absurd (cc)) (refl, refl) (refl, refl) (ap (λ (v : AbstractActor). v.order) l.at.is ∙ sym (ap (λ (v : AbstractActor). v.order) is.is)) refl refl tt
+      (λ k. let bad : true ≡ false = sym k ∙ ap (λ (v : AbstractActor). v.leads) l.at.is in absurd (cc)) (refl, refl, refl) (refl, refl) (ap (λ (v : AbstractActor). v.order) l.at.is ∙ sym (ap (λ (v : AbstractActor). v.order) is.is)) refl refl tt
 
   -- the failed bit is set, and the commit is broken
   pub fails : (failures suspensions : ℕ) (answer : Answer) → now.words.fail ≡ fail_word failures suspensions → IsFlushing now.size [] (flushing serves now.most (Cell SetFailed ∷ []) answer) true y →
@@ -210,7 +210,7 @@ module _ (now : Situation) (serves : List OBlock) (a : ℕ) (x : Actor) (s : Wor
       goes_leading now (words_after now.words SetFailed) (λ k. failed) a x (record x { task = Some (Flush, plan'); card = card_after now.words SetFailed x.card }) s y g ex ey Stays now.committing l.results (record s.shared { fail = true; broken = true }) (l.results, quiet_are_unnoted y.task l.results l.quiet, refl) l.may l.shared
       (stands now serves a x s y ex ey g (words_after now.words SetFailed) plan' (card_after now.words SetFailed x.card) true (gone y y.task l.results) refl tt tt (λ k n. failed) l.at)
       (record { fail = sym failed; seals = g.words_agree.seals }) refl refl refl g.commits (λ k. runs) (leads_alone now serves a x s y ex ey g lead) (λ k. (runs, λ u. absurd (subst (λ (v : AbstractActor). IsUnfinished v.task) l.at.is u refl)))
-      (refl, refl, refl) (refl, refl) (ap (λ (v : AbstractActor). v.order) l.at.is ∙ sym (ap (λ (v : AbstractActor). v.order) is.is)) refl refl tt
+      (refl, refl, refl, refl, refl) (refl, refl) (ap (λ (v : AbstractActor). v.order) l.at.is ∙ sym (ap (λ (v : AbstractActor). v.order) is.is)) refl refl tt
 
   -- ---- its look at the fail word, and its answer
 

@@ -90,7 +90,7 @@ module _ (now : Situation) (blocks : ℕ) (a : ℕ) (x : Actor) (job : Job) (ste
   among_all plan telling acted told doing its =
       let k = acted.same.images in
       goes_on now (words_after now.words step) (failed_stays now.words step _ _ rule.logs.fail) a x (stepped_actor now.words job plan step x) s y g ex ey telling now.devices acted.results (shared_after s.shared y y.task acted.results) told acted.may refl
-      (record { failed = acted.failed; has_failed = acted.has_failed; at = doing; below = acted.below; among_others = acted.among_others }) acted.leads acted.words_agree (acted.same.origin ∙ g.origin) (acted.same.cache ∙ g.cache) k.mode k.committing k.broken (k.committed, k.running, k.root_written) (k.mapping, k.blocks) acted.order (λ o h. h) its
+      (record { failed = acted.failed; has_failed = acted.has_failed; at = doing; below = acted.below; among_others = acted.among_others }) acted.leads acted.words_agree (acted.same.origin ∙ g.origin) (acted.same.cache ∙ g.cache) k.mode k.committing k.broken (k.committed, k.running, k.root_written, k.committed_clean, k.running_clean) (k.mapping, k.blocks) acted.order (λ o h. h) its
 
   abbrev Goal : Plan → Type 0
   Goal plan = WorldFollows Quietly a s (record now { words = words_after now.words step }) (stepped_actor now.words job plan step x)

@@ -24,7 +24,7 @@ use Rattle.wb_simulation.specs.Carried.{live_there}
 use Rattle.wb_simulation.specs.Worlds.{OrdersAgree, OrderIsThere}
 use Rattle.wb_promise.specs.States.{Actor}
 use Rattle.wb_link.specs.Openings.{opened_on}
-use Rattle.wb_simulation.specs.Opened.{OpenedFollowed}
+use Rattle.wb_simulation.specs.Opened.{OpenedFollowed, is_clean_in, TakesClean}
 use Rattle.wb_tasks.proofs.Seals.{place_told}
 
 -- ---- the seals once each entry was sealed
@@ -105,13 +105,20 @@ AreOnce [] = Unit {0}
 AreOnce (None ∷ entries) = AreOnce entries
 AreOnce (Some entry ∷ entries) = ((c : ℕ) → cached_from entry.origin.0 c entries ≡ None) × AreOnce entries
 
--- a block that one has is sealed there
-pub record SealedAt (word k : ℕ) (clean : Bool) : Type 0 where
+-- what a seal's bit is, where an entry has this one
+bits : (clean dirty : Bool) → cond clean dirty true ≡ cond (cond clean (cond dirty false true) false) false true
+bits true true = refl
+bits true false = refl
+bits false true = refl
+bits false false = refl
+
+-- a block that one has is sealed there, clean where its entry is and all are not taken as dirty
+pub record SealedAt (word k : ℕ) (clean its : Bool) : Type 0 where
   pub dirty : Bool
   pub is : word ≡ seal_word (Some (record { 0 = k })) dirty
-  pub unclean : clean ≡ false → dirty ≡ true
+  pub same : dirty ≡ cond (cond clean its false) false true
 
-sealed_there : (clean : Bool) (entries : List (Option Entry)) (c : ℕ) (seals : List ℕ) (block : OBlock) (k : ℕ) → AreOnce entries → block.0 < length seals → cached_from block.0 c entries ≡ Some k → SealedAt (word_at (sealed clean c entries seals) block) k clean
+sealed_there : (clean : Bool) (entries : List (Option Entry)) (c : ℕ) (seals : List ℕ) (block : OBlock) (k : ℕ) → AreOnce entries → block.0 < length seals → cached_from block.0 c entries ≡ Some k → SealedAt (word_at (sealed clean c entries seals) block) k clean (is_clean_in entries block.0)
 sealed_there clean [] c seals block k once l e = absurd (cc)
 sealed_there clean (None ∷ entries) c seals block k once l e = sealed_there clean entries (suc c) seals block k once l e
 sealed_there clean (Some entry ∷ entries) c seals block k once l e =
@@ -121,12 +128,8 @@ sealed_there clean (Some entry ∷ entries) c seals block k once l e =
     word : ℕ
     word = seal_word (Some (record { 0 = c })) (cond clean entry.dirty true)
 
-    dirty_if : (clean : Bool) → clean ≡ false → cond clean entry.dirty true ≡ true
-    dirty_if true e = absurd (cc)
-    dirty_if false e = refl
-
     by : (t : Bool) → (entry.origin.0 == block.0) ≡ t → (if t then Some c else cached_from block.0 (suc c) entries) ≡ Some k →
-        (cached_from block.0 (suc c) entries ≡ Some k → SealedAt (word_at (sealed clean (suc c) entries (slice_set seals entry.origin.0 word)) block) k clean) → SealedAt (word_at (sealed clean c (Some entry ∷ entries) seals) block) k clean
+        (cached_from block.0 (suc c) entries ≡ Some k → SealedAt (word_at (sealed clean (suc c) entries (slice_set seals entry.origin.0 word)) block) k clean (is_clean_in entries block.0)) → SealedAt (word_at (sealed clean c (Some entry ∷ entries) seals) block) k clean (if t then cond entry.dirty false true else is_clean_in entries block.0)
     by true same e later =
         let at : entry.origin.0 ≡ block.0 = eqb-true entry.origin.0 block.0 same in
         let is : c ≡ k = cc in
@@ -134,7 +137,7 @@ sealed_there clean (Some entry ∷ entries) c seals block k once l e =
           dirty = cond clean entry.dirty true;
           is = unsealed clean entries (suc c) (slice_set seals entry.origin.0 word) block (subst (λ (b : ℕ). cached_from b (suc c) entries ≡ None) at (once.0 (suc c)))
               ∙ ap (λ (i : ℕ). word_at (slice_set seals i word) block) at ∙ set_here seals word block l ∙ ap (λ (i : ℕ). seal_word (Some (record { 0 = i })) (cond clean entry.dirty true)) is;
-          unclean = dirty_if clean;
+          same = bits clean entry.dirty;
         }
     by false same e later = later e
 
@@ -176,28 +179,21 @@ fresh_at blocks block = none_at blocks block.0
 pub nowhere : (dirty : Bool) → SealAgrees 0 (record { location = None; dirty = dirty })
 nowhere dirty = record { location = refl; dirty = λ c e. let bad : None ≡ Some c = e in absurd (cc) }
 
-module _ (origin_blocks cache_blocks : ℕ) (clean : Bool) (entries : List (Option Entry)) (mapping : IsMapping cache_blocks origin_blocks entries) (few : cache_blocks ≤ 2 ^ 32) (bare : clean ≡ true → (block : ℕ) → place_of entries block ≡ None) where
-  word : OBlock → ℕ
-  word block = word_at (sealed clean 0 entries (replicate origin_blocks 0)) block
-
-  seal_is : (block : OBlock) → SealAgrees (word_at (sealed clean 0 entries (replicate origin_blocks 0)) block) (record { location = place_of entries block.0; dirty = true })
+module _ (origin_blocks cache_blocks : ℕ) (clean : Bool) (entries : List (Option Entry)) (learnt : ℕ → Bool) (mapping : IsMapping cache_blocks origin_blocks entries) (few : cache_blocks ≤ 2 ^ 32) (takes : TakesClean clean entries learnt) where
+  seal_is : (block : OBlock) → SealAgrees (word_at (sealed clean 0 entries (replicate origin_blocks 0)) block) (record { location = place_of entries block.0; dirty = cond (learnt block.0) false true })
   seal_is block = by (place_of entries block.0) refl
     where
-      unclean : (t : Bool) (k : ℕ) → clean ≡ t → place_of entries block.0 ≡ Some k → clean ≡ false
-      unclean true k c e = absurd (let none = bare c block.0 in cc)
-      unclean false k c e = c
-
-      by : (o : Option ℕ) → place_of entries block.0 ≡ o → SealAgrees (word_at (sealed clean 0 entries (replicate origin_blocks 0)) block) (record { location = o; dirty = true })
-      by None e = subst (λ (w : ℕ). SealAgrees w (record { location = None; dirty = true })) (sym (unsealed clean entries 0 (replicate origin_blocks 0) block e ∙ fresh_at origin_blocks block)) (nowhere true)
+      by : (o : Option ℕ) → place_of entries block.0 ≡ o → SealAgrees (word_at (sealed clean 0 entries (replicate origin_blocks 0)) block) (record { location = o; dirty = cond (learnt block.0) false true })
+      by None e = subst (λ (w : ℕ). SealAgrees w (record { location = None; dirty = cond (learnt block.0) false true })) (sym (unsealed clean entries 0 (replicate origin_blocks 0) block e ∙ fresh_at origin_blocks block)) (nowhere (cond (learnt block.0) false true))
       by (Some k) e =
           let f = found_at entries block.0 0 k e in
           let inside : block.0 < origin_blocks = subst (λ (b : ℕ). b < origin_blocks) f.5 (mapping.within f.0 f.1 f.4).0 in
           let s = sealed_there clean entries 0 (replicate origin_blocks 0) block k (once_of entries mapping.once) (subst (λ (n : ℕ). block.0 < n) (sym (length-replicate origin_blocks 0)) inside) e in
           let small : k < 2 ^ 32 = (let is = f.2 in let l = f.3 in let size = mapping.size in omega (arith, is, l, size, few)) in
           let told = place_told k s.dirty small in
-          subst (λ (w : ℕ). SealAgrees w (record { location = Some k; dirty = true })) (sym s.is) (record {
+          subst (λ (w : ℕ). SealAgrees w (record { location = Some k; dirty = cond (learnt block.0) false true })) (sym s.is) (record {
             location = sym (ap number_of told);
-            dirty = λ c place. sym (tells_dirty (Some (record { 0 = k })) s.dirty ∙ s.unclean (unclean clean k refl e));
+            dirty = λ c place. sym (tells_dirty (Some (record { 0 = k })) s.dirty ∙ s.same ∙ ap (λ (t : Bool). cond t false true) (sym (takes block.0 k e)));
           })
 
 -- nobody has an order, nor is any aside, and none lives
@@ -218,13 +214,12 @@ no_orders size words actors caches many t rest = record {
     nothing p (inr h) = nobody h.0 h.1 p h.2 h.3
 
 pub opened_followed : OpenedFollowed
-opened_followed mode size most origin_blocks cache_blocks clean entries learnt blocks s devices actors caches mapping few bare located unclean origin cache rest = record {
+opened_followed mode size most origin_blocks cache_blocks clean entries learnt blocks s devices actors caches mapping few located takes origin cache rest = record {
   words_agree = record {
     fail = sym (ap flag (fail_is clean entries 0 (fresh_words origin_blocks)));
     seals = λ block. subst (λ (w : List ℕ). SealAgrees (word_at w block) (record { location = learnt.locations block.0; dirty = cond (learnt.clean block.0) false true })) (sym (seals_are clean entries 0 (fresh_words origin_blocks)))
         (subst (λ (l : Option ℕ). SealAgrees (word_at (sealed clean 0 entries (replicate origin_blocks 0)) block) (record { location = l; dirty = cond (learnt.clean block.0) false true })) (sym (ap (λ (f : ℕ → Option ℕ). f block.0) located))
-        (subst (λ (t : Bool). SealAgrees (word_at (sealed clean 0 entries (replicate origin_blocks 0)) block) (record { location = place_of entries block.0; dirty = cond t false true })) (sym (unclean block.0))
-        (seal_is origin_blocks cache_blocks clean entries mapping few bare block)));
+        (seal_is origin_blocks cache_blocks clean entries learnt.clean mapping few takes block));
   };
   origin = origin;
   cache = cache;

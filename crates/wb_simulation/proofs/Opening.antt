@@ -17,7 +17,11 @@ use Rattle.wb_promise.specs.Headline.{place_of}
 use Rattle.wb_devices.specs.declared.devices.Devices.{Devices}
 use Rattle.wb_link.specs.World.{Shared}
 use Rattle.wb_link.specs.Openings.{Site, AbstractPhase, Gone, Opens, Learnt, Stage, Settling, Caching, Basing, Looking, Rooting, Renewing, Answering, Stopping, Outcome, Settled, Fine, Learns, Refused, Broke, Shown, Stopped, Begins, Advances, Admitted, Yields, advance, advanced, next_phase, abstract_decided}
-use Rattle.wb_simulation.specs.Sites.{IsRunning, ImagesAgree, DevicesAgree, LeadsTo, LeadsToOne, OpeningsFollowed, ImagesFollowed}
+use Rattle.wb_types.specs.declared.entry.Entry.{Entry}
+use Rattle.wb_format.specs.declared.root.Root.{Root}
+use Rattle.wb_tree.specs.Mapping.{Mapping}
+use Rattle.wb_simulation.specs.Opened.{TakesClean}
+use Rattle.wb_simulation.specs.Sites.{IsRunning, ImagesAgree, DevicesAgree, LeadsTo, LeadsToOne, OpeningsFollowed, ImagesFollowed, StateTakesClean}
 use Rattle.wb_simulation.specs.Worlds.{zeros}
 
 -- what is decided agrees with one image, whichever it is
@@ -31,27 +35,27 @@ pub record IsDecidedBy (geometry : Geometry) (committed : Stored) (later : Optio
 
 decides : (geometry : Geometry) (committed : Stored) (later : Option Stored) (old new : List History) (s : Shared) (g : ImagesAgree geometry committed later old s) → IsDecided geometry committed later new → IsDecidedBy geometry committed later new s
 decides geometry committed later old new s g d = elim d.1 [
-  | inl same ↦ record { new_root = false; written = λ e. absurd (cc); state = committed; one_of = inl refl; images = record { read = same; committed_is = g.committed_is; later_is = tt }; settled = d.0 }
+  | inl same ↦ record { new_root = false; written = λ e. absurd (cc); state = committed; one_of = inl refl; images = record { read = same; committed_is = g.committed_is; clean_is = g.clean_is; later_is = tt }; settled = d.0 }
   | inr r ↦
       let runs = subst (λ (o : Option Stored). IsRunning o s) r.1 g.later_is in
-      record { new_root = true; written = λ e. runs.0; state = r.0; one_of = inr r.1; images = record { read = r.2; committed_is = runs.1; later_is = tt }; settled = d.0 }
+      record { new_root = true; written = λ e. runs.0; state = r.0; one_of = inr r.1; images = record { read = r.2; committed_is = runs.1; clean_is = runs.2; later_is = tt }; settled = d.0 }
 ]
 
 -- the images of a state of which nothing but the data devices is another
-same_images : (geometry : Geometry) (committed : Stored) (later : Option Stored) (metadata : List History) (s t : Shared) → t.committed ≡ s.committed → t.running ≡ s.running → t.root_written ≡ s.root_written → ImagesAgree geometry committed later metadata s → ImagesAgree geometry committed later metadata t
-same_images geometry committed later metadata s t c r w g = record { read = g.read; committed_is = c ∙ g.committed_is; later_is = runs later g.later_is }
+same_images : (geometry : Geometry) (committed : Stored) (later : Option Stored) (metadata : List History) (s t : Shared) → t.committed ≡ s.committed → t.running ≡ s.running → t.root_written ≡ s.root_written → t.committed_clean ≡ s.committed_clean → t.running_clean ≡ s.running_clean → ImagesAgree geometry committed later metadata s → ImagesAgree geometry committed later metadata t
+same_images geometry committed later metadata s t c r w k l g = record { read = g.read; committed_is = c ∙ g.committed_is; clean_is = subst (StateTakesClean committed) (sym k) g.clean_is; later_is = runs later g.later_is }
   where
     runs : (later : Option Stored) → IsRunning later s → IsRunning later t
     runs None i = tt
-    runs (Some state) i = (w ∙ i.0, r ∙ i.1)
+    runs (Some state) i = (w ∙ i.0, r ∙ i.1, subst (StateTakesClean state) (sym l) i.2)
 
 pub images_followed : ImagesFollowed
 images_followed = record {
-  stay = λ geometry committed later old new s t g turn read. same_images geometry committed later new s t turn.0 turn.1 turn.2 (record { read = read; committed_is = g.committed_is; later_is = g.later_is });
-  begin = λ geometry committed metadata s t g turn. (record { read = g.read; committed_is = turn.0 ∙ g.committed_is; later_is = tt }, turn.1);
-  put = λ geometry committed state later old new s t g turn runs read. record { read = read; committed_is = turn.0 ∙ g.committed_is; later_is = (turn.2, turn.1 ∙ runs) };
-  put_none = λ geometry committed written later old new s t g turn read. record { read = read; committed_is = turn.0 ∙ g.committed_is; later_is = tt };
-  end = λ geometry state metadata s t turn runs read. record { read = read; committed_is = turn.0 ∙ runs; later_is = tt };
+  stay = λ geometry committed later old new s t g turn read. same_images geometry committed later new s t turn.0 turn.1 turn.2 turn.3 turn.4 (record { read = read; committed_is = g.committed_is; clean_is = g.clean_is; later_is = g.later_is });
+  begin = λ geometry committed metadata s t g turn. (record { read = g.read; committed_is = turn.0 ∙ g.committed_is; clean_is = subst (StateTakesClean committed) (sym turn.3) g.clean_is; later_is = tt }, turn.1);
+  put = λ geometry committed state later old new s t g turn runs takes read. record { read = read; committed_is = turn.0 ∙ g.committed_is; clean_is = subst (StateTakesClean committed) (sym turn.3) g.clean_is; later_is = (turn.2, turn.1 ∙ runs, subst (StateTakesClean state) (sym turn.4) takes) };
+  put_none = λ geometry committed written later old new s t g turn read. record { read = read; committed_is = turn.0 ∙ g.committed_is; clean_is = subst (StateTakesClean committed) (sym turn.3) g.clean_is; later_is = tt };
+  end = λ geometry state metadata s t turn runs takes read. record { read = read; committed_is = turn.0 ∙ runs; clean_is = subst (StateTakesClean state) (sym turn.2) takes; later_is = tt };
 }
 
 -- an outcome of a stage, which leads to what it does there
@@ -77,7 +81,7 @@ module _ (geometry : Geometry) (size : ℕ) (committed : Stored) (later : Option
         cache = λ b i. subst (λ (f : ℕ → ℕ → History). Contains (entries (f b i)) (newest (by_block size zeros devices'.cache b i))) (sym g.cache) (left_cache.pending b i);
       };
       phase_is = refl;
-      agrees = record { origin = sym left_origin.alone; cache = sym left_cache.alone; images = same_images geometry d.state None devices'.metadata (abstract_decided w.world.shared d.new_root) _ refl refl refl d.images };
+      agrees = record { origin = sym left_origin.alone; cache = sym left_cache.alone; images = same_images geometry d.state None devices'.metadata (abstract_decided w.world.shared d.new_root) _ refl refl refl refl refl d.images };
     };
     settled = d.settled;
   }
@@ -94,6 +98,10 @@ module _ (geometry : Geometry) (size : ℕ) (committed : Stored) (later : Option
       stopping : Stopping
       stopping = record { origin = λ b i. newest (by_block size zeros devices'.origin b i); cache = λ b i. newest (by_block size zeros devices'.cache b i); new_root = d.new_root }
 
+-- what was read is taken as clean as what is stored
+pub read_clean : (root : Root) (tree : Mapping) (committed : Stored) (clean : ℕ → Bool) → root ≡ committed.root → tree.entries ≡ committed.found.entries → StateTakesClean committed clean → TakesClean root.clean tree.entries clean
+read_clean root tree committed clean same entries takes = subst (λ (r : Root). TakesClean r.clean tree.entries clean) (sym same) (subst (λ (es : List (Option Entry)). TakesClean committed.root.clean es clean) (sym entries) takes)
+
 -- a mode that caches takes what was read as it is
 pub admitted : (mode : Mode) → mode ≢ Passthrough → (learnt : Learnt) → Admitted mode learnt
 admitted Writeback caches learnt = tt
@@ -109,29 +117,29 @@ openings_followed = record {
       record { state = d.state; one_of = d.one_of; leads = advances geometry size d.state None mode Settling (Settled d.new_root) w (record devices { metadata = synced devices.metadata }) at d.written (record { origin = g.origin; cache = g.cache; images = d.images }); settled = d.settled };
   settling_fails = λ geometry size committed later mode w devices at g metadata partly.
       advances geometry size committed later mode Settling (Broke (λ b o. false)) w (record devices { metadata = metadata }) at tt
-      (record { origin = g.origin; cache = g.cache; images = record { read = failed_sync_leaves geometry committed later devices.metadata metadata g.images.read partly; committed_is = g.images.committed_is; later_is = g.images.later_is } });
+      (record { origin = g.origin; cache = g.cache; images = record { read = failed_sync_leaves geometry committed later devices.metadata metadata g.images.read partly; committed_is = g.images.committed_is; clean_is = g.images.clean_is; later_is = g.images.later_is } });
   syncs_cache = λ geometry size committed later mode w devices at g. advances geometry size committed later mode Caching Fine w (record devices { cache = synced devices.cache }) at tt
-      (record { origin = g.origin; cache = ap all_synced g.cache ∙ sym (sync_is_act size zeros devices.cache); images = same_images geometry committed later devices.metadata w.world.shared _ refl refl refl g.images });
+      (record { origin = g.origin; cache = ap all_synced g.cache ∙ sym (sync_is_act size zeros devices.cache); images = same_images geometry committed later devices.metadata w.world.shared _ refl refl refl refl refl g.images });
   cache_fails = λ geometry size committed later mode w devices at g lands. advances geometry size committed later mode Caching (Broke (λ b o. lands (b * size + o))) w (record devices { cache = synced_where lands devices.cache }) at tt
-      (record { origin = g.origin; cache = ap (partly_synced (λ b o. lands (b * size + o))) g.cache ∙ sym (failed_sync_is_act size zeros lands devices.cache); images = same_images geometry committed later devices.metadata w.world.shared _ refl refl refl g.images });
+      (record { origin = g.origin; cache = ap (partly_synced (λ b o. lands (b * size + o))) g.cache ∙ sym (failed_sync_is_act size zeros lands devices.cache); images = same_images geometry committed later devices.metadata w.world.shared _ refl refl refl refl refl g.images });
   syncs_origin = λ geometry size committed later mode w devices at g. advances geometry size committed later mode Basing Fine w (record devices { origin = synced devices.origin }) at tt
-      (record { origin = ap all_synced g.origin ∙ sym (sync_is_act size zeros devices.origin); cache = g.cache; images = same_images geometry committed later devices.metadata w.world.shared _ refl refl refl g.images });
+      (record { origin = ap all_synced g.origin ∙ sym (sync_is_act size zeros devices.origin); cache = g.cache; images = same_images geometry committed later devices.metadata w.world.shared _ refl refl refl refl refl g.images });
   origin_fails = λ geometry size committed later mode w devices at g lands. advances geometry size committed later mode Basing (Broke (λ b o. lands (b * size + o))) w (record devices { origin = synced_where lands devices.origin }) at tt
-      (record { origin = ap (partly_synced (λ b o. lands (b * size + o))) g.origin ∙ sym (failed_sync_is_act size zeros lands devices.origin); cache = g.cache; images = same_images geometry committed later devices.metadata w.world.shared _ refl refl refl g.images });
+      (record { origin = ap (partly_synced (λ b o. lands (b * size + o))) g.origin ∙ sym (failed_sync_is_act size zeros lands devices.origin); cache = g.cache; images = same_images geometry committed later devices.metadata w.world.shared _ refl refl refl refl refl g.images });
   learns = λ geometry size committed mode w devices root tree used caches at g settled represents fits.
       let learnt : Learnt = record { locations = w.world.shared.committed; clean = w.world.shared.committed_clean } in
       let is = read_is_committed geometry committed devices.metadata root tree used g.images.read settled represents fits in
-      (learnt, g.images.committed_is ∙ (λ i b. place_of (sym is.1 i) b), advances geometry size committed None mode Looking (Learns learnt) w devices at (refl, refl, admitted mode caches learnt) g);
+      (learnt, g.images.committed_is ∙ (λ i b. place_of (sym is.1 i) b), read_clean root tree committed learnt.clean is.0 is.1 g.images.clean_is, advances geometry size committed None mode Looking (Learns learnt) w devices at (refl, refl, admitted mode caches learnt) g);
   look_stops = λ geometry size committed later mode w devices at g. advances geometry size committed later mode Looking Refused w devices at tt g;
-  roots = λ learnt new metadata same geometry size committed later mode w devices at g read. advances geometry size committed (Some new) mode (Rooting learnt) Fine w (record devices { metadata = metadata }) at tt
-      (record { origin = g.origin; cache = g.cache; images = record { read = read; committed_is = g.images.committed_is; later_is = (refl, same) } });
-  root_fails = λ learnt new metadata same geometry size committed later mode w devices at g read. advances geometry size committed (Some new) mode (Rooting learnt) (Broke (λ b o. false)) w (record devices { metadata = metadata }) at tt
-      (record { origin = g.origin; cache = g.cache; images = record { read = read; committed_is = g.images.committed_is; later_is = (refl, same) } });
+  roots = λ learnt new metadata same none geometry size committed later mode w devices at g read. advances geometry size committed (Some new) mode (Rooting learnt) Fine w (record devices { metadata = metadata }) at tt
+      (record { origin = g.origin; cache = g.cache; images = record { read = read; committed_is = g.images.committed_is; clean_is = g.images.clean_is; later_is = (refl, same, none) } });
+  root_fails = λ learnt new metadata same none geometry size committed later mode w devices at g read. advances geometry size committed (Some new) mode (Rooting learnt) (Broke (λ b o. false)) w (record devices { metadata = metadata }) at tt
+      (record { origin = g.origin; cache = g.cache; images = record { read = read; committed_is = g.images.committed_is; clean_is = g.images.clean_is; later_is = (refl, same, none) } });
   renews = λ learnt metadata geometry size committed later mode w devices at g read. advances geometry size committed later mode (Renewing learnt) Fine w (record devices { metadata = metadata }) at tt
-      (record { origin = g.origin; cache = g.cache; images = record { read = read; committed_is = g.images.committed_is; later_is = g.images.later_is } });
+      (record { origin = g.origin; cache = g.cache; images = record { read = read; committed_is = g.images.committed_is; clean_is = g.images.clean_is; later_is = g.images.later_is } });
   renewing_fails = λ learnt metadata geometry size committed later mode w devices at g read. advances geometry size committed later mode (Renewing learnt) (Broke (λ b o. false)) w (record devices { metadata = metadata }) at tt
-      (record { origin = g.origin; cache = g.cache; images = record { read = read; committed_is = g.images.committed_is; later_is = g.images.later_is } });
-  answers = λ learnt new blocks same free geometry size committed later mode w devices at g read.
+      (record { origin = g.origin; cache = g.cache; images = record { read = read; committed_is = g.images.committed_is; clean_is = g.images.clean_is; later_is = g.images.later_is } });
+  answers = λ learnt new blocks same none free geometry size committed later mode w devices at g read.
       advances geometry size new None mode (Answering learnt) (Shown blocks (λ b o. newest (at_location w.world.shared.origin w.world.shared.cache (learnt.locations b) b o))) w devices at (free, λ b o. refl)
-      (record { origin = g.origin; cache = g.cache; images = record { read = read; committed_is = same; later_is = tt } });
+      (record { origin = g.origin; cache = g.cache; images = record { read = read; committed_is = same; clean_is = none; later_is = tt } });
 }

@@ -38,7 +38,7 @@ pub record IsGiven (words : Words) (turn : Turn) (s t : Shared) : Type 0 where
   pub desk : DeskTurnedTo turn s t
 
 pub given_nothing : (words : Words) (s : Shared) → WordsAgree words s → IsGiven words Stays s s
-given_nothing words s w = record { words_agree = w; origin = refl; cache = refl; mode = refl; commits = refl; broken = refl; mapping = refl; turned = (refl, refl, refl); desk = (refl, refl) }
+given_nothing words s w = record { words_agree = w; origin = refl; cache = refl; mode = refl; commits = refl; broken = refl; mapping = refl; turned = (refl, refl, refl, refl, refl); desk = (refl, refl) }
 
 module _ (now : Situation) (a : ℕ) (x x' : Actor) (s : World) (y : AbstractActor) (g : Agrees now s) (ex : slice_get now.actors a ≡ Some x) (ey : slice_get s.actors a ≡ Some y) where
   -- These records give it something to do, and its actor there is this one then.

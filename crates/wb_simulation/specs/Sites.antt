@@ -1,5 +1,5 @@
 -- When the three devices are those of the abstract world: what the data devices hold, and what the metadata may be read as.
-use Rattle.std.specs.Prelude.{◌≡◌, ◌≢◌, ◌⊎◌, ℕ, Bool, true, List, Option, Some, None, length, map}
+use Rattle.std.specs.Prelude.{◌≡◌, ◌≢◌, ◌⊎◌, ℕ, Bool, true, false, List, Option, Some, None, length, map}
 use Rattle.wb_types.specs.declared.geometry.Geometry.{Geometry}
 use Rattle.wb_types.specs.declared.mode.Mode.{Mode}
 use Rattle.wb_types.specs.declared.mode.Mode.TheVariants.{Passthrough}
@@ -19,21 +19,27 @@ use Rattle.wb_contents.specs.Conditions.{IsUnnamed}
 use Rattle.wb_link.specs.World.{Shared, Block, Free, Mapped}
 use Rattle.wb_link.specs.Openings.{Site, AbstractPhase, Stands, Gone, Opens, Learnt, Stage, Settling, Caching, Basing, Looking, Rooting, Renewing, Answering, Event, MayOpen, MayHappen, after_event}
 use Rattle.wb_promise.specs.Headline.{place_of}
+use Rattle.wb_simulation.specs.Opened.{TakesClean}
 use Rattle.wb_simulation.specs.Worlds.{zeros, Stays, Begins, Puts, Ends, TurnedTo}
 
 -- where a state that is stored has each block
 abbrev pub locations : Stored → Locations
 locations state block = place_of state.found.entries block
 
+-- so does one of a state that is stored
+abbrev pub StateTakesClean : Stored → (ℕ → Bool) → Type 0
+StateTakesClean state clean = TakesClean state.root.clean state.found.entries clean
+
 -- the running image is this state's, and its root was written
 abbrev pub IsRunning : Option Stored → Shared → Type 0
 IsRunning None s = Unit {0}
-IsRunning (Some state) s = (s.root_written ≡ true) × (s.running ≡ locations state)
+IsRunning (Some state) s = (s.root_written ≡ true) × (s.running ≡ locations state) × StateTakesClean state s.running_clean
 
 -- The metadata may be read as the committed image, that of this state, and, where a root was written over it, as the running one.
 pub record ImagesAgree (geometry : Geometry) (committed : Stored) (later : Option Stored) (metadata : List History) (s : Shared) : Type 0 where
   pub read : MayBeReadAs geometry committed later metadata
   pub committed_is : s.committed ≡ locations committed
+  pub clean_is : StateTakesClean committed s.committed_clean
   pub later_is : IsRunning later s
 
 -- cache and origin hold what they hold there, and the metadata agree
@@ -77,17 +83,17 @@ pub record OpeningsFollowed : Type 0 where
   -- the tree that was read is that of the one image; a mode that caches takes it as it is
   pub learns : (geometry : Geometry) (size : ℕ) (committed : Stored) (mode : Mode) (w : Site) (devices : Devices (List History)) (root : Root) (tree : Mapping) (used : List Place) → mode ≢ Passthrough → w.phase ≡ Opens mode Looking → DevicesAgree geometry size committed None devices w.world.shared → IsSettled devices.metadata →
       RepresentsState (map newest devices.metadata) root tree used → FitsDevice (length devices.metadata) root tree used →
-      (learnt : Learnt) × (learnt.locations ≡ (λ b. place_of tree.entries b)) × LeadsTo geometry size committed None w (Opens mode (Rooting learnt)) devices
+      (learnt : Learnt) × (learnt.locations ≡ (λ b. place_of tree.entries b)) × TakesClean root.clean tree.entries learnt.clean × LeadsTo geometry size committed None w (Opens mode (Rooting learnt)) devices
   pub look_stops : Stages (λ geometry size committed later mode w devices. LeadsTo geometry size committed later w Gone devices) Looking
   -- its root leads to a state that has the same blocks
-  pub roots : (learnt : Learnt) (new : Stored) (metadata : List History) → learnt.locations ≡ locations new →
+  pub roots : (learnt : Learnt) (new : Stored) (metadata : List History) → learnt.locations ≡ locations new → StateTakesClean new (λ block. false) →
       Stages (λ geometry size committed later mode w devices. MayBeReadAs geometry committed (Some new) metadata → LeadsTo geometry size committed (Some new) w (Opens mode (Renewing learnt)) (record devices { metadata = metadata })) (Rooting learnt)
-  pub root_fails : (learnt : Learnt) (new : Stored) (metadata : List History) → learnt.locations ≡ locations new →
+  pub root_fails : (learnt : Learnt) (new : Stored) (metadata : List History) → learnt.locations ≡ locations new → StateTakesClean new (λ block. false) →
       Stages (λ geometry size committed later mode w devices. MayBeReadAs geometry committed (Some new) metadata → LeadsTo geometry size committed (Some new) w Gone (record devices { metadata = metadata })) (Rooting learnt)
   pub renews : (learnt : Learnt) (metadata : List History) → Stages (λ geometry size committed later mode w devices. MayBeReadAs geometry committed later metadata → LeadsTo geometry size committed later w (Opens mode (Answering learnt)) (record devices { metadata = metadata })) (Renewing learnt)
   pub renewing_fails : (learnt : Learnt) (metadata : List History) → Stages (λ geometry size committed later mode w devices. MayBeReadAs geometry committed later metadata → LeadsTo geometry size committed later w Gone (record devices { metadata = metadata })) (Renewing learnt)
   -- and is the one image when the opening is answered done
-  pub answers : (learnt : Learnt) (new : Stored) (blocks : ℕ → Block) → learnt.locations ≡ locations new → ((k : ℕ) → (blocks k ≡ Mapped) ⊎ ((blocks k ≡ Free) × IsUnnamed learnt.locations k)) →
+  pub answers : (learnt : Learnt) (new : Stored) (blocks : ℕ → Block) → learnt.locations ≡ locations new → StateTakesClean new (λ block. false) → ((k : ℕ) → (blocks k ≡ Mapped) ⊎ ((blocks k ≡ Free) × IsUnnamed learnt.locations k)) →
       Stages (λ geometry size committed later mode w devices. MayBeReadAs geometry new None devices.metadata → LeadsTo geometry size new None w Stands devices) (Answering learnt)
 
 -- What comes of the images (`Worlds.Turn`), where the metadata may be read so after it: where they stay, any commit or none runs;
@@ -95,7 +101,7 @@ pub record OpeningsFollowed : Type 0 where
 pub record ImagesFollowed : Type 0 where
   pub stay : (geometry : Geometry) (committed : Stored) (later : Option Stored) (old new : List History) (s t : Shared) → ImagesAgree geometry committed later old s → TurnedTo Stays s t → MayBeReadAs geometry committed later new → ImagesAgree geometry committed later new t
   pub begin : (geometry : Geometry) (committed : Stored) (metadata : List History) (s t : Shared) → ImagesAgree geometry committed None metadata s → TurnedTo Begins s t → ImagesAgree geometry committed None metadata t × (t.running ≡ s.mapping)
-  pub put : (geometry : Geometry) (committed state : Stored) (later : Option Stored) (old new : List History) (s t : Shared) → ImagesAgree geometry committed later old s → TurnedTo (Puts true) s t → s.running ≡ locations state → MayBeReadAs geometry committed (Some state) new →
+  pub put : (geometry : Geometry) (committed state : Stored) (later : Option Stored) (old new : List History) (s t : Shared) → ImagesAgree geometry committed later old s → TurnedTo (Puts true) s t → s.running ≡ locations state → StateTakesClean state s.running_clean → MayBeReadAs geometry committed (Some state) new →
       ImagesAgree geometry committed (Some state) new t
   pub put_none : (geometry : Geometry) (committed : Stored) (written : Bool) (later : Option Stored) (old new : List History) (s t : Shared) → ImagesAgree geometry committed later old s → TurnedTo (Puts written) s t → MayBeReadAs geometry committed None new → ImagesAgree geometry committed None new t
-  pub end : (geometry : Geometry) (state : Stored) (metadata : List History) (s t : Shared) → TurnedTo Ends s t → s.running ≡ locations state → MayBeReadAs geometry state None metadata → ImagesAgree geometry state None metadata t
+  pub end : (geometry : Geometry) (state : Stored) (metadata : List History) (s t : Shared) → TurnedTo Ends s t → s.running ≡ locations state → StateTakesClean state s.running_clean → MayBeReadAs geometry state None metadata → ImagesAgree geometry state None metadata t

@@ -91,10 +91,10 @@ pub data Turn : Type 0 where
   GivesUp : (cache : ℕ) → Turn
 
 abbrev pub TurnedTo : Turn → (s t : Shared) → Type 0
-TurnedTo Begins s t = (t.committed ≡ s.committed) × (t.running ≡ s.mapping) × (t.root_written ≡ s.root_written)
-TurnedTo (Puts written) s t = (t.committed ≡ s.committed) × (t.running ≡ s.running) × (t.root_written ≡ written)
-TurnedTo Ends s t = (t.committed ≡ s.running) × (t.root_written ≡ false)
-TurnedTo turn s t = (t.committed ≡ s.committed) × (t.running ≡ s.running) × (t.root_written ≡ s.root_written)
+TurnedTo Begins s t = (t.committed ≡ s.committed) × (t.running ≡ s.mapping) × (t.root_written ≡ s.root_written) × (t.committed_clean ≡ s.committed_clean) × (t.running_clean ≡ (λ block. false))
+TurnedTo (Puts written) s t = (t.committed ≡ s.committed) × (t.running ≡ s.running) × (t.root_written ≡ written) × (t.committed_clean ≡ s.committed_clean) × (t.running_clean ≡ s.running_clean)
+TurnedTo Ends s t = (t.committed ≡ s.running) × (t.root_written ≡ false) × (t.committed_clean ≡ s.running_clean)
+TurnedTo turn s t = (t.committed ≡ s.committed) × (t.running ≡ s.running) × (t.root_written ≡ s.root_written) × (t.committed_clean ≡ s.committed_clean) × (t.running_clean ≡ s.running_clean)
 
 -- where each block is then
 abbrev pub mapping_by : Turn → Shared → Locations
