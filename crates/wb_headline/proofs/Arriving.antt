@@ -26,13 +26,11 @@ use Rattle.wb_disk.specs.Crash.{Choice}
 use Rattle.wb_disk.proofs.Crashes.{Crashed-crashed_from}
 use Rattle.wb_promise.specs.Effects.{all_crashed, after_crash, all_resting}
 use Rattle.wb_simulation.proofs.Opening.{openings_followed}
-use Rattle.wb_headline.proofs.Unclean.{IsPlainEvent}
 use Rattle.wb_headline.proofs.Events.{Reached, event_reaches}
 use Rattle.wb_headline.proofs.Following.{AtStage, IsOver, many, size, Sized, DevicesFollow, PhaseFollows, Followed, Goes}
 
 -- it leaves nobody at anything, and nothing is noted of it
 pub record Quietens (v : Site) (e : Event) (m : AbstractNotes) : Type 0 where
-  pub plain : IsPlainEvent e
   pub shared : Shared
   pub world_is : (after_event v e).world ≡ emptied v.world shared
   pub notes_are : note_event m e ≡ m
@@ -40,8 +38,8 @@ pub record Quietens (v : Site) (e : Event) (m : AbstractNotes) : Type 0 where
 -- so it is of every event after which no target stands
 pub quietens : (size : ℕ) (v : Site) (e : Event) (m : AbstractNotes) → MayHappen size v e → (after_event v e).phase ≢ StandsThere → Quietens v e m
 quietens size v (On r) m may down = absurd (down may.0)
-quietens size v (Stopped r) m may down = record { plain = tt; shared = _; world_is = refl; notes_are = refl }
-quietens size v (Begins mode) m may down = record { plain = tt; shared = _; world_is = refl; notes_are = refl }
+quietens size v (Stopped r) m may down = record { shared = _; world_is = refl; notes_are = refl }
+quietens size v (Begins mode) m may down = record { shared = _; world_is = refl; notes_are = refl }
 quietens size v (Advances outcome) m may down = by_outcome outcome may.3 (λ e. down (ap (λ (p : PhaseThere). (advance v.world p outcome).phase) may.2 ∙ e))
   where
     world : (o : Outcome) → (advance v.world v.phase o).world ≡ emptied v.world (advanced v.world.shared may.0 may.1 o)
@@ -53,7 +51,7 @@ quietens size v (Advances outcome) m may down = by_outcome outcome may.3 (λ e. 
     no_showing stage mode s o y d = refl
 
     by_outcome : (o : Outcome) → Yields v.world.shared may.0 may.1 o → next_phase may.0 may.1 o ≢ StandsThere → Quietens v (Advances o) m
-    by_outcome o y d = record { plain = tt; shared = advanced v.world.shared may.0 may.1 o; world_is = world o; notes_are = no_showing may.1 may.0 v.world.shared o y d }
+    by_outcome o y d = record { shared = advanced v.world.shared may.0 may.1 o; world_is = world o; notes_are = no_showing may.1 may.0 v.world.shared o y d }
 
 -- who has nothing to do there has no task
 pub rests_there : (w : World) (s : Shared) (a : ℕ) (y : AbstractActor) → slice_get (emptied w s).actors a ≡ Some y → y.task ≡ None
@@ -113,7 +111,7 @@ module _ (P A : Type 0) (shape : Shape) where
         record {
           site = after_event f.site l.event;
           notes = f.notes;
-          reached = subst (λ (m : AbstractNotes). Reached (size P A shape) (many P A shape) (after_event f.site l.event) m) q.notes_are (event_reaches (size P A shape) (many P A shape) f.site f.notes l.event f.reached l.may q.plain);
+          reached = subst (λ (m : AbstractNotes). Reached (size P A shape) (many P A shape) (after_event f.site l.event) m) q.notes_are (event_reaches (size P A shape) (many P A shape) f.site f.notes l.event f.reached l.may);
           as_many = ap (λ (v : World). length v.actors) q.world_is ∙ emptied_many f.site.world q.shared ∙ f.as_many;
           notes_agree = notes_at_rest (size P A shape) n n' f.site.world (after_event f.site l.event).world f.notes f.notes_agree same.histories same.finished same.floors same.doings idle;
           idle = idle;

@@ -69,7 +69,7 @@ module _ (P A : Type 0) (shape : Shape) (metadata : List History) (f : IsFormatt
         site = begun;
         notes = abstract_opened (λ b o. zeros);
         reached = event_reaches (size P A shape) (many P A shape) first (abstract_opened (λ b o. zeros)) (Stopped crash) (start_reached (size P A shape) (many P A shape))
-            (record { root = λ e. absurd (cc); origin = λ b o. Contains-first zeros []; cache = λ k o. Contains-first zeros [] }) tt;
+            (record { root = λ e. absurd (cc); origin = λ b o. Contains-first zeros []; cache = λ k o. Contains-first zeros [] });
         as_many = length-replicate (length first.world.actors) idle ∙ length-replicate (many P A shape) idle;
         notes_agree = record {
           histories = empty_device zeros (size P A shape) (sector_count shape);

@@ -1,17 +1,12 @@
 -- A run of the abstract world goes on by events, and what it promises of the site that it has come to.
-use Rattle.std.proofs.Common.{◌≡◌, ◌∙◌, ℕ, true, false, List, [], ◌∷◌, ◌++◌, refl, sym, ap, subst, map, Contains}
+use Rattle.std.proofs.Common.{◌≡◌, ◌∙◌, ℕ, true, List, [], ◌∷◌, ◌++◌, refl, sym, ap, subst, map, Contains}
 use Rattle.wb_disk.specs.Device.{Content, entries}
 use Rattle.wb_contents.specs.Volume.{at_location}
 use Rattle.wb_contents.specs.Promises.{IsEntryFrom}
-use Rattle.wb_link.specs.World.{AbstractActor, Record, IsAbstractRun, abstract_after_all}
+use Rattle.wb_link.specs.World.{Record, IsAbstractRun, abstract_after_all}
 use Rattle.wb_link.specs.Clerk.{AbstractNotes, abstract_opened}
 use Rattle.wb_link.specs.Openings.{Event, On, Site, Stands, after_event, after_events, note_event, abstract_noted, AllEventsRight, MayHappen, AbstractHappens, site}
-use Rattle.wb_link.proofs.Lives.{headline, start_is_linked}
-use Rattle.wb_contents.proofs.Lists.{replicated}
-use Rattle.wb_link.proofs.Runs.{fresh_noted}
-use Rattle.wb_contents.specs.Promises.{first_volume}
-use Rattle.wb_types.specs.declared.mode.Mode.TheVariants.{Writeback}
-use Rattle.wb_headline.proofs.Unclean.{ArePlainEvents, ArePlainRecords, IsPlainEvent, IsPlainTask, run_unclean}
+use Rattle.wb_link.proofs.Lives.{headline}
 use Rattle.wb_simulation.specs.Worlds.{zeros}
 use Rattle.wb_simulation.specs.Noted.{told}
 
@@ -19,7 +14,6 @@ use Rattle.wb_simulation.specs.Noted.{told}
 pub record Reached (size many : ℕ) (v : Site) (m : AbstractNotes) : Type 0 where
   pub events : List Event
   pub happens : AbstractHappens size (site many zeros) events
-  pub plain : ArePlainEvents events
   pub at : after_events (site many zeros) events ≡ v
   pub notes : abstract_noted (abstract_opened (λ b o. zeros)) events ≡ m
 
@@ -37,23 +31,18 @@ happens-append : (size : ℕ) (v : Site) (es fs : List Event) → AbstractHappen
 happens-append size v [] fs h k = k
 happens-append size v (e ∷ es) fs h k = (h.0, happens-append size (after_event v e) es fs h.1 k)
 
-plain-append : (es fs : List Event) → ArePlainEvents es → ArePlainEvents fs → ArePlainEvents (es ++ fs)
-plain-append [] fs p q = q
-plain-append (e ∷ es) fs p q = (p.0, plain-append es fs p.1 q)
-
 right_behind : (m : AbstractNotes) (es fs : List Event) → AllEventsRight m (es ++ fs) → AllEventsRight (abstract_noted m es) fs
 right_behind m [] fs r = r
 right_behind m (e ∷ es) fs r = right_behind (note_event m e) es fs r.1
 
 pub start_reached : (size many : ℕ) → Reached size many (site many zeros) (abstract_opened (λ b o. zeros))
-start_reached size many = record { events = []; happens = tt; plain = tt; at = refl; notes = refl }
+start_reached size many = record { events = []; happens = tt; at = refl; notes = refl }
 
 module _ (size many : ℕ) (v : Site) (m : AbstractNotes) (r : Reached size many v m) where
-  pub goes_on : (es : List Event) → AbstractHappens size v es → ArePlainEvents es → Reached size many (after_events v es) (abstract_noted m es)
-  goes_on es h p = record {
+  pub goes_on : (es : List Event) → AbstractHappens size v es → Reached size many (after_events v es) (abstract_noted m es)
+  goes_on es h = record {
     events = r.events ++ es;
     happens = happens-append size (site many zeros) r.events es r.happens (subst (λ (w : Site). AbstractHappens size w es) (sym r.at) h);
-    plain = plain-append r.events es r.plain p;
     at = after-append (site many zeros) r.events es ∙ ap (λ (w : Site). after_events w es) r.at;
     notes = noted-append (abstract_opened (λ b o. zeros)) r.events es ∙ ap (λ (n : AbstractNotes). abstract_noted n es) r.notes;
   }
@@ -63,12 +52,6 @@ module _ (size many : ℕ) (v : Site) (m : AbstractNotes) (r : Reached size many
   is_right es h =
       let all = headline size many zeros (r.events ++ es) (happens-append size (site many zeros) r.events es r.happens (subst (λ (w : Site). AbstractHappens size w es) (sym r.at) h)) in
       subst (λ (n : AbstractNotes). AllEventsRight n es) r.notes (right_behind (abstract_opened (λ b o. zeros)) r.events es all.right)
-
-  -- nothing is taken as clean
-  pub never_clean : (b : ℕ) → v.world.shared.committed_clean b ≡ false
-  never_clean = subst (λ (w : Site). (b : ℕ) → w.world.shared.committed_clean b ≡ false) r.at
-      (run_unclean size (site many zeros) (first_volume Writeback (λ b o. zeros)) (abstract_opened (λ b o. zeros)) r.events (start_is_linked size many zeros) (fresh_noted many (first_volume Writeback (λ b o. zeros)) (λ b o. zeros) refl) r.happens r.plain
-      (record { tasks = λ a y e. subst (λ (w : AbstractActor). IsPlainTask w.task) (replicated many a _ y e) tt; images = (λ b. refl, λ b. refl) })).images.0
 
   -- what a crash may leave where the committed image has a block is allowed
   pub committed_allowed : (b o : ℕ) (c : Content) → Contains (entries (at_location v.world.shared.origin v.world.shared.cache (v.world.shared.committed b) b o)) c → IsEntryFrom (m.floors b o) (m.histories b o) c
@@ -92,16 +75,12 @@ after-records : (v : Site) (rs : List Record) → after_events v (map (λ (r : R
 after-records v [] = refl
 after-records v (r ∷ rs) = after-records (after_event v (On r)) rs
 
-plain_records : (rs : List Record) → ArePlainRecords rs → ArePlainEvents (map (λ (r : Record). On r) rs)
-plain_records [] p = tt
-plain_records (r ∷ rs) p = (p.0, plain_records rs p.1)
-
 pub records_happen : (size : ℕ) (v : Site) (rs : List Record) → v.phase ≡ Stands → IsAbstractRun size v.world rs → AbstractHappens size v (map (λ (r : Record). On r) rs)
 records_happen size v [] p run = tt
 records_happen size v (r ∷ rs) p run = ((p, run.0), records_happen size (after_event v (On r)) rs p run.1)
 
-pub records_reach : (size many : ℕ) (v : Site) (m : AbstractNotes) (rs : List Record) → Reached size many v m → v.phase ≡ Stands → IsAbstractRun size v.world rs → ArePlainRecords rs → Reached size many (gone_on v rs) (told m rs)
-records_reach size many v m rs r p run plain = subst (λ (w : Site). Reached size many w (told m rs)) (after-records v rs) (goes_on size many v m r (map (λ (x : Record). On x) rs) (records_happen size v rs p run) (plain_records rs plain))
+pub records_reach : (size many : ℕ) (v : Site) (m : AbstractNotes) (rs : List Record) → Reached size many v m → v.phase ≡ Stands → IsAbstractRun size v.world rs → Reached size many (gone_on v rs) (told m rs)
+records_reach size many v m rs r p run = subst (λ (w : Site). Reached size many w (told m rs)) (after-records v rs) (goes_on size many v m r (map (λ (x : Record). On x) rs) (records_happen size v rs p run))
 
-pub event_reaches : (size many : ℕ) (v : Site) (m : AbstractNotes) (e : Event) → Reached size many v m → MayHappen size v e → IsPlainEvent e → Reached size many (after_event v e) (note_event m e)
-event_reaches size many v m e r h p = goes_on size many v m r (e ∷ []) (h, tt) (p, tt)
+pub event_reaches : (size many : ℕ) (v : Site) (m : AbstractNotes) (e : Event) → Reached size many v m → MayHappen size v e → Reached size many (after_event v e) (note_event m e)
+event_reaches size many v m e r h = goes_on size many v m r (e ∷ []) (h, tt)

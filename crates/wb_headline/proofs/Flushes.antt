@@ -188,7 +188,7 @@ module _ (P A : Type 0) (shape : Shape) (images : Images) (t : Target P) (commit
     on_device known' desk images_agree running =
         subst (λ (q : Job). Goes P A shape (then_is t' commit' devices' (Device step) got) (device_note shape t.desk.mode (device_n step got) a (failing doing step got) q step got contents)) (sym job_is)
         (subst (λ (y : Actor). Goes P A shape (record { devices = devices'; commit = commit'; phase = Stands t'; actors = slice_set actors a y }) (device_n step got)) (sym (actor_is P A shape (Stands t) devices x Flush plan (Device step) got xt ∙ (λ i. record (after_step Flush plan got x) { buffer = plain i })))
-        (leads_on P A shape images t commit devices actors n known f a x ex turn Quietly t' commit' devices' (after_step Flush plan got x) (device_n step got) images' (live_orders t'.desk) g tt device_notes (length-set n.doings a (Some (failing doing step got))) refl known' refl desk images_agree running))
+        (leads_on P A shape images t commit devices actors n known f a x ex turn Quietly t' commit' devices' (after_step Flush plan got x) (device_n step got) images' (live_orders t'.desk) g device_notes (length-set n.doings a (Some (failing doing step got))) refl known' refl desk images_agree running))
 
   -- cache and origin are synced, or fail to be
   module _ (device : Dev) (holds : HoldsBlocks device) (next : Device (Sync device) ≡ want plan) (contents : List Bytes) where
@@ -310,8 +310,10 @@ module _ (P A : Type 0) (shape : Shape) (images : Images) (t : Target P) (commit
           let same : b.now.committed ≡ images.committed = same_one b.turn images b.now (ap (λ (i : Images). i.running) q.are) b.turned in
           let later : later_of b.now ≡ None = ap later_of l.under.are ∙ ap (λ (v : CommitSteps). if is_written v then Some l.of.new else None) steps in
           subst (λ (y : Actor). Goes P A shape (record { devices = devices; commit = Some c; phase = Stands t'; actors = slice_set actors a y }) n) (sym (actor_is P A shape (Stands t) devices x Flush plan (Desk (BeginCommit clean allowed)) (Began nodes) xt))
-          (leads_on P A shape images t commit devices actors n known f a x ex Begins Quietly t' (Some c) devices y n b.now (live_orders t'.desk) g tt (quiet_notes g) refl refl b.kept.0 refl (desk_begins P t.desk s s' f.phase.desk tree begun.image_is.same_entries g.desk.0 g.desk.1) (subst (λ (o : Option Stored). ImagesAgree shape.geometry b.now.committed o devices.metadata s') (sym later) (subst (λ (v : Stored). ImagesAgree shape.geometry v None devices.metadata s') (sym same) begun_there.0)) (λ state e. let is = some_is b.kept.1.0 state (sym b.kept.1.1 ∙ e) in (begun_there.1 ∙ f.phase.desk.mapping ∙ ap (λ es. Rattle.wb_simulation.specs.Opened.located es) (sym b.kept.1.2) ∙ ap locations is,
-          subst (StateTakesClean state) (sym g.turned.4) (none_clean state (subst IsFit (some_is l.of.new state (sym (ap (λ (i : Images). i.running) l.under.are) ∙ e)) l.under.fit_new)))))
+          (leads_on P A shape images t commit devices actors n known f a x ex Begins Quietly t' (Some c) devices y n b.now (live_orders t'.desk) g (quiet_notes g) refl refl b.kept.0 refl (desk_begins P t.desk s s' f.phase.desk tree begun.image_is.same_entries g.desk.0 g.desk.1) (subst (λ (o : Option Stored). ImagesAgree shape.geometry b.now.committed o devices.metadata s') (sym later) (subst (λ (v : Stored). ImagesAgree shape.geometry v None devices.metadata s') (sym same) begun_there.0)) (λ state e. let is = some_is b.kept.1.0 state (sym b.kept.1.1 ∙ e) in (
+            begun_there.1 ∙ f.phase.desk.mapping ∙ ap (λ es. Rattle.wb_simulation.specs.Opened.located es) (sym b.kept.1.2) ∙ ap locations is,
+            subst (StateTakesClean state) (sym g.turned.4) (none_clean state (subst IsFit (some_is l.of.new state (sym (ap (λ (i : Images). i.running) l.under.are) ∙ e)) l.under.fit_new)),
+          )))
 
       by_commit : (o : Option RunningCommit) → commit ≡ o → AtDesk shape.geometry images t.desk commit devices.metadata → Goes P A shape (then_is (record { words = t.words; desk = commit_begun t.desk tree }) (Some c) devices (Desk (BeginCommit clean allowed)) (Began nodes)) n
       by_commit (Some d) e k = absurd (let k' = subst (λ (m : Option RunningCommit). AtDesk shape.geometry images t.desk m devices.metadata) e k in let busy = k'.stands.busy in let bad : false ≡ true = sym idle ∙ busy in cc)
@@ -325,7 +327,7 @@ module _ (P A : Type 0) (shape : Shape) (images : Images) (t : Target P) (commit
       let g = flush_steps_followed.is_refused now allowed clean refusal a x plan f.site.world (no_begin refusal r) (wants next) in
       let y = after_step Flush plan (GotRefused refusal) x in
       subst (λ (y : Actor). Goes P A shape (record { devices = devices; commit = commit; phase = Stands t; actors = slice_set actors a y }) n) (sym (actor_is P A shape (Stands t) devices x Flush plan (Desk (BeginCommit clean allowed)) (GotRefused refusal) xt))
-      (stays_on P A shape images t commit devices actors n known f a x ex Quietly t.words devices y n g tt (quiet_notes g) refl refl refl)
+      (stays_on P A shape images t commit devices actors n known f a x ex Quietly t.words devices y n g (quiet_notes g) refl refl refl)
 
   -- the commit ends
   ends : (c : RunningCommit) → commit ≡ Some c → Desk EndCommit ≡ want plan → is_committed c.steps ≡ true → Goes P A shape (then_is (record { words = t.words; desk = ended t.desk }) None devices (Desk EndCommit) Done) n
@@ -345,7 +347,7 @@ module _ (P A : Type 0) (shape : Shape) (images : Images) (t : Target P) (commit
       let agree = images_followed.end shape.geometry e.kept.1.0 devices.metadata s s' g.turned (f.phase.running e.kept.1.0 e.kept.1.1).0 (f.phase.running e.kept.1.0 e.kept.1.1).1 read in
       subst (λ (d : DeskState P). Goes P A shape (then_is (record { words = t.words; desk = d }) None devices (Desk EndCommit) Done) n) (sym is)
       (subst (λ (y : Actor). Goes P A shape (record { devices = devices; commit = None; phase = Stands t'; actors = slice_set actors a y }) n) (sym (actor_is P A shape (Stands t) devices x Flush plan (Desk EndCommit) Done xt))
-      (leads_on P A shape images t commit devices actors n known f a x ex Ends Quietly t' None devices y n e.now (live_orders t'.desk) g tt (quiet_notes g) refl refl known' refl (desk_ends P t.desk s s' f.phase.desk g.desk.0 g.desk.1) (subst (λ (i : Images). ImagesAgree shape.geometry i.committed (later_of i) devices.metadata s') (sym one) agree) (λ state r. absurd (let bad : None ≡ Some state = sym (ap (λ (i : Images). i.running) one) ∙ r in cc))))
+      (leads_on P A shape images t commit devices actors n known f a x ex Ends Quietly t' None devices y n e.now (live_orders t'.desk) g (quiet_notes g) refl refl known' refl (desk_ends P t.desk s s' f.phase.desk g.desk.0 g.desk.1) (subst (λ (i : Images). ImagesAgree shape.geometry i.committed (later_of i) devices.metadata s') (sym one) agree) (λ state r. absurd (let bad : None ≡ Some state = sym (ap (λ (i : Images). i.running) one) ∙ r in cc))))
 
   -- ---- the shared words, and the answer
 
@@ -354,7 +356,7 @@ module _ (P A : Type 0) (shape : Shape) (images : Images) (t : Target P) (commit
   told_so step next g =
       let y = stepped_actor t.words Flush plan step x in
       subst (λ (y : Actor). Goes P A shape (record { devices = devices; commit = commit; phase = Stands (record { words = words_after t.words step; desk = t.desk }); actors = slice_set actors a y }) n) (sym (actor_is P A shape (Stands t) devices x Flush plan (Cell step) (got_of (result_of t.words step)) xt))
-      (stays_on P A shape images t commit devices actors n known f a x ex Quietly (words_after t.words step) devices y n g tt
+      (stays_on P A shape images t commit devices actors n known f a x ex Quietly (words_after t.words step) devices y n g
       (quiet_notes g) refl refl refl)
 
   on_words : (step : CellStep) → (step ≡ Look Fail) ⊎ (step ≡ SetFailed) → Cell step ≡ want plan → Goes P A shape (then_is (record { words = words_after t.words step; desk = t.desk }) commit devices (Cell step) (got_of (result_of t.words step))) n
@@ -380,7 +382,7 @@ module _ (P A : Type 0) (shape : Shape) (images : Images) (t : Target P) (commit
           NotesAgree (size P A shape) n' (abstract_after_all f.site.world g.records) (told f.notes g.records) → length n'.doings ≡ length n.doings → length n'.histories ≡ length n.histories → Goes P A shape (then_is t commit devices (End v) Done) n'
       finish v y same n' g notes d h =
           subst (λ (y : Actor). Goes P A shape (record { devices = devices; commit = commit; phase = Stands t; actors = slice_set actors a y }) n') (sym (actor_is P A shape (Stands t) devices x Flush plan (End v) Done xt ∙ same))
-          (stays_on P A shape images t commit devices actors n known f a x ex (Answers (FlushingFor None) v) t.words devices y n' g tt notes d h refl)
+          (stays_on P A shape images t commit devices actors n known f a x ex (Answers (FlushingFor None) v) t.words devices y n' g notes d h refl)
 
       served : (o : Order) → Contains (held_of x) o → Contains ((x.awaiting ++ x.orders) ++ []) o
       served o h = Contains-append_left (x.awaiting ++ x.orders) [] o (elim (Contains-append_cases x.orders x.awaiting o h) [ inl i ↦ Contains-append_right x.awaiting x.orders o i | inr i ↦ Contains-append_left x.awaiting x.orders o i ])
@@ -412,7 +414,7 @@ module _ (P A : Type 0) (shape : Shape) (images : Images) (t : Target P) (commit
       by_order None e d =
           let g = flush_steps_followed.releases now block a x plan f.site.world (wants next) in
           subst To (sym d) (subst (λ (os : List Order). Goes P A shape (record { devices = devices; commit = commit; phase = Stands t; actors = slice_set actors a (record x { task = Some (Flush, after plan Done); awaiting = os }) }) n) (sym (none_dropped block x.awaiting e))
-          (stays_on P A shape images t commit devices actors n known f a x ex Quietly t.words devices (after_step Flush plan Done x) n g tt (quiet_notes g) refl refl refl))
+          (stays_on P A shape images t commit devices actors n known f a x ex Quietly t.words devices (after_step Flush plan Done x) n g (quiet_notes g) refl refl refl))
       by_order (Some order) e d =
           let y : Actor = record x { task = Some (Flush, after plan Done); awaiting = dropped block x.awaiting } in
           let mine = found_of block x.awaiting order e in
@@ -428,7 +430,7 @@ module _ (P A : Type 0) (shape : Shape) (images : Images) (t : Target P) (commit
           (λ c z ez h. owned.one c a z x order ez ex h had) in
           let s' = (abstract_after_all f.site.world g.records).shared in
           let readable = kept_readable shape.geometry images devices.metadata P A (Stands t) commit known in
-          subst To (sym is) (leads_on P A shape images t commit devices actors n known f a x ex (GivesUp l.cache.0) Releases (record { words = t.words; desk = released t.desk l.cache }) commit devices y n images (slice_set (live_orders t.desk) l.cache.0 None) g tt
+          subst To (sym is) (leads_on P A shape images t commit devices actors n known f a x ex (GivesUp l.cache.0) Releases (record { words = t.words; desk = released t.desk l.cache }) commit devices y n images (slice_set (live_orders t.desk) l.cache.0 None) g
           (notes_followed.released (GivesUp l.cache.0) a f.site.world _ _ g b.0 n f.notes b.1 noted_less f.notes_agree)
           refl refl (subst (λ (v : DeskState P). AtDesk shape.geometry images v commit devices.metadata) is (given_up_stands P shape.geometry images t.desk commit devices.metadata new order known d))
           (sym (orders_set t.desk.orders.slots l.cache.0 None)) (desk_releases P t.desk s s' f.phase.desk l.cache (omega (arith, inside, many_slots, many_blocks)) g.desk.0 g.desk.1)

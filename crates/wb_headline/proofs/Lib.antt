@@ -1,5 +1,4 @@
 mod Events
-mod Unclean
 mod Following
 mod Arriving
 mod Rooted

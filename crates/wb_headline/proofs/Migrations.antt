@@ -129,7 +129,7 @@ module _ (P A : Type 0) (shape : Shape) (images : Images) (t : Target P) (commit
         let y = stepped_actor t.words migrating_job plan step x in
         let g = migrations_followed.cells now shape.geometry.origin_blocks a x migration block plan step f.site.world rule (wants next) suits sees in
         subst (λ (y : Actor). Goes P A shape (record { devices = devices; commit = commit; phase = Stands (record { words = words_after t.words step; desk = t.desk }); actors = slice_set actors a y }) n) (sym (actor_is P A shape (Stands t) devices x migrating_job plan (Cell step) (got_of (result_of t.words step)) xt))
-        (stays_on P A shape images t commit devices actors n known f a x ex Carries (words_after t.words step) devices y n g tt
+        (stays_on P A shape images t commit devices actors n known f a x ex Carries (words_after t.words step) devices y n g
         (carried_notes g) refl refl refl)
 
     -- on a device
@@ -142,7 +142,7 @@ module _ (P A : Type 0) (shape : Shape) (images : Images) (t : Target P) (commit
           let notes = notes_followed.redone (size P A shape) n (abstract_after_all f.site.world g.records) (told f.notes g.records) a doing mid (carried_notes g) noted e.0 e.1 in
           subst (λ (q : Job). Goes P A shape (record { devices = devices'; commit = commit; phase = Stands t; actors = slice_set actors a (actor_then {P = P} {A = A} shape (Stands t) devices x (Device step) got) }) (device_note shape t.desk.mode (put n a (Some mid)) a mid q step got contents)) (sym job_is)
           (subst (λ (v : Actor). Goes P A shape (record { devices = devices'; commit = commit; phase = Stands t; actors = slice_set actors a v }) (put n a (Some mid))) (sym is)
-          (stays_on P A shape images t commit devices actors n known f a x ex Carries t.words devices' y (put n a (Some mid)) g tt notes (length-set n.doings a (Some mid)) refl same))
+          (stays_on P A shape images t commit devices actors n known f a x ex Carries t.words devices' y (put n a (Some mid)) g notes (length-set n.doings a (Some mid)) refl same))
 
     pub read_done : (device : Dev) (e : Extent) (contents : List Bytes) → Device (ReadExtent device e) ≡ want plan → e.first + e.count ≤ length (device_in device devices) →
         Goes P A shape (record { devices = devices; commit = commit; phase = Stands t; actors = slice_set actors a (actor_then {P = P} {A = A} shape (Stands t) devices x (Device (ReadExtent device e)) Done) }) (noted_step shape t.desk.mode [] n a (Some (Some doing)) (Device (ReadExtent device e)) Done contents)
@@ -178,7 +178,7 @@ module _ (P A : Type 0) (shape : Shape) (images : Images) (t : Target P) (commit
         let y = after_step migrating_job plan (GotRefused refusal) x in
         let g = migrations_followed.is_refused now shape.geometry.origin_blocks a x migration block b c plan refusal f.site.world (wants next) suits in
         subst (λ (y : Actor). Goes P A shape (record { devices = devices; commit = commit; phase = Stands t; actors = slice_set actors a y }) n) (sym (actor_is P A shape (Stands t) devices x migrating_job plan (Desk (Map b c)) (GotRefused refusal) xt))
-        (stays_on P A shape images t commit devices actors n known f a x ex Carries t.words devices y n g tt
+        (stays_on P A shape images t commit devices actors n known f a x ex Carries t.words devices y n g
         (carried_notes g) refl refl refl)
 
     -- it is answered
@@ -194,7 +194,7 @@ module _ (P A : Type 0) (shape : Shape) (images : Images) (t : Target P) (commit
             let g = migrations_followed.answers now shape.geometry.origin_blocks a x migration block plan v f.site.world (wants e) suits in
             let b = beside P A shape images t commit devices actors n known f a x ex in
             subst (λ (v' : Actor). Goes P A shape (record { devices = devices; commit = commit; phase = Stands t; actors = slice_set actors a v' }) (put n a None)) (sym (actor_is P A shape (Stands t) devices x migrating_job plan (End v) Done xt ∙ (λ i. record { task = None; card = x.card; orders = (answered_still x.orders x.awaiting migration block v).0 i; awaiting = (answered_still x.orders x.awaiting migration block v).1 i; buffer = x.buffer })))
-            (stays_on P A shape images t commit devices actors n known f a x ex Rests t.words devices (record x { task = None }) (put n a None) g tt
+            (stays_on P A shape images t commit devices actors n known f a x ex Rests t.words devices (record x { task = None }) (put n a None) g
             (notes_followed.rests Stays a f.site.world _ _ g b.0 n f.notes b.1 noted_less f.notes_agree) (length-set n.doings a None) refl refl)
 
         by_answer : (v : Answer) → End v ≡ want plan → Goes P A shape (record { devices = devices; commit = commit; phase = Stands t; actors = slice_set actors a (actor_then {P = P} {A = A} shape (Stands t) devices x (End v) Done) }) (noted_step shape t.desk.mode shown n a (Some (Some doing)) (End v) Done contents)
@@ -272,7 +272,7 @@ module _ (P A : Type 0) (shape : Shape) (t : Target P) (commit : Option RunningC
       let turned = stays g.turned in
       let readable = kept_readable shape.geometry b.goes.images devices.metadata P A (Stands t) commit b.goes.known in
       subst (λ (v : Actor). Goes P A shape (record { devices = devices; commit = commit; phase = Stands (record { words = t.words; desk = desk' }); actors = slice_set actors a v }) n) (sym is)
-      (leads_on P A shape b.goes.images t commit devices actors n b.goes.known f a x ex turn Carries (record { words = t.words; desk = desk' }) commit devices y n b.goes.images orders' g tt
+      (leads_on P A shape b.goes.images t commit devices actors n b.goes.known f a x ex turn Carries (record { words = t.words; desk = desk' }) commit devices y n b.goes.images orders' g
       (carried_notes P A shape b.goes.images t commit devices actors n b.goes.known f a x ex g) refl refl known' same desk
       (images_followed.stay shape.geometry b.goes.images.committed (later_of b.goes.images) devices.metadata devices.metadata s s' f.phase.images_agree turned readable.read)
       (λ state e. let r = f.phase.running state e in (turned.1 ∙ r.0, subst (StateTakesClean state) (sym turned.4) r.1)))

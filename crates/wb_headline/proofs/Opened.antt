@@ -207,7 +207,7 @@ module _ (P A : Type 0) (shape : Shape) (images : Images) (devices : Devices (Li
             followed = record {
               site = site_now;
               notes = opened_notes (view_of f.site i);
-              reached = subst (λ (v : Site). Reached (size P A shape) (many P A shape) v (opened_notes (view_of f.site i))) leads (event_reaches (size P A shape) (many P A shape) f.site f.notes (answer_of f.site i tree) f.reached may tt);
+              reached = subst (λ (v : Site). Reached (size P A shape) (many P A shape) v (opened_notes (view_of f.site i))) leads (event_reaches (size P A shape) (many P A shape) f.site f.notes (answer_of f.site i tree) f.reached may);
               as_many = length-replicate (length f.site.world.actors) idle ∙ f.as_many;
               notes_agree = notes_followed.anew (size P A shape) (length n.doings) shown_now (view_of f.site i) f.site.world (opened_on f.site.world.shared mode i blocks_now)
                   (shown_view shape devices cache_size origin_size tree mapping ∙ (λ j b o. only (view_is b o j)));

@@ -42,9 +42,9 @@ use Rattle.wb_link.specs.Openings.{AbstractPhase as PhaseThere, Stands as Stands
 use Rattle.wb_simulation.specs.Opened.{located}
 use Rattle.wb_simulation.specs.Sites.{DevicesAgree, LeadsTo, locations, StateTakesClean}
 use Rattle.wb_simulation.proofs.Opening.{admitted, openings_followed, read_clean}
-use Rattle.wb_headline.proofs.Following.{opening_at, HasLearnt, HasRoot, HasReadAt, AtStage, IsOver, many, size, Followed, Goes}
+use Rattle.wb_headline.proofs.Following.{opening_at, HasLearnt, HasRoot, HasReadAt, AtStage, IsOver, size, Followed, Goes}
 use Rattle.wb_headline.proofs.Arriving.{SameSectors, sized_so, Arrived, arrives, rests, opens, one_fit}
-use Rattle.wb_headline.proofs.Rooted.{same_one, rooted_on, leads_so, two_read, two_left, both_left, nowhere, none_clean}
+use Rattle.wb_headline.proofs.Rooted.{same_one, rooted_on, leads_so, two_read, two_left, both_left, none_clean}
 
 -- of a step of an opening on a device nothing of the sectors is noted
 pub opening_same : (shape : Shape) (shown : List Bytes) (n : Notes) (a : ℕ) (doing : Doing) (mode : Mode) (step : DeviceStep) (got : Got) (read : List Bytes) → doing.job ≡ Open mode → SameSectors n (noted_step shape Writeback shown n a (Some (Some doing)) (Device step) got read)

@@ -78,7 +78,7 @@ module _ (P A : Type 0) (shape : Shape) (images : Images) (t : Target P) (commit
       WorldFollows Quietly a f.site.world (record (situation shape t devices' actors) { words = words' }) y → devices'.metadata ≡ devices.metadata → Goes P A shape (after_it words' devices' y) n
   quietly words' devices' y g same =
       let b = beside P A shape images t commit devices actors n known f a x ex in
-      stays_on P A shape images t commit devices actors n known f a x ex Quietly words' devices' y n g tt
+      stays_on P A shape images t commit devices actors n known f a x ex Quietly words' devices' y n g
       (notes_followed.quiet Stays a f.site.world _ _ g b.0 n f.notes b.1 (noted_within P A shape images t commit devices actors n known f a x ex) f.notes_agree)
       refl refl same
 
@@ -130,7 +130,7 @@ module _ (P A : Type 0) (shape : Shape) (images : Images) (t : Target P) (commit
         let n2 = put (put n a (Some doing)) a (Some doing2) in
         subst (λ (q : Job). Goes P A shape (record { devices = devices; commit = commit; phase = Stands (record { words = t.words; desk = t.desk }); actors = slice_set actors a (actor_then {P = P} {A = A} shape (Stands t) devices x (Device (ReadExtent device e)) Done) }) (device_note shape t.desk.mode (put n a (Some doing)) a doing q (ReadExtent device e) Done contents)) (sym job_is)
         (subst (λ (y : Actor). Goes P A shape (record { devices = devices; commit = commit; phase = Stands (record { words = t.words; desk = t.desk }); actors = slice_set actors a y }) n2) (sym (actor_is P A shape (Stands t) devices x (Read extent) plan (Device (ReadExtent device e)) Done xt))
-        (stays_on P A shape images t commit devices actors n known f a x ex (Reads part.block.0 (e.first % size P A shape) contents) t.words devices y n2 g tt second (length-set (put n a (Some doing)).doings a (Some doing2) ∙ length-set n.doings a (Some doing)) refl refl))
+        (stays_on P A shape images t commit devices actors n known f a x ex (Reads part.block.0 (e.first % size P A shape) contents) t.words devices y n2 g second (length-set (put n a (Some doing)).doings a (Some doing2) ∙ length-set n.doings a (Some doing)) refl refl))
 
     pub read_fails : (contents : List Bytes) →
         Goes P A shape (record { devices = devices; commit = commit; phase = Stands (record { words = t.words; desk = t.desk }); actors = slice_set actors a (actor_then {P = P} {A = A} shape (Stands t) devices x (Device (ReadExtent device e)) Fault) })
@@ -146,7 +146,7 @@ module _ (P A : Type 0) (shape : Shape) (images : Images) (t : Target P) (commit
         let y = after_step (Read extent) plan Fault x in
         subst (λ (q : Job). Goes P A shape (record { devices = devices; commit = commit; phase = Stands (record { words = t.words; desk = t.desk }); actors = slice_set actors a (actor_then {P = P} {A = A} shape (Stands t) devices x (Device (ReadExtent device e)) Fault) }) (device_note shape t.desk.mode (put n a (Some mid)) a mid q (ReadExtent device e) Fault contents)) (sym job_is)
         (subst (λ (y : Actor). Goes P A shape (record { devices = devices; commit = commit; phase = Stands (record { words = t.words; desk = t.desk }); actors = slice_set actors a y }) (put n a (Some mid))) (sym (actor_is P A shape (Stands t) devices x (Read extent) plan (Device (ReadExtent device e)) Fault xt))
-        (stays_on P A shape images t commit devices actors n known f a x ex Quietly t.words devices y (put n a (Some mid)) g tt first (length-set n.doings a (Some mid)) refl refl))
+        (stays_on P A shape images t commit devices actors n known f a x ex Quietly t.words devices y (put n a (Some mid)) g first (length-set n.doings a (Some mid)) refl refl))
 
   -- ---- a write
 
@@ -194,14 +194,14 @@ module _ (P A : Type 0) (shape : Shape) (images : Images) (t : Target P) (commit
           let b = beside P A shape images t commit devices actors n known f a x ex in
           let once = notes_followed.quiet Stays a f.site.world _ _ g b.0 n f.notes b.1 (noted_within P A shape images t commit devices actors n known f a x ex) f.notes_agree in
           let first = notes_followed.redone (size P A shape) n (abstract_after_all f.site.world g.records) (told f.notes g.records) a doing mid once noted same_entered same_then in
-          stays_on P A shape images t commit devices actors n known f a x ex Quietly t.words (with_device device devices list) (after_step (Write extent content) plan got x) n1 g tt first (length-set n.doings a (Some mid)) refl (data_device device holds devices list)
+          stays_on P A shape images t commit devices actors n known f a x ex Quietly t.words (with_device device devices list) (after_step (Write extent content) plan got x) n1 g first (length-set n.doings a (Some mid)) refl (data_device device holds devices list)
       writes_on true g =
           let b = beside P A shape images t commit devices actors n known f a x ex in
           let first = notes_followed.redone (size P A shape) n f.site.world f.notes a doing mid f.notes_agree noted same_entered same_then in
           let less1 = subst (λ (k : ℕ). a < k) (sym (length-set n.doings a (Some mid))) (noted_within P A shape images t commit devices actors n known f a x ex) in
           let second = notes_followed.write written_part.block.0 (e.first % size P A shape) e.count content Stays a f.site.world _ _ g b.0 n1 f.notes b.1 less1 first mid
           (set_there n.doings a (Some doing) (Some mid) noted) in_block in_range in
-          stays_on P A shape images t commit devices actors n known f a x ex (Writes written_part.block.0 (e.first % size P A shape) e.count content) t.words (with_device device devices list) (after_step (Write extent content) plan got x) n2 g tt second (length-set n1.doings a _ ∙ length-set n.doings a (Some mid)) (entered_many (rising (sector_for shape extent e) e.count) (entering n1 mid)) (data_device device holds devices list)
+          stays_on P A shape images t commit devices actors n known f a x ex (Writes written_part.block.0 (e.first % size P A shape) e.count content) t.words (with_device device devices list) (after_step (Write extent content) plan got x) n2 g second (length-set n1.doings a _ ∙ length-set n.doings a (Some mid)) (entered_many (rising (sector_for shape extent e) e.count) (entering n1 mid)) (data_device device holds devices list)
 
     pub writes : (contents : List Bytes) → e.first + e.count ≤ length (device_in device devices) →
         Goes P A shape (record { devices = with_device device devices (written_each (device_in device devices) e.first (replicate e.count content)); commit = commit; phase = Stands (record { words = t.words; desk = t.desk }); actors = slice_set actors a (actor_then {P = P} {A = A} shape (Stands t) devices x (Device (WriteExtent device e)) Done) })
@@ -238,7 +238,7 @@ module _ (P A : Type 0) (shape : Shape) (images : Images) (t : Target P) (commit
         NotesAgree (size P A shape) n' (abstract_after_all f.site.world g.records) (told f.notes g.records) → Answered n'
     answered_with there of n' d h g notes =
         subst (λ (y : Actor). Goes P A shape (record { devices = devices; commit = commit; phase = Stands (record { words = t.words; desk = t.desk }); actors = slice_set actors a y }) n') (sym (actor_is P A shape (Stands t) devices x job plan (End answer) Done xt ∙ (λ i. record { task = None; card = x.card; orders = orders_still x.orders x.awaiting job answer request i; awaiting = awaiting_still x.orders x.awaiting job answer request i; buffer = x.buffer })))
-        (stays_on P A shape images t commit devices actors n known f a x ex (Answers of there) t.words devices (record x { task = None }) n' g tt notes d h refl)
+        (stays_on P A shape images t commit devices actors n known f a x ex (Answers of there) t.words devices (record x { task = None }) n' g notes d h refl)
 
   -- by its job
   pub answers : (job : Job) → IsRequestJob job → (plan : Plan) → x.task ≡ Some (job, plan) → Suits shape.geometry.origin_blocks plan x.card → doing.job ≡ job → JobClaim shape t.desk.mode job plan doing → (answer : Answer) → End answer ≡ want plan → (contents : List Bytes) →

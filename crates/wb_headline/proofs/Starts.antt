@@ -28,8 +28,7 @@ use Rattle.wb_runs.proofs.Lists.{rests}
 use Rattle.wb_link.specs.Tables.{Job as AbstractJob, Flushing as FlushingFor}
 use Rattle.wb_link.specs.World.{World, abstract_after_all, job_alone, Shared, Mapped as MappedThere, NamesBlock as NamesThere}
 use Rattle.wb_link.specs.Openings.{Opens as OpensThere, Settling, MayOpen}
-use Rattle.wb_refines.specs.Translation.{job_for, offsets}
-use Rattle.wb_refines.proofs.Modes.{among_in}
+use Rattle.wb_refines.specs.Translation.{job_for}
 use Rattle.wb_simulation.specs.Sites.{StateTakesClean}
 use Rattle.wb_simulation.specs.Actors.{IsBusyAt}
 use Rattle.wb_simulation.specs.Steps.{IsPart}
@@ -99,9 +98,9 @@ part_of shape mode caches extent cut inside cuts = record {
 module _ (P A : Type 0) (shape : Shape) (images : Images) (t : Target P) (commit : Option RunningCommit) (devices : Devices (List History)) (actors : List Actor) (n : Notes) (known : MetadataKept {P = P} {A = A} shape.geometry images (Stands t) commit devices.metadata)
     (f : Followed P A shape images (standing P A shape images t commit devices actors n) n) (a : ℕ) (x : Actor) (ex : slice_get actors a ≡ Some x) (xt : x.task ≡ None) where
   -- an actor that has been given a job, there or not
-  begins_so : (job : Job) (plan : Plan) (of : AbstractJob) → job_alone of ≡ false → Begun of a f.site.world (situation shape t devices actors) (record x { task = Some (job, plan) }) →
+  begins_so : (job : Job) (plan : Plan) (of : AbstractJob) → Begun of a f.site.world (situation shape t devices actors) (record x { task = Some (job, plan) }) →
       Goes P A shape (record { devices = devices; commit = commit; phase = Stands (record { words = t.words; desk = t.desk }); actors = slice_set actors a (record x { task = Some (job, plan) }) }) (put n a (Some (begun n job)))
-  begins_so job plan of plain b = by b
+  begins_so job plan of b = by b
     where
       n' : Notes
       n' = put n a (Some (begun n job))
@@ -117,26 +116,26 @@ module _ (P A : Type 0) (shape : Shape) (images : Images) (t : Target P) (commit
 
       by : Begun of a f.site.world (situation shape t devices actors) (record x { task = Some (job, plan) }) →
           Goes P A shape (record { devices = devices; commit = commit; phase = Stands (record { words = t.words; desk = t.desk }); actors = slice_set actors a (record x { task = Some (job, plan) }) }) (put n a (Some (begun n job)))
-      by (inl g) = stays_on P A shape images t commit devices actors n known f a x ex (Starts of) t.words devices (record x { task = Some (job, plan) }) (put n a (Some (begun n job))) g plain
+      by (inl g) = stays_on P A shape images t commit devices actors n known f a x ex (Starts of) t.words devices (record x { task = Some (job, plan) }) (put n a (Some (begun n job))) g
           (notes_followed.starts of job Stays a f.site.world _ _ g y.0 n f.notes y.1 less f.notes_agree was.0 was.1) (length-set n.doings a (Some (begun n job))) refl refl
       by (inr g) =
           let none = (subst (λ (q : Option (Job × Plan)). IsBusyAt (size P A shape) (most P A shape) (f.phase.agrees.each a x y.0 ex y.1).failed q x.card y.0) xt (f.phase.agrees.each a x y.0 ex y.1).at).0 in
-          stays_on P A shape images t commit devices actors n known f a x ex Quietly t.words devices (record x { task = Some (job, plan) }) (put n a (Some (begun n job))) g tt
+          stays_on P A shape images t commit devices actors n known f a x ex Quietly t.words devices (record x { task = Some (job, plan) }) (put n a (Some (begun n job))) g
           (notes_followed.starts_late job Stays a f.site.world _ _ g y.0 n f.notes y.1 less f.notes_agree none) (length-set n.doings a (Some (begun n job))) refl refl
 
   pub read_starts : (extent : Extent) (cut : List Extent) → x.card.hold ≡ Nothing → extent_refusal shape extent ≡ None → IsCutInto extent cut →
       Goes P A shape (record { devices = devices; commit = commit; phase = Stands (record { words = t.words; desk = t.desk }); actors = slice_set actors a (record x { task = Some (Read extent, table (task_job shape t.desk.mode x.awaiting (Read extent) cut)) }) }) (put n a (Some (begun n (Read extent))))
-  read_starts extent cut holds inside cuts = begins_so (Read extent) (table (task_job shape t.desk.mode x.awaiting (Read extent) cut)) (job_for (size P A shape) [] (OnBlock (ReadingPart (block_range shape t.desk.mode extent cut)))) refl
+  read_starts extent cut holds inside cuts = begins_so (Read extent) (table (task_job shape t.desk.mode x.awaiting (Read extent) cut)) (job_for (size P A shape) [] (OnBlock (ReadingPart (block_range shape t.desk.mode extent cut))))
       (starts_followed.read (situation shape t devices actors) a x extent (block_range shape t.desk.mode extent cut) f.site.world ex xt holds (part_of shape t.desk.mode f.phase.agrees.caches extent cut inside cuts) f.phase.agrees)
 
   pub write_starts : (extent : Extent) (content : Bytes) (cut : List Extent) → x.card.hold ≡ Nothing → extent_refusal shape extent ≡ None → IsCutInto extent cut →
       Goes P A shape (record { devices = devices; commit = commit; phase = Stands (record { words = t.words; desk = t.desk }); actors = slice_set actors a (record x { task = Some (Write extent content, table (task_job shape t.desk.mode x.awaiting (Write extent content) cut)) }) }) (put n a (Some (begun n (Write extent content))))
-  write_starts extent content cut holds inside cuts = begins_so (Write extent content) (table (task_job shape t.desk.mode x.awaiting (Write extent content) cut)) (job_for (size P A shape) content (OnBlock (WritingPart (block_range shape t.desk.mode extent cut)))) (among_in (extent.first / block_size shape) (offsets (size P A shape) cut) content t.desk.mode)
+  write_starts extent content cut holds inside cuts = begins_so (Write extent content) (table (task_job shape t.desk.mode x.awaiting (Write extent content) cut)) (job_for (size P A shape) content (OnBlock (WritingPart (block_range shape t.desk.mode extent cut))))
       (starts_followed.write (situation shape t devices actors) a x extent content (block_range shape t.desk.mode extent cut) f.site.world ex xt holds (part_of shape t.desk.mode f.phase.agrees.caches extent cut inside cuts) refl f.phase.agrees)
 
   -- a flush
   pub flush_starts : (cut : List Extent) → Goes P A shape (record { devices = devices; commit = commit; phase = Stands (record { words = t.words; desk = t.desk }); actors = slice_set actors a (record x { task = Some (Flush, table (task_job shape t.desk.mode x.awaiting Flush cut)) }) }) (put n a (Some (begun n Flush)))
-  flush_starts cut = begins_so Flush (table (task_job shape t.desk.mode x.awaiting Flush cut)) (FlushingFor None) refl
+  flush_starts cut = begins_so Flush (table (task_job shape t.desk.mode x.awaiting Flush cut)) (FlushingFor None)
       (starts_followed.flush (situation shape t devices actors) a x (blocks_left x.awaiting) f.site.world ex xt f.phase.agrees)
 
 -- ---- an opening, over whatever is there
@@ -300,7 +299,7 @@ module _ (P A : Type 0) (shape : Shape) (t : Target P) (commit : Option RunningC
         let s' = (abstract_after_all g.site.world h.records).shared in
         let turned = images_stay migration c.0 s s' h.turned in
         let readable = kept_readable shape.geometry b.goes.images devices.metadata P A (Stands t) commit b.goes.known in
-        leads_on P A shape b.goes.images t commit devices actors n b.goes.known g a x ex (given_by migration c.0) Resumes (record { words = t.words; desk = desk' }) commit devices y n' b.goes.images (slice_set slots_now c.0 (Some o)) h tt
+        leads_on P A shape b.goes.images t commit devices actors n b.goes.known g a x ex (given_by migration c.0) Resumes (record { words = t.words; desk = desk' }) commit devices y n' b.goes.images (slice_set slots_now c.0 (Some o)) h
         (notes_then (given_by migration c.0) (slice_set slots_now c.0 (Some o)) y h refl) (length-set n.doings a (Some (begun n begun_job))) refl (reserved_stands P shape.geometry b.goes.images t.desk commit devices.metadata c o b.goes.known may)
         (sym (orders_set t.desk.orders.slots c.0 (Some (record { order = o; sectors = sectors_asked t.desk.geometry o; threshold = t.desk.threshold; number = t.desk.orders.given; waits = false })))) (desk_then s' h.desk)
         (images_followed.stay shape.geometry b.goes.images.committed (later_of b.goes.images) devices.metadata devices.metadata s s' g.phase.images_agree turned readable.read)
@@ -317,7 +316,7 @@ module _ (P A : Type 0) (shape : Shape) (t : Target P) (commit : Option RunningC
         let k = kept_there l.cache here in
         let h = migrations_followed.again (situation shape t devices actors) a x migration block l.cache next o cut g.site.world ex xt holds some (small l.cache.0 (slot_within t.desk.orders.slots l.cache.0 l.live l.there)) cuts here of k.0 has
         (λ d z ez i. b.keeping.owned.one d a z x o ez ex i had) k.1 g.phase.agrees in
-        stays_on P A shape b.goes.images t commit devices actors n b.goes.known g a x ex Resumes t.words devices y n' h tt (notes_then Stays slots_now y h refl) (length-set n.doings a (Some (begun n begun_job))) refl refl
+        stays_on P A shape b.goes.images t commit devices actors n b.goes.known g a x ex Resumes t.words devices y n' h (notes_then Stays slots_now y h refl) (length-set n.doings a (Some (begun n begun_job))) refl refl
 
   -- ---- any start
 

@@ -19,52 +19,23 @@ use Rattle.wb_promise.specs.Effects.{actor_then, task_then, card_then, orders_th
 use Rattle.wb_promise.specs.Clerk.{Notes, Doing, failing}
 use Rattle.wb_runs.proofs.Images.{Images, later_of}
 use Rattle.wb_runs.proofs.Metadata.{MetadataKept, AtDesk, kept_readable}
-use Rattle.wb_link.specs.Tables.{Flag, abstract_table, Script, Order as AbstractOrder, Job as AbstractJob, Promoting, Returning, abstract_want}
-use Rattle.wb_link.specs.World.{World, Record, Start, Again, Step, Release, release_order, AbstractActor, abstract_after_all, after_record, start_actor, again_actor, step_actor, step_task, actor_after, abstract_given, job_alone}
+use Rattle.wb_link.specs.Tables.{Script, Order as AbstractOrder, abstract_want}
+use Rattle.wb_link.specs.World.{World, Record, Start, Again, Step, Release, release_order, AbstractActor, abstract_after_all, after_record, start_actor, again_actor, step_actor, step_task, actor_after, abstract_given}
 use Rattle.wb_simulation.specs.Noting.{NotesAgree}
 use Rattle.wb_simulation.specs.Noted.{told}
 use Rattle.wb_simulation.specs.Sites.{ImagesAgree, locations, StateTakesClean}
-use Rattle.wb_simulation.specs.Telling.{Telling, Quietly, Reads, Writes, Answers, Starts, Resumes, Carries, Releases, Rests, IsTold, IsMigrating, IsResumed, Given, Kept, Failing, Nowhere}
+use Rattle.wb_simulation.specs.Telling.{Telling}
 use Rattle.wb_simulation.specs.Worlds.{Agrees, Turn, Stays, WorldFollowsBy, WorldFollows}
 use Rattle.wb_simulation.proofs.Opening.{images_followed}
 use Rattle.wb_headline.specs.Desks.{DeskAgrees, live_orders}
 use Rattle.wb_contents.proofs.Lists.{there_is as there}
 use Rattle.wb_headline.proofs.Events.{gone_on, records_reach}
-use Rattle.wb_headline.proofs.Unclean.{ArePlainRecords, steps_plain}
 use Rattle.wb_headline.proofs.Desking.{desk_stays}
 use Rattle.wb_headline.proofs.Following.{situation, many, size, most, Followed, Goes}
 use Rattle.wb_simulation.proofs.Followed.{doing_of}
 use Rattle.wb_types.specs.declared.number.OBlock.{OBlock}
 use Rattle.wb_promise.specs.declared.job.Job.TheVariants.{Replace}
 use Rattle.wb_promise.specs.Happenings.{LandedOr}
-
--- ---- what is told starts no suspend
-
-abbrev pub IsPlainTelling : Telling → Type 0
-IsPlainTelling (Starts job) = job_alone job ≡ false
-IsPlainTelling telling = Unit {0}
-
-migrating_plain : (job : AbstractJob) → IsMigrating job → job_alone job ≡ false
-migrating_plain (Promoting order os) m = refl
-migrating_plain (Returning leaves order os) m = refl
-migrating_plain job m = absurd m
-
-resumed_plain : (a : ℕ) (task : Option Script) (rs : List Record) → IsResumed a task rs → ArePlainRecords rs
-resumed_plain a task rs (Given job i e) = subst ArePlainRecords (sym e) (migrating_plain job i, tt)
-resumed_plain a task rs (Kept job i e) = subst ArePlainRecords (sym e) (migrating_plain job i, tt)
-resumed_plain a task rs (Failing job i none e) = subst ArePlainRecords (sym e) (migrating_plain job i, steps_plain a (Some (abstract_table job)) (Flag true ∷ Rattle.wb_link.specs.Tables.Done ∷ []))
-resumed_plain a task rs (Nowhere none e) = subst ArePlainRecords (sym e) tt
-
-told_plain : (telling : Telling) (a : ℕ) (task : Option Script) (rs : List Record) → IsPlainTelling telling → IsTold telling a task rs → ArePlainRecords rs
-told_plain Quietly a task rs p t = subst ArePlainRecords (sym t.2) (steps_plain a task t.0)
-told_plain (Reads block offset contents) a task rs p t = subst ArePlainRecords (sym t.told_is) (steps_plain a task (Rattle.wb_link.specs.Tables.Gave t.there ∷ []))
-told_plain (Writes block offset count content) a task rs p t = subst ArePlainRecords (sym t.told_is) (steps_plain a task (t.got ∷ []))
-told_plain (Answers job answer) a task rs p t = subst ArePlainRecords (sym t.1) (steps_plain a task (Rattle.wb_link.specs.Tables.Done ∷ []))
-told_plain (Starts job) a task rs p t = subst ArePlainRecords (sym t) (p, tt)
-told_plain Resumes a task rs p t = resumed_plain a task rs t
-told_plain Carries a task rs p t = subst ArePlainRecords (sym t.2) (steps_plain a task t.0)
-told_plain Releases a task rs p t = subst ArePlainRecords (sym t.1) (tt, tt)
-told_plain Rests a task rs p t = subst ArePlainRecords (sym t.1) (steps_plain a task (Rattle.wb_link.specs.Tables.Done ∷ []))
 
 -- what an actor is after a step of this task
 pub actor_is : (P A : Type 0) (shape : Shape) (phase : Phase P A) (devices : Devices (List History)) (x : Actor) (job : Job) (plan : Plan) (next : Want) (got : Got) → x.task ≡ Some (job, plan) →
@@ -145,17 +116,17 @@ module _ (P A : Type 0) (shape : Shape) (images : Images) (t : Target P) (commit
 
     -- the state that it leads to
     pub leads_on : (turn : Turn) (telling : Telling) (t' : Target P) (commit' : Option RunningCommit) (devices' : Devices (List History)) (y : Actor) (n' : Notes) (images' : Images) (orders' : List (Option Order))
-        (g : WorldFollowsBy turn telling a f.site.world (record (situation shape t' devices' actors) { orders = orders' }) y) → IsPlainTelling telling → NotesAgree (size P A shape) n' (abstract_after_all f.site.world g.records) (told f.notes g.records) → length n'.doings ≡ length n.doings → length n'.histories ≡ length n.histories →
+        (g : WorldFollowsBy turn telling a f.site.world (record (situation shape t' devices' actors) { orders = orders' }) y) → NotesAgree (size P A shape) n' (abstract_after_all f.site.world g.records) (told f.notes g.records) → length n'.doings ≡ length n.doings → length n'.histories ≡ length n.histories →
         AtDesk shape.geometry images' t'.desk commit' devices'.metadata → orders' ≡ live_orders t'.desk →
         DeskAgrees t'.desk (abstract_after_all f.site.world g.records).shared → ImagesAgree shape.geometry images'.committed (later_of images') devices'.metadata (abstract_after_all f.site.world g.records).shared →
         ((state : Stored) → images'.running ≡ Some state → ((abstract_after_all f.site.world g.records).shared.running ≡ locations state) × StateTakesClean state (abstract_after_all f.site.world g.records).shared.running_clean) → Goes P A shape (record { devices = devices'; commit = commit'; phase = Stands t'; actors = slice_set actors a y }) n'
-    leads_on turn telling t' commit' devices' y n' images' orders' g plain notes d h known' same desk images_agree running = record {
+    leads_on turn telling t' commit' devices' y n' images' orders' g notes d h known' same desk images_agree running = record {
       images = images';
       known = known';
       followed = record {
         site = gone_on f.site g.records;
         notes = told f.notes g.records;
-        reached = records_reach (size P A shape) (many P A shape) f.site f.notes g.records f.reached f.phase.phase_is g.run (told_plain telling a beside.0.task g.records plain (g.told beside.0 beside.1));
+        reached = records_reach (size P A shape) (many P A shape) f.site f.notes g.records f.reached f.phase.phase_is g.run;
         as_many = all_stay f.site.world g.records ∙ f.as_many;
         notes_agree = notes;
         sized = record { actors_many = length-set actors a y ∙ f.sized.actors_many; doings_many = d ∙ f.sized.doings_many; sectors = h ∙ f.sized.sectors };
@@ -171,15 +142,15 @@ module _ (P A : Type 0) (shape : Shape) (images : Images) (t : Target P) (commit
 
     -- where nothing comes of the desk, the images and the metadata
     pub stays_on : (telling : Telling) (words' : Words) (devices' : Devices (List History)) (y : Actor) (n' : Notes)
-        (g : WorldFollows telling a f.site.world (record (situation shape t devices' actors) { words = words' }) y) → IsPlainTelling telling →
+        (g : WorldFollows telling a f.site.world (record (situation shape t devices' actors) { words = words' }) y) →
         NotesAgree (size P A shape) n' (abstract_after_all f.site.world g.records) (told f.notes g.records) → length n'.doings ≡ length n.doings → length n'.histories ≡ length n.histories → devices'.metadata ≡ devices.metadata →
         Goes P A shape (record { devices = devices'; commit = commit; phase = Stands (record { words = words'; desk = t.desk }); actors = slice_set actors a y }) n'
-    stays_on telling words' devices' y n' g plain notes d h same =
+    stays_on telling words' devices' y n' g notes d h same =
         let s = f.site.world.shared in
         let s' = (abstract_after_all f.site.world g.records).shared in
         let known' = subst (λ (m : List History). AtDesk shape.geometry images t.desk commit m) (sym same) known in
         let readable = kept_readable shape.geometry images devices'.metadata P A (Stands t) commit known' in
-        leads_on Stays telling (record { words = words'; desk = t.desk }) commit devices' y n' images (live_orders t.desk) g plain notes d h known' refl
+        leads_on Stays telling (record { words = words'; desk = t.desk }) commit devices' y n' images (live_orders t.desk) g notes d h known' refl
         (desk_stays P t.desk s s' f.phase.desk t.desk refl refl g.desk.0 g.desk.1)
         (images_followed.stay shape.geometry images.committed (later_of images) devices.metadata devices'.metadata s s' f.phase.images_agree g.turned readable.read)
         (λ state e. let r = f.phase.running state e in (g.turned.1 ∙ r.0, subst (StateTakesClean state) (sym g.turned.4) r.1))

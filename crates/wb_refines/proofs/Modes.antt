@@ -8,7 +8,7 @@ use Rattle.wb_disk.specs.Device.{Content}
 use Rattle.wb_tasks.specs.Plan.{deferring}
 use Rattle.wb_tasks.specs.declared.step.Answer.{Answer}
 use Rattle.wb_tasks.specs.declared.step.Answer.TheVariants.{Refused as Refuses}
-use Rattle.wb_link.specs.Tables.{Job, Order, Own, Look_seal, Set_failed, Busy as AnsweredBusy, abstract_acquire, abstract_work, breaking}
+use Rattle.wb_link.specs.Tables.{Job, Own, Look_seal, Set_failed, Busy as AnsweredBusy, abstract_acquire, abstract_work, breaking}
 use Rattle.wb_link.specs.World.{World, Shared, AllWithin, AllDistinct, MayStart, job_alone, abstract_contents_for, abstract_order_of, abstract_reserved}
 use Rattle.wb_refines.specs.Translation.{writing_in, block_in, answer_for}
 
