@@ -120,26 +120,26 @@ may_fail_at devices choice (Cell step) = inr (λ m. m)
 may_fail_at devices choice (Desk step) = inr (λ m. m)
 may_fail_at devices choice (End answer) = inr (λ m. m)
 
-is_writeback : (mode : Mode) → Decided (mode ≡ Writeback)
-is_writeback Writeback = inl refl
-is_writeback Writethrough = inr (λ e. absurd (cc))
-is_writeback Passthrough = inr (λ e. absurd (cc))
+is_passthrough : (mode : Mode) → Decided (mode ≡ Passthrough)
+is_passthrough Writeback = inr (λ e. absurd (cc))
+is_passthrough Writethrough = inr (λ e. absurd (cc))
+is_passthrough Passthrough = inl refl
 
 pub out_of_place : {P A : Type 0} (phase : Phase P A) (job : Job) → Decided (IsOutOfPlace phase job)
 out_of_place (Stands t) (Open mode) = elim (cases_eq t.words.fail 0) [
   | inl fine ↦ inl (inl fine)
-  | inr failed ↦ elim (is_writeback mode) [
-    | inl same ↦ inr (λ o. elim o [ inl f ↦ failed f | inr n ↦ n same ])
-    | inr other ↦ inl (inr other)
+  | inr failed ↦ elim (is_passthrough mode) [
+    | inl past ↦ inl (inr past)
+    | inr other ↦ inr (λ o. elim o [ inl f ↦ failed f | inr n ↦ other n ])
   ]
 ]
-out_of_place Gone (Open mode) = elim (is_writeback mode) [
-  | inl same ↦ inr (λ o. elim o [ inl f ↦ f | inr n ↦ n same ])
-  | inr other ↦ inl (inr other)
+out_of_place Gone (Open mode) = elim (is_passthrough mode) [
+  | inl past ↦ inl (inr past)
+  | inr other ↦ inr (λ o. elim o [ inl f ↦ f | inr n ↦ other n ])
 ]
-out_of_place (Opens m r) (Open mode) = elim (is_writeback mode) [
-  | inl same ↦ inr (λ o. elim o [ inl f ↦ f | inr n ↦ n same ])
-  | inr other ↦ inl (inr other)
+out_of_place (Opens m r) (Open mode) = elim (is_passthrough mode) [
+  | inl past ↦ inl (inr past)
+  | inr other ↦ inr (λ o. elim o [ inl f ↦ f | inr n ↦ other n ])
 ]
 out_of_place (Stands t) (Read extent) = inr (λ o. o tt)
 out_of_place (Stands t) (Write extent content) = inr (λ o. o tt)
@@ -182,9 +182,10 @@ some_order Holds holds (o ∷ os) = elim (holds o) [
 ]
 
 not_passthrough : (mode : Mode) → Decided (mode ≢ Passthrough)
-not_passthrough Writeback = inl (λ e. cc)
-not_passthrough Writethrough = inl (λ e. cc)
-not_passthrough Passthrough = inr (λ n. n refl)
+not_passthrough mode = elim (is_passthrough mode) [
+  | inl past ↦ inr (λ n. n past)
+  | inr other ↦ inl other
+]
 
 is_free_block : (o : Option Block) → Decided (o ≡ Some Free)
 is_free_block None = inr (λ e. cc)

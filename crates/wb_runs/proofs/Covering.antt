@@ -1,22 +1,23 @@
--- What a request has moved and what it has still to move are its sectors, each once.
-use Rattle.std.proofs.Common.{◌≡◌, ◌∙◌, ◌+◌, ◌*◌, ◌/◌, ◌%◌, ℕ, Bool, true, false, eqb, List, [], ◌∷◌, ◌++◌, Option, Some, None, Contains, refl, sym, ap, subst, map, if◌then◌else◌}
+-- What a request has moved and what it has still to move are its sectors, each once. A write moves a sector where it is entered.
+use Rattle.std.proofs.Common.{◌≡◌, ◌∙◌, ◌+◌, ◌*◌, ◌/◌, ◌%◌, ℕ, Bool, true, false, cond, eqb, List, [], ◌∷◌, ◌++◌, Option, Some, None, Contains, refl, sym, ap, subst, map, if◌then◌else◌}
 use Rattle.std.specs.Prelude.{IsPermutation}
 use Rattle.std.proofs.lemmas.List.{append_assoc}
 use Rattle.wb_types.specs.declared.extent.Extent.{Extent}
 use Rattle.wb_types.specs.Extents.{sectors_in, sectors_of, IsCutInto}
-use Rattle.wb_types.specs.declared.mode.Mode.TheVariants.{Writeback}
+use Rattle.wb_types.specs.declared.mode.Dev.{Dev}
+use Rattle.wb_types.specs.declared.mode.Mode.{Mode}
+use Rattle.wb_types.specs.declared.mode.Mode.TheVariants.{Writeback, Writethrough, Passthrough}
 use Rattle.wb_types.specs.declared.refusal.Refusal.TheVariants.{Failed, Busy, Worn}
 use Rattle.wb_words.specs.declared.word.Word.TheVariants.{Cell as LockWord, Seal as SealWord, Number, Count as CountWord, Fail}
-use Rattle.wb_words.specs.declared.word.Access.TheVariants.{Owned}
+use Rattle.wb_words.specs.declared.word.Access.TheVariants.{Shared, Owned}
 use Rattle.wb_words.specs.declared.step.CellStep.{CellStep}
 use Rattle.wb_words.specs.declared.step.CellStep.TheVariants.{Look, Take, Release, Seal, Finish, Count, SetFailed, SetSuspended}
 use Rattle.wb_words.specs.declared.step.CellResult.TheVariants.{Done as Won, Lost as CellLost}
 use Rattle.wb_words.specs.declared.card.Card.{Card}
 use Rattle.wb_words.specs.SharedWords.{Words, word_at}
 use Rattle.wb_words.specs.Effects.{result_of}
-use Rattle.wb_tasks.specs.Tables.{BlockJob, BlockRange, Reading, Writing, OnBlock, cache_extent, dirtying, read_step, write_step, write_count, work}
-use Rattle.wb_tasks.proofs.Working.{write_work_back}
-use Rattle.wb_tasks.specs.Plan.{Plan, after, may_take, is_worn, exchange, gives_back, work_of, got_of}
+use Rattle.wb_tasks.specs.Tables.{BlockJob, BlockRange, Reading, Writing, Displacing, Invalidating, Migrating, OnBlock, cache_extent, place_read, places_written, read_step, read_count, write_count, writes, work}
+use Rattle.wb_tasks.specs.Plan.{Plan, after, may_take, is_worn, exchange, gives_back, work_of, deferring, answer_seeing, got_of}
 use Rattle.wb_tasks.specs.Ready.{Has, IsRest, IsParting}
 use Rattle.wb_tasks.specs.declared.step.Answer.{Answer}
 use Rattle.wb_tasks.specs.declared.step.Answer.TheVariants.{Done as Finished, Refused as Refuses}
@@ -29,16 +30,16 @@ use Rattle.wb_types.specs.declared.number.CBlock.{CBlock}
 use Rattle.wb_words.specs.SharedWords.{place_in, dirty_in}
 use Rattle.wb_promise.specs.States.{Shape, block_size}
 use Rattle.wb_promise.specs.Happenings.{block_range}
-use Rattle.wb_promise.specs.Clerk.{sector_for}
+use Rattle.wb_promise.specs.Clerk.{is_entered, sector_for}
 use Rattle.wb_runs.proofs.Extents.{MayStart, AllWithin, cut_own}
 use Rattle.wb_runs.proofs.Plans.{plan_of}
 
--- the extents that are still to be moved
-abbrev pub extents_left : List Want → List Extent
-extents_left [] = []
-extents_left (Device (ReadExtent d e) ∷ ws) = e ∷ extents_left ws
-extents_left (Device (WriteExtent d e) ∷ ws) = e ∷ extents_left ws
-extents_left (w ∷ ws) = extents_left ws
+-- the extents that are still to be read, and those that a write has still to enter in this mode
+abbrev pub extents_left : Mode → List Want → List Extent
+extents_left mode [] = []
+extents_left mode (Device (ReadExtent d e) ∷ ws) = e ∷ extents_left mode ws
+extents_left mode (Device (WriteExtent d e) ∷ ws) = cond (is_entered mode d) (e ∷ extents_left mode ws) (extents_left mode ws)
+extents_left mode (w ∷ ws) = extents_left mode ws
 
 -- the sectors of the origin's address range that an extent of a device is for, in a request of one block
 abbrev pub home : Shape → Extent → Extent → Extent
@@ -55,12 +56,12 @@ is_begun (Cell (Look (SealWord b)) ∷ ws) = false
 is_begun (Cell (Take access b seen) ∷ ws) = false
 is_begun ws = true
 
-abbrev pub CoversWhere : Bool → Shape → Extent → List Want → List ℕ → Type 0
-CoversWhere true shape whole steps moved = IsPermutation (sectors_in whole) (moved ++ sectors_of (homes shape whole (extents_left steps)))
-CoversWhere false shape whole steps moved = moved ≡ []
+abbrev pub CoversWhere : Bool → Shape → Mode → Extent → List Want → List ℕ → Type 0
+CoversWhere true shape mode whole steps moved = IsPermutation (sectors_in whole) (moved ++ sectors_of (homes shape whole (extents_left mode steps)))
+CoversWhere false shape mode whole steps moved = moved ≡ []
 
-abbrev pub Covers : Shape → Extent → List Want → List ℕ → Type 0
-Covers shape whole steps moved = CoversWhere (is_begun steps) shape whole steps moved
+abbrev pub Covers : Shape → Mode → Extent → List Want → List ℕ → Type 0
+Covers shape mode whole steps moved = CoversWhere (is_begun steps) shape mode whole steps moved
 
 -- what is left of the work of a job begins with no look at its seal
 rest_begun : (job : BlockJob) (next : Bool) (ws : List Want) → IsRest job next ws → is_begun ws ≡ true
@@ -85,8 +86,8 @@ parting_begun job (End answer ∷ ws) p = refl
 parting_begun job (Cell step ∷ ws) p = absurd p
 
 -- so it covers as before
-begun_covers : (shape : Shape) (whole : Extent) (ws : List Want) (moved : List ℕ) → is_begun ws ≡ true → IsPermutation (sectors_in whole) (moved ++ sectors_of (homes shape whole (extents_left ws))) → Covers shape whole ws moved
-begun_covers shape whole ws moved b p = subst (λ (t : Bool). CoversWhere t shape whole ws moved) (sym b) p
+begun_covers : (shape : Shape) (mode : Mode) (whole : Extent) (ws : List Want) (moved : List ℕ) → is_begun ws ≡ true → IsPermutation (sectors_in whole) (moved ++ sectors_of (homes shape whole (extents_left mode ws))) → Covers shape mode whole ws moved
+begun_covers shape mode whole ws moved b p = subst (λ (t : Bool). CoversWhere t shape mode whole ws moved) (sym b) p
 
 -- ---- wherever its block stands, a request moves its own sectors
 
@@ -98,66 +99,94 @@ module _ (shape : Shape) (whole : Extent) where
   cached_home part same c e = ap (λ (at : ℕ). let x : Extent = record { first = whole.first / block_size shape * block_size shape + at; count = e.count } in x)
       (ap (λ (b : ℕ). (c.0 * b + e.first % b) % block_size shape) same ∙ mul-add-mod_self_right c.0 (block_size shape) (e.first % block_size shape) ∙ mod-mod e.first (block_size shape))
 
-  module _ (part : BlockRange) (same : part.block_sectors ≡ block_size shape) where
-    reads_home : (place : Option CBlock) (es : List Extent) (ws : List Want) → ((e : Extent) → Contains es e → sector_for shape whole e ≡ e.first) → extents_left ws ≡ [] → homes shape whole (extents_left (map (read_step part place) es ++ ws)) ≡ es
-    reads_home place [] ws own n = ap (homes shape whole) n
-    reads_home None (e ∷ es) ws own n = ap (λ (x : Extent). x ∷ homes shape whole (extents_left (map (read_step part None) es ++ ws))) (own_home e (own e (Contains-first e es)))
-        ∙ ap (λ (xs : List Extent). e ∷ xs) (reads_home None es ws (λ x m. own x (Contains-behind e es x m)) n)
-    reads_home (Some c) (e ∷ es) ws own n = ap (λ (x : Extent). x ∷ homes shape whole (extents_left (map (read_step part (Some c)) es ++ ws))) (cached_home part same c e ∙ own_home e (own e (Contains-first e es)))
-        ∙ ap (λ (xs : List Extent). e ∷ xs) (reads_home (Some c) es ws (λ x m. own x (Contains-behind e es x m)) n)
+  module _ (mode : Mode) (part : BlockRange) (same : part.block_sectors ≡ block_size shape) where
+    -- one extent more
+    one_home : (e : Extent) (x : Extent) (es : List Extent) (left : List Extent) → home shape whole x ≡ e → homes shape whole left ≡ es → homes shape whole (x ∷ left) ≡ e ∷ es
+    one_home e x es left h r = ap (λ (y : Extent). y ∷ homes shape whole left) h ∙ ap (λ (ys : List Extent). e ∷ ys) r
 
-    writes_home : (place : Option CBlock) (es : List Extent) (ws : List Want) → ((e : Extent) → Contains es e → sector_for shape whole e ≡ e.first) → extents_left ws ≡ [] → homes shape whole (extents_left (map (write_step part place) es ++ ws)) ≡ es
-    writes_home place [] ws own n = ap (homes shape whole) n
-    writes_home None (e ∷ es) ws own n = ap (λ (x : Extent). x ∷ homes shape whole (extents_left (map (write_step part None) es ++ ws))) (own_home e (own e (Contains-first e es)))
-        ∙ ap (λ (xs : List Extent). e ∷ xs) (writes_home None es ws (λ x m. own x (Contains-behind e es x m)) n)
-    writes_home (Some c) (e ∷ es) ws own n = ap (λ (x : Extent). x ∷ homes shape whole (extents_left (map (write_step part (Some c)) es ++ ws))) (cached_home part same c e ∙ own_home e (own e (Contains-first e es)))
-        ∙ ap (λ (xs : List Extent). e ∷ xs) (writes_home (Some c) es ws (λ x m. own x (Contains-behind e es x m)) n)
+    reads_home : (place : Option CBlock) (es : List Extent) (ws : List Want) → ((e : Extent) → Contains es e → sector_for shape whole e ≡ e.first) → extents_left mode ws ≡ [] → homes shape whole (extents_left mode (map (read_step part place) es ++ ws)) ≡ es
+    reads_home place [] ws own n = ap (homes shape whole) n
+    reads_home None (e ∷ es) ws own n = one_home e e es _ (own_home e (own e (Contains-first e es))) (reads_home None es ws (λ x m. own x (Contains-behind e es x m)) n)
+    reads_home (Some c) (e ∷ es) ws own n = one_home e (cache_extent part c e) es _ (cached_home part same c e ∙ own_home e (own e (Contains-first e es))) (reads_home (Some c) es ws (λ x m. own x (Contains-behind e es x m)) n)
+
+  -- each extent is entered once, where it is written first
+  module _ (part : BlockRange) (same : part.block_sectors ≡ block_size shape) where
+    writes_home : (mode : Mode) (place : Option CBlock) (es : List Extent) (ws : List Want) → deferring mode place Finished ≡ Finished → ((e : Extent) → Contains es e → sector_for shape whole e ≡ e.first) → extents_left mode ws ≡ [] →
+        homes shape whole (extents_left mode (writes part (places_written mode place) es ++ ws)) ≡ es
+    writes_home mode place [] ws f own n = ap (homes shape whole) n
+    writes_home Writeback None (e ∷ es) ws f own n = one_home Writeback part same e e es _ (own_home e (own e (Contains-first e es))) (writes_home Writeback None es ws f (λ x m. own x (Contains-behind e es x m)) n)
+    writes_home Writeback (Some c) (e ∷ es) ws f own n = one_home Writeback part same e (cache_extent part c e) es _ (cached_home part same c e ∙ own_home e (own e (Contains-first e es))) (writes_home Writeback (Some c) es ws f (λ x m. own x (Contains-behind e es x m)) n)
+    writes_home Writethrough None (e ∷ es) ws f own n = one_home Writethrough part same e e es _ (own_home e (own e (Contains-first e es))) (writes_home Writethrough None es ws f (λ x m. own x (Contains-behind e es x m)) n)
+    writes_home Writethrough (Some c) (e ∷ es) ws f own n = one_home Writethrough part same e e es _ (own_home e (own e (Contains-first e es))) (writes_home Writethrough (Some c) es ws f (λ x m. own x (Contains-behind e es x m)) n)
+    writes_home Passthrough None (e ∷ es) ws f own n = one_home Passthrough part same e e es _ (own_home e (own e (Contains-first e es))) (writes_home Passthrough None es ws f (λ x m. own x (Contains-behind e es x m)) n)
+    writes_home Passthrough (Some c) (e ∷ es) ws f own n = absurd (cc)
 
 -- counting and giving back move nothing
-read_end : (place : Option CBlock) (part : BlockRange) → extents_left (Rattle.wb_tasks.specs.Tables.read_count place ∷ Cell (Release Rattle.wb_words.specs.declared.word.Access.TheVariants.Shared part.block) ∷ []) ≡ []
-read_end None part = refl
-read_end (Some c) part = refl
+read_end : (mode : Mode) (place : Option CBlock) (part : BlockRange) → extents_left mode (read_count place ∷ Cell (Release Shared part.block) ∷ []) ≡ []
+read_end mode None part = refl
+read_end mode (Some c) part = refl
 
--- whatever the seal of its block
-pub read_moves : (shape : Shape) (whole : Extent) (cut : List Extent) → MayStart shape whole → AllWithin whole cut → (seal : ℕ) → homes shape whole (extents_left (work_of (OnBlock (Reading (block_range shape whole cut))) seal)) ≡ cut
-read_moves shape whole cut m i seal = reads_home shape whole (block_range shape whole cut) refl (place_in seal) cut _ (cut_own shape whole cut m i) (read_end (place_in seal) (block_range shape whole cut))
+write_end : (mode : Mode) (place : Option CBlock) (part : BlockRange) → extents_left mode (Cell (Finish part.block) ∷ write_count place ∷ Cell (Release Owned part.block) ∷ []) ≡ []
+write_end mode None part = refl
+write_end mode (Some c) part = refl
 
-pub write_moves : (shape : Shape) (whole : Extent) (cut : List Extent) → MayStart shape whole → AllWithin whole cut → (seal : ℕ) → homes shape whole (extents_left (work_of (OnBlock (Writing (block_range shape whole cut))) seal)) ≡ cut
-write_moves shape whole cut m i seal = by_place (place_in seal) (dirty_in seal)
+-- whatever the seal of its block, where it may be answered done once that was seen
+pub read_moves : (shape : Shape) (mode : Mode) (whole : Extent) (cut : List Extent) → MayStart shape whole → AllWithin whole cut → (seal : ℕ) → answer_seeing (OnBlock (Reading (block_range shape mode whole cut))) seal Finished ≡ Finished →
+    homes shape whole (extents_left mode (work_of (OnBlock (Reading (block_range shape mode whole cut))) seal)) ≡ cut
+read_moves shape mode whole cut m i seal f = reads_home shape whole mode (block_range shape mode whole cut) refl (place_read mode (place_in seal)) cut _ (cut_own shape whole cut m i) (read_end mode (place_read mode (place_in seal)) (block_range shape mode whole cut))
+
+pub write_moves : (shape : Shape) (mode : Mode) (whole : Extent) (cut : List Extent) → MayStart shape whole → AllWithin whole cut → (seal : ℕ) → answer_seeing (OnBlock (Writing (block_range shape mode whole cut))) seal Finished ≡ Finished →
+    homes shape whole (extents_left mode (work_of (OnBlock (Writing (block_range shape mode whole cut))) seal)) ≡ cut
+write_moves shape mode whole cut m i seal f = by_place mode (place_in seal) (dirty_in seal) f
   where
-    part : BlockRange
-    part = block_range shape whole cut
+    all : (mode : Mode) (place : Option CBlock) → deferring mode place Finished ≡ Finished → homes shape whole (extents_left mode (writes (block_range shape mode whole cut) (places_written mode place) cut ++ Cell (Finish (block_range shape mode whole cut).block) ∷ write_count place ∷ Cell (Release Owned (block_range shape mode whole cut).block) ∷ [])) ≡ cut
+    all mode place f = writes_home shape whole (block_range shape mode whole cut) refl mode place cut _ f (cut_own shape whole cut m i) (write_end mode place (block_range shape mode whole cut))
 
-    back : (place : Option CBlock) (dirty : Bool) → homes shape whole (extents_left (dirtying Writeback part.block place dirty ++ map (write_step part place) cut ++ Cell (Finish part.block) ∷ write_count place ∷ Cell (Release Owned part.block) ∷ [])) ≡ cut
-    back None dirty = writes_home shape whole part refl None cut _ (cut_own shape whole cut m i) refl
-    back (Some c) true = writes_home shape whole part refl (Some c) cut _ (cut_own shape whole cut m i) refl
-    back (Some c) false = writes_home shape whole part refl (Some c) cut _ (cut_own shape whole cut m i) refl
-
-    by_place : (place : Option CBlock) (dirty : Bool) → homes shape whole (extents_left (work (Writing part) place dirty)) ≡ cut
-    by_place place dirty = ap (λ (ws : List Want). homes shape whole (extents_left ws)) (write_work_back part refl place dirty) ∙ back place dirty
+    -- a seal before the first moves nothing
+    by_place : (mode : Mode) (place : Option CBlock) (dirty : Bool) → deferring mode place Finished ≡ Finished → homes shape whole (extents_left mode (work (Writing (block_range shape mode whole cut)) place dirty)) ≡ cut
+    by_place Writeback None dirty f = all Writeback None f
+    by_place Writeback (Some c) true f = all Writeback (Some c) f
+    by_place Writeback (Some c) false f = all Writeback (Some c) f
+    by_place Writethrough place dirty f = all Writethrough place f
+    by_place Passthrough None dirty f = all Passthrough None f
+    by_place Passthrough (Some c) dirty f = absurd (cc)
 
 -- a refused task is answered otherwise
 undone : (P : Type 0) (refusal : _) → Refuses refusal ≡ Finished → P
 undone P refusal e = absurd (cc)
 
-module _ (shape : Shape) (whole : Extent) (part : BlockRange) (cut : IsCutInto whole part.extents) (words : Words) (card : Card) (moved : List ℕ) where
+-- a job that may be answered done has no cause not to be
+seen : (job : BlockJob) (seal : ℕ) (answer : Answer) → answer_seeing (OnBlock job) seal answer ≡ Finished → answer_seeing (OnBlock job) seal Finished ≡ Finished
+seen (Writing part) seal answer f = by_mode part.mode (place_in seal) f
+  where
+    by_mode : (mode : Mode) (place : Option CBlock) → deferring mode place answer ≡ Finished → deferring mode place Finished ≡ Finished
+    by_mode Writeback place f = refl
+    by_mode Writethrough place f = refl
+    by_mode Passthrough None f = refl
+    by_mode Passthrough (Some c) f = f
+seen (Reading part) seal answer f = refl
+seen (Displacing part) seal answer f = refl
+seen (Invalidating part) seal answer f = refl
+seen (Migrating migration part) seal answer f = refl
+
+module _ (shape : Shape) (mode : Mode) (whole : Extent) (part : BlockRange) (cut : IsCutInto whole part.extents) (words : Words) (card : Card) (moved : List ℕ) where
   -- the task after a step, if it may still be answered done
   abbrev Then : Plan → List ℕ → Type 0
-  Then s moved' = s.answer ≡ Finished → Covers shape whole s.steps moved'
+  Then s moved' = s.answer ≡ Finished → Covers shape mode whole s.steps moved'
 
-  -- the job moves these extents
+  -- the job moves these extents, where it may be answered done once it has seen its seal
   abbrev MovesAll : BlockJob → Type 0
-  MovesAll job = (seal : ℕ) → homes shape whole (extents_left (work_of (OnBlock job) seal)) ≡ part.extents
+  MovesAll job = (seal : ℕ) → answer_seeing (OnBlock job) seal Finished ≡ Finished → homes shape whole (extents_left mode (work_of (OnBlock job) seal)) ≡ part.extents
 
-  onward_covers : (ws : List Want) (answer : Answer) → is_begun ws ≡ true → IsPermutation (sectors_in whole) (moved ++ sectors_of (homes shape whole (extents_left ws))) → answer ≡ Finished → Covers shape whole ws moved
-  onward_covers ws answer b p f = begun_covers shape whole ws moved b p
+  onward_covers : (ws : List Want) (answer : Answer) → is_begun ws ≡ true → IsPermutation (sectors_in whole) (moved ++ sectors_of (homes shape whole (extents_left mode ws))) → answer ≡ Finished → Covers shape mode whole ws moved
+  onward_covers ws answer b p f = begun_covers shape mode whole ws moved b p
 
   -- a step on the words moves nothing
-  pub cell_covers : (job : BlockJob) → MovesAll job → (step : CellStep) (ws : List Want) (answer : Answer) → Has job card (Cell step ∷ ws) → Covers shape whole (Cell step ∷ ws) moved → Then (after (plan_of (OnBlock job) (Cell step ∷ ws) answer) (got_of (result_of words step))) moved
+  pub cell_covers : (job : BlockJob) → MovesAll job → (step : CellStep) (ws : List Want) (answer : Answer) → Has job card (Cell step ∷ ws) → Covers shape mode whole (Cell step ∷ ws) moved → Then (after (plan_of (OnBlock job) (Cell step ∷ ws) answer) (got_of (result_of words step))) moved
   cell_covers job m (Look Fail) ws answer h c = by_test (eqb words.fail 0)
     where
       by_test : (t : Bool) → Then (if t then plan_of (OnBlock job) ws answer else plan_of (OnBlock job) [] (Refuses Failed)) moved
-      by_test true f = subst (λ (v : List Want). Covers shape whole v moved) (sym h.1) c
+      by_test true f = subst (λ (v : List Want). Covers shape mode whole v moved) (sym h.1) c
       by_test false f = undone _ Failed f
   cell_covers job m (Look (LockWord b)) ws answer h c = by_test (may_take (OnBlock job) (word_at words.cells b))
     where
@@ -165,18 +194,18 @@ module _ (shape : Shape) (whole : Extent) (part : BlockRange) (cut : IsCutInto w
       by_test true f = c
       by_test false f = undone _ Busy f
   cell_covers job m (Look (SealWord b)) ws answer h c =
-      λ f. subst (λ (ms : List ℕ). IsPermutation (sectors_in whole) (ms ++ sectors_of (homes shape whole (extents_left (work_of (OnBlock job) (word_at words.seals b)))))) (sym c)
-      (subst (λ (es : List Extent). IsPermutation (sectors_in whole) (sectors_of es)) (sym (m (word_at words.seals b))) cut.each_once)
+      λ f. subst (λ (ms : List ℕ). IsPermutation (sectors_in whole) (ms ++ sectors_of (homes shape whole (extents_left mode (work_of (OnBlock job) (word_at words.seals b)))))) (sym c)
+      (subst (λ (es : List Extent). IsPermutation (sectors_in whole) (sectors_of es)) (sym (m (word_at words.seals b) (seen job (word_at words.seals b) answer f))) cut.each_once)
   cell_covers job m (Look (Number b)) ws answer h c = by_test (is_worn (OnBlock job) (word_at words.numbers b))
     where
       by_test : (t : Bool) → Then (if t then plan_of (OnBlock job) (gives_back (OnBlock job)) (Refuses Worn) else plan_of (OnBlock job) ws answer) moved
       by_test true f = undone _ Worn f
-      by_test false f = begun_covers shape whole ws moved (rest_begun job true ws h.2) c
+      by_test false f = begun_covers shape mode whole ws moved (rest_begun job true ws h.2) c
   cell_covers job m (Look (CountWord kind)) ws answer h c = absurd h.1.1
   cell_covers job m (Take access b seen) ws answer h c = by_test (eqb (word_at words.cells b) seen)
     where
       by_test : (t : Bool) → Then (after (plan_of (OnBlock job) (Cell (Take access b seen) ∷ ws) answer) (got_of (if t then Won else CellLost))) moved
-      by_test true f = subst (λ (v : List Want). Covers shape whole v moved) (sym h.4) c
+      by_test true f = subst (λ (v : List Want). Covers shape mode whole v moved) (sym h.4) c
       by_test false f = undone _ Busy f
   cell_covers job m (Release access b) ws answer h c = onward_covers ws answer (parting_begun job ws h.1.1.2) c
   cell_covers job m (Seal b place dirty) ws answer h c = onward_covers ws answer (rest_begun job h.1.0 ws h.1.1.2) c
@@ -186,10 +215,14 @@ module _ (shape : Shape) (whole : Extent) (part : BlockRange) (cut : IsCutInto w
   cell_covers job m SetSuspended ws answer h c = absurd h.1.1
 
   -- one on an extent moves its sectors, where it is done
-  pub read_covers : (job : BlockJob) (d : _) (e : Extent) (ws : List Want) (answer : Answer) → Has job card (Device (ReadExtent d e) ∷ ws) → Covers shape whole (Device (ReadExtent d e) ∷ ws) moved → answer ≡ Finished → Covers shape whole ws (moved ++ sectors_in (home shape whole e))
-  read_covers job d e ws answer h c f = begun_covers shape whole ws (moved ++ sectors_in (home shape whole e)) (rest_begun job h.1.0 ws h.1.1.1)
-      (subst (λ (xs : List ℕ). IsPermutation (sectors_in whole) xs) (sym (append_assoc moved (sectors_in (home shape whole e)) (sectors_of (homes shape whole (extents_left ws))))) c)
+  pub read_covers : (job : BlockJob) (d : _) (e : Extent) (ws : List Want) (answer : Answer) → Has job card (Device (ReadExtent d e) ∷ ws) → Covers shape mode whole (Device (ReadExtent d e) ∷ ws) moved → answer ≡ Finished → Covers shape mode whole ws (moved ++ sectors_in (home shape whole e))
+  read_covers job d e ws answer h c f = begun_covers shape mode whole ws (moved ++ sectors_in (home shape whole e)) (rest_begun job h.1.0 ws h.1.1.1)
+      (subst (λ (xs : List ℕ). IsPermutation (sectors_in whole) xs) (sym (append_assoc moved (sectors_in (home shape whole e)) (sectors_of (homes shape whole (extents_left mode ws))))) c)
 
-  pub write_covers : (job : BlockJob) (d : _) (e : Extent) (ws : List Want) (answer : Answer) → Has job card (Device (WriteExtent d e) ∷ ws) → Covers shape whole (Device (WriteExtent d e) ∷ ws) moved → answer ≡ Finished → Covers shape whole ws (moved ++ sectors_in (home shape whole e))
-  write_covers job d e ws answer h c f = begun_covers shape whole ws (moved ++ sectors_in (home shape whole e)) (rest_begun job h.1.0 ws h.1.1.1)
-      (subst (λ (xs : List ℕ). IsPermutation (sectors_in whole) xs) (sym (append_assoc moved (sectors_in (home shape whole e)) (sectors_of (homes shape whole (extents_left ws))))) c)
+  pub write_covers : (job : BlockJob) (d : Dev) (e : Extent) (ws : List Want) (answer : Answer) → Has job card (Device (WriteExtent d e) ∷ ws) → Covers shape mode whole (Device (WriteExtent d e) ∷ ws) moved → answer ≡ Finished → Covers shape mode whole ws (cond (is_entered mode d) (moved ++ sectors_in (home shape whole e)) moved)
+  write_covers job d e ws answer h c f = by_entry (is_entered mode d) c
+    where
+      by_entry : (t : Bool) → IsPermutation (sectors_in whole) (moved ++ sectors_of (homes shape whole (cond t (e ∷ extents_left mode ws) (extents_left mode ws)))) → Covers shape mode whole ws (cond t (moved ++ sectors_in (home shape whole e)) moved)
+      by_entry true c = begun_covers shape mode whole ws (moved ++ sectors_in (home shape whole e)) (rest_begun job h.1.0 ws h.1.1.1)
+          (subst (λ (xs : List ℕ). IsPermutation (sectors_in whole) xs) (sym (append_assoc moved (sectors_in (home shape whole e)) (sectors_of (homes shape whole (extents_left mode ws))))) c)
+      by_entry false c = begun_covers shape mode whole ws moved (rest_begun job h.1.0 ws h.1.1.1) c

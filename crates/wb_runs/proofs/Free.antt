@@ -29,7 +29,7 @@ use Rattle.wb_promise.specs.declared.event.Event.{Event}
 use Rattle.wb_promise.specs.declared.event.Event.TheVariants.{Start, Step, FaultStep, Stop}
 use Rattle.wb_promise.specs.declared.event.What.{What}
 use Rattle.wb_promise.specs.declared.event.What.TheVariants.{Skipped, Refused, Started, Stepped, Stopped}
-use Rattle.wb_promise.specs.States.{Shape, State, Actor, Target, Phase, Stands, Gone, Opens, OfTarget, block_size, start}
+use Rattle.wb_promise.specs.States.{Shape, State, Actor, Target, Phase, Stands, Gone, Opens, OfTarget, mode_of, block_size, start}
 use Rattle.wb_promise.specs.Happenings.{Chosen, Plain, Cut, Orders, Happening, OfSome, OnTask, MayFailAt, DoesNotApply, Gives, Falters, KeepsMigration, KeepsReplacement, MayOrder, MigrationStarts, StartGives, extent_refusal, block_range, orders_in, order_for}
 use Rattle.wb_promise.specs.Effects.{after_all, IsRun}
 use Rattle.wb_runs.specs.Progress.{GivesSomething}
@@ -98,8 +98,8 @@ module _ (P A : Type 0) (shape : Shape) (policy : P) (first : ReadSteps A) (begi
     inside : StepInside shape (want k.plan)
     inside = subst (λ (t : Option (Job × Plan)). TaskInside shape t) k.task (stays.tasks a k.actor k.there)
 
-    claim : Noted shape k.job k.plan (slice_get kept.notes.doings a)
-    claim = noted_of shape k.job k.plan (slice_get kept.notes.doings a) (subst (λ (t : Option (Job × Plan)). TaskClaim shape t (slice_get kept.notes.doings a)) k.task (kept.base.linked.claims a k.actor k.there))
+    claim : Noted shape (mode_of w.phase) k.job k.plan (slice_get kept.notes.doings a)
+    claim = noted_of shape (mode_of w.phase) k.job k.plan (slice_get kept.notes.doings a) (subst (λ (t : Option (Job × Plan)). TaskClaim shape (mode_of w.phase) t (slice_get kept.notes.doings a)) k.task (kept.base.linked.claims a k.actor k.there))
 
     here : InPhase w.phase k.job
     here = subst (λ (t : Option (Job × Plan)). TaskHere w.phase t) k.task (kept.base.linked.here a k.actor k.there)
@@ -122,9 +122,9 @@ module _ (P A : Type 0) (shape : Shape) (policy : P) (first : ReadSteps A) (begi
     steps_on : CanGive shape w k.actor k.job (want k.plan)
     steps_on = by_phase (λ phase job plan. CanGive {P = P} {A = A} shape (At phase) k.actor job (want plan)) (λ t known leader s f. stands t known leader k.job s f claim.claim) (λ mode reading known o f. opens mode reading known k.job o f)
       where
-        stands : (t : Target P) → AtDesk shape.geometry kept.base.known.images t.desk w.commit w.devices.metadata → (leader : ℕ) → (job : Job) → IsServed job → FlushJob w.commit (a ≡ leader) job k.plan → JobClaim shape job k.plan claim.doing → CanGive {P = P} {A = A} shape (At (Stands t)) k.actor job (want k.plan)
-        stands t known leader (Read extent) s f c = read_gives P A shape w.devices w.commit w.actors k.actor t known.is.kept sizes extent (block_range shape extent c.cut) (want k.plan) (own (Reading (block_range shape extent c.cut)) c.is_job) inside
-        stands t known leader (Write extent content) s f c = write_gives P A shape w.devices w.commit w.actors k.actor t known.is.kept sizes extent content (block_range shape extent c.cut) (want k.plan) (own (Writing (block_range shape extent c.cut)) c.is_job) inside
+        stands : (t : Target P) → AtDesk shape.geometry kept.base.known.images t.desk w.commit w.devices.metadata → (leader : ℕ) → (job : Job) → IsServed job → FlushJob w.commit (a ≡ leader) job k.plan → JobClaim shape (mode_of w.phase) job k.plan claim.doing → CanGive {P = P} {A = A} shape (At (Stands t)) k.actor job (want k.plan)
+        stands t known leader (Read extent) s f c = read_gives P A shape w.devices w.commit w.actors k.actor t known.is.kept sizes extent (block_range shape (mode_of w.phase) extent c.cut) (want k.plan) (own (Reading (block_range shape (mode_of w.phase) extent c.cut)) c.is_job) inside
+        stands t known leader (Write extent content) s f c = write_gives P A shape w.devices w.commit w.actors k.actor t known.is.kept sizes extent content (block_range shape (mode_of w.phase) extent c.cut) (want k.plan) (own (Writing (block_range shape (mode_of w.phase) extent c.cut)) c.is_job) inside
         stands t known leader (Migrate migration block) s f c = migration_gives P A shape w.devices w.commit w.actors k.actor t known.is.kept sizes known.is.sound migration block f.0 (want k.plan) (own (Migrating migration f.0) f.1) inside
         stands t known leader Flush s f c = subst (λ (p : Plan). CanGive {P = P} {A = A} shape (At (Stands t)) k.actor Flush (want p)) (sym f.is)
             (flush_gives P A shape w.devices w.commit w.actors k.actor t kept.base.known.images known f.serves f.most f.answer f.point f.at)
@@ -143,9 +143,9 @@ module _ (P A : Type 0) (shape : Shape) (policy : P) (first : ReadSteps A) (begi
     fails_on : (choice : Choice) → MayFailAt w.devices choice (want k.plan) → CanFalter w choice (want k.plan)
     fails_on choice m = by_phase (λ phase job plan. CanFalter {P = P} {A = A} (At phase) choice (want plan)) (λ t known leader s f. stands t known leader k.job s f claim.claim) (λ mode reading known o f. opens mode reading known k.job o f)
       where
-        stands : (t : Target P) → AtDesk shape.geometry kept.base.known.images t.desk w.commit w.devices.metadata → (leader : ℕ) → (job : Job) → IsServed job → FlushJob w.commit (a ≡ leader) job k.plan → JobClaim shape job k.plan claim.doing → CanFalter {P = P} {A = A} (At (Stands t)) choice (want k.plan)
-        stands t known leader (Read extent) s f c = block_falters P A shape w.devices w.commit w.actors k.actor t (Reading (block_range shape extent c.cut)) choice (want k.plan) (own (Reading (block_range shape extent c.cut)) c.is_job) m
-        stands t known leader (Write extent content) s f c = block_falters P A shape w.devices w.commit w.actors k.actor t (Writing (block_range shape extent c.cut)) choice (want k.plan) (own (Writing (block_range shape extent c.cut)) c.is_job) m
+        stands : (t : Target P) → AtDesk shape.geometry kept.base.known.images t.desk w.commit w.devices.metadata → (leader : ℕ) → (job : Job) → IsServed job → FlushJob w.commit (a ≡ leader) job k.plan → JobClaim shape (mode_of w.phase) job k.plan claim.doing → CanFalter {P = P} {A = A} (At (Stands t)) choice (want k.plan)
+        stands t known leader (Read extent) s f c = block_falters P A shape w.devices w.commit w.actors k.actor t (Reading (block_range shape (mode_of w.phase) extent c.cut)) choice (want k.plan) (own (Reading (block_range shape (mode_of w.phase) extent c.cut)) c.is_job) m
+        stands t known leader (Write extent content) s f c = block_falters P A shape w.devices w.commit w.actors k.actor t (Writing (block_range shape (mode_of w.phase) extent c.cut)) choice (want k.plan) (own (Writing (block_range shape (mode_of w.phase) extent c.cut)) c.is_job) m
         stands t known leader (Migrate migration block) s f c = block_falters P A shape w.devices w.commit w.actors k.actor t (Migrating migration f.0) choice (want k.plan) (own (Migrating migration f.0) f.1) m
         stands t known leader Flush s f c = subst (λ (p : Plan). CanFalter {P = P} {A = A} (At (Stands t)) choice (want p)) (sym f.is)
             (flush_falters P A shape w.devices w.commit w.actors k.actor t kept.base.known.images known f.serves f.most f.answer choice f.point f.at (subst (λ (p : Plan). MayFailAt w.devices choice (want p)) f.is m))

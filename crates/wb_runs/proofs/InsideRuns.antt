@@ -1,10 +1,11 @@
 -- In every run each task's next step is on sectors that are there, and cache and origin keep their sizes.
-use Rattle.std.proofs.Common.{◌≡◌, ◌∙◌, ◌≤◌, ◌<◌, ◌+◌, ◌-◌, ◌*◌, ◌/◌, ◌%◌, ℕ, zero, suc, true, if◌then◌else◌, List, [], ◌∷◌, Option, Some, None, Contains, refl, sym, ap, subst, arith, length, slice_get, slice_set, mul_comm}
+use Rattle.std.proofs.Common.{◌≡◌, ◌∙◌, ◌≤◌, ◌<◌, ◌+◌, ◌-◌, ◌*◌, ◌/◌, ◌%◌, ℕ, zero, suc, true, List, [], ◌∷◌, Option, Some, None, Contains, refl, sym, ap, subst, arith, length, slice_get, slice_set, mul_comm}
 use Rattle.std.proofs.lemmas.List.{length-map, length-replicate}
 use Rattle.std.proofs.lemmas.Nat.{div-mul-add}
 use Rattle.std.proofs.Math.Nat.{div-add-mod, mod-lt}
 use Rattle.wb_types.specs.Extents.{IsCutInto}
 use Rattle.wb_types.specs.declared.extent.Extent.{Extent}
+use Rattle.wb_types.specs.declared.mode.Mode.{Mode}
 use Rattle.wb_types.specs.declared.mode.Mode.{Mode}
 use Rattle.wb_types.specs.declared.mode.Mode.TheVariants.{Writeback}
 use Rattle.wb_types.specs.declared.mode.Dev.{Dev}
@@ -44,7 +45,7 @@ use Rattle.wb_promise.specs.declared.event.Event.{Event}
 use Rattle.wb_promise.specs.declared.event.Event.TheVariants.{Start, Step, FaultStep, Stop}
 use Rattle.wb_promise.specs.declared.event.What.{What}
 use Rattle.wb_promise.specs.declared.event.What.TheVariants.{Skipped, Refused, Started, Stepped, Stopped}
-use Rattle.wb_promise.specs.States.{Shape, State, Actor, Phase, Stands, Gone, Opens, OfTarget, resting, with_device, block_size, sector_count, cache_sector_count, start}
+use Rattle.wb_promise.specs.States.{Shape, State, Actor, Phase, Stands, Gone, Opens, OfTarget, mode_of, resting, with_device, block_size, sector_count, cache_sector_count, start}
 use Rattle.wb_promise.specs.Happenings.{Chosen, Plain, Cut, Orders, Opened, Happening, OfSome, Gives, Falters, MayFailAt, StartGives, MayBe, orders_in, order_for, task_job, begun_as}
 use Rattle.wb_promise.specs.Effects.{put_by, contents_for, device_done, device_failed, devices_then, commit_then, phase_then, phase_opened, phase_given, task_then, actor_then, cut_of, stepped, with_actor, cleared, given, started, job_of, all_resting, after_what, after_happening, after_all, IsRun}
 use Rattle.wb_promise.specs.Clerk.{Notes, formatted}
@@ -91,8 +92,8 @@ in_one_block b first count q some many f l =
     let less = mod-lt (first + count - 1) some in
     omega (arith, low', high', less, many)
 
-part_inside : (shape : Shape) (whole : Extent) (block : OBlock) (cut : List Extent) → MayStart shape whole → IsCutInto whole cut → PartInside shape (record { mode = Writeback; block_sectors = block_size shape; block = block; extents = cut })
-part_inside shape whole block cut m i =
+part_inside : (shape : Shape) (mode : Mode) (whole : Extent) (block : OBlock) (cut : List Extent) → MayStart shape whole → IsCutInto whole cut → PartInside shape (record { mode = mode; block_sectors = block_size shape; block = block; extents = cut })
+part_inside shape mode whole block cut m i =
     let within = cut_within whole cut i in
     record {
       size = refl;
@@ -335,21 +336,21 @@ module _ (P A : Type 0) (shape : Shape) where
   cut_replacing phase actor old new chosen g = absurd g
 
   table_inside : (w : State P A) (n : Notes) (a : ℕ) (job : Job) (chosen : Chosen P A) → Base P A shape w n → StartGives shape w.phase (slice_get w.actors a) job Started chosen →
-      (awaiting : List Order) → PlanInside shape (Some (begun_as job, table (task_job shape awaiting job (cut_of chosen))))
-  table_inside w n a (Read extent) (Cut cut) b g awaiting = (part_inside shape extent (record { 0 = extent.first / block_size shape }) cut (may_start shape extent g.0) g.1, (tt, (tt, tt)))
-  table_inside w n a (Write extent content) (Cut cut) b g awaiting = (part_inside shape extent (record { 0 = extent.first / block_size shape }) cut (may_start shape extent g.0) g.1, (tt, (tt, tt)))
-  table_inside w n a Flush chosen b g awaiting = (tt, (tt, (tt, tt)))
-  table_inside w n a (Open mode) chosen b g awaiting = (tt, (tt, (tt, (tt, (tt, (tt, (tt, tt)))))))
-  table_inside w n a (Migrate migration block) chosen b g awaiting =
+      (mode : Mode) (awaiting : List Order) → PlanInside shape (Some (begun_as job, table (task_job shape mode awaiting job (cut_of chosen))))
+  table_inside w n a (Read extent) (Cut cut) b g mode awaiting = (part_inside shape mode extent (record { 0 = extent.first / block_size shape }) cut (may_start shape extent g.0) g.1, (tt, (tt, tt)))
+  table_inside w n a (Write extent content) (Cut cut) b g mode awaiting = (part_inside shape mode extent (record { 0 = extent.first / block_size shape }) cut (may_start shape extent g.0) g.1, (tt, (tt, tt)))
+  table_inside w n a Flush chosen b g mode awaiting = (tt, (tt, (tt, tt)))
+  table_inside w n a (Open opened_in) chosen b g mode awaiting = (tt, (tt, (tt, (tt, (tt, (tt, (tt, tt)))))))
+  table_inside w n a (Migrate migration block) chosen b g mode awaiting =
       let kept = orders_of_actor w a (slice_get w.actors a) (λ x e order m. b.used.orders a x e order (in_orders x order m)) in
       let inside = migration_inside migration block (order_inside P A shape b.known.images w.phase w.commit w.devices.metadata (slice_get w.actors a) migration block chosen b.known.known kept g) in
-      ((part_inside shape (whole_block (block_size shape) block) block (cut_of chosen) (whole_starts shape block inside.0) (cut_migrated w.phase (slice_get w.actors a) migration block chosen g), inside.1), (tt, (tt, tt)))
-  table_inside w n a (Replace old new) chosen b g awaiting =
+      ((part_inside shape Writeback (whole_block (block_size shape) block) block (cut_of chosen) (whole_starts shape block inside.0) (cut_migrated w.phase (slice_get w.actors a) migration block chosen g), inside.1), (tt, (tt, tt)))
+  table_inside w n a (Replace old new) chosen b g mode awaiting =
       let kept = orders_of_actor w a (slice_get w.actors a) (λ x e order m. b.used.orders a x e order (in_orders x order m)) in
       let inside = replacement_inside P A shape b.known.images w.phase w.commit w.devices.metadata (slice_get w.actors a) old new chosen b.known.known kept g in
-      ((part_inside shape (whole_block (block_size shape) old) old (cut_of chosen) (whole_starts shape old inside.1.0) (cut_replacing w.phase (slice_get w.actors a) old new chosen g), tt), (tt, (tt, tt)))
-  table_inside w n a (Read extent) chosen b g awaiting = absurd g
-  table_inside w n a (Write extent content) chosen b g awaiting = absurd g
+      ((part_inside shape Writeback (whole_block (block_size shape) old) old (cut_of chosen) (whole_starts shape old inside.1.0) (cut_replacing w.phase (slice_get w.actors a) old new chosen g), tt), (tt, (tt, tt)))
+  table_inside w n a (Read extent) chosen b g mode awaiting = absurd g
+  table_inside w n a (Write extent content) chosen b g mode awaiting = absurd g
 
   rest_inside : (actors : List Actor) (a : ℕ) (x : Actor) → slice_get (all_resting actors) a ≡ Some x → PlanInside shape x.task
   rest_inside actors a x e = subst (λ (v : Actor). PlanInside shape v.task) (sym (all_rest actors a x e)) tt
@@ -362,16 +363,16 @@ module _ (P A : Type 0) (shape : Shape) where
   clear w (Migrate migration block) i = i
   clear w (Replace old new) i = i
 
-  starts : (w : State P A) (n : Notes) (a : ℕ) (job : Job) (chosen : Chosen P A) → Base P A shape w n → Inside shape (cleared w job) → ((awaiting : List Order) → PlanInside shape (Some (begun_as job, table (task_job shape awaiting job (cut_of chosen))))) → Inside shape (started shape w a job chosen)
+  starts : (w : State P A) (n : Notes) (a : ℕ) (job : Job) (chosen : Chosen P A) → Base P A shape w n → Inside shape (cleared w job) → ((mode : Mode) (awaiting : List Order) → PlanInside shape (Some (begun_as job, table (task_job shape mode awaiting job (cut_of chosen))))) → Inside shape (started shape w a job chosen)
   starts w n a job chosen b i p = by_actor (slice_get (cleared w job).actors a) refl
     where
-      by_actor : (o : Option Actor) → slice_get (cleared w job).actors a ≡ o → Inside shape (with_actor (cleared w job) o (λ x. record (cleared w job) { phase = phase_given (cleared w job).phase job chosen; actors = slice_set (cleared w job).actors a (given shape x job chosen) }))
+      by_actor : (o : Option Actor) → slice_get (cleared w job).actors a ≡ o → Inside shape (with_actor (cleared w job) o (λ x. record (cleared w job) { phase = phase_given (cleared w job).phase job chosen; actors = slice_set (cleared w job).actors a (given shape (mode_of (cleared w job).phase) x job chosen) }))
       by_actor None e = i
       by_actor (Some x) e = record {
         cache = i.cache;
         origin = i.origin;
         seals = same_seals (cleared w job).phase job chosen i.seals;
-        tasks = each_set (cleared w job).actors a x (given shape x job chosen) (λ (z : Actor). PlanInside shape z.task) e (p x.awaiting) i.tasks;
+        tasks = each_set (cleared w job).actors a x (given shape (mode_of (cleared w job).phase) x job chosen) (λ (z : Actor). PlanInside shape z.task) e (p (mode_of (cleared w job).phase) x.awaiting) i.tasks;
       }
 
   -- ---- every event

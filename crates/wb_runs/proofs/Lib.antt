@@ -17,6 +17,7 @@ pub mod Ordering
 pub mod Owning
 pub mod Using
 mod Plans
+pub mod Modes
 mod Refusing
 pub mod Covering
 pub mod SoFar

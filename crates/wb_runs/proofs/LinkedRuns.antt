@@ -3,6 +3,7 @@ use Rattle.std.proofs.Common.{◌≡◌, ◌≢◌, ◌∙◌, inl, inr, ℕ, ze
 use Rattle.std.proofs.lemmas.Bool.{cases_eq}
 use Rattle.std.proofs.lemmas.Option.{slice_get_within}
 use Rattle.wb_types.specs.declared.mode.Mode.{Mode}
+use Rattle.wb_types.specs.declared.mode.Mode.TheVariants.{Writeback}
 use Rattle.wb_types.specs.declared.refusal.Refusal.{Refusal}
 use Rattle.wb_disk.specs.Device.{Content as Bytes, History}
 use Rattle.wb_disk.specs.Crash.{Choice}
@@ -25,7 +26,7 @@ use Rattle.wb_promise.specs.declared.event.Event.{Event}
 use Rattle.wb_promise.specs.declared.event.Event.TheVariants.{Start, Step, FaultStep, Stop}
 use Rattle.wb_promise.specs.declared.event.What.{What}
 use Rattle.wb_promise.specs.declared.event.What.TheVariants.{Skipped, Refused, Started, Stepped, Stopped}
-use Rattle.wb_promise.specs.States.{Shape, State, Actor, Phase, Stands, Gone, Opens, OfTarget, resting, start}
+use Rattle.wb_promise.specs.States.{Shape, State, Actor, Phase, Stands, Gone, Opens, OfTarget, mode_of, resting, start}
 use Rattle.wb_promise.specs.Happenings.{Chosen, Plain, Cut, Orders, Begins, Reaches, Puts, Commits, Asks, Opened, Happening, OfSome, Gives, MayFailAt, Falters, DoesNotApply, StartGives, MayBe, task_job, begun_as}
 use Rattle.wb_promise.specs.Effects.{phase_then, phase_opened, phase_given, task_then, actor_then, stepped, with_actor, cleared, given, job_of, cut_of, device_done, device_failed, all_resting, after_what, after_happening, after_all, IsRun}
 use Rattle.wb_promise.specs.Clerk.{Notes, Doing, noted_step, noted_what, finished_note, begun, nobody, put, formatted}
@@ -36,6 +37,7 @@ use Rattle.wb_contents.proofs.Lists.{set_other, set_there, replicated, replicate
 use Rattle.wb_runs.proofs.Lists.{rests, there_rests, free}
 use Rattle.wb_runs.proofs.MetadataRuns.{IsKnown, known_after, known_at_start}
 use Rattle.wb_runs.proofs.Opening.{open_refuses}
+use Rattle.wb_runs.proofs.Modes.{IsAnswer, mode_stays, mode_faults, mode_given}
 use Rattle.wb_runs.proofs.Claims.{JobClaim, NotedClaim, TaskClaim, AllClaim, Noted, claim_set, noted_of, read_ends, write_ends}
 use Rattle.wb_runs.proofs.Ruling.{each_set}
 use Rattle.wb_runs.proofs.Using.{UsedRightly, used_what, used_start}
@@ -47,9 +49,9 @@ all_none (d ∷ ds) zero o e = refl
 all_none (d ∷ ds) (suc b) o e = all_none ds b o e
 
 -- something is noted of each actor
-noted_there : (shape : Shape) (t : Option (Job × Plan)) (d : Option (Option Doing)) → TaskClaim shape t d → (o : Option Doing) × (d ≡ Some o)
-noted_there shape None d k = (None, k)
-noted_there shape (Some task) d k = let c = noted_of shape task.0 task.1 d k in (Some c.doing, c.is)
+noted_there : (shape : Shape) (mode : Mode) (t : Option (Job × Plan)) (d : Option (Option Doing)) → TaskClaim shape mode t d → (o : Option Doing) × (d ≡ Some o)
+noted_there shape mode None d k = (None, k)
+noted_there shape mode (Some task) d k = let c = noted_of shape mode task.0 task.1 d k in (Some c.doing, c.is)
 
 module _ (P A : Type 0) (shape : Shape) where
   abbrev pub LinkedTo : State P A → Notes → Type 0
@@ -58,21 +60,17 @@ module _ (P A : Type 0) (shape : Shape) where
   -- everybody rests
   idle : (actors : List Actor) (doings : List (Option Doing)) (phase : Phase P A) (n : Notes) → n.doings ≡ doings → ((b : ℕ) (z : Actor) → slice_get actors b ≡ Some z → (z.task ≡ None) × (slice_get doings b ≡ Some None)) → AtPhase phase actors → Linked shape phase actors n
   idle actors doings phase n same each alone = record {
-    claims = λ b z e. let r = each b z e in subst (λ (t : Option (Job × Plan)). TaskClaim shape t (slice_get n.doings b)) (sym r.0) (ap (λ (ds : List (Option Doing)). slice_get ds b) same ∙ r.1);
+    claims = λ b z e. let r = each b z e in subst (λ (t : Option (Job × Plan)). TaskClaim shape (mode_of phase) t (slice_get n.doings b)) (sym r.0) (ap (λ (ds : List (Option Doing)). slice_get ds b) same ∙ r.1);
     here = λ b z e. let r = each b z e in subst (λ (t : Option (Job × Plan)). TaskHere phase t) (sym r.0) tt;
     alone = alone;
   }
 
-  all_idle : (actors : List Actor) (n : Notes) → AllClaim shape actors n.doings → (b : ℕ) (z : Actor) → slice_get (all_resting actors) b ≡ Some z → (z.task ≡ None) × (slice_get (nobody n.doings) b ≡ Some None)
-  all_idle actors n claims b z e = let r = rests actors b z e in let d = noted_there shape r.1.0.task (slice_get n.doings b) (claims b r.1.0 r.1.1) in (r.0, all_none n.doings b d.0 d.1)
+  all_idle : (mode : Mode) (actors : List Actor) (n : Notes) → AllClaim shape mode actors n.doings → (b : ℕ) (z : Actor) → slice_get (all_resting actors) b ≡ Some z → (z.task ≡ None) × (slice_get (nobody n.doings) b ≡ Some None)
+  all_idle mode actors n claims b z e = let r = rests actors b z e in let d = noted_there shape mode r.1.0.task (slice_get n.doings b) (claims b r.1.0 r.1.1) in (r.0, all_none n.doings b d.0 d.1)
 
   -- ---- an actor's step
 
   -- its phase after a step that is no answer is of the same kind
-  abbrev IsAnswer : Want → Type 0
-  IsAnswer (End answer) = Unit {0}
-  IsAnswer next = ⊥
-
   here_on : (phase : Phase P A) (next : Want) (got : Got) (chosen : Chosen P A) (t : Option (Job × Plan)) → ¬ IsAnswer next → TaskHere phase t → TaskHere (phase_then shape phase next got chosen) t
   here_on (Stands t) next got chosen None o h = tt
   here_on (Stands t) next got chosen (Some task) o h = h
@@ -116,9 +114,9 @@ module _ (P A : Type 0) (shape : Shape) where
     alone_on (Opens mode reading) (End answer) o k = absurd (o tt)
 
     -- it goes on
-    goes_on : (n' : Notes) → ¬ IsAnswer next → ((b : ℕ) → b ≢ a → slice_get n'.doings b ≡ slice_get n.doings b) → TaskClaim shape y.task (slice_get n'.doings a) → Linked shape (phase_then shape w.phase next got chosen) (slice_set w.actors a y) n'
-    goes_on n' o others mine = record {
-      claims = claim_set shape w.actors n.doings n'.doings a x y e others mine l.claims;
+    goes_on : (n' : Notes) → ¬ IsAnswer next → mode_of (phase_then shape w.phase next got chosen) ≡ mode_of w.phase → ((b : ℕ) → b ≢ a → slice_get n'.doings b ≡ slice_get n.doings b) → TaskClaim shape (mode_of w.phase) y.task (slice_get n'.doings a) → Linked shape (phase_then shape w.phase next got chosen) (slice_set w.actors a y) n'
+    goes_on n' o same others mine = record {
+      claims = subst (λ (m : Mode). AllClaim shape m (slice_set w.actors a y) n'.doings) (sym same) (claim_set shape (mode_of w.phase) w.actors n.doings n'.doings a x y e others mine l.claims);
       here = each_set w.actors a x y (λ (z : Actor). TaskHere (phase_then shape w.phase next got chosen) z.task) e (here_after (phase_then shape w.phase next got chosen) next got x.task (here_on w.phase next got chosen x.task o (l.here a x e)))
           (λ b z f. here_on w.phase next got chosen z.task o (l.here b z f));
       alone = alone_on w.phase next o l.alone;
@@ -142,9 +140,9 @@ module _ (P A : Type 0) (shape : Shape) where
   opened_alone mode reading (Asks new) actors = tt
 
   -- what is noted of others stays at an answer, but an opening's that is done
-  answer_others : (shown : List Bytes) (n : Notes) (a : ℕ) (doing : Doing) (job : Job) (answer : Answer) (got : Got) (read : List Bytes) → IsServed job → doing.job ≡ job → (b : ℕ) → b ≢ a → slice_get (noted_step shape shown n a (Some (Some doing)) (End answer) got read).doings b ≡ slice_get n.doings b
-  answer_others shown n a doing job (Refuses refusal) got read s j b o = set_other n.doings a b None o
-  answer_others shown n a doing job Finished got read s j b o = subst (λ (q : Job). slice_get (finished_note n a doing q shown).doings b ≡ slice_get n.doings b) (sym j) (by_job job s)
+  answer_others : (mode : Mode) (shown : List Bytes) (n : Notes) (a : ℕ) (doing : Doing) (job : Job) (answer : Answer) (got : Got) (read : List Bytes) → IsServed job → doing.job ≡ job → (b : ℕ) → b ≢ a → slice_get (noted_step shape mode shown n a (Some (Some doing)) (End answer) got read).doings b ≡ slice_get n.doings b
+  answer_others mode shown n a doing job (Refuses refusal) got read s j b o = set_other n.doings a b None o
+  answer_others mode shown n a doing job Finished got read s j b o = subst (λ (q : Job). slice_get (finished_note n a doing q shown).doings b ≡ slice_get n.doings b) (sym j) (by_job job s)
     where
       by_job : (q : Job) → IsServed q → slice_get (finished_note n a doing q shown).doings b ≡ slice_get n.doings b
       by_job (Read extent) s = set_other n.doings a b None o
@@ -152,11 +150,11 @@ module _ (P A : Type 0) (shape : Shape) where
       by_job Flush s = set_other n.doings a b None o
       by_job (Migrate migration block) s = set_other n.doings a b None o
       by_job (Replace old new) s = set_other n.doings a b None o
-      by_job (Open mode) s = absurd s
+      by_job (Open opened_in) s = absurd s
 
-  answer_mine : (shown : List Bytes) (n : Notes) (a : ℕ) (doing : Doing) (job : Job) (answer : Answer) (got : Got) (read : List Bytes) → IsServed job → doing.job ≡ job → slice_get n.doings a ≡ Some (Some doing) → slice_get (noted_step shape shown n a (Some (Some doing)) (End answer) got read).doings a ≡ Some None
-  answer_mine shown n a doing job (Refuses refusal) got read s j e = set_there n.doings a (Some doing) None e
-  answer_mine shown n a doing job Finished got read s j e = subst (λ (q : Job). slice_get (finished_note n a doing q shown).doings a ≡ Some None) (sym j) (by_job job s)
+  answer_mine : (mode : Mode) (shown : List Bytes) (n : Notes) (a : ℕ) (doing : Doing) (job : Job) (answer : Answer) (got : Got) (read : List Bytes) → IsServed job → doing.job ≡ job → slice_get n.doings a ≡ Some (Some doing) → slice_get (noted_step shape mode shown n a (Some (Some doing)) (End answer) got read).doings a ≡ Some None
+  answer_mine mode shown n a doing job (Refuses refusal) got read s j e = set_there n.doings a (Some doing) None e
+  answer_mine mode shown n a doing job Finished got read s j e = subst (λ (q : Job). slice_get (finished_note n a doing q shown).doings a ≡ Some None) (sym j) (by_job job s)
     where
       by_job : (q : Job) → IsServed q → slice_get (finished_note n a doing q shown).doings a ≡ Some None
       by_job (Read extent) s = set_there n.doings a (Some doing) None e
@@ -164,24 +162,24 @@ module _ (P A : Type 0) (shape : Shape) where
       by_job Flush s = set_there n.doings a (Some doing) None e
       by_job (Migrate migration block) s = set_there n.doings a (Some doing) None e
       by_job (Replace old new) s = set_there n.doings a (Some doing) None e
-      by_job (Open mode) s = absurd s
+      by_job (Open opened_in) s = absurd s
 
   module _ (shown : List Bytes) (w : State P A) (n : Notes) (l : LinkedTo w n) (a : ℕ) (x : Actor) (e : slice_get w.actors a ≡ Some x) (job : Job) (plan : Plan) (xt : x.task ≡ Some (job, plan)) (answer : Answer) (got : Got) (read : List Bytes) (chosen : Chosen P A)
-      (d : Noted shape job plan (slice_get n.doings a)) where
+      (d : Noted shape (mode_of w.phase) job plan (slice_get n.doings a)) where
     abbrev y' : Actor
     y' = actor_then shape w.phase w.devices x (End answer) got
 
     abbrev n' : Notes
-    n' = noted_step shape shown n a (Some (Some d.doing)) (End answer) got read
+    n' = noted_step shape (mode_of w.phase) shown n a (Some (Some d.doing)) (End answer) got read
 
     rested : y'.task ≡ None
     rested = ap (λ (t : Option (Job × Plan)). task_then t (End answer) got) xt
 
     -- where a target stands
-    served_ends : (phase : Phase P A) → phase_then shape phase (End answer) got chosen ≡ phase → ((b : ℕ) (z : Actor) → slice_get w.actors b ≡ Some z → TaskHere phase z.task) → AtPhase phase (slice_set w.actors a y') → IsServed job → Linked shape (phase_then shape phase (End answer) got chosen) (slice_set w.actors a y') n'
-    served_ends phase same here alone s = subst (λ (p : Phase P A). Linked shape p (slice_set w.actors a y') n') (sym same) (record {
-      claims = claim_set shape w.actors n.doings n'.doings a x y' e (answer_others shown n a d.doing job answer got read s d.job_is)
-          (subst (λ (t : Option (Job × Plan)). TaskClaim shape t (slice_get n'.doings a)) (sym rested) (answer_mine shown n a d.doing job answer got read s d.job_is d.is)) l.claims;
+    served_ends : (phase : Phase P A) → w.phase ≡ phase → phase_then shape phase (End answer) got chosen ≡ phase → ((b : ℕ) (z : Actor) → slice_get w.actors b ≡ Some z → TaskHere phase z.task) → AtPhase phase (slice_set w.actors a y') → IsServed job → Linked shape (phase_then shape phase (End answer) got chosen) (slice_set w.actors a y') n'
+    served_ends phase was same here alone s = subst (λ (p : Phase P A). Linked shape p (slice_set w.actors a y') n') (sym same) (record {
+      claims = claim_set shape (mode_of phase) w.actors n.doings n'.doings a x y' e (answer_others (mode_of w.phase) shown n a d.doing job answer got read s d.job_is)
+          (subst (λ (t : Option (Job × Plan)). TaskClaim shape (mode_of phase) t (slice_get n'.doings a)) (sym rested) (answer_mine (mode_of w.phase) shown n a d.doing job answer got read s d.job_is d.is)) (subst (λ (p : Phase P A). AllClaim shape (mode_of p) w.actors n.doings) was l.claims);
       here = each_set w.actors a x y' (λ (z : Actor). TaskHere phase z.task) e (subst (λ (t : Option (Job × Plan)). TaskHere phase t) (sym rested) tt) here;
       alone = alone;
     })
@@ -201,7 +199,7 @@ module _ (P A : Type 0) (shape : Shape) where
     was_there : (b : ℕ) (z : Actor) → slice_get (slice_set w.actors a y') b ≡ Some z → (o : Option Doing) × (slice_get n.doings b ≡ Some o)
     was_there b z f = elim (cases_eq b a) [
       | inl s ↦ (Some d.doing, ap (slice_get n.doings) s ∙ d.is)
-      | inr o ↦ let old = sym (set_other w.actors a b y' o) ∙ f in noted_there shape z.task (slice_get n.doings b) (l.claims b z old)
+      | inr o ↦ let old = sym (set_other w.actors a b y' o) ∙ f in noted_there shape (mode_of w.phase) z.task (slice_get n.doings b) (l.claims b z old)
     ]
 
     opens_end : (mode : Mode) (reading : Option (ReadSteps A)) (opener : ℕ) → ((b : ℕ) (z : Actor) → slice_get w.actors b ≡ Some z → IsTask z.task → b ≡ opener) → (mode' : Mode) → job ≡ Open mode' → Linked shape (phase_opened shape mode reading chosen) (slice_set w.actors a y') n'
@@ -219,17 +217,17 @@ module _ (P A : Type 0) (shape : Shape) where
         put_there : (b : ℕ) (z : Actor) → slice_get (slice_set w.actors a y') b ≡ Some z → slice_get (slice_set n.doings a None) b ≡ Some None
         put_there b z f = elim (cases_eq b a) [
           | inl s ↦ ap (slice_get (slice_set n.doings a None)) s ∙ set_there n.doings a (Some d.doing) None d.is
-          | inr o ↦ set_other n.doings a b None o ∙ (let old = sym (set_other w.actors a b y' o) ∙ f in subst (λ (t : Option (Job × Plan)). TaskClaim shape t (slice_get n.doings b)) (none b z f) (l.claims b z old))
+          | inr o ↦ set_other n.doings a b None o ∙ (let old = sym (set_other w.actors a b y' o) ∙ f in subst (λ (t : Option (Job × Plan)). TaskClaim shape (mode_of w.phase) t (slice_get n.doings b)) (none b z f) (l.claims b z old))
         ]
 
         by_answer : (v : Answer) → answer ≡ v → Linked shape (phase_opened shape mode reading chosen) (slice_set w.actors a y') n'
         by_answer Finished v = idle (slice_set w.actors a y') begun_doings (phase_opened shape mode reading chosen) n'
-            (ap (λ (q : Answer). (noted_step shape shown n a (Some (Some d.doing)) (End q) got read).doings) v ∙ ap (λ (q : Job). (finished_note n a d.doing q shown).doings) (d.job_is ∙ j)) (λ b z f. (none b z f, begun_there b z f)) (opened_alone mode reading chosen (slice_set w.actors a y'))
+            (ap (λ (q : Answer). (noted_step shape (mode_of w.phase) shown n a (Some (Some d.doing)) (End q) got read).doings) v ∙ ap (λ (q : Job). (finished_note n a d.doing q shown).doings) (d.job_is ∙ j)) (λ b z f. (none b z f, begun_there b z f)) (opened_alone mode reading chosen (slice_set w.actors a y'))
         by_answer (Refuses refusal) v = idle (slice_set w.actors a y') (slice_set n.doings a None) (phase_opened shape mode reading chosen) n'
-            (ap (λ (q : Answer). (noted_step shape shown n a (Some (Some d.doing)) (End q) got read).doings) v) (λ b z f. (none b z f, put_there b z f)) (opened_alone mode reading chosen (slice_set w.actors a y'))
+            (ap (λ (q : Answer). (noted_step shape (mode_of w.phase) shown n a (Some (Some d.doing)) (End q) got read).doings) v) (λ b z f. (none b z f, put_there b z f)) (opened_alone mode reading chosen (slice_set w.actors a y'))
 
     pub answers : (phase : Phase P A) → w.phase ≡ phase → Linked shape (phase_then shape phase (End answer) got chosen) (slice_set w.actors a y') n'
-    answers (Stands t) p = served_ends (Stands t) refl (λ b z f. subst (λ (q : Phase P A). TaskHere q z.task) p (l.here b z f)) tt (subst (λ (q : Phase P A). InPhase q job) p (subst (λ (t : Option (Job × Plan)). TaskHere w.phase t) xt (l.here a x e)))
+    answers (Stands t) p = served_ends (Stands t) p refl (λ b z f. subst (λ (q : Phase P A). TaskHere q z.task) p (l.here b z f)) tt (subst (λ (q : Phase P A). InPhase q job) p (subst (λ (t : Option (Job × Plan)). TaskHere w.phase t) xt (l.here a x e)))
     answers Gone p = absurd (subst (λ (q : Phase P A). InPhase q job) p (subst (λ (t : Option (Job × Plan)). TaskHere w.phase t) xt (l.here a x e)))
     answers (Opens mode reading) p =
         let alone = subst (λ (q : Phase P A). AtPhase q w.actors) p l.alone in
@@ -247,62 +245,62 @@ module _ (P A : Type 0) (shape : Shape) where
   -- ---- whoever takes a step
 
   module _ (shown : List Bytes) (w : State P A) (n : Notes) (known : IsKnown P A shape w) (l : LinkedTo w n) (u : UsedRightly P A shape w.phase w.actors) (a : ℕ) where
-    noted_for : (x : Actor) (job : Job) (plan : Plan) → slice_get w.actors a ≡ Some x → x.task ≡ Some (job, plan) → Noted shape job plan (slice_get n.doings a)
-    noted_for x job plan e xt = noted_of shape job plan (slice_get n.doings a) (subst (λ (t : Option (Job × Plan)). TaskClaim shape t (slice_get n.doings a)) xt (l.claims a x e))
+    noted_for : (x : Actor) (job : Job) (plan : Plan) → slice_get w.actors a ≡ Some x → x.task ≡ Some (job, plan) → Noted shape (mode_of w.phase) job plan (slice_get n.doings a)
+    noted_for x job plan e xt = noted_of shape (mode_of w.phase) job plan (slice_get n.doings a) (subst (λ (t : Option (Job × Plan)). TaskClaim shape (mode_of w.phase) t (slice_get n.doings a)) xt (l.claims a x e))
 
     suits_for : (x : Actor) (job : Job) (plan : Plan) → slice_get w.actors a ≡ Some x → x.task ≡ Some (job, plan) → Suits shape.geometry.origin_blocks plan x.card
     suits_for x job plan e xt = subst (λ (t : Option (Job × Plan)). TaskSuits shape.geometry.origin_blocks x.card t) xt (u.suited a x e)
 
     one_steps : (x : Actor) (job : Job) (plan : Plan) (next : Want) (got : Got) (read : List Bytes) (chosen : Chosen P A) → slice_get w.actors a ≡ Some x → x.task ≡ Some (job, plan) → next ≡ want plan → Gives shape w x job next got read chosen →
-        Linked shape (phase_then shape w.phase next got chosen) (slice_set w.actors a (actor_then shape w.phase w.devices x next got)) (noted_step shape shown n a (slice_get n.doings a) next got read)
+        Linked shape (phase_then shape w.phase next got chosen) (slice_set w.actors a (actor_then shape w.phase w.devices x next got)) (noted_step shape (mode_of w.phase) shown n a (slice_get n.doings a) next got read)
     one_steps x job plan next got read chosen e xt h g =
         let d = noted_for x job plan e xt in
-        subst (λ (o : Option (Option Doing)). Linked shape (phase_then shape w.phase next got chosen) (slice_set w.actors a (actor_then shape w.phase w.devices x next got)) (noted_step shape shown n a o next got read)) (sym d.is) (by_next d next h g)
+        subst (λ (o : Option (Option Doing)). Linked shape (phase_then shape w.phase next got chosen) (slice_set w.actors a (actor_then shape w.phase w.devices x next got)) (noted_step shape (mode_of w.phase) shown n a o next got read)) (sym d.is) (by_next d next h g)
       where
-        by_next : (d : Noted shape job plan (slice_get n.doings a)) (next : Want) → next ≡ want plan → Gives shape w x job next got read chosen → Linked shape (phase_then shape w.phase next got chosen) (slice_set w.actors a (actor_then shape w.phase w.devices x next got)) (noted_step shape shown n a (Some (Some d.doing)) next got read)
-        by_next d (Cell step) h g = goes_on w n l a x e (Cell step) got chosen (noted_step shape shown n a (Some (Some d.doing)) (Cell step) got read) (λ z. z) (λ b o. refl)
-            (subst (λ (t : Option (Job × Plan)). TaskClaim shape (task_then t (Cell step) got) (slice_get (noted_step shape shown n a (Some (Some d.doing)) (Cell step) got read).doings a)) (sym xt)
-            (claims_on P A shape w n known.images known.known a x d.doing d.is plan (suits_for x job plan e xt) shown job (Cell step) got read chosen tt d.job_is d.claim h g))
-        by_next d (Device step) h g = goes_on w n l a x e (Device step) got chosen (noted_step shape shown n a (Some (Some d.doing)) (Device step) got read) (λ z. z) (others_stay shape shown n a d.doing step got read)
-            (subst (λ (t : Option (Job × Plan)). TaskClaim shape (task_then t (Device step) got) (slice_get (noted_step shape shown n a (Some (Some d.doing)) (Device step) got read).doings a)) (sym xt)
-            (claims_on P A shape w n known.images known.known a x d.doing d.is plan (suits_for x job plan e xt) shown job (Device step) got read chosen tt d.job_is d.claim h g))
-        by_next d (Desk step) h g = goes_on w n l a x e (Desk step) got chosen (noted_step shape shown n a (Some (Some d.doing)) (Desk step) got read) (λ z. z) (λ b o. refl)
-            (subst (λ (t : Option (Job × Plan)). TaskClaim shape (task_then t (Desk step) got) (slice_get (noted_step shape shown n a (Some (Some d.doing)) (Desk step) got read).doings a)) (sym xt)
-            (claims_on P A shape w n known.images known.known a x d.doing d.is plan (suits_for x job plan e xt) shown job (Desk step) got read chosen tt d.job_is d.claim h g))
+        by_next : (d : Noted shape (mode_of w.phase) job plan (slice_get n.doings a)) (next : Want) → next ≡ want plan → Gives shape w x job next got read chosen → Linked shape (phase_then shape w.phase next got chosen) (slice_set w.actors a (actor_then shape w.phase w.devices x next got)) (noted_step shape (mode_of w.phase) shown n a (Some (Some d.doing)) next got read)
+        by_next d (Cell step) h g = goes_on w n l a x e (Cell step) got chosen (noted_step shape (mode_of w.phase) shown n a (Some (Some d.doing)) (Cell step) got read) (λ z. z) (mode_stays P A shape w x job (Cell step) got read chosen (λ z. z) g) (λ b o. refl)
+            (subst (λ (t : Option (Job × Plan)). TaskClaim shape (mode_of w.phase) (task_then t (Cell step) got) (slice_get (noted_step shape (mode_of w.phase) shown n a (Some (Some d.doing)) (Cell step) got read).doings a)) (sym xt)
+            (claims_on P A shape w n known.images known.known a x d.doing d.is plan (suits_for x job plan e xt) (mode_of w.phase) shown job (Cell step) got read chosen tt d.job_is d.claim h g))
+        by_next d (Device step) h g = goes_on w n l a x e (Device step) got chosen (noted_step shape (mode_of w.phase) shown n a (Some (Some d.doing)) (Device step) got read) (λ z. z) (mode_stays P A shape w x job (Device step) got read chosen (λ z. z) g) (others_stay shape (mode_of w.phase) shown n a d.doing step got read)
+            (subst (λ (t : Option (Job × Plan)). TaskClaim shape (mode_of w.phase) (task_then t (Device step) got) (slice_get (noted_step shape (mode_of w.phase) shown n a (Some (Some d.doing)) (Device step) got read).doings a)) (sym xt)
+            (claims_on P A shape w n known.images known.known a x d.doing d.is plan (suits_for x job plan e xt) (mode_of w.phase) shown job (Device step) got read chosen tt d.job_is d.claim h g))
+        by_next d (Desk step) h g = goes_on w n l a x e (Desk step) got chosen (noted_step shape (mode_of w.phase) shown n a (Some (Some d.doing)) (Desk step) got read) (λ z. z) (mode_stays P A shape w x job (Desk step) got read chosen (λ z. z) g) (λ b o. refl)
+            (subst (λ (t : Option (Job × Plan)). TaskClaim shape (mode_of w.phase) (task_then t (Desk step) got) (slice_get (noted_step shape (mode_of w.phase) shown n a (Some (Some d.doing)) (Desk step) got read).doings a)) (sym xt)
+            (claims_on P A shape w n known.images known.known a x d.doing d.is plan (suits_for x job plan e xt) (mode_of w.phase) shown job (Desk step) got read chosen tt d.job_is d.claim h g))
         by_next d (End answer) h g = answers shown w n l a x e job plan xt answer got read chosen d w.phase refl
 
     one_faults : (x : Actor) (job : Job) (plan : Plan) (step : DeviceStep) (read : List Bytes) (chosen : Chosen P A) → slice_get w.actors a ≡ Some x → x.task ≡ Some (job, plan) → Device step ≡ want plan →
-        Linked shape (phase_then shape w.phase (Device step) Fault chosen) (slice_set w.actors a (actor_then shape w.phase w.devices x (Device step) Fault)) (noted_step shape shown n a (slice_get n.doings a) (Device step) Fault read)
+        Linked shape (phase_then shape w.phase (Device step) Fault chosen) (slice_set w.actors a (actor_then shape w.phase w.devices x (Device step) Fault)) (noted_step shape (mode_of w.phase) shown n a (slice_get n.doings a) (Device step) Fault read)
     one_faults x job plan step read chosen e xt h =
         let d = noted_for x job plan e xt in
-        subst (λ (o : Option (Option Doing)). Linked shape (phase_then shape w.phase (Device step) Fault chosen) (slice_set w.actors a (actor_then shape w.phase w.devices x (Device step) Fault)) (noted_step shape shown n a o (Device step) Fault read)) (sym d.is)
-        (goes_on w n l a x e (Device step) Fault chosen (noted_step shape shown n a (Some (Some d.doing)) (Device step) Fault read) (λ z. z) (others_stay shape shown n a d.doing step Fault read)
-        (subst (λ (t : Option (Job × Plan)). TaskClaim shape (task_then t (Device step) Fault) (slice_get (noted_step shape shown n a (Some (Some d.doing)) (Device step) Fault read).doings a)) (sym xt)
-        (claims_failed P A shape w n known.images known.known a x d.doing d.is plan (suits_for x job plan e xt) shown job step read d.job_is d.claim h)))
+        subst (λ (o : Option (Option Doing)). Linked shape (phase_then shape w.phase (Device step) Fault chosen) (slice_set w.actors a (actor_then shape w.phase w.devices x (Device step) Fault)) (noted_step shape (mode_of w.phase) shown n a o (Device step) Fault read)) (sym d.is)
+        (goes_on w n l a x e (Device step) Fault chosen (noted_step shape (mode_of w.phase) shown n a (Some (Some d.doing)) (Device step) Fault read) (λ z. z) (mode_faults P A shape w.phase step Fault chosen) (others_stay shape (mode_of w.phase) shown n a d.doing step Fault read)
+        (subst (λ (t : Option (Job × Plan)). TaskClaim shape (mode_of w.phase) (task_then t (Device step) Fault) (slice_get (noted_step shape (mode_of w.phase) shown n a (Some (Some d.doing)) (Device step) Fault read).doings a)) (sym xt)
+        (claims_failed P A shape w n known.images known.known a x d.doing d.is plan (suits_for x job plan e xt) (mode_of w.phase) shown job step read d.job_is d.claim h)))
 
     step_links : (next : Want) (got : Got) (read : List Bytes) (chosen : Chosen P A) (o : Option Actor) → slice_get w.actors a ≡ o → OfSome o (λ x. OfSome x.task (λ doing. (next ≡ want doing.1) × Gives shape w x doing.0 next got read chosen)) →
-        LinkedTo (with_actor w o (λ x. stepped shape w a x next got chosen (λ step. device_done (job_of x.task) x.buffer step chosen))) (noted_step shape shown n a (slice_get n.doings a) next got read)
+        LinkedTo (with_actor w o (λ x. stepped shape w a x next got chosen (λ step. device_done (job_of x.task) x.buffer step chosen))) (noted_step shape (mode_of w.phase) shown n a (slice_get n.doings a) next got read)
     step_links next got read chosen None e h = absurd h
     step_links next got read chosen (Some x) e h = by_task x.task refl h
       where
         by_task : (t : Option (Job × Plan)) → x.task ≡ t → OfSome t (λ doing. (next ≡ want doing.1) × Gives shape w x doing.0 next got read chosen) →
-            LinkedTo (stepped shape w a x next got chosen (λ step. device_done (job_of x.task) x.buffer step chosen)) (noted_step shape shown n a (slice_get n.doings a) next got read)
+            LinkedTo (stepped shape w a x next got chosen (λ step. device_done (job_of x.task) x.buffer step chosen)) (noted_step shape (mode_of w.phase) shown n a (slice_get n.doings a) next got read)
         by_task None xt h = absurd h
         by_task (Some doing) xt h = one_steps x doing.0 doing.1 next got read chosen e xt h.0 h.1
 
     fault_links : (choice : Choice) (next : Want) (read : List Bytes) (chosen : Chosen P A) (o : Option Actor) → slice_get w.actors a ≡ o → OfSome o (λ x. OfSome x.task (λ doing. (next ≡ want doing.1) × MayFailAt w.devices choice next × Falters w choice next chosen)) →
-        LinkedTo (with_actor w o (λ x. stepped shape w a x next Fault chosen (λ step. device_failed (lands (device_of step) choice) (job_of x.task) x.buffer step chosen))) (noted_step shape shown n a (slice_get n.doings a) next Fault read)
+        LinkedTo (with_actor w o (λ x. stepped shape w a x next Fault chosen (λ step. device_failed (lands (device_of step) choice) (job_of x.task) x.buffer step chosen))) (noted_step shape (mode_of w.phase) shown n a (slice_get n.doings a) next Fault read)
     fault_links choice next read chosen None e h = absurd h
     fault_links choice next read chosen (Some x) e h = by_task x.task refl h
       where
-        by_next : (job : Job) (plan : Plan) (next : Want) → x.task ≡ Some (job, plan) → next ≡ want plan → MayFailAt w.devices choice next → LinkedTo (stepped shape w a x next Fault chosen (λ step. device_failed (lands (device_of step) choice) (job_of x.task) x.buffer step chosen)) (noted_step shape shown n a (slice_get n.doings a) next Fault read)
+        by_next : (job : Job) (plan : Plan) (next : Want) → x.task ≡ Some (job, plan) → next ≡ want plan → MayFailAt w.devices choice next → LinkedTo (stepped shape w a x next Fault chosen (λ step. device_failed (lands (device_of step) choice) (job_of x.task) x.buffer step chosen)) (noted_step shape (mode_of w.phase) shown n a (slice_get n.doings a) next Fault read)
         by_next job plan (Device step) xt h m = one_faults x job plan step read chosen e xt h
         by_next job plan (Cell step) xt h m = absurd m
         by_next job plan (Desk step) xt h m = absurd m
         by_next job plan (End answer) xt h m = absurd m
 
         by_task : (t : Option (Job × Plan)) → x.task ≡ t → OfSome t (λ doing. (next ≡ want doing.1) × MayFailAt w.devices choice next × Falters w choice next chosen) →
-            LinkedTo (stepped shape w a x next Fault chosen (λ step. device_failed (lands (device_of step) choice) (job_of x.task) x.buffer step chosen)) (noted_step shape shown n a (slice_get n.doings a) next Fault read)
+            LinkedTo (stepped shape w a x next Fault chosen (λ step. device_failed (lands (device_of step) choice) (job_of x.task) x.buffer step chosen)) (noted_step shape (mode_of w.phase) shown n a (slice_get n.doings a) next Fault read)
         by_task None xt h = absurd h
         by_task (Some doing) xt h = by_next doing.0 doing.1 next xt h.0 h.1
 
@@ -360,15 +358,16 @@ module _ (P A : Type 0) (shape : Shape) where
   same_alone t (Open mode) chosen actors = tt
 
   abbrev Started_so : List Bytes → State P A → Notes → ℕ → Job → Chosen P A → Option Actor → Type 0
-  Started_so shown w n a job chosen o = LinkedTo (with_actor (cleared w job) o (λ x. record (cleared w job) { phase = phase_given (cleared w job).phase job chosen; actors = slice_set (cleared w job).actors a (given shape x job chosen) })) (noted_what shape shown n (Start a job) Started [])
+  Started_so shown w n a job chosen o = LinkedTo (with_actor (cleared w job) o (λ x. record (cleared w job) { phase = phase_given (cleared w job).phase job chosen; actors = slice_set (cleared w job).actors a (given shape (mode_of (cleared w job).phase) x job chosen) })) (noted_what shape (mode_of w.phase) shown n (Start a job) Started [])
 
   -- a request, a flush or a migration starts where a target stands
-  served_starts : (phase : Phase P A) (actors : List Actor) (n : Notes) (a : ℕ) (x y : Actor) (job : Job) (plan : Plan) (chosen : Chosen P A) → Linked shape phase actors n → slice_get actors a ≡ Some x → x.task ≡ None → y.task ≡ Some (begun_as job, plan) → IsServed (begun_as job) → JobClaim shape (begun_as job) plan (begun n (begun_as job)) → (¬ ¬ OfTarget phase (λ t. Unit {0})) →
+  served_starts : (phase : Phase P A) (actors : List Actor) (n : Notes) (a : ℕ) (x y : Actor) (job : Job) (plan : Plan) (chosen : Chosen P A) → Linked shape phase actors n → slice_get actors a ≡ Some x → x.task ≡ None → y.task ≡ Some (begun_as job, plan) → IsServed (begun_as job) → JobClaim shape (mode_of phase) (begun_as job) plan (begun n (begun_as job)) → (¬ ¬ OfTarget phase (λ t. Unit {0})) →
       Linked shape (phase_given phase job chosen) (slice_set actors a y) (put n a (Some (begun n (begun_as job))))
   served_starts (Stands t) actors n a x y job plan chosen l e xt yt s c there = record {
-    claims = claim_set shape actors n.doings (slice_set n.doings a (Some (begun n (begun_as job)))) a x y e (λ b o. set_other n.doings a b (Some (begun n (begun_as job))) o)
-        (subst (λ (q : Option (Job × Plan)). TaskClaim shape q (slice_get (slice_set n.doings a (Some (begun n (begun_as job)))) a)) (sym yt)
-        (subst (λ (o : Option (Option Doing)). NotedClaim shape (begun_as job) plan o) (sym (set_there n.doings a None (Some (begun n (begun_as job))) (subst (λ (q : Option (Job × Plan)). TaskClaim shape q (slice_get n.doings a)) xt (l.claims a x e)))) (refl, c))) l.claims;
+    claims = subst (λ (m : Mode). AllClaim shape m (slice_set actors a y) (slice_set n.doings a (Some (begun n (begun_as job))))) (sym (mode_given P A (Stands t) job chosen))
+        (claim_set shape t.desk.mode actors n.doings (slice_set n.doings a (Some (begun n (begun_as job)))) a x y e (λ b o. set_other n.doings a b (Some (begun n (begun_as job))) o)
+        (subst (λ (q : Option (Job × Plan)). TaskClaim shape t.desk.mode q (slice_get (slice_set n.doings a (Some (begun n (begun_as job)))) a)) (sym yt)
+        (subst (λ (o : Option (Option Doing)). NotedClaim shape t.desk.mode (begun_as job) plan o) (sym (set_there n.doings a None (Some (begun n (begun_as job))) (subst (λ (q : Option (Job × Plan)). TaskClaim shape t.desk.mode q (slice_get n.doings a)) xt (l.claims a x e)))) (refl, c))) l.claims);
     here = each_set actors a x y (λ (z : Actor). TaskHere (phase_given (Stands t) job chosen) z.task) e (same_here (Stands t) job chosen y.task (subst (λ (q : Option (Job × Plan)). TaskHere {P = P} {A = A} (Stands t) q) (sym yt) s)) (λ b z f. same_here (Stands t) job chosen z.task (l.here b z f));
     alone = same_alone t job chosen (slice_set actors a y);
   }
@@ -387,18 +386,18 @@ module _ (P A : Type 0) (shape : Shape) where
       by_actor (Some x) f =
           let r = rests w.actors a x f in
           let m = begun n (Open mode) in
-          let y : Actor = given shape x (Open mode) chosen in
-          let old = all_idle w.actors n l.claims in
+          let y : Actor = given shape Writeback x (Open mode) chosen in
+          let old = all_idle (mode_of w.phase) w.actors n l.claims in
           let mine = set_there (nobody n.doings) a None (Some m) (old a x f).1 in
-          let yt : y.task ≡ Some (Open mode, table (task_job shape [] (Open mode) (cut_of chosen))) = refl in
+          let yt : y.task ≡ Some (Open mode, table (task_job shape Writeback [] (Open mode) (cut_of chosen))) = refl in
           record {
             claims = λ b z g. elim (cases_eq b a) [
               | inl s ↦ let is : Some y ≡ Some z = sym (set_there (all_resting w.actors) a x y f) ∙ ap (slice_get (slice_set (all_resting w.actors) a y)) (sym s) ∙ g in
                   let same : y ≡ z = cc in
-                  subst (λ (k : ℕ). TaskClaim shape z.task (slice_get (slice_set (nobody n.doings) a (Some m)) k)) (sym s) (subst (λ (v : Actor). TaskClaim shape v.task (slice_get (slice_set (nobody n.doings) a (Some m)) a)) same
-                  (subst (λ (o : Option (Option Doing)). NotedClaim shape (Open mode) (table (task_job shape [] (Open mode) (cut_of chosen))) o) (sym mine) (refl, record { left = shape.geometry.meta_sectors; job_is = refl; fine = tt; cause = λ q h. absurd (cc) })))
+                  subst (λ (k : ℕ). TaskClaim shape Writeback z.task (slice_get (slice_set (nobody n.doings) a (Some m)) k)) (sym s) (subst (λ (v : Actor). TaskClaim shape Writeback v.task (slice_get (slice_set (nobody n.doings) a (Some m)) a)) same
+                  (subst (λ (o : Option (Option Doing)). NotedClaim shape Writeback (Open mode) (table (task_job shape Writeback [] (Open mode) (cut_of chosen))) o) (sym mine) (refl, record { left = shape.geometry.meta_sectors; job_is = refl; fine = tt; cause = λ q h. absurd (cc) })))
               | inr o ↦ let was = old b z (sym (set_other (all_resting w.actors) a b y o) ∙ g) in
-                  subst (λ (t : Option (Job × Plan)). TaskClaim shape t (slice_get (slice_set (nobody n.doings) a (Some m)) b)) (sym was.0) (set_other (nobody n.doings) a b (Some m) o ∙ was.1)
+                  subst (λ (t : Option (Job × Plan)). TaskClaim shape Writeback t (slice_get (slice_set (nobody n.doings) a (Some m)) b)) (sym was.0) (set_other (nobody n.doings) a b (Some m) o ∙ was.1)
             ];
             here = each_set (all_resting w.actors) a x y (λ (z : Actor). TaskHere {P = P} {A = A} (Opens mode None) z.task) f tt (λ b z g. subst (λ (t : Option (Job × Plan)). TaskHere {P = P} {A = A} (Opens mode None) t) (sym (old b z g).0) tt);
             alone = (
@@ -412,30 +411,30 @@ module _ (P A : Type 0) (shape : Shape) where
   starts shown w n a (Read extent) (Cut cut) l applies gives =
       let f = free P A w a (Read extent) applies in
       subst (λ (o : Option Actor). Started_so shown w n a (Read extent) (Cut cut) o) (sym f.1)
-      (served_starts w.phase w.actors n a f.0 (given {P = P} {A = A} shape f.0 (Read extent) (Cut cut)) (Read extent) (table (task_job shape [] (Read extent) cut)) (Cut cut) l f.1 f.2 refl tt (record { cut = cut; is_job = refl; cuts = gives.1; inside = gives.0; covers = λ d. refl }) (λ p. applies (inr (inr p))))
+      (served_starts w.phase w.actors n a f.0 (given {P = P} {A = A} shape (mode_of w.phase) f.0 (Read extent) (Cut cut)) (Read extent) (table (task_job shape (mode_of w.phase) [] (Read extent) cut)) (Cut cut) l f.1 f.2 refl tt (record { cut = cut; is_job = refl; cuts = gives.1; inside = gives.0; covers = λ d. refl }) (λ p. applies (inr (inr p))))
   starts shown w n a (Write extent content) (Cut cut) l applies gives =
       let f = free P A w a (Write extent content) applies in
       subst (λ (o : Option Actor). Started_so shown w n a (Write extent content) (Cut cut) o) (sym f.1)
-      (served_starts w.phase w.actors n a f.0 (given {P = P} {A = A} shape f.0 (Write extent content) (Cut cut)) (Write extent content) (table (task_job shape [] (Write extent content) cut)) (Cut cut) l f.1 f.2 refl tt (record { cut = cut; is_job = refl; cuts = gives.1; inside = gives.0; covers = λ d. refl }) (λ p. applies (inr (inr p))))
+      (served_starts w.phase w.actors n a f.0 (given {P = P} {A = A} shape (mode_of w.phase) f.0 (Write extent content) (Cut cut)) (Write extent content) (table (task_job shape (mode_of w.phase) [] (Write extent content) cut)) (Cut cut) l f.1 f.2 refl tt (record { cut = cut; is_job = refl; cuts = gives.1; inside = gives.0; covers = λ d. refl }) (λ p. applies (inr (inr p))))
   starts shown w n a Flush chosen l applies gives =
       let f = free P A w a Flush applies in
       subst (λ (o : Option Actor). Started_so shown w n a Flush chosen o) (sym f.1)
-      (served_starts w.phase w.actors n a f.0 (given shape f.0 Flush chosen) Flush _ chosen l f.1 f.2 refl tt tt (λ p. applies (inr (inr p))))
+      (served_starts w.phase w.actors n a f.0 (given shape (mode_of w.phase) f.0 Flush chosen) Flush _ chosen l f.1 f.2 refl tt tt (λ p. applies (inr (inr p))))
   starts shown w n a (Migrate migration block) chosen l applies gives =
       let f = free P A w a (Migrate migration block) applies in
       subst (λ (o : Option Actor). Started_so shown w n a (Migrate migration block) chosen o) (sym f.1)
-      (served_starts w.phase w.actors n a f.0 (given shape f.0 (Migrate migration block) chosen) (Migrate migration block) _ chosen l f.1 f.2 refl tt tt (λ p. applies (inr (inr p))))
+      (served_starts w.phase w.actors n a f.0 (given shape (mode_of w.phase) f.0 (Migrate migration block) chosen) (Migrate migration block) _ chosen l f.1 f.2 refl tt tt (λ p. applies (inr (inr p))))
   starts shown w n a (Replace old new) chosen l applies gives =
       let f = free P A w a (Replace old new) applies in
       subst (λ (o : Option Actor). Started_so shown w n a (Replace old new) chosen o) (sym f.1)
-      (served_starts w.phase w.actors n a f.0 (given shape f.0 (Replace old new) chosen) (Replace old new) _ chosen l f.1 f.2 refl tt tt (λ p. applies (inr (inr p))))
+      (served_starts w.phase w.actors n a f.0 (given shape (mode_of w.phase) f.0 (Replace old new) chosen) (Replace old new) _ chosen l f.1 f.2 refl tt tt (λ p. applies (inr (inr p))))
   starts shown w n a (Read extent) chosen l applies gives = absurd gives
   starts shown w n a (Write extent content) chosen l applies gives = absurd gives
 
   -- ---- every event
 
   pub links_what : (shown : List Bytes) (w : State P A) (n : Notes) (event : Event) (what : What) (read : List Bytes) (chosen : Chosen P A) → IsKnown P A shape w → UsedRightly P A shape w.phase w.actors → LinkedTo w n → MayBe shape w event what read chosen →
-      LinkedTo (after_what shape w event what chosen) (noted_what shape shown n event what read)
+      LinkedTo (after_what shape w event what chosen) (noted_what shape (mode_of w.phase) shown n event what read)
   links_what shown w n (Start a job) Started read chosen k u l h = starts shown w n a job chosen l h.1 h.2
   links_what shown w n (Start a job) Skipped read chosen k u l h = l
   links_what shown w n (Start a job) (Refused refusal) read chosen k u l h = l
@@ -447,12 +446,12 @@ module _ (P A : Type 0) (shape : Shape) where
   links_what shown w n (Step a) Started read chosen k u l h = l
   links_what shown w n (Step a) Stopped read chosen k u l h = l
   links_what shown w n (FaultStep a choice) (Stepped next got) read chosen k u l h =
-      subst (λ (g : Got). LinkedTo (after_what shape w (FaultStep a choice) (Stepped next g) chosen) (noted_what shape shown n (FaultStep a choice) (Stepped next g) read)) (sym h.1) (fault_links shown w n k l u a choice next read chosen (slice_get w.actors a) refl h.2)
+      subst (λ (g : Got). LinkedTo (after_what shape w (FaultStep a choice) (Stepped next g) chosen) (noted_what shape (mode_of w.phase) shown n (FaultStep a choice) (Stepped next g) read)) (sym h.1) (fault_links shown w n k l u a choice next read chosen (slice_get w.actors a) refl h.2)
   links_what shown w n (FaultStep a choice) Skipped read chosen k u l h = l
   links_what shown w n (FaultStep a choice) (Refused refusal) read chosen k u l h = l
   links_what shown w n (FaultStep a choice) Started read chosen k u l h = l
   links_what shown w n (FaultStep a choice) Stopped read chosen k u l h = l
-  links_what shown w n (Stop choice) Stopped read chosen k u l h = idle (all_resting w.actors) (nobody n.doings) Gone (record n { doings = nobody n.doings }) refl (all_idle w.actors n l.claims) tt
+  links_what shown w n (Stop choice) Stopped read chosen k u l h = idle (all_resting w.actors) (nobody n.doings) Gone (record n { doings = nobody n.doings }) refl (all_idle (mode_of w.phase) w.actors n l.claims) tt
   links_what shown w n (Stop choice) Skipped read chosen k u l h = l
   links_what shown w n (Stop choice) (Refused refusal) read chosen k u l h = l
   links_what shown w n (Stop choice) Started read chosen k u l h = l
@@ -489,22 +488,22 @@ module _ (P A : Type 0) (shape : Shape) where
 
   -- ---- answers
 
-  refused_by : (job : Job) (plan : Plan) (doing : Doing) (refusal : Refusal) → JobClaim shape job plan doing → End (Refuses refusal) ≡ want plan → RefusedBy doing job refusal
-  refused_by (Open mode) plan doing refusal c e = open_refuses plan doing refusal c e
-  refused_by (Read extent) plan doing refusal c e = tt
-  refused_by (Write extent content) plan doing refusal c e = tt
-  refused_by Flush plan doing refusal c e = tt
-  refused_by (Migrate migration block) plan doing refusal c e = tt
-  refused_by (Replace old new) plan doing refusal c e = tt
+  refused_by : (mode : Mode) (job : Job) (plan : Plan) (doing : Doing) (refusal : Refusal) → JobClaim shape mode job plan doing → End (Refuses refusal) ≡ want plan → RefusedBy doing job refusal
+  refused_by mode (Open opened_in) plan doing refusal c e = open_refuses plan doing refusal c e
+  refused_by mode (Read extent) plan doing refusal c e = tt
+  refused_by mode (Write extent content) plan doing refusal c e = tt
+  refused_by mode Flush plan doing refusal c e = tt
+  refused_by mode (Migrate migration block) plan doing refusal c e = tt
+  refused_by mode (Replace old new) plan doing refusal c e = tt
 
-  covered : (job : Job) (plan : Plan) (x : Actor) (doing : Doing) (answer : Answer) → Suits shape.geometry.origin_blocks plan x.card → JobClaim shape job plan doing → End answer ≡ want plan → IsCovered doing job answer
-  covered (Read extent) plan x doing Finished s c e = read_ends shape plan x s extent doing c e
-  covered (Write extent content) plan x doing Finished s c e = write_ends shape plan x s extent content doing c e
-  covered job plan x doing answer s c e = tt
+  covered : (mode : Mode) (job : Job) (plan : Plan) (x : Actor) (doing : Doing) (answer : Answer) → Suits shape.geometry.origin_blocks plan x.card → JobClaim shape mode job plan doing → End answer ≡ want plan → IsCovered doing job answer
+  covered mode (Read extent) plan x doing Finished s c e = read_ends shape mode plan x s extent doing c e
+  covered mode (Write extent content) plan x doing Finished s c e = write_ends shape mode plan x s extent content doing c e
+  covered mode job plan x doing answer s c e = tt
 
   module _ (w : State P A) (n : Notes) (b : Base w n) (a : ℕ) (answer : Answer) where
     -- what an answer says, of whoever gives it
-    of_answer : (Says : Doing → Job → Type 0) (got : Got) (read : List Bytes) (chosen : Chosen P A) → ((x : Actor) (job : Job) (plan : Plan) (doing : Doing) → Suits shape.geometry.origin_blocks plan x.card → JobClaim shape job plan doing → End answer ≡ want plan → Says doing job) → (o : Option Actor) → slice_get w.actors a ≡ o →
+    of_answer : (Says : Doing → Job → Type 0) (got : Got) (read : List Bytes) (chosen : Chosen P A) → ((x : Actor) (job : Job) (plan : Plan) (doing : Doing) → Suits shape.geometry.origin_blocks plan x.card → JobClaim shape (mode_of w.phase) job plan doing → End answer ≡ want plan → Says doing job) → (o : Option Actor) → slice_get w.actors a ≡ o →
         OfSome o (λ x. OfSome x.task (λ doing. (End answer ≡ want doing.1) × Gives shape w x doing.0 (End answer) got read chosen)) → (d : Doing) × (slice_get n.doings a ≡ Some (Some d)) × Says d d.job
     of_answer Says got read chosen says None e h = absurd h
     of_answer Says got read chosen says (Some x) e h = by_task x.task refl h
@@ -512,19 +511,19 @@ module _ (P A : Type 0) (shape : Shape) where
         by_task : (t : Option (Job × Plan)) → x.task ≡ t → OfSome t (λ doing. (End answer ≡ want doing.1) × Gives shape w x doing.0 (End answer) got read chosen) → (d : Doing) × (slice_get n.doings a ≡ Some (Some d)) × Says d d.job
         by_task None xt h = absurd h
         by_task (Some doing) xt h =
-            let d = noted_of shape doing.0 doing.1 (slice_get n.doings a) (subst (λ (t : Option (Job × Plan)). TaskClaim shape t (slice_get n.doings a)) xt (b.linked.claims a x e)) in
+            let d = noted_of shape (mode_of w.phase) doing.0 doing.1 (slice_get n.doings a) (subst (λ (t : Option (Job × Plan)). TaskClaim shape (mode_of w.phase) t (slice_get n.doings a)) xt (b.linked.claims a x e)) in
             let s = subst (λ (t : Option (Job × Plan)). TaskSuits shape.geometry.origin_blocks x.card t) xt (b.used.suited a x e) in
             (d.doing, d.is, subst (λ (j : Job). Says d.doing j) (sym d.job_is) (says x doing.0 doing.1 d.doing s d.claim h.0))
 
   refuses_rightly : (w : State P A) (n : Notes) (event : Event) (what : What) (read : List Bytes) (chosen : Chosen P A) → Base w n → MayBe shape w event what read chosen → RefusesByCause n event what
   refuses_rightly w n (Step a) (Stepped (End (Refuses refusal)) got) read chosen b h =
-      let d = of_answer w n b a (Refuses refusal) (λ doing job. RefusedBy doing job refusal) got read chosen (λ x job plan doing s c e. refused_by job plan doing refusal c e) (slice_get w.actors a) refl h in
+      let d = of_answer w n b a (Refuses refusal) (λ doing job. RefusedBy doing job refusal) got read chosen (λ x job plan doing s c e. refused_by (mode_of w.phase) job plan doing refusal c e) (slice_get w.actors a) refl h in
       subst (λ (o : Option (Option Doing)). RefusedRightly o refusal) (sym d.1) d.2
   refuses_rightly w n event what read chosen b h = tt
 
   covers_rightly : (w : State P A) (n : Notes) (event : Event) (what : What) (read : List Bytes) (chosen : Chosen P A) → Base w n → MayBe shape w event what read chosen → AnswerCovers n event what
   covers_rightly w n (Step a) (Stepped (End answer) got) read chosen b h =
-      let d = of_answer w n b a answer (λ doing job. IsCovered doing job answer) got read chosen (λ x job plan doing s c e. covered job plan x doing answer s c e) (slice_get w.actors a) refl h in
+      let d = of_answer w n b a answer (λ doing job. IsCovered doing job answer) got read chosen (λ x job plan doing s c e. covered (mode_of w.phase) job plan x doing answer s c e) (slice_get w.actors a) refl h in
       subst (λ (o : Option (Option Doing)). DoingCovers o answer) (sym d.1) d.2
   covers_rightly w n event what read chosen b h = tt
 

@@ -20,7 +20,7 @@ use Rattle.wb_promise.specs.declared.event.Event.TheVariants.{Start, Step, Fault
 use Rattle.wb_promise.specs.declared.event.What.{What}
 use Rattle.wb_promise.specs.declared.event.What.TheVariants.{Skipped, Refused, Started, Stepped, Stopped}
 use Rattle.wb_devices.specs.declared.running.RunningCommit.{RunningCommit}
-use Rattle.wb_promise.specs.States.{Shape, State, Actor, Phase, Stands, Gone, Opens, start}
+use Rattle.wb_promise.specs.States.{Shape, State, Actor, Phase, Stands, Gone, Opens, mode_of, start}
 use Rattle.wb_policy.specs.declared.order.Order.TheVariants.{Replace as ReplaceOrder}
 use Rattle.wb_promise.specs.Happenings.{Chosen, Cut, Orders, Happening, OfSome, Gives, Falters, MayFailAt, StartGives, MayBe, order_for}
 use Rattle.wb_promise.specs.Effects.{device_done, device_failed, devices_then, commit_then, phase_then, stepped, with_actor, job_of, cleared, given, phase_given, started, after_what, after_happening, after_all, IsRun}
@@ -86,32 +86,32 @@ module _ (P A : Type 0) (shape : Shape) where
   by_start : (i : Images) (w : State P A) (a : ℕ) (job : Job) (chosen : Chosen P A) → Known i w → StartGives shape w.phase (slice_get w.actors a) job Started chosen → Knows i (started shape w a job chosen)
   by_start i w a (Open mode) chosen k g = by_actor (slice_get (cleared w (Open mode)).actors a)
     where
-      by_actor : (o : Option Actor) → Knows i (with_actor (cleared w (Open mode)) o (λ x. record (cleared w (Open mode)) { phase = phase_given (cleared w (Open mode)).phase (Open mode) chosen; actors = slice_set (cleared w (Open mode)).actors a (given shape x (Open mode) chosen) }))
+      by_actor : (o : Option Actor) → Knows i (with_actor (cleared w (Open mode)) o (λ x. record (cleared w (Open mode)) { phase = phase_given (cleared w (Open mode)).phase (Open mode) chosen; actors = slice_set (cleared w (Open mode)).actors a (given shape (mode_of (cleared w (Open mode)).phase) x (Open mode) chosen) }))
       by_actor None = same i (cleared w (Open mode)) (kept_readable shape.geometry i w.devices.metadata P A w.phase w.commit k)
       by_actor (Some x) = stays (λ now. Readable shape.geometry now w.devices.metadata) i (kept_readable shape.geometry i w.devices.metadata P A w.phase w.commit k)
   by_start i w a (Read extent) chosen k g = started_over (Read extent) g (slice_get w.actors a)
     where
-      started_over : (job : Job) → StartGives shape w.phase (slice_get w.actors a) job Started chosen → (o : Option Actor) → Knows i (with_actor w o (λ x. record w { phase = phase_given w.phase job chosen; actors = slice_set w.actors a (given shape x job chosen) }))
+      started_over : (job : Job) → StartGives shape w.phase (slice_get w.actors a) job Started chosen → (o : Option Actor) → Knows i (with_actor w o (λ x. record w { phase = phase_given w.phase job chosen; actors = slice_set w.actors a (given shape (mode_of w.phase) x job chosen) }))
       started_over job g None = same i w k
       started_over job g (Some x) = stays (λ now. MetadataKept shape.geometry now (phase_given w.phase job chosen) w.commit w.devices.metadata) i (ordered i w.phase w.commit w.devices.metadata (slice_get w.actors a) job chosen k g)
   by_start i w a (Write extent content) chosen k g = by_start_over (slice_get w.actors a)
     where
-      by_start_over : (o : Option Actor) → Knows i (with_actor w o (λ x. record w { phase = phase_given w.phase (Write extent content) chosen; actors = slice_set w.actors a (given shape x (Write extent content) chosen) }))
+      by_start_over : (o : Option Actor) → Knows i (with_actor w o (λ x. record w { phase = phase_given w.phase (Write extent content) chosen; actors = slice_set w.actors a (given shape (mode_of w.phase) x (Write extent content) chosen) }))
       by_start_over None = same i w k
       by_start_over (Some x) = stays (λ now. MetadataKept shape.geometry now (phase_given w.phase (Write extent content) chosen) w.commit w.devices.metadata) i (ordered i w.phase w.commit w.devices.metadata (slice_get w.actors a) (Write extent content) chosen k g)
   by_start i w a Flush chosen k g = by_start_over (slice_get w.actors a)
     where
-      by_start_over : (o : Option Actor) → Knows i (with_actor w o (λ x. record w { phase = phase_given w.phase Flush chosen; actors = slice_set w.actors a (given shape x Flush chosen) }))
+      by_start_over : (o : Option Actor) → Knows i (with_actor w o (λ x. record w { phase = phase_given w.phase Flush chosen; actors = slice_set w.actors a (given shape (mode_of w.phase) x Flush chosen) }))
       by_start_over None = same i w k
       by_start_over (Some x) = stays (λ now. MetadataKept shape.geometry now (phase_given w.phase Flush chosen) w.commit w.devices.metadata) i (ordered i w.phase w.commit w.devices.metadata (slice_get w.actors a) Flush chosen k g)
   by_start i w a (Migrate migration block) chosen k g = by_start_over (slice_get w.actors a)
     where
-      by_start_over : (o : Option Actor) → Knows i (with_actor w o (λ x. record w { phase = phase_given w.phase (Migrate migration block) chosen; actors = slice_set w.actors a (given shape x (Migrate migration block) chosen) }))
+      by_start_over : (o : Option Actor) → Knows i (with_actor w o (λ x. record w { phase = phase_given w.phase (Migrate migration block) chosen; actors = slice_set w.actors a (given shape (mode_of w.phase) x (Migrate migration block) chosen) }))
       by_start_over None = same i w k
       by_start_over (Some x) = stays (λ now. MetadataKept shape.geometry now (phase_given w.phase (Migrate migration block) chosen) w.commit w.devices.metadata) i (ordered i w.phase w.commit w.devices.metadata (slice_get w.actors a) (Migrate migration block) chosen k g)
   by_start i w a (Replace old new) chosen k g = by_start_over (slice_get w.actors a)
     where
-      by_start_over : (o : Option Actor) → Knows i (with_actor w o (λ x. record w { phase = phase_given w.phase (Replace old new) chosen; actors = slice_set w.actors a (given shape x (Replace old new) chosen) }))
+      by_start_over : (o : Option Actor) → Knows i (with_actor w o (λ x. record w { phase = phase_given w.phase (Replace old new) chosen; actors = slice_set w.actors a (given shape (mode_of w.phase) x (Replace old new) chosen) }))
       by_start_over None = same i w k
       by_start_over (Some x) = stays (λ now. MetadataKept shape.geometry now (phase_given w.phase (Replace old new) chosen) w.commit w.devices.metadata) i (ordered i w.phase w.commit w.devices.metadata (slice_get w.actors a) (Replace old new) chosen k g)
 

@@ -28,7 +28,7 @@ use Rattle.wb_promise.specs.declared.event.Event.{Event}
 use Rattle.wb_promise.specs.declared.event.Event.TheVariants.{Start, Step, FaultStep, Stop}
 use Rattle.wb_promise.specs.declared.event.What.{What}
 use Rattle.wb_promise.specs.declared.event.What.TheVariants.{Skipped, Refused, Started, Stepped, Stopped}
-use Rattle.wb_promise.specs.States.{Shape, State, Actor, Target, Phase, Stands, Gone, Opens, OfTarget, resting, start}
+use Rattle.wb_promise.specs.States.{Shape, State, Actor, Target, Phase, Stands, Gone, Opens, OfTarget, mode_of, resting, start}
 use Rattle.wb_promise.specs.Happenings.{Chosen, Plain, Cut, Orders, Begins, Reaches, Puts, Commits, Asks, Opened, Happening, OfSome, Gives, Falters, MayFailAt, DoesNotApply, MayBe, block_range, migrated_range, blocks_left, task_job, begun_as}
 use Rattle.wb_promise.specs.Effects.{device_done, device_failed, commit_then, reading_then, task_then, phase_then, phase_opened, phase_given, actor_then, stepped, with_actor, cleared, given, started, job_of, cut_of, after_what, after_happening, after_all, IsRun}
 use Rattle.wb_promise.specs.Clerk.{Notes, formatted}
@@ -200,8 +200,8 @@ module _ (P A : Type 0) (shape : Shape) where
         let own = subst (λ (v : Want). IsOwnStep (OnBlock o.0) v) (sym h) (own_step x.card plan o.0 o.1 suits) in
         from_moved next got chosen _ (ap (λ k. task_then k next got) xt) (not_flush _ _ (same_commit t commit o.0 next got chosen own) (block_task job plan next got o (mine job plan xt) f))
 
-    claim : (job : Job) (plan : Plan) → x.task ≡ Some (job, plan) → Noted shape job plan (slice_get n.doings a)
-    claim job plan xt = noted_of shape job plan (slice_get n.doings a) (subst (λ (k : Option (Job × Plan)). TaskClaim shape k (slice_get n.doings a)) xt (l.claims a x e))
+    claim : (job : Job) (plan : Plan) → x.task ≡ Some (job, plan) → Noted shape t.desk.mode job plan (slice_get n.doings a)
+    claim job plan xt = noted_of shape t.desk.mode job plan (slice_get n.doings a) (subst (λ (k : Option (Job × Plan)). TaskClaim shape t.desk.mode k (slice_get n.doings a)) xt (l.claims a x e))
 
     served : (job : Job) (plan : Plan) → x.task ≡ Some (job, plan) → IsServed job
     served job plan xt = subst (λ (k : Option (Job × Plan)). TaskHere {P = P} {A = A} (Stands t) k) xt (l.here a x e)
@@ -223,16 +223,16 @@ module _ (P A : Type 0) (shape : Shape) where
         (λ g. flush_fails P A shape t commit devices.metadata images known a leader k.serves k.most k.answer w choice chosen k.point k.at k.leads g) g)
 
     stands_done : (job : Job) (plan : Plan) (next : Want) (got : Got) (read : List Bytes) (chosen : Chosen P A) → x.task ≡ Some (job, plan) → next ≡ want plan → Gives shape w x job next got read chosen → Then next got chosen
-    stands_done (Read extent) plan next got read chosen xt h g = let c = (claim (Read extent) plan xt).claim in block_goes (Read extent) plan next got chosen (Reading (block_range shape extent c.cut), c.is_job) (λ f. cc) xt h
-    stands_done (Write extent content) plan next got read chosen xt h g = let c = (claim (Write extent content) plan xt).claim in block_goes (Write extent content) plan next got chosen (Writing (block_range shape extent c.cut), c.is_job) (λ f. cc) xt h
+    stands_done (Read extent) plan next got read chosen xt h g = let c = (claim (Read extent) plan xt).claim in block_goes (Read extent) plan next got chosen (Reading (block_range shape t.desk.mode extent c.cut), c.is_job) (λ f. cc) xt h
+    stands_done (Write extent content) plan next got read chosen xt h g = let c = (claim (Write extent content) plan xt).claim in block_goes (Write extent content) plan next got chosen (Writing (block_range shape t.desk.mode extent c.cut), c.is_job) (λ f. cc) xt h
     stands_done (Migrate migration block) plan next got read chosen xt h g = let m = mine (Migrate migration block) plan xt in block_goes (Migrate migration block) plan next got chosen (Migrating migration m.0, m.1) (λ f. cc) xt h
     stands_done Flush plan next got read chosen xt h g = from_moved next got chosen _ (ap (λ k. task_then k next got) xt) (flush_done plan next got read chosen (mine Flush plan xt) h g)
     stands_done (Open mode) plan next got read chosen xt h g = absurd (served (Open mode) plan xt)
     stands_done (Replace old new) plan next got read chosen xt h g = absurd (mine (Replace old new) plan xt)
 
     stands_failed : (job : Job) (plan : Plan) (next : Want) (choice : Choice) (chosen : Chosen P A) → x.task ≡ Some (job, plan) → next ≡ want plan → Falters w choice next chosen → Then next Fault chosen
-    stands_failed (Read extent) plan next choice chosen xt h g = let c = (claim (Read extent) plan xt).claim in block_goes (Read extent) plan next Fault chosen (Reading (block_range shape extent c.cut), c.is_job) (λ f. cc) xt h
-    stands_failed (Write extent content) plan next choice chosen xt h g = let c = (claim (Write extent content) plan xt).claim in block_goes (Write extent content) plan next Fault chosen (Writing (block_range shape extent c.cut), c.is_job) (λ f. cc) xt h
+    stands_failed (Read extent) plan next choice chosen xt h g = let c = (claim (Read extent) plan xt).claim in block_goes (Read extent) plan next Fault chosen (Reading (block_range shape t.desk.mode extent c.cut), c.is_job) (λ f. cc) xt h
+    stands_failed (Write extent content) plan next choice chosen xt h g = let c = (claim (Write extent content) plan xt).claim in block_goes (Write extent content) plan next Fault chosen (Writing (block_range shape t.desk.mode extent c.cut), c.is_job) (λ f. cc) xt h
     stands_failed (Migrate migration block) plan next choice chosen xt h g = let m = mine (Migrate migration block) plan xt in block_goes (Migrate migration block) plan next Fault chosen (Migrating migration m.0, m.1) (λ f. cc) xt h
     stands_failed Flush plan next choice chosen xt h g = from_moved next Fault chosen _ (ap (λ k. task_then k next Fault) xt) (flush_failed plan next choice chosen (mine Flush plan xt) h g)
     stands_failed (Open mode) plan next choice chosen xt h g = absurd (served (Open mode) plan xt)
@@ -345,9 +345,9 @@ module _ (P A : Type 0) (shape : Shape) where
       by_task (Some doing) xt h = faults_on w n b k a x e doing.0 doing.1 xt choice next chosen h.0 h.2
 
   -- an opening starts, alone
-  opening_starts : (mode : Mode) (actors : List Actor) (a : ℕ) (chosen : Chosen P A) (x : Actor) → slice_get (map (λ (x : Actor). resting) actors) a ≡ Some x →
-      (b : ℕ) (z : Actor) → slice_get (slice_set (map (λ (x : Actor). resting) actors) a (given {P = P} {A = A} shape x (Open mode) chosen)) b ≡ Some z → OpenTask {A = A} None None z.task
-  opening_starts mode actors a chosen x e b z f = elim (cases_eq b a) [
+  opening_starts : (over mode : Mode) (actors : List Actor) (a : ℕ) (chosen : Chosen P A) (x : Actor) → slice_get (map (λ (x : Actor). resting) actors) a ≡ Some x →
+      (b : ℕ) (z : Actor) → slice_get (slice_set (map (λ (x : Actor). resting) actors) a (given {P = P} {A = A} shape over x (Open mode) chosen)) b ≡ Some z → OpenTask {A = A} None None z.task
+  opening_starts over mode actors a chosen x e b z f = elim (cases_eq b a) [
     | inl s ↦ let there : Some y ≡ Some z = sym (set_there rs a x y e) ∙ ap (slice_get (slice_set rs a y)) (sym s) ∙ f in
         let same : y ≡ z = cc in
         subst (λ (v : Actor). OpenTask {A = A} None None v.task) same first
@@ -358,9 +358,9 @@ module _ (P A : Type 0) (shape : Shape) where
       rs = map (λ (x : Actor). resting) actors
 
       y : Actor
-      y = given {P = P} {A = A} shape x (Open mode) chosen
+      y = given {P = P} {A = A} shape over x (Open mode) chosen
 
-      first : OpenAt {A = A} None None (table (task_job shape x.awaiting (Open mode) (cut_of chosen)))
+      first : OpenAt {A = A} None None (table (task_job shape over x.awaiting (Open mode) (cut_of chosen)))
       first = record { sectors = shape.geometry.meta_sectors; point = AtFirst; is = refl; at = (refl, omega (arith, shape.geometry.within.meta_from)) }
 
   -- an order that is given leaves where everybody stands
@@ -392,11 +392,11 @@ module _ (P A : Type 0) (shape : Shape) where
 
   -- a task starts where a target stands
   task_by_phase : (phase : Phase P A) (commit : Option RunningCommit) (actors : List Actor) (a : ℕ) (x : Actor) (job : Job) (chosen : Chosen P A) → slice_get actors a ≡ Some x → (¬ (¬ OfTarget phase (λ t. Unit {0}))) → Going phase commit actors →
-      Going (phase_given phase job chosen) commit (slice_set actors a (given {P = P} {A = A} shape x job chosen))
+      Going (phase_given phase job chosen) commit (slice_set actors a (given {P = P} {A = A} shape (mode_of phase) x job chosen))
   task_by_phase (Stands t) commit actors a x job chosen e p k = given_goes (Stands t) commit _ job chosen
-      (k.0, flushes_set actors a x (given {P = P} {A = A} shape x job chosen) commit commit k.0 k.0 e k.1 (by_job job) (λ b p o f. f))
+      (k.0, flushes_set actors a x (given {P = P} {A = A} shape t.desk.mode x job chosen) commit commit k.0 k.0 e k.1 (by_job job) (λ b p o f. f))
     where
-      by_job : (job : Job) → FlushJob commit (a ≡ k.0) (begun_as job) (table (task_job shape x.awaiting job (cut_of chosen)))
+      by_job : (job : Job) → FlushJob commit (a ≡ k.0) (begun_as job) (table (task_job shape t.desk.mode x.awaiting job (cut_of chosen)))
       by_job Flush = record { serves = blocks_left x.awaiting; most = node_count shape.geometry.cache_blocks; answer = Finished; point = ToLook; is = refl; at = tt; leads = λ i. absurd i }
       by_job (Read extent) = tt
       by_job (Write extent content) = tt
@@ -410,19 +410,19 @@ module _ (P A : Type 0) (shape : Shape) where
   starts w a (Open mode) chosen k applies = by_actor (slice_get (map (λ (x : Actor). resting) w.actors) a) refl
     where
       by_actor : (o : Option Actor) → slice_get (map (λ (x : Actor). resting) w.actors) a ≡ o →
-          GoesOn (with_actor (cleared w (Open mode)) o (λ x. record (cleared w (Open mode)) { phase = phase_given (cleared w (Open mode)).phase (Open mode) chosen; actors = slice_set (cleared w (Open mode)).actors a (given shape x (Open mode) chosen) }))
+          GoesOn (with_actor (cleared w (Open mode)) o (λ x. record (cleared w (Open mode)) { phase = phase_given (cleared w (Open mode)).phase (Open mode) chosen; actors = slice_set (cleared w (Open mode)).actors a (given shape (mode_of (cleared w (Open mode)).phase) x (Open mode) chosen) }))
       by_actor None e = λ b z f. subst (λ (k : Option (Job × Plan)). OpenTask {A = A} None None k) (sym (rests w.actors b z f).0) tt
-      by_actor (Some x) e = opening_starts mode w.actors a chosen x e
+      by_actor (Some x) e = opening_starts (mode_of (cleared w (Open mode)).phase) mode w.actors a chosen x e
   starts w a (Read extent) chosen k applies = let f = free P A w a (Read extent) applies in
-      subst (λ (o : Option Actor). GoesOn (with_actor w o (λ x. record w { phase = phase_given w.phase (Read extent) chosen; actors = slice_set w.actors a (given shape x (Read extent) chosen) }))) (sym f.1) (task_by_phase w.phase w.commit w.actors a f.0 (Read extent) chosen f.1 (λ p. applies (inr (inr p))) k)
+      subst (λ (o : Option Actor). GoesOn (with_actor w o (λ x. record w { phase = phase_given w.phase (Read extent) chosen; actors = slice_set w.actors a (given shape (mode_of w.phase) x (Read extent) chosen) }))) (sym f.1) (task_by_phase w.phase w.commit w.actors a f.0 (Read extent) chosen f.1 (λ p. applies (inr (inr p))) k)
   starts w a (Write extent content) chosen k applies = let f = free P A w a (Write extent content) applies in
-      subst (λ (o : Option Actor). GoesOn (with_actor w o (λ x. record w { phase = phase_given w.phase (Write extent content) chosen; actors = slice_set w.actors a (given shape x (Write extent content) chosen) }))) (sym f.1) (task_by_phase w.phase w.commit w.actors a f.0 (Write extent content) chosen f.1 (λ p. applies (inr (inr p))) k)
+      subst (λ (o : Option Actor). GoesOn (with_actor w o (λ x. record w { phase = phase_given w.phase (Write extent content) chosen; actors = slice_set w.actors a (given shape (mode_of w.phase) x (Write extent content) chosen) }))) (sym f.1) (task_by_phase w.phase w.commit w.actors a f.0 (Write extent content) chosen f.1 (λ p. applies (inr (inr p))) k)
   starts w a Flush chosen k applies = let f = free P A w a Flush applies in
-      subst (λ (o : Option Actor). GoesOn (with_actor w o (λ x. record w { phase = phase_given w.phase Flush chosen; actors = slice_set w.actors a (given shape x Flush chosen) }))) (sym f.1) (task_by_phase w.phase w.commit w.actors a f.0 Flush chosen f.1 (λ p. applies (inr (inr p))) k)
+      subst (λ (o : Option Actor). GoesOn (with_actor w o (λ x. record w { phase = phase_given w.phase Flush chosen; actors = slice_set w.actors a (given shape (mode_of w.phase) x Flush chosen) }))) (sym f.1) (task_by_phase w.phase w.commit w.actors a f.0 Flush chosen f.1 (λ p. applies (inr (inr p))) k)
   starts w a (Migrate migration block) chosen k applies = let f = free P A w a (Migrate migration block) applies in
-      subst (λ (o : Option Actor). GoesOn (with_actor w o (λ x. record w { phase = phase_given w.phase (Migrate migration block) chosen; actors = slice_set w.actors a (given shape x (Migrate migration block) chosen) }))) (sym f.1) (task_by_phase w.phase w.commit w.actors a f.0 (Migrate migration block) chosen f.1 (λ p. applies (inr (inr p))) k)
+      subst (λ (o : Option Actor). GoesOn (with_actor w o (λ x. record w { phase = phase_given w.phase (Migrate migration block) chosen; actors = slice_set w.actors a (given shape (mode_of w.phase) x (Migrate migration block) chosen) }))) (sym f.1) (task_by_phase w.phase w.commit w.actors a f.0 (Migrate migration block) chosen f.1 (λ p. applies (inr (inr p))) k)
   starts w a (Replace old new) chosen k applies = let f = free P A w a (Replace old new) applies in
-      subst (λ (o : Option Actor). GoesOn (with_actor w o (λ x. record w { phase = phase_given w.phase (Replace old new) chosen; actors = slice_set w.actors a (given shape x (Replace old new) chosen) }))) (sym f.1) (task_by_phase w.phase w.commit w.actors a f.0 (Replace old new) chosen f.1 (λ p. applies (inr (inr p))) k)
+      subst (λ (o : Option Actor). GoesOn (with_actor w o (λ x. record w { phase = phase_given w.phase (Replace old new) chosen; actors = slice_set w.actors a (given shape (mode_of w.phase) x (Replace old new) chosen) }))) (sym f.1) (task_by_phase w.phase w.commit w.actors a f.0 (Replace old new) chosen f.1 (λ p. applies (inr (inr p))) k)
 
   by_event : (w : State P A) (n : Notes) (event : Event) (what : What) (read : List Bytes) (chosen : Chosen P A) → Base P A shape w n → GoesOn w → MayBe shape w event what read chosen → GoesOn (after_what shape w event what chosen)
   by_event w n (Start a job) Started read chosen b k h = starts w a job chosen k h.1

@@ -32,7 +32,7 @@ use Rattle.wb_promise.specs.Happenings.{block_range}
 use Rattle.wb_promise.specs.Clerk.{Reading, Position, Entering, enter, enter_each, readings_from}
 use Rattle.wb_promise.specs.Happenings.{extent_refusal}
 use Rattle.wb_runs.proofs.Plans.{plan_of}
-use Rattle.wb_runs.proofs.Covering.{Covers, home, homes, extents_left, cell_covers}
+use Rattle.wb_runs.proofs.Covering.{Covers, homes, extents_left, cell_covers}
 
 -- ---- an answer once refused stays so
 
@@ -133,21 +133,21 @@ entered_sectors content (s ∷ ss) e =
 
 -- ---- the claim of a request
 
--- the sectors that it has moved, while it may be answered done, and those of the extents that are left are its own, each once
-pub record Moving (shape : Shape) (whole : Extent) (part_of : BlockRange → TaskJob) (plan : Plan) (moved : List ℕ) : Type 0 where
+-- the sectors that it has moved over a target of this mode, while it may be answered done, and those of the extents that are left are its own, each once
+pub record Moving (shape : Shape) (mode : Mode) (whole : Extent) (part_of : BlockRange → TaskJob) (plan : Plan) (moved : List ℕ) : Type 0 where
   pub cut : List Extent
-  pub is_job : plan.job ≡ part_of (block_range shape whole cut)
+  pub is_job : plan.job ≡ part_of (block_range shape mode whole cut)
   pub cuts : IsCutInto whole cut
   pub inside : extent_refusal shape whole ≡ None
-  pub covers : plan.answer ≡ Finished → Covers shape whole plan.steps moved
+  pub covers : plan.answer ≡ Finished → Covers shape mode whole plan.steps moved
 
-module _ (shape : Shape) (whole : Extent) (part_of : BlockRange → BlockJob) (moves : (cut : List Extent) → IsCutInto whole cut → extent_refusal shape whole ≡ None → (seal : ℕ) → homes shape whole (extents_left (Rattle.wb_tasks.specs.Plan.work_of (OnBlock (part_of (block_range shape whole cut))) seal)) ≡ cut) where
+module _ (shape : Shape) (mode : Mode) (whole : Extent) (part_of : BlockRange → BlockJob) (moves : (cut : List Extent) → IsCutInto whole cut → extent_refusal shape whole ≡ None → (seal : ℕ) → answer_seeing (OnBlock (part_of (block_range shape mode whole cut))) seal Finished ≡ Finished → homes shape whole (extents_left mode (Rattle.wb_tasks.specs.Plan.work_of (OnBlock (part_of (block_range shape mode whole cut))) seal)) ≡ cut) where
   abbrev Claims : Plan → List ℕ → Type 0
-  Claims plan moved = Moving shape whole (λ part. OnBlock (part_of part)) plan moved
+  Claims plan moved = Moving shape mode whole (λ part. OnBlock (part_of part)) plan moved
 
   -- a step on the words
   pub words_on : (plan : Plan) (moved : List ℕ) (words : Words) (card : Card) (step : CellStep) → Claims plan moved → Cell step ≡ want plan → (job_was : (after plan (got_of (result_of words step))).job ≡ plan.job) →
-      ((cut : List Extent) → plan.job ≡ OnBlock (part_of (block_range shape whole cut)) → Has (part_of (block_range shape whole cut)) card plan.steps) → Claims (after plan (got_of (result_of words step))) moved
+      ((cut : List Extent) → plan.job ≡ OnBlock (part_of (block_range shape mode whole cut)) → Has (part_of (block_range shape mode whole cut)) card plan.steps) → Claims (after plan (got_of (result_of words step))) moved
   words_on plan moved words card step c e same has = record {
     cut = c.cut;
     is_job = same ∙ c.is_job;
@@ -157,24 +157,24 @@ module _ (shape : Shape) (whole : Extent) (part_of : BlockRange → BlockJob) (m
   }
     where
       own_part : BlockRange
-      own_part = block_range shape whole c.cut
+      own_part = block_range shape mode whole c.cut
 
-      by_steps : (steps : List Want) (job : TaskJob) → plan.steps ≡ steps → plan.job ≡ job → Cell step ≡ first_step steps plan.answer → Has (part_of own_part) card steps → job ≡ OnBlock (part_of own_part) → Covers shape whole steps moved →
-          (after plan (got_of (result_of words step))).answer ≡ Finished → Covers shape whole (after plan (got_of (result_of words step))).steps moved
+      by_steps : (steps : List Want) (job : TaskJob) → plan.steps ≡ steps → plan.job ≡ job → Cell step ≡ first_step steps plan.answer → Has (part_of own_part) card steps → job ≡ OnBlock (part_of own_part) → Covers shape mode whole steps moved →
+          (after plan (got_of (result_of words step))).answer ≡ Finished → Covers shape mode whole (after plan (got_of (result_of words step))).steps moved
       by_steps [] job s j e h i v f = absurd (cc)
       by_steps (w ∷ ws) job s j e h i v f =
           let is : plan ≡ plan_of (OnBlock (part_of own_part)) (Cell step ∷ ws) plan.answer = (λ k. record { job = (j ∙ i) k; steps = (s ∙ ap (λ (x : Want). x ∷ ws) (sym e)) k; answer = plan.answer }) in
           let h' = subst (λ (x : Want). Has (part_of own_part) card (x ∷ ws)) (sym e) h in
-          let v' = subst (λ (x : Want). Covers shape whole (x ∷ ws) moved) (sym e) v in
-          subst (λ (p : Plan). (after p (got_of (result_of words step))).answer ≡ Finished → Covers shape whole (after p (got_of (result_of words step))).steps moved) (sym is)
-          (cell_covers shape whole own_part c.cuts words card moved (part_of own_part) (moves c.cut c.cuts c.inside) step ws plan.answer h' v') f
+          let v' = subst (λ (x : Want). Covers shape mode whole (x ∷ ws) moved) (sym e) v in
+          subst (λ (p : Plan). (after p (got_of (result_of words step))).answer ≡ Finished → Covers shape mode whole (after p (got_of (result_of words step))).steps moved) (sym is)
+          (cell_covers shape mode whole own_part c.cuts words card moved (part_of own_part) (moves c.cut c.cuts c.inside) step ws plan.answer h' v') f
 
-  -- an extent is read, or written
-  pub extent_on : (plan : Plan) (moved : List ℕ) (card : Card) (step : DeviceStep) (e : Extent) → Claims plan moved → Device step ≡ want plan → (after plan Done).job ≡ plan.job →
-      ((cut : List Extent) → plan.job ≡ OnBlock (part_of (block_range shape whole cut)) → Has (part_of (block_range shape whole cut)) card plan.steps) →
-      ((cut : List Extent) (cuts : IsCutInto whole cut) (ws : List Want) (answer : Answer) → Has (part_of (block_range shape whole cut)) card (Device step ∷ ws) → Covers shape whole (Device step ∷ ws) moved → answer ≡ Finished → Covers shape whole ws (moved ++ sectors_in (home shape whole e))) →
-      Claims (after plan Done) (moved ++ sectors_in (home shape whole e))
-  extent_on plan moved card step e c w same has goes = record {
+  -- an extent is read, or written, and these are moved then
+  pub extent_on : (plan : Plan) (moved moved' : List ℕ) (card : Card) (step : DeviceStep) → Claims plan moved → Device step ≡ want plan → (after plan Done).job ≡ plan.job →
+      ((cut : List Extent) → plan.job ≡ OnBlock (part_of (block_range shape mode whole cut)) → Has (part_of (block_range shape mode whole cut)) card plan.steps) →
+      ((cut : List Extent) (cuts : IsCutInto whole cut) (ws : List Want) (answer : Answer) → Has (part_of (block_range shape mode whole cut)) card (Device step ∷ ws) → Covers shape mode whole (Device step ∷ ws) moved → answer ≡ Finished → Covers shape mode whole ws moved') →
+      Claims (after plan Done) moved'
+  extent_on plan moved moved' card step c w same has goes = record {
     cut = c.cut;
     is_job = same ∙ c.is_job;
     cuts = c.cuts;
@@ -182,12 +182,12 @@ module _ (shape : Shape) (whole : Extent) (part_of : BlockRange → BlockJob) (m
     covers = λ f. by_steps plan.steps refl w (has c.cut c.is_job) (c.covers f) f;
   }
     where
-      by_steps : (steps : List Want) → plan.steps ≡ steps → Device step ≡ first_step steps plan.answer → Has (part_of (block_range shape whole c.cut)) card steps → Covers shape whole steps moved → plan.answer ≡ Finished → Covers shape whole (Rattle.wb_tasks.specs.Plan.later_steps plan.steps) (moved ++ sectors_in (home shape whole e))
+      by_steps : (steps : List Want) → plan.steps ≡ steps → Device step ≡ first_step steps plan.answer → Has (part_of (block_range shape mode whole c.cut)) card steps → Covers shape mode whole steps moved → plan.answer ≡ Finished → Covers shape mode whole (Rattle.wb_tasks.specs.Plan.later_steps plan.steps) moved'
       by_steps [] s w h v f = absurd (cc)
       by_steps (x ∷ ws) s w h v f =
-          let h' = subst (λ (y : Want). Has (part_of (block_range shape whole c.cut)) card (y ∷ ws)) (sym w) h in
-          let v' = subst (λ (y : Want). Covers shape whole (y ∷ ws) moved) (sym w) v in
-          subst (λ (xs : List Want). Covers shape whole (Rattle.wb_tasks.specs.Plan.later_steps xs) (moved ++ sectors_in (home shape whole e))) (sym s) (goes c.cut c.cuts ws plan.answer h' v' f)
+          let h' = subst (λ (y : Want). Has (part_of (block_range shape mode whole c.cut)) card (y ∷ ws)) (sym w) h in
+          let v' = subst (λ (y : Want). Covers shape mode whole (y ∷ ws) moved) (sym w) v in
+          subst (λ (xs : List Want). Covers shape mode whole (Rattle.wb_tasks.specs.Plan.later_steps xs) moved') (sym s) (goes c.cut c.cuts ws plan.answer h' v' f)
 
   -- after a fault it is not answered done
   pub fault_on : (plan : Plan) (moved moved' : List ℕ) (step : DeviceStep) → Claims plan moved → Device step ≡ want plan → (after plan Fault).job ≡ plan.job → Claims (after plan Fault) moved'
@@ -204,10 +204,10 @@ module _ (shape : Shape) (whole : Extent) (part_of : BlockRange → BlockJob) (m
 
   -- and where it is, it has moved each sector once
   pub answered_on : (plan : Plan) (moved : List ℕ) (card : Card) → Claims plan moved → End Finished ≡ want plan →
-      ((cut : List Extent) → plan.job ≡ OnBlock (part_of (block_range shape whole cut)) → Has (part_of (block_range shape whole cut)) card plan.steps) → IsPermutation (sectors_in whole) moved
+      ((cut : List Extent) → plan.job ≡ OnBlock (part_of (block_range shape mode whole cut)) → Has (part_of (block_range shape mode whole cut)) card plan.steps) → IsPermutation (sectors_in whole) moved
   answered_on plan moved card c w has = by_steps plan.steps plan.answer w (has c.cut c.is_job) c.covers
     where
-      by_steps : (steps : List Want) (answer : Answer) → End Finished ≡ first_step steps answer → Has (part_of (block_range shape whole c.cut)) card steps → (answer ≡ Finished → Covers shape whole steps moved) → IsPermutation (sectors_in whole) moved
+      by_steps : (steps : List Want) (answer : Answer) → End Finished ≡ first_step steps answer → Has (part_of (block_range shape mode whole c.cut)) card steps → (answer ≡ Finished → Covers shape mode whole steps moved) → IsPermutation (sectors_in whole) moved
       by_steps [] answer w h v = let done : answer ≡ Finished = cc in subst (λ (xs : List ℕ). IsPermutation (sectors_in whole) xs) (append-nil moved) (v done)
       by_steps (End other ∷ ws) answer w h v = absurd h.1.1
       by_steps (Cell step ∷ ws) answer w h v = absurd (cc)

@@ -36,7 +36,7 @@ use Rattle.wb_promise.specs.declared.event.Event.{Event}
 use Rattle.wb_promise.specs.declared.event.Event.TheVariants.{Start, Step, FaultStep, Stop}
 use Rattle.wb_promise.specs.declared.event.What.{What}
 use Rattle.wb_promise.specs.declared.event.What.TheVariants.{Skipped, Refused, Started, Stepped, Stopped}
-use Rattle.wb_promise.specs.States.{Shape, State, Actor, Target, Phase, Stands, Gone, Opens, OfTarget, resting, start}
+use Rattle.wb_promise.specs.States.{Shape, State, Actor, Target, Phase, Stands, Gone, Opens, OfTarget, mode_of, resting, start}
 use Rattle.wb_promise.specs.Happenings.{Chosen, Plain, Cut, Orders, order_for, Opened, Happening, OfSome, DoesNotApply, DoesOpen, MayFailAt, Falters, StartGives, Gives, MayBe, KeepsMigration, blocks_left}
 use Rattle.wb_promise.specs.Effects.{task_then, actor_then, card_over, card_by, words_by, seals_of, phase_then, target_over, stepped, with_actor, cleared, given, phase_given, job_of, device_done, device_failed, all_resting, after_what, after_happening, after_all, IsRun, orders_then, awaiting_then, orders_given}
 use Rattle.wb_runs.specs.Holding.{cards_of, TaskSuits, AllSuited, AreUsedRightly}
@@ -354,7 +354,7 @@ module _ (P A : Type 0) (shape : Shape) where
   AfterWhat w = UsedRightly w.phase w.actors
 
   abbrev Started_so : State P A → ℕ → Job → Chosen P A → Option Actor → Type 0
-  Started_so w a job chosen o = AfterWhat (with_actor (cleared w job) o (λ x. record (cleared w job) { phase = phase_given (cleared w job).phase job chosen; actors = slice_set (cleared w job).actors a (given shape x job chosen) }))
+  Started_so w a job chosen o = AfterWhat (with_actor (cleared w job) o (λ x. record (cleared w job) { phase = phase_given (cleared w job).phase job chosen; actors = slice_set (cleared w job).actors a (given shape (mode_of (cleared w job).phase) x job chosen) }))
 
   -- the block of an order that is inside
   block_inside : (migration : Migration) (block : OBlock) → OrderInside shape.geometry (order_for migration block) → block.0 < blocks
@@ -418,7 +418,7 @@ module _ (P A : Type 0) (shape : Shape) where
       by_actor None e = record { suited = rest_used w.actors; here = (rest_blank w.actors, rest_open w.actors); orders = rest_orders w.actors }
       by_actor (Some x) e =
           let blank : x.card ≡ blank_card = ap (λ (v : Actor). v.card) (all_rest w.actors a x e) in
-          let y : Actor = given shape x (Open mode) chosen in
+          let y : Actor = given shape (mode_of (cleared w (Open mode)).phase) x (Open mode) chosen in
           record {
             suited = each_set (all_resting w.actors) a x y (λ (z : Actor). TaskSuits blocks z.card z.task) e (opening_begins blocks shape.geometry.meta_sectors x.card (ap (λ (c : Card). c.hold) blank)) (rest_used w.actors);
             here = (each_set (all_resting w.actors) a x y (λ (z : Actor). z.card ≡ blank_card) e blank (rest_blank w.actors), each_set (all_resting w.actors) a x y (λ (z : Actor). OpensOrRests z.task) e (mode, refl) (rest_open w.actors));
@@ -427,21 +427,21 @@ module _ (P A : Type 0) (shape : Shape) where
   starts w a Flush chosen k u applies gives =
       let f = free P A w a Flush applies in
       subst (λ (o : Option Actor). Started_so w a Flush chosen o) (sym f.1)
-      (over Flush chosen w.phase w.actors (given shape f.0 Flush chosen) a (starts_task w.phase w.actors a f.0 (given shape f.0 Flush chosen) f.1 refl (flush_begins blocks (blocks_left f.0.awaiting) (Rattle.wb_types.specs.Limits.node_count shape.geometry.cache_blocks) f.0.card (holds_nothing w f.0 a u f.1 f.2)) (u.orders a f.0 f.1) (λ m. applies (inr (inr m))) u))
+      (over Flush chosen w.phase w.actors (given shape (mode_of w.phase) f.0 Flush chosen) a (starts_task w.phase w.actors a f.0 (given shape (mode_of w.phase) f.0 Flush chosen) f.1 refl (flush_begins blocks (blocks_left f.0.awaiting) (Rattle.wb_types.specs.Limits.node_count shape.geometry.cache_blocks) f.0.card (holds_nothing w f.0 a u f.1 f.2)) (u.orders a f.0 f.1) (λ m. applies (inr (inr m))) u))
     where
       over : (job : Job) (chosen : Chosen P A) (phase : Phase P A) (actors : List Actor) (y : Actor) (a : ℕ) → UsedRightly phase (slice_set actors a y) → UsedRightly (phase_given phase job chosen) (slice_set actors a y)
       over job chosen phase actors y a u = record { suited = u.suited; here = same_here phase job chosen (slice_set actors a y) u.here; orders = u.orders }
   starts w a (Read extent) (Cut cut) k u applies gives =
       let f = free P A w a (Read extent) applies in
       subst (λ (o : Option Actor). Started_so w a (Read extent) (Cut cut) o) (sym f.1)
-      (over (starts_task w.phase w.actors a f.0 (given {P = P} {A = A} shape f.0 (Read extent) (Cut cut)) f.1 refl (starts_inside shape extent (may_start shape extent gives.0), (holds_nothing w f.0 a u f.1 f.2, refl)) (u.orders a f.0 f.1) (λ m. applies (inr (inr m))) u))
+      (over (starts_task w.phase w.actors a f.0 (given {P = P} {A = A} shape (mode_of w.phase) f.0 (Read extent) (Cut cut)) f.1 refl (starts_inside shape extent (may_start shape extent gives.0), (holds_nothing w f.0 a u f.1 f.2, refl)) (u.orders a f.0 f.1) (λ m. applies (inr (inr m))) u))
     where
       over : {actors : List Actor} → UsedRightly w.phase actors → UsedRightly (phase_given w.phase (Read extent) (Cut cut)) actors
       over {actors} u = record { suited = u.suited; here = same_here w.phase (Read extent) (Cut cut) actors u.here; orders = u.orders }
   starts w a (Write extent content) (Cut cut) k u applies gives =
       let f = free P A w a (Write extent content) applies in
       subst (λ (o : Option Actor). Started_so w a (Write extent content) (Cut cut) o) (sym f.1)
-      (over (starts_task w.phase w.actors a f.0 (given {P = P} {A = A} shape f.0 (Write extent content) (Cut cut)) f.1 refl (starts_inside shape extent (may_start shape extent gives.0), (holds_nothing w f.0 a u f.1 f.2, refl)) (u.orders a f.0 f.1) (λ m. applies (inr (inr m))) u))
+      (over (starts_task w.phase w.actors a f.0 (given {P = P} {A = A} shape (mode_of w.phase) f.0 (Write extent content) (Cut cut)) f.1 refl (starts_inside shape extent (may_start shape extent gives.0), (holds_nothing w f.0 a u f.1 f.2, refl)) (u.orders a f.0 f.1) (λ m. applies (inr (inr m))) u))
     where
       over : {actors : List Actor} → UsedRightly w.phase actors → UsedRightly (phase_given w.phase (Write extent content) (Cut cut)) actors
       over {actors} u = record { suited = u.suited; here = same_here w.phase (Write extent content) (Cut cut) actors u.here; orders = u.orders }
@@ -450,7 +450,7 @@ module _ (P A : Type 0) (shape : Shape) where
       let kept = subst (λ (o : Option Actor). OrdersInside shape.geometry (Rattle.wb_promise.specs.Happenings.orders_in o)) (sym f.1) (λ order m. u.orders a f.0 f.1 order (in_orders f.0 order m)) in
       let inside = order_inside k.images w.phase w.commit w.devices.metadata (slice_get w.actors a) migration block chosen k.known kept gives in
       subst (λ (o : Option Actor). Started_so w a (Migrate migration block) chosen o) (sym f.1)
-      (over (starts_task w.phase w.actors a f.0 (given {P = P} {A = A} shape f.0 (Migrate migration block) chosen) f.1 refl (block_inside migration block inside, (holds_nothing w f.0 a u f.1 f.2, refl))
+      (over (starts_task w.phase w.actors a f.0 (given {P = P} {A = A} shape (mode_of w.phase) f.0 (Migrate migration block) chosen) f.1 refl (block_inside migration block inside, (holds_nothing w f.0 a u f.1 f.2, refl))
       (given_orders migration block f.0 chosen inside (u.orders a f.0 f.1)) (λ m. applies (inr (inr m))) u))
     where
       over : {actors : List Actor} → UsedRightly w.phase actors → UsedRightly (phase_given w.phase (Migrate migration block) chosen) actors
@@ -460,7 +460,7 @@ module _ (P A : Type 0) (shape : Shape) where
       let kept = subst (λ (o : Option Actor). OrdersInside shape.geometry (Rattle.wb_promise.specs.Happenings.orders_in o)) (sym f.1) (λ order m. u.orders a f.0 f.1 order (in_orders f.0 order m)) in
       let inside = replacement_inside k.images w.phase w.commit w.devices.metadata (slice_get w.actors a) old new chosen k.known kept gives in
       subst (λ (o : Option Actor). Started_so w a (Replace old new) chosen o) (sym f.1)
-      (over (starts_task w.phase w.actors a f.0 (given {P = P} {A = A} shape f.0 (Replace old new) chosen) f.1 refl (inside.1.0, (holds_nothing w f.0 a u f.1 f.2, refl))
+      (over (starts_task w.phase w.actors a f.0 (given {P = P} {A = A} shape (mode_of w.phase) f.0 (Replace old new) chosen) f.1 refl (inside.1.0, (holds_nothing w f.0 a u f.1 f.2, refl))
       (replacement_given k.images w.phase w.commit w.devices.metadata old new f.0 chosen k.known (subst (λ (o : Option Actor). StartGives shape w.phase o (Replace old new) Started chosen) f.1 gives) (u.orders a f.0 f.1)) (λ m. applies (inr (inr m))) u))
     where
       over : {actors : List Actor} → UsedRightly w.phase actors → UsedRightly (phase_given w.phase (Replace old new) chosen) actors

@@ -23,7 +23,7 @@ pub fn events_skip_rightly<P, A>()
 {}
 
 /// In every run a read that is answered done was given each of its sectors exactly once, and a write that is has entered each of its
-/// sectors exactly once, wherever their block stands.
+/// sectors exactly once, wherever their block stands and in whichever mode the target was opened.
 pub fn answers_cover_their_sectors<P, A>()
     ensures { AnswersCoverTheirSectors P A }
 {}
