@@ -9,3 +9,4 @@ pub mod Placed
 pub mod Ranging
 pub mod Serves
 pub mod Onward
+pub mod Making

@@ -16,6 +16,7 @@ use wb_types::{Content, Dev, Extent};
 
 impl<'a, D: Disk> ReadStage<'a, D> {
     /// Reads an extent by one call, behind what was read before it.
+    #[inline(always)]
     fn read(&mut self, device: Dev, extent: Extent) -> Got
         requires held { MayRead self.old.hand.now.mode self.old.hand.now.block_sectors self.old.hand.now.pass.card device extent }
         ensures kind { Fits (Device (Read device extent)) result }

@@ -15,6 +15,7 @@ use wb_types::{Dev, Extent, Mode};
 impl<'a, D: Disk> WriteStage<'a, D> {
     /// Writes an extent by one call, from behind what was written before it; in write-through the cache what the origin was written just
     /// before.
+    #[inline(always)]
     fn write(&mut self, device: Dev, extent: Extent) -> Got
         requires owned { MayWrite self.old.hand.now.mode self.old.hand.now.block_sectors self.old.hand.now.pass.card device extent }
         ensures kind { Fits (Device (Write device extent)) result }
