@@ -1,18 +1,18 @@
 //! Writes in passthrough of mapped blocks: the desk takes the block out of the cache, and then it is written on the origin.
 
 ghost use Rattle.std.specs.Prelude.{◌≡◌, ◌≢◌, ◌≤◌, ◌<◌, ◌+◌, ◌*◌, ◌/◌, ◌%◌, ◌^◌, [], Some, None, OnOk, OnErr, IfErr, length};
+ghost use Rattle.std.specs.Bool.{OnTrue};
 ghost use Rattle.wb_types.specs.declared.mode.Mode.TheVariants.{Passthrough};
 ghost use Rattle.wb_words.specs.declared.card.Hold.TheVariants.{Nothing};
-ghost use Rattle.wb_tasks.specs.Tables.{OnBlock, Displacing};
 ghost use Rattle.wb_tasks.specs.Plan.{table};
 ghost use Rattle.wb_tasks.specs.Ready.{StaysReady};
+ghost use Rattle.wb_tasks.specs.Tables.{OnBlock, Displacing};
+ghost use Rattle.wb_port.specs.Ports.{block_at};
 ghost use Rattle.wb_port.specs.Requests.{part_of};
 ghost use Rattle.wb_port.specs.Straight.{ComesTo};
-ghost use Rattle.wb_target.specs.Works.{WasAsked};
-ghost use Rattle.std.specs.Bool.{OnTrue};
-ghost use Rattle.wb_port.specs.Ports.{block_at};
 ghost use Rattle.wb_target.specs.Blocking.{IsInsideOrigin, WriteCame};
 ghost use Rattle.wb_target.specs.Displaces.{IsReadyToDisplace, DisplaceLed, WasDisplaced};
+ghost use Rattle.wb_target.specs.Works.{WasAsked};
 
 use crate::client::Client;
 use crate::target::Target;
