@@ -11,7 +11,7 @@ ghost use Rattle.wb_meta.specs.Reads.{FitsDevice};
 ghost use Rattle.wb_orders.specs.Orders.{next_of, cost_of, AreOrders};
 ghost use Rattle.wb_desk.specs.Desks.{DeskInvariant, MayReserve, IsLive, IsGivenLawfully, IsFreeFor, Takes, holdings, mapped_now, sectors_asked};
 ghost use Rattle.wb_desk.specs.Opening.{opened, threshold_of, last_value as value_of, IsSet, IsBad};
-ghost use Rattle.wb_desk.specs.Messages.{AreRanges, MessageIsTold, IsRefused};
+ghost use Rattle.wb_desk.specs.Messages.{MessageIsTold, IsRefused};
 ghost use Rattle.wb_desk.specs.Calls.{blocks_reserved, reserved, released, next_order_taken};
 
 mod commit;
@@ -20,6 +20,7 @@ mod mapping;
 mod settling;
 
 use crate::Counts;
+use crate::invalidating::may_invalidate;
 use crate::opening::{
     cached_blocks, count_mapped, last_value, left_places, mapped_blocks, set_policy,
 };
@@ -31,7 +32,7 @@ use wb_orders::LiveOrders;
 use wb_policy::{Order, Policy};
 use wb_space::{Holding, Space};
 use wb_tree::Tree;
-use wb_types::{CBlock, CBlockRange, Entry, Geometry, Key, Message, Mode, OBlock, Refusal};
+use wb_types::{CBlock, Entry, Geometry, Key, Message, Mode, OBlock, Refusal};
 
 /// What an opened cache decides by: which blocks are cached, what may be moved, and which commit runs.
 ///
@@ -267,7 +268,9 @@ impl<P: Policy> Desk<P> {
         match message {
             Message::Set(Key::MigrationThreshold, value) => self.set_threshold(*value),
             Message::Set(Key::PromoteMin, value) => self.policy.set(Key::PromoteMin, *value),
-            Message::InvalidateCblocks(ranges) => self.may_invalidate(ranges.as_slice()),
+            Message::InvalidateCblocks(ranges) => {
+                may_invalidate(ranges.as_slice(), self.geometry.cache_blocks, self.mode)
+            }
         }
     }
 
@@ -281,22 +284,6 @@ impl<P: Policy> Desk<P> {
         }
         self.threshold = value;
         Ok(())
-    }
-
-    fn may_invalidate(&self, ranges: &[CBlockRange]) -> Result<(), Refusal>
-        ensures ok { OnOk result (AreRanges self.now.geometry.cache_blocks ranges.now × (self.now.mode ≡ Mode.Passthrough)) }
-        ensures refused { IfErr result (λ e.
-            ((e ≡ Refusal.BadMessage) × (AreRanges self.now.geometry.cache_blocks ranges.now → ⊥))
-            ⊎ ((e ≡ Refusal.WrongMode) × AreRanges self.now.geometry.cache_blocks ranges.now × (self.now.mode ≢ Mode.Passthrough))) }
-    {
-        if !are_ranges(ranges, self.geometry.cache_blocks) {
-            return Err(Refusal::BadMessage);
-        }
-        match self.mode {
-            Mode::Passthrough => Ok(()),
-            Mode::Writeback => Err(Refusal::WrongMode),
-            Mode::Writethrough => Err(Refusal::WrongMode),
-        }
     }
 
     /// Gives an order that its caller carries out. `Busy` where it may not be given, and then nothing changed.
@@ -506,14 +493,4 @@ fn is_same(a: Order, b: Order) -> bool
     ensures other { OnFalse result (a ≢ b) }
 {
     a == b
-}
-
-/// Whether each range has a cache block, and none past the last.
-fn are_ranges(ranges: &[CBlockRange], cache_blocks: u32) -> bool
-    ensures are { OnTrue result (AreRanges cache_blocks ranges.now) }
-    ensures other { OnFalse result (¬ AreRanges cache_blocks ranges.now) }
-{
-    ranges
-        .iter()
-        .all(|r| r.begin.0 < r.end.0 && r.end.0 <= cache_blocks)
 }

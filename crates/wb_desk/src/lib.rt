@@ -5,12 +5,14 @@
 mod counts;
 mod decisions;
 mod desk;
+mod invalidating;
 mod law;
 mod opening;
 
 pub use counts::Counts;
 pub use decisions::decisions_law;
 pub use desk::Desk;
+pub use invalidating::may_invalidate;
 pub use law::{
     allocation_keeps_its_invariant, calls_are_acts, images_stay_safe, same_marks_change_no_node,
 };

@@ -1,5 +1,5 @@
 -- What stops a reading fits its step.
-use Rattle.std.proofs.Common.{◌≡◌, ◌∙◌, ℕ, List, Option, Some, None, refl, sym, subst, inl, inr}
+use Rattle.std.proofs.Common.{◌≡◌, ◌∙◌, ℕ, List, Option, Some, None, refl, subst, inl, inr}
 use Rattle.wb_types.specs.declared.mode.Dev.TheVariants.{Metadata, Cache, Origin}
 use Rattle.wb_types.specs.declared.refusal.Refusal.{Refusal}
 use Rattle.wb_types.specs.declared.refusal.Refusal.TheVariants.{Io, Memory, NotFormatted, Mismatch, Damaged}
@@ -16,7 +16,7 @@ use Rattle.wb_meta.specs.declared.read_steps.ReadSteps.TheVariants.{Begun, First
 use Rattle.wb_tasks.specs.declared.step.Got.TheVariants.{More}
 use Rattle.wb_meta.specs.declared.read_steps.ReadSteps.{ReadSteps}
 use Rattle.wb_devices.specs.declared.running.RunningCommit.{RunningCommit}
-use Rattle.wb_devices.specs.Opened.{DidOpen, DidTell, HasCome, HasGeneration, ReadsOf, got_of_refusal}
+use Rattle.wb_devices.specs.Opened.{DidTell, HasCome, HasGeneration, ReadsOf, got_of_refusal}
 
 pub fits_reading : (refusal : Refusal) (left : ℕ) → IsOfReading refusal → Fits (Device (ReadMetadata left)) (got_of_refusal refusal)
 fits_reading (Io Metadata) left h = tt
@@ -49,10 +49,6 @@ not_done (AllRead state) none done = cc
 
 pub did_tell : {A : Type 0} (geometry : Geometry) (sectors left : ℕ) (was now : ReadSteps A) (device : List History) (commit commit' : Option RunningCommit) (got : Got) (after : Option (ReadSteps A)) → ReadingGoesOn was device now → AreStepsOn sectors now → HasCome geometry left now commit got after commit' → ReadOneMore was now → (HasGeneration commit → HasGeneration commit') → (got ≡ More → ¬ IsDone now) → DidTell geometry sectors left was device commit got after commit'
 did_tell geometry sectors left was now device commit commit' got after goes on come one spells more = inl (now, goes, on, come, one, spells, more)
-
-pub did_open : {A : Type 0} (tells : Type 0) (geometry : Geometry) (left : ℕ) (before : Option (ReadSteps A)) (was now : ReadSteps A) (device : List History) (faults faults' : ℕ) (commit commit' : Option RunningCommit) (got : Got) (after : Option (ReadSteps A)) → before ≡ Some was → (tells → ReadingGoesOn was device now) → (tells → faults' ≡ faults) → HasCome geometry left now commit got after commit' → ReadOneMore was now → (HasGeneration commit → HasGeneration commit') → DidOpen tells geometry left before device faults commit got after faults' commit'
-did_open {A} tells geometry left before was now device faults faults' commit commit' got after is on same come one spells =
-    subst (λ (b : Option (ReadSteps A)). DidOpen tells geometry left b device faults commit got after faults' commit') (sym is) (inl (now, on, same, come, one, spells))
 
 -- what stops a reading on a device that cannot fail is no fault
 pub never_counts : (refusal : Refusal) (May : Type 0) → FailsIf refusal May → (May → ⊥) → (faults : ℕ) → CountsFault refusal faults faults

@@ -19,17 +19,17 @@ use Rattle.wb_devices.specs.Opened.{HasCome, HasGeneration, IsUnfit, got_of_refu
 use Rattle.wb_devices.specs.declared.running.RunningCommit.{RunningCommit}
 
 -- a cache block is mapped, and its entry is dirty
-abbrev pub is_dirty : Option Entry → Bool
-is_dirty (Some entry) = entry.dirty
-is_dirty None = false
+abbrev pub is_mapped_dirty : Option Entry → Bool
+is_mapped_dirty (Some entry) = entry.dirty
+is_mapped_dirty None = false
 
 -- no mapped block of a tree is dirty
 abbrev pub AreAllClean : Mapping → Type 0
-AreAllClean tree = (block : ℕ) → block < length tree.entries → is_dirty (entry_at tree block) ≡ false
+AreAllClean tree = (block : ℕ) → block < length tree.entries → is_mapped_dirty (entry_at tree block) ≡ false
 
 -- some is
 abbrev pub HasDirty : Mapping → Type 0
-HasDirty tree = (block : ℕ) × (is_dirty (entry_at tree block) ≡ true)
+HasDirty tree = (block : ℕ) × (is_mapped_dirty (entry_at tree block) ≡ true)
 
 -- what was read was left clean: its root has the clean flag, and none of its entries is dirty
 abbrev pub IsLeftClean : {A : Type 0} → State A → Type 0
@@ -64,14 +64,15 @@ HasComeIn mode geometry left now commit got after commit' =
     (HasCome geometry left now commit got after commit' × (mode ≡ Passthrough → IsCleanSoFar geometry now))
     ⊎ ((mode ≡ Passthrough) × (got ≡ Refused NotClean) × (after ≡ None) × (commit' ≡ commit) × IsUnclean geometry now)
 
--- A sector was read by an opening in this mode: as by an opening in every mode, but for what becomes of it.
+-- A sector was read by an opening in this mode: the reading goes on from what it was, by that sector, as the device says, where it
+-- tells, or stops for what wb_meta says.
 abbrev pub DidReadIn : {A : Type 0} → Mode → Type 0 → Geometry → ℕ → ReadSteps A → List History → ℕ → Option RunningCommit → Got → Option (ReadSteps A) → ℕ → Option RunningCommit → Type 0
 DidReadIn {A} mode tells geometry left was device faults commit got after faults' commit' =
     ((now : ReadSteps A) × (tells → ReadingGoesOn was device now) × (tells → faults' ≡ faults) × HasComeIn mode geometry left now commit got after commit'
     × ReadOneMore was now × (HasGeneration commit → HasGeneration commit'))
     ⊎ ((refusal : Refusal) × (tells → StopsBy was device refusal) × (tells → CountsFault refusal faults faults') × (got ≡ got_of_refusal refusal) × (after ≡ None) × (commit' ≡ commit) × IsOfReading refusal)
 
--- What a step of an opening in this mode did, from the reading that was there.
+-- What a step of an opening in this mode did, from the reading that was there: with none, the opening was over, and nothing was read.
 abbrev pub DidOpenIn : {A : Type 0} → Mode → Type 0 → Geometry → ℕ → Option (ReadSteps A) → List History → ℕ → Option RunningCommit → Got → Option (ReadSteps A) → ℕ → Option RunningCommit → Type 0
 DidOpenIn mode tells geometry left None device faults commit got after faults' commit' = (got ≡ Fault) × (after ≡ None) × (faults' ≡ faults) × (commit' ≡ commit)
 DidOpenIn mode tells geometry left (Some was) device faults commit got after faults' commit' = DidReadIn mode tells geometry left was device faults commit got after faults' commit'

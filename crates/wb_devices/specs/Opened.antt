@@ -50,14 +50,6 @@ HasCome geometry left now commit got after commit' = ⊥
 abbrev pub HasGeneration : Option RunningCommit → Type 0
 HasGeneration commit = IfSome commit (λ running. running.image.root.generation < 2 ^ 64)
 
--- A sector was read: the reading goes on from what it was, by that sector, as the device says, where it tells, or stops for what
--- wb_meta says.
-abbrev pub DidRead : {A : Type 0} → Type 0 → Geometry → ℕ → ReadSteps A → List History → ℕ → Option RunningCommit → Got → Option (ReadSteps A) → ℕ → Option RunningCommit → Type 0
-DidRead {A} tells geometry left was device faults commit got after faults' commit' =
-    ((now : ReadSteps A) × (tells → ReadingGoesOn was device now) × (tells → faults' ≡ faults) × HasCome geometry left now commit got after commit'
-    × ReadOneMore was now × (HasGeneration commit → HasGeneration commit'))
-    ⊎ ((refusal : Refusal) × (tells → StopsBy was device refusal) × (tells → CountsFault refusal faults faults') × (got ≡ got_of_refusal refusal) × (after ≡ None) × (commit' ≡ commit) × IsOfReading refusal)
-
 -- A sector's content was told, on a device of so many sectors: the reading goes on from what it was, by what stands there, or
 -- stops for what wb_meta says. No device has failed. Where it goes on with more to read, not all was read.
 abbrev pub DidTell : {A : Type 0} → Geometry → ℕ → ℕ → ReadSteps A → List History → Option RunningCommit → Got → Option (ReadSteps A) → Option RunningCommit → Type 0
@@ -65,8 +57,3 @@ DidTell {A} geometry sectors left was device commit got after commit' =
     ((now : ReadSteps A) × ReadingGoesOn was device now × AreStepsOn sectors now × HasCome geometry left now commit got after commit'
     × ReadOneMore was now × (HasGeneration commit → HasGeneration commit') × (got ≡ More → ¬ IsDone now))
     ⊎ ((refusal : Refusal) × StopsBy was device refusal × IsOfReading refusal × ((faults : ℕ) → CountsFault refusal faults faults) × (got ≡ got_of_refusal refusal) × (after ≡ None) × (commit' ≡ commit))
-
--- What a step of an opening did, from the reading that was there: with none, the opening was over, and nothing was read.
-abbrev pub DidOpen : {A : Type 0} → Type 0 → Geometry → ℕ → Option (ReadSteps A) → List History → ℕ → Option RunningCommit → Got → Option (ReadSteps A) → ℕ → Option RunningCommit → Type 0
-DidOpen tells geometry left None device faults commit got after faults' commit' = (got ≡ Fault) × (after ≡ None) × (faults' ≡ faults) × (commit' ≡ commit)
-DidOpen tells geometry left (Some was) device faults commit got after faults' commit' = DidRead tells geometry left was device faults commit got after faults' commit'

@@ -21,11 +21,11 @@ use std::alloc::Global;
 use wb_disk::Disk;
 use wb_meta::State;
 use wb_tasks::{Answer, DeviceStep, Got, Stage, Task, Want, drive};
-use wb_types::{Dev, Mode};
+use wb_types::Dev;
 
 impl<D: Disk> OpeningStage<D> {
     /// A step on a device.
-    #[tactic(auto, using(crate::proofs::Going::outcome_fits, crate::proofs::Cleaning::in_mode))]
+    #[tactic(auto, using(crate::proofs::Going::outcome_fits))]
     fn device_step(&mut self, step: DeviceStep) -> Got
         requires step { IsOpenings (OnDevice step) }
         requires goes_on { MayGoOn (D.size self.old.devices.metadata) self.old.opening }
@@ -39,10 +39,7 @@ impl<D: Disk> OpeningStage<D> {
     {
         let metadata = &mut self.devices.metadata;
         match step {
-            DeviceStep::ReadMetadata(left) => match self.mode {
-                Mode::Passthrough => self.opening.read_clean(metadata, left),
-                Mode::Writeback | Mode::Writethrough => self.opening.read(metadata, left),
-            },
+            DeviceStep::ReadMetadata(left) => self.opening.read(self.mode, metadata, left),
             DeviceStep::WriteRoot => put(&mut self.opening.commit, metadata, step),
             DeviceStep::Sync(Dev::Metadata) => sync_metadata(&mut self.opening.commit, metadata),
             DeviceStep::Sync(Dev::Cache) => self.devices.sync(Dev::Cache),

@@ -3,6 +3,7 @@
 ghost use Rattle.std.specs.Prelude.{◌≡◌, ◌≢◌, ℕ, Some, None, IfSome};
 ghost use Rattle.std.specs.declared.alloc.Global.{Global as GlobalValue};
 ghost use Rattle.std.specs.Bool.{OnTrue, OnFalse};
+ghost use Rattle.wb_types.specs.declared.mode.Mode.TheVariants.{Passthrough};
 ghost use Rattle.wb_tasks.specs.Plan.{Fits};
 ghost use Rattle.wb_tasks.specs.declared.step.Want.TheVariants.{Device};
 ghost use Rattle.wb_tasks.specs.declared.step.DeviceStep.TheVariants.{ReadMetadata};
@@ -12,7 +13,8 @@ ghost use Rattle.wb_meta.specs.Reads.{AreStepsOn, IsDone, known_root};
 ghost use Rattle.wb_meta.specs.declared.read_steps.ReadSteps.{ReadSteps as Steps};
 ghost use Rattle.wb_meta.specs.States.{IsOfReading};
 ghost use Rattle.wb_devices.specs.Openings.{MayGoOn};
-ghost use Rattle.wb_devices.specs.Opened.{DidOpen, DidTell, HasCome, HasGeneration, ReadsOf, got_of_refusal};
+ghost use Rattle.wb_devices.specs.Opened.{DidTell, HasCome, HasGeneration, ReadsOf, got_of_refusal};
+ghost use Rattle.wb_devices.specs.Clean.{DidOpenIn};
 
 use crate::opening::Opening;
 use crate::running::RunningCommit;
@@ -21,34 +23,34 @@ use wb_disk::Disk;
 use wb_format::Root;
 use wb_meta::ReadSteps;
 use wb_tasks::Got;
-use wb_types::{Geometry, Refusal};
+use wb_types::{Geometry, Mode, Refusal};
 
 impl Opening {
-    /// Reads the metadata sector that comes next; at most so many more may follow. Once both slots were read, the root of
-    /// higher generation is compared with the geometry, and its tree is read; when all was read, the commit of the next root
-    /// is there.
+    /// Reads the metadata sector that comes next, for an opening in this mode; at most so many more may follow. Once both slots
+    /// were read, the root of higher generation is compared with the geometry, and its tree is read; when all was read, the commit
+    /// of the next root is there.
     ///
-    /// `NotFormatted`, `Mismatch`, `Damaged` and `Memory` as wb_meta says, `Mismatch` also where the newest root is of another
+    /// In passthrough `NotClean` where all was read and was not left clean. `NotFormatted`, `Mismatch`, `Damaged` and `Memory` as wb_meta says, `Mismatch` also where the newest root is of another
     /// geometry, `GenerationEnd` where there is no next generation. A fault where the device failed, the opening was over, or no
     /// further sector was allowed.
-    #[tactic(auto, using(crate::proofs::Stopping::did_open, crate::proofs::Stopping::did_tell, crate::proofs::Stopping::never_stops))]
-    pub fn read<D: Disk>(&mut self, disk: &mut D, left: u32) -> Got
+    #[tactic(auto, using(crate::proofs::Cleaning::did_open, crate::proofs::Stopping::did_tell, crate::proofs::Stopping::never_stops))]
+    pub fn read<D: Disk>(&mut self, mode: Mode, disk: &mut D, left: u32) -> Got
         requires goes_on { MayGoOn (D.size disk.old) self.old }
         ensures goes_on { MayGoOn (D.size disk.old) self.new }
         ensures kind { Fits (Device (ReadMetadata left)) result }
         ensures size { D.size disk.new ≡ D.size disk.old }
         ensures same { D.tells → D.contents disk.new ≡ D.contents disk.old }
         ensures geometry { self.new.geometry ≡ self.old.geometry }
-        ensures did { DidOpen D.tells self.old.geometry left self.old.reading (D.contents disk.old) (D.faults disk.old) self.old.commit result self.new.reading (D.faults disk.new) self.new.commit }
+        ensures did { DidOpenIn mode D.tells self.old.geometry left self.old.reading (D.contents disk.old) (D.faults disk.old) self.old.commit result self.new.reading (D.faults disk.new) self.new.commit }
 
-        // Where the disk cannot fail to read, what stands there is told.
-        ensures told { (was : Steps GlobalValue) → D.tells → (MayLand (D.falters disk.old Reading) → ⊥) → self.old.reading ≡ Some was → DidTell self.old.geometry (D.size disk.old) left was (D.contents disk.old) self.old.commit result self.new.reading self.new.commit }
+        // Where the disk cannot fail to read, what stands there is told, in a mode that takes metadata that were not left clean.
+        ensures told { (was : Steps GlobalValue) → mode ≢ Passthrough → D.tells → (MayLand (D.falters disk.old Reading) → ⊥) → self.old.reading ≡ Some was → DidTell self.old.geometry (D.size disk.old) left was (D.contents disk.old) self.old.commit result self.new.reading self.new.commit }
     {
         let Some(steps) = self.reading.take() else {
             return Got::Fault;
         };
         match steps.next(disk) {
-            Ok(steps) => self.has_come(steps, left),
+            Ok(steps) => self.has_come_in(mode, steps, left),
             Err(refusal) => got_of_refusal(refusal, left),
         }
     }

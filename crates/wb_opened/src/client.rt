@@ -36,7 +36,7 @@ impl<'t, D: Disk + Drop, P: Policy> Served for Client<'t, D, P> {
     #[tactic(auto, using(crate::proofs::Inside::not_outside))]
     fn write<R: Wait>(&mut self, rt: &R, at: Sector, from: &[Content]) -> Result<(), Refusal> {
         match Client::write(self, rt, at, from) {
-            Ok(()) => Ok(()),
+            Ok(_) => Ok(()),
             Err(stopped) => Err(stopped.refusal),
         }
     }

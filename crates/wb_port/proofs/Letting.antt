@@ -13,7 +13,7 @@ use Rattle.wb_tasks.specs.declared.step.Want.TheVariants.{Cell, Device, Desk, En
 use Rattle.wb_tasks.specs.declared.step.Got.{Got}
 use Rattle.wb_tasks.specs.declared.step.Got.TheVariants.{Done}
 use Rattle.wb_tasks.proofs.Driving.{no_result}
-use Rattle.wb_port.specs.Requests.{IsRequest}
+use Rattle.wb_port.specs.Requests.{IsReadOrWrite}
 
 -- what a request does after a fault: it gives its block back, or sets the failed bit
 abbrev pub AreLettingGo : List Want → Type 0
@@ -22,7 +22,7 @@ AreLettingGo (Cell (Release access block) ∷ ws) = AreLettingGo ws
 AreLettingGo (Cell SetFailed ∷ ws) = AreLettingGo ws
 AreLettingGo (w ∷ ws) = ⊥
 
-pub lets_go_after : (job : BlockJob) (step : DeviceStep) → IsRequest job → AreLettingGo (after_fault_of (OnBlock job) step)
+pub lets_go_after : (job : BlockJob) (step : DeviceStep) → IsReadOrWrite job → AreLettingGo (after_fault_of (OnBlock job) step)
 lets_go_after (Reading part) (Read device e) q = tt
 lets_go_after (Writing part) (Read device e) q = tt
 lets_go_after (Displacing part) (Read device e) q = absurd q

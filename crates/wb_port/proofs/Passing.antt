@@ -24,7 +24,7 @@ use Rattle.wb_tasks.specs.declared.step.Want.TheVariants.{Cell, Device, Desk, En
 use Rattle.wb_tasks.specs.declared.step.Got.{Got}
 use Rattle.wb_tasks.specs.declared.step.Got.TheVariants.{Done, Word}
 use Rattle.wb_port.specs.Hands.{DoneByPass}
-use Rattle.wb_port.specs.Kinds.{IsFree}
+use Rattle.wb_port.specs.Kinds.{LeavesHolds}
 use Rattle.wb_port.specs.Requests.{taking_card}
 
 -- the same pass with another card
@@ -93,10 +93,10 @@ by_step blocks pass pass' step made is bits h =
     h.2.pass_is ∙ (ap (λ (c : Card). record pass { card = c; failed = bits_after step pass.failed }) (is h.2.words) ∙ ap (λ (f : List FailBit). record pass { card = made pass.card; failed = f }) bits)
 
 -- who has no block has none after a step by which none is taken
-pub free_then : (blocks : ℕ) (pass pass' : PassState) (step : CellStep) (result : CellResult) → IsFree step → StepsBy blocks pass step result pass' → pass.card.hold ≡ Nothing → pass'.card.hold ≡ Nothing
+pub free_then : (blocks : ℕ) (pass pass' : PassState) (step : CellStep) (result : CellResult) → LeavesHolds step → StepsBy blocks pass step result pass' → pass.card.hold ≡ Nothing → pass'.card.hold ≡ Nothing
 free_then blocks pass pass' step result free h idle = ap (λ (p : PassState). p.card.hold) h.pass_is ∙ held step free
   where
-    held : (step : CellStep) → IsFree step → (card_after h.words step pass.card).hold ≡ Nothing
+    held : (step : CellStep) → LeavesHolds step → (card_after h.words step pass.card).hold ≡ Nothing
     held (Look word) f = idle
     held SetFailed f = ap (λ (x : Hold). (failing_at x pass.card).hold) idle ∙ idle
     held SetSuspended f = ap (λ (x : Hold). (failing_at x pass.card).hold) idle ∙ idle

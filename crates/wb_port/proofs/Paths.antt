@@ -22,7 +22,7 @@ use Rattle.wb_tasks.specs.declared.step.Want.TheVariants.{Cell, Device, Desk, En
 use Rattle.wb_tasks.specs.declared.step.Got.{Got}
 use Rattle.wb_tasks.specs.declared.step.Got.TheVariants.{Done, Word, Lost, Fault}
 use Rattle.wb_tasks.proofs.Pieces.{first_piece}
-use Rattle.wb_port.specs.Requests.{IsRequest}
+use Rattle.wb_port.specs.Requests.{IsReadOrWrite}
 use Rattle.wb_port.proofs.Letting.{not_done, lets_go_after}
 
 -- these steps are left of a job, and this answer
@@ -102,12 +102,12 @@ pub only_count : (job : BlockJob) (kind : _) (ws : List Want) → OnlyDone job (
 only_count job kind ws Done rest h r = refl
 only_count job kind ws g rest h r = absurd h
 
-pub only_read : (job : BlockJob) → IsRequest job → (device : _) (e : Extent) (ws : List Want) → OnlyDone job (Device (Read device e)) ws
+pub only_read : (job : BlockJob) → IsReadOrWrite job → (device : _) (e : Extent) (ws : List Want) → OnlyDone job (Device (Read device e)) ws
 only_read job q device e ws Done rest h r = refl
 only_read job q device e ws Fault rest h r = absurd (not_done (going job (Device (Read device e) ∷ ws)) _ (Io device) (lets_go_after job (Read device e) q) rest r)
 only_read job q device e ws g rest h r = absurd h
 
-pub only_write : (job : BlockJob) → IsRequest job → (device : _) (e : Extent) (ws : List Want) → OnlyDone job (Device (Write device e)) ws
+pub only_write : (job : BlockJob) → IsReadOrWrite job → (device : _) (e : Extent) (ws : List Want) → OnlyDone job (Device (Write device e)) ws
 only_write job q device e ws Done rest h r = refl
 only_write job q device e ws Fault rest h r = absurd (not_done (going job (Device (Write device e) ∷ ws)) _ (Io device) (lets_go_after job (Write device e) q) rest r)
 only_write job q device e ws g rest h r = absurd h

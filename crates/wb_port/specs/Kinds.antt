@@ -11,11 +11,11 @@ IsCertain (Take access block seen) = ⊥
 IsCertain step = Unit {0}
 
 -- one by which no block is taken or let go: a look, or a bit of the fail word that is set
-abbrev pub IsFree : CellStep → Type 0
-IsFree (Look word) = Unit {0}
-IsFree SetFailed = Unit {0}
-IsFree SetSuspended = Unit {0}
-IsFree step = ⊥
+abbrev pub LeavesHolds : CellStep → Type 0
+LeavesHolds (Look word) = Unit {0}
+LeavesHolds SetFailed = Unit {0}
+LeavesHolds SetSuspended = Unit {0}
+LeavesHolds step = ⊥
 
 -- a read or a write of an extent, which is done or fails
 abbrev pub IsTransfer : DeviceStep → Type 0

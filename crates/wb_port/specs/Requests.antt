@@ -34,10 +34,10 @@ use Rattle.wb_port.specs.declared.hand.Hand.{Hand}
 use Rattle.wb_port.specs.Hands.{ReadStep, WriteStep}
 
 -- a read or write, which asks nothing of a desk
-abbrev pub IsRequest : BlockJob → Type 0
-IsRequest (Reading part) = Unit {0}
-IsRequest (Writing part) = Unit {0}
-IsRequest job = ⊥
+abbrev pub IsReadOrWrite : BlockJob → Type 0
+IsReadOrWrite (Reading part) = Unit {0}
+IsReadOrWrite (Writing part) = Unit {0}
+IsReadOrWrite job = ⊥
 
 -- sectors of one block, cut into extents of at most the longest that a step takes, in this mode
 abbrev pub part_of : Mode → ℕ → OBlock → Extent → BlockRange

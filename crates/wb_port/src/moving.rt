@@ -10,6 +10,7 @@ use wb_types::Content;
 pub const LONGEST: u64 = 256;
 
 /// The stage of a read: extents go from a device straight to the caller's slice.
+#[derive(Drop)]
 pub struct ReadStage<'a, D> {
     pub cells: &'a Cells,
     pub hand: &'a mut Hand<D>,
@@ -20,6 +21,7 @@ pub struct ReadStage<'a, D> {
 }
 
 /// The stage of a write: extents go from the caller's slice straight to a device.
+#[derive(Drop)]
 pub struct WriteStage<'a, D> {
     pub cells: &'a Cells,
     pub hand: &'a mut Hand<D>,

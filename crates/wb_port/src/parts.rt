@@ -45,14 +45,7 @@ pub fn read_part<'a, D: Disk>(
         out,
         moved: 0,
     };
-    let result = stage.serve(block_sectors, block, sectors);
-    let ReadStage {
-        cells: _,
-        hand: _,
-        out: _,
-        moved: _,
-    } = stage;
-    result
+    stage.serve(block_sectors, block, sectors)
 }
 
 /// Writes a slice to sectors of this block in the hand's mode, by steps of at most `LONGEST` sectors: a run of the table of a write, whose answer
@@ -89,12 +82,5 @@ pub fn write_part<'a, D: Disk>(
         from,
         moved: 0,
     };
-    let result = stage.serve(block_sectors, block, sectors);
-    let WriteStage {
-        cells: _,
-        hand: _,
-        from: _,
-        moved: _,
-    } = stage;
-    result
+    stage.serve(block_sectors, block, sectors)
 }

@@ -6,7 +6,7 @@ ghost use Rattle.wb_words.specs.SharedWords.{IsWord};
 ghost use Rattle.wb_words.specs.Cards.{looked};
 ghost use Rattle.wb_words.specs.Ready.{IsReady};
 ghost use Rattle.wb_cells.specs.Passes.{StepsBy};
-ghost use Rattle.wb_port.specs.Kinds.{IsFree};
+ghost use Rattle.wb_port.specs.Kinds.{LeavesHolds};
 
 use std::alloc::Global;
 use std::sync::Arc;
@@ -74,7 +74,7 @@ impl Seat {
     /// One step of the pass by which no block is taken or let go.
     #[tactic(auto, using(crate::proofs::Passing::free_then))]
     pub fn step(&mut self, step: CellStep) -> CellResult
-        requires free { IsFree step }
+        requires free { LeavesHolds step }
         requires ready { IsReady self.old.geometry.origin_blocks self.old.pass.card step }
         ensures geometry { self.new.geometry ≡ self.old.geometry }
         ensures cells { self.new.cells ≡ self.old.cells }

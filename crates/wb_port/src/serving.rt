@@ -13,7 +13,7 @@ use crate::moving::{LONGEST, ReadStage, WriteStage};
 use crate::straight::{Part, Way, request};
 use wb_disk::Disk;
 use wb_tasks::{Answer, BlockTask, Stage, Work, drive};
-use wb_types::{Extent, OBlock, Refusal};
+use wb_types::{Extent, Mode, OBlock, Refusal};
 
 impl<'a, D: Disk> ReadStage<'a, D> {
     /// Reads sectors of this block into the slice, by steps of at most `LONGEST` sectors.
@@ -44,13 +44,8 @@ impl<'a, D: Disk> ReadStage<'a, D> {
         ensures size { self.new.hand.now.block_sectors ≡ self.old.hand.now.block_sectors }
         ensures mode { self.new.hand.now.mode ≡ self.old.hand.now.mode }
     {
-        let part = Part {
-            mode: self.hand.mode,
-            block_sectors,
-            block,
-            sectors,
-        };
-        answered(serve_part(self, Way::Reads, part))
+        let mode = self.hand.mode;
+        answered(serve_part(self, Way::Reads, mode, block_sectors, block, sectors))
     }
 }
 
@@ -81,25 +76,33 @@ impl<'a, D: Disk> WriteStage<'a, D> {
         ensures size { self.new.hand.now.block_sectors ≡ self.old.hand.now.block_sectors }
         ensures mode { self.new.hand.now.mode ≡ self.old.hand.now.mode }
     {
-        let part = Part {
-            mode: self.hand.mode,
-            block_sectors,
-            block,
-            sectors,
-        };
-        answered(serve_part(self, Way::Writes, part))
+        let mode = self.hand.mode;
+        answered(serve_part(self, Way::Writes, mode, block_sectors, block, sectors))
     }
 }
 
 /// Performs a read or a write up to its answer, on a stage that is ready for each of its steps: where one step moves all sectors,
 /// without asking a task for each step.
-fn serve_part<S: Stage>(stage: &mut S, way: Way, part: Part) -> Answer
-    requires some { 0 < part.block_sectors }
-    requires range { part.sectors.first + part.sectors.count < 2 ^ 64 }
-    requires stays { StaysReady S.ready S.led (table (OnBlock (job_on_block (work_by way) (part_at part)))) stage.old }
-    ensures { ComesTo S.led (table (OnBlock (job_on_block (work_by way) (part_at part)))) stage.old result stage.new }
+fn serve_part<S: Stage>(
+    stage: &mut S,
+    way: Way,
+    mode: Mode,
+    block_sectors: u32,
+    block: OBlock,
+    sectors: Extent,
+) -> Answer
+    requires some { 0 < block_sectors }
+    requires range { sectors.first + sectors.count < 2 ^ 64 }
+    requires stays { StaysReady S.ready S.led (table (OnBlock (job_on_block (work_by way) (part_at (record { mode = mode; block_sectors = block_sectors; block = block; sectors = sectors }))))) stage.old }
+    ensures { ComesTo S.led (table (OnBlock (job_on_block (work_by way) (part_at (record { mode = mode; block_sectors = block_sectors; block = block; sectors = sectors }))))) stage.old result stage.new }
 {
-    if 1 <= part.sectors.count && part.sectors.count <= LONGEST {
+    let part = Part {
+        mode,
+        block_sectors,
+        block,
+        sectors,
+    };
+    if 1 <= sectors.count && sectors.count <= LONGEST {
         return request(stage, way, part);
     }
     perform_part(stage, work(way), part)

@@ -1,2 +1,3 @@
 pub mod Releasing
 pub mod Readying
+pub mod Beginning

@@ -62,6 +62,11 @@ pub record HasBegunClean {P : Type 0} (hint_of : P → ℕ → ℕ) (seen : List
   pub image_is : OfImaged (hint_of d.policy) (Some seen) d.tree (λ imaged. IsImage imaged d'.tree (next_plan d imaged true) image)
   pub unused : OfImaged (hint_of d.policy) (Some seen) d.tree (λ imaged. IsOnUnused d imaged d'.tree true image)
 
+-- A commit of this image began: a clean one where dirty bits are given.
+abbrev pub HasBegunWith : {P : Type 0} → (P → ℕ → ℕ) → Option (List Bool) → DeskState P → Image → DeskState P → Type 0
+HasBegunWith hint_of None d image d' = HasBegun d image d'
+HasBegunWith hint_of (Some seen) d image d' = HasBegunClean hint_of seen d image d'
+
 -- None began: the desk refused it, where so many nodes are enough for every image, and nothing changed.
 abbrev pub IsUnbegun : {P : Type 0} → DeskState P → ℕ → Refusal → DeskState P → Type 0
 IsUnbegun d most refusal d' = (d' ≡ d) × (node_count d.geometry.cache_blocks ≤ most → IsBeginRefused d refusal)

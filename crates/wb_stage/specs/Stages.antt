@@ -13,7 +13,7 @@ use Rattle.wb_tasks.specs.declared.step.Got.{Got}
 use Rattle.wb_tasks.specs.declared.step.Got.TheVariants.{Began, Refused}
 use Rattle.wb_devices.specs.declared.running.RunningCommit.{RunningCommit}
 use Rattle.wb_devices.specs.Committing.{is_committed}
-use Rattle.wb_stage.specs.Asking.{DidMap, DidUnmap, DidRelease, HasBegun, HasBegunClean, IsUnbegun, ended}
+use Rattle.wb_stage.specs.Asking.{DidMap, DidUnmap, DidRelease, HasBegun, HasBegunWith, IsUnbegun, ended}
 
 -- a commit that was begun has done nothing yet, and so much is so of its image
 abbrev pub DidBeginSo : {P : Type 0} → (DeskState P → Image → DeskState P → Type 0) → ℕ → Got → DeskState P → Option RunningCommit → DeskState P → Option RunningCommit → Type 0
@@ -27,8 +27,8 @@ abbrev pub DidBegin : {P : Type 0} → ℕ → Got → DeskState P → Option Ru
 DidBegin most got d commit d' commit' = DidBeginSo (λ old image new. HasBegun old image new) most got d commit d' commit'
 
 -- that of a suspend is clean, with the dirty bits that were seen, by cache block, and the policy's hints
-abbrev pub DidBeginClean : {P : Type 0} → (P → ℕ → ℕ) → List Bool → ℕ → Got → DeskState P → Option RunningCommit → DeskState P → Option RunningCommit → Type 0
-DidBeginClean hint_of seen most got d commit d' commit' = DidBeginSo (λ old image new. HasBegunClean hint_of seen old image new) most got d commit d' commit'
+abbrev pub DidBeginWith : {P : Type 0} → (P → ℕ → ℕ) → Option (List Bool) → ℕ → Got → DeskState P → Option RunningCommit → DeskState P → Option RunningCommit → Type 0
+DidBeginWith hint_of seen most got d commit d' commit' = DidBeginSo (λ old image new. HasBegunWith hint_of seen old image new) most got d commit d' commit'
 
 -- the commit ends where all of it was done
 abbrev pub EndsWith : {P : Type 0} → Bool → DeskState P → Option RunningCommit → DeskState P → Option RunningCommit → Type 0

@@ -1,12 +1,13 @@
 //! Steps on the desk, each by one call of it. What the desk cannot be asked now is not done.
 
-ghost use Rattle.std.specs.Prelude.{◌≡◌, ◌≤◌, true, false, length, IfOk, IfErr, OnOk, OnErr};
+ghost use Rattle.std.specs.Prelude.{◌≡◌, ◌≤◌, length, IfOk, IfErr, OnOk, OnErr, is_some};
+ghost use Rattle.std.specs.Option.{IfSome, option_map};
 ghost use Rattle.wb_tasks.specs.Plan.{Fits, MayBeRefused};
 ghost use Rattle.wb_tasks.specs.declared.step.Want.TheVariants.{Desk as AskDesk};
 ghost use Rattle.wb_tasks.specs.declared.step.DeskStep.TheVariants.{Map, BeginCommit};
 ghost use Rattle.wb_meta.specs.declared.commit_steps.CommitSteps.TheVariants.{NodesWritten};
-ghost use Rattle.wb_stage.specs.Asking.{DidMap, DidUnmap, DidRelease, HasBegun, HasBegunClean, IsUnbegun, is_of, order_of, ended};
-ghost use Rattle.wb_stage.specs.Stages.{DidAsk, DidBegin, DidBeginClean, EndsWith, IsServed, is_all_done};
+ghost use Rattle.wb_stage.specs.Asking.{DidMap, DidUnmap, DidRelease, HasBegunWith, IsUnbegun, is_of, order_of, ended};
+ghost use Rattle.wb_stage.specs.Stages.{DidAsk, DidBeginWith, EndsWith, IsServed, is_all_done};
 
 use std::alloc::Global;
 use wb_desk::Desk;
@@ -37,7 +38,7 @@ pub fn ask<P: Policy>(
             release(desk, held, block);
             Got::Done
         }
-        DeskStep::BeginCommit(_, most) => begin_commit(alloc, desk, commit, most),
+        DeskStep::BeginCommit(_, most) => begin_commit(alloc, desk, commit, None, most),
         DeskStep::EndCommit => {
             end_commit(desk, commit);
             Got::Done
@@ -45,23 +46,23 @@ pub fn ask<P: Policy>(
     }
 }
 
-/// Begins the commit of a suspend, of at most so many nodes, whose root is marked clean, with these dirty bits, by cache block, as the
-/// seals told them; for who runs this commit, if any.
-pub fn ask_clean<P: Policy>(
+/// Begins a commit of at most so many nodes, for who runs this commit, if any: that of a suspend, whose root is marked clean, where
+/// the dirty bits are given that the seals told, by cache block; else that of a flush.
+pub fn begin_commit<P: Policy>(
     alloc: Global,
     desk: &mut Desk<P>,
     commit: &mut Option<RunningCommit>,
-    seen: &[bool],
+    seen: Option<&[bool]>,
     most: u32,
 ) -> Got
-    requires { length seen.now ≡ desk.old.geometry.cache_blocks }
-    ensures kind { Fits (AskDesk (BeginCommit true most)) result }
-    ensures did { DidBeginClean P.hint_of seen.now most result desk.old commit.old desk.new commit.new }
+    requires { IfSome seen (λ bits. length bits.now ≡ desk.old.geometry.cache_blocks) }
+    ensures kind { Fits (AskDesk (BeginCommit (is_some seen.entry) most)) result }
+    ensures did { DidBeginWith P.hint_of (option_map (λ bits. bits.now) seen.entry) most result desk.old commit.old desk.new commit.new }
 {
-    match begin_clean(alloc, desk, seen, most) {
-        Ok(clean) => {
-            let nodes = clean.nodes() as u32;
-            *commit = Some(clean);
+    match begin(alloc, desk, seen, most) {
+        Ok(begun) => {
+            let nodes = begun.nodes() as u32;
+            *commit = Some(begun);
             Got::Began(nodes)
         }
         Err(refusal) => Got::Refused(refusal),
@@ -103,45 +104,27 @@ pub fn release<P: Policy>(desk: &mut Desk<P>, held: &[Order], block: OBlock)
     }
 }
 
-/// Takes the image of a commit, of at most so many nodes. `Busy`, `GenerationEnd` and `Memory` as the desk says; `Memory` also
-/// where an image may have more nodes. Then nothing changed.
-pub fn begin<P: Policy>(
+/// Takes the image of a commit, of at most so many nodes; where dirty bits are given, by cache block, a clean one: its root is marked
+/// clean, and its entries have those bits and the policy's hints. `Busy`, `GenerationEnd` and `Memory` as the desk says; `Memory`
+/// also where an image may have more nodes. Then nothing changed.
+#[tactic(auto, using(crate::proofs::Beginning::begun_with))]
+fn begin<P: Policy>(
     alloc: Global,
     desk: &mut Desk<P>,
+    seen: Option<&[bool]>,
     most: u32,
 ) -> Result<RunningCommit, Refusal>
-    ensures begun { IfOk result (λ commit. HasBegun desk.old commit.image desk.new) }
+    requires { IfSome seen (λ bits. length bits.now ≡ desk.old.geometry.cache_blocks) }
+    ensures begun { IfOk result (λ commit. HasBegunWith P.hint_of (option_map (λ bits. bits.now) seen.entry) desk.old commit.image desk.new) }
     ensures steps { IfOk result (λ commit. commit.steps ≡ NodesWritten 0) }
     ensures few { IfOk result (λ commit. length commit.image.nodes.items ≤ most) }
     ensures refused { IfErr result (λ refusal. IsUnbegun desk.old most refusal desk.new) }
-    ensures kind { IfErr result (MayBeRefused (AskDesk (BeginCommit false most))) }
+    ensures kind { IfErr result (MayBeRefused (AskDesk (BeginCommit (is_some seen.entry) most))) }
 {
     if desk.most_nodes() > most {
         return Err(Refusal::Memory);
     }
-    let image = desk.begin_commit(alloc, None)?;
-    Ok(RunningCommit::new(image))
-}
-
-/// As `begin`, of a clean image: its root is marked clean, and its entries have these dirty bits, by cache block, and the policy's
-/// hints.
-pub fn begin_clean<P: Policy>(
-    alloc: Global,
-    desk: &mut Desk<P>,
-    seen: &[bool],
-    most: u32,
-) -> Result<RunningCommit, Refusal>
-    requires { length seen.now ≡ desk.old.geometry.cache_blocks }
-    ensures begun { IfOk result (λ commit. HasBegunClean P.hint_of seen.now desk.old commit.image desk.new) }
-    ensures steps { IfOk result (λ commit. commit.steps ≡ NodesWritten 0) }
-    ensures few { IfOk result (λ commit. length commit.image.nodes.items ≤ most) }
-    ensures refused { IfErr result (λ refusal. IsUnbegun desk.old most refusal desk.new) }
-    ensures kind { IfErr result (MayBeRefused (AskDesk (BeginCommit true most))) }
-{
-    if most < desk.most_nodes() {
-        return Err(Refusal::Memory);
-    }
-    let image = desk.begin_commit(alloc, Some(seen))?;
+    let image = desk.begin_commit(alloc, seen)?;
     Ok(RunningCommit::new(image))
 }
 
@@ -151,26 +134,6 @@ pub fn end<P: Policy>(desk: &mut Desk<P>)
 {
     if desk.is_committing() {
         desk.end_commit();
-    }
-}
-
-/// A commit of at most so many nodes begins, or the desk refuses it.
-fn begin_commit<P: Policy>(
-    alloc: Global,
-    desk: &mut Desk<P>,
-    commit: &mut Option<RunningCommit>,
-    most: u32,
-) -> Got
-    ensures kind { Fits (AskDesk (BeginCommit false most)) result }
-    ensures did { DidBegin most result desk.old commit.old desk.new commit.new }
-{
-    match begin(alloc, desk, most) {
-        Ok(begun) => {
-            let nodes = begun.nodes() as u32;
-            *commit = Some(begun);
-            Got::Began(nodes)
-        }
-        Err(refusal) => Got::Refused(refusal),
     }
 }
 

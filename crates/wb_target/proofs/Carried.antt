@@ -37,11 +37,10 @@ module _ {D : Type 0} (runs : TaskJob → WorkState D → Answer → WorkState D
   done_then old mid new so run = record { tries = so.0; before = mid; tried = so.1; ended = run }
 
 -- an order of one job
-module _ {D A : Type 0} (runs : List Order → TaskJob → WorkState D → Answer → WorkState D → Type 0) (r : Result A Refusal) (job : TaskJob) (jobs : Order → List TaskJob) (order given : Order) (is : order ≡ given) (single : jobs given ≡ job ∷ []) (old new : WorkState D) where
-  pub one_done : OnOk r (WasDone (runs (given ∷ [])) job old new) → OnOk r (WereDone (runs (order ∷ [])) (jobs order) old new)
+module _ {D A : Type 0} (runs : List Order → TaskJob → WorkState D → Answer → WorkState D → Type 0) (r : Result A Refusal) (job : TaskJob) (jobs : Order → List TaskJob) (order : Order) (single : jobs order ≡ job ∷ []) (old new : WorkState D) where
+  pub one_done : OnOk r (WasDone (runs (order ∷ [])) job old new) → OnOk r (WereDone (runs (order ∷ [])) (jobs order) old new)
   one_done h =
-      subst (λ (o : Order). OnOk r (WereDone (runs (o ∷ [])) (jobs o) old new)) (sym is)
-      (subst (λ (js : List TaskJob). OnOk r (WereDone (runs (given ∷ [])) js old new)) (sym single) (on_ok_weaker r (λ (d : WasDone (runs (given ∷ [])) job old new). (new, d, refl)) h))
+      subst (λ (js : List TaskJob). OnOk r (WereDone (runs (order ∷ [])) js old new)) (sym single) (on_ok_weaker r (λ (d : WasDone (runs (order ∷ [])) job old new). (new, d, refl)) h)
 
 -- ---- a replacement's three jobs, in the sizes that stay
 

@@ -1,9 +1,12 @@
 -- A stage of an invalidation is ready for each of its steps, and from its run to what is told of it.
-use Rattle.std.proofs.Common.{◌≡◌, ◌≢◌, ◌∙◌, ◌<◌, ◌++◌, ℕ, List, [], ◌∷◌, Option, inl, inr, refl, sym, ap, subst}
+use Rattle.std.proofs.Common.{◌≡◌, ◌≢◌, ◌⊎◌, ◌∙◌, ◌<◌, ◌++◌, ℕ, List, [], ◌∷◌, Option, inl, inr, refl, sym, ap, subst}
 use Rattle.std.proofs.lemmas.List.{append_assoc, append-nil}
+use Rattle.wb_types.specs.declared.geometry.Geometry.{Geometry}
+use Rattle.wb_types.specs.declared.message.CBlockRange.{CBlockRange}
+use Rattle.wb_types.specs.declared.mode.Mode.{Mode}
 use Rattle.wb_types.specs.declared.mode.Mode.TheVariants.{Passthrough}
 use Rattle.wb_types.specs.declared.refusal.Refusal.{Refusal}
-use Rattle.wb_types.specs.declared.refusal.Refusal.TheVariants.{Busy, Defer, Io, Failed, Memory, Worn, NotFormatted, Damaged, Mismatch, NotClean, GenerationEnd}
+use Rattle.wb_types.specs.declared.refusal.Refusal.TheVariants.{Busy, Defer, Io, Failed, Memory, Worn, NotFormatted, Damaged, Mismatch, NotClean, GenerationEnd, BadMessage, WrongMode}
 use Rattle.wb_types.specs.declared.number.OBlock.{OBlock}
 use Rattle.wb_words.specs.declared.card.Card.{Card}
 use Rattle.wb_words.specs.declared.card.Hold.TheVariants.{Nothing}
@@ -24,12 +27,14 @@ use Rattle.wb_tasks.specs.declared.step.Want.TheVariants.{Cell, Device, Desk, En
 use Rattle.wb_tasks.specs.declared.step.Got.{Got}
 use Rattle.wb_tasks.specs.declared.step.Got.TheVariants.{Word, Refused}
 use Rattle.wb_tasks.proofs.Causing.{refuses_for_cause}
+use Rattle.wb_desk.specs.Messages.{AreRanges}
 use Rattle.wb_port.specs.Hands.{DoneByPass}
 use Rattle.wb_port.specs.declared.hand.Hand.{Hand}
 use Rattle.wb_port.proofs.Passing.{made_by_pass, same_table}
 use Rattle.wb_port.proofs.Readying.{kept_by, ready_there, idle_again}
 use Rattle.wb_target.specs.Works.{DeskTold}
-use Rattle.wb_target.specs.Invalidates.{invalidation, InvalidateLed, InvalidateStep, IsReadyToInvalidate, WasInvalidated, IsEmptied, AreEmptied, AreStopped}
+use Rattle.wb_target.specs.Invalidates.{invalidation, InvalidateLed, InvalidateStep, IsReadyToInvalidate, WasInvalidated, IsEmptied, AreEmptied, AreStopped, LeavesTheRest, InvalidateRefused, NoRange, OtherMode}
+use Rattle.wb_target.specs.declared.client.Client.{Client}
 use Rattle.wb_target.specs.declared.invalidating.InvalidateStage.{InvalidateStage}
 
 module _ {D : Type 0} (asked : DeskTold) (blocks : ℕ) where
@@ -125,7 +130,18 @@ module _ {R D P : Type 0} (asked : DeskTold) where
       → WasInvalidated asked old.cells.now.blocks block_sectors block old.hand.now answer new.hand.now
   invalidated block_sectors block answer old new run = record { steps = run.0; run = run.1; leads = plainly old run.0 new run.2 }
 
+-- what one step leaves of a client and then another does, both do
+pub rest_on : {D P : Type 0} (old mid new : Client D P) → LeavesTheRest old mid → LeavesTheRest mid new → LeavesTheRest old new
+rest_on old mid new a b = (b.0 ∙ a.0, b.1 ∙ a.1, b.2 ∙ a.2, b.3 ∙ a.3)
+
 -- ---- why it is refused
+
+-- ranges that may not be invalidated, or a mode in which none may
+pub not_begun : {D : Type 0} (P : Type 0) (asked : DeskTold) (geometry : Geometry) (ranges : List CBlockRange) (refusal : Refusal) (mode : Mode) (hand : Hand D) → mode ≡ hand.mode
+    → ((refusal ≡ BadMessage) × ¬ AreRanges geometry.cache_blocks ranges) ⊎ ((refusal ≡ WrongMode) × AreRanges geometry.cache_blocks ranges × (mode ≢ Passthrough))
+    → InvalidateRefused P asked geometry ranges refusal hand hand
+not_begun P asked geometry ranges refusal mode hand is (inl bad) = NoRange bad.0 bad.1 refl
+not_begun P asked geometry ranges refusal mode hand is (inr other) = OtherMode other.0 other.1 (λ passes. other.2 (is ∙ passes)) refl
 
 -- a step of it gives cause to be busy or failed, and for nothing else
 fails_alone : {D : Type 0} (asked : DeskTold) (blocks : ℕ) (part : BlockRange) (r : Refusal) (s : Hand D) (w : Want) (g : Got) (t : Hand D) → r ≢ Busy → Causes (OnBlock (Invalidating part)) r w g → Fits w g → InvalidateStep asked blocks s w g t → r ≡ Failed

@@ -25,11 +25,11 @@ use Rattle.wb_devices.specs.declared.running.RunningCommit.{RunningCommit}
 use Rattle.wb_desk.specs.Desks.{DeskState}
 use Rattle.wb_tasks.specs.declared.step.DeskStep.{DeskStep}
 use Rattle.wb_tasks.specs.declared.step.DeskStep.TheVariants.{BeginCommit, EndCommit}
-use Rattle.wb_stage.specs.Stages.{DidAsk, DidBeginClean, EndsWith, is_all_done}
+use Rattle.wb_stage.specs.Stages.{DidAsk, DidBeginWith, EndsWith, is_all_done}
 use Rattle.wb_target.specs.Works.{DidAskDesk, EndsIf}
 use Rattle.wb_stage.specs.Seen.{seen_at, seen_after}
 use Rattle.wb_stage.proofs.Readying.{same_job}
-use Rattle.wb_port.specs.Kinds.{IsFree}
+use Rattle.wb_port.specs.Kinds.{LeavesHolds}
 use Rattle.wb_port.proofs.Passing.{made_by_pass}
 use Rattle.wb_port.proofs.Readying.{kept_by, suits_there}
 use Rattle.wb_devices.specs.declared.devices.Devices.{Devices}
@@ -37,11 +37,11 @@ use Rattle.wb_tasks.specs.declared.step.Answer.{Answer}
 use Rattle.wb_tasks.specs.declared.step.Answer.TheVariants.{Done as Finished}
 use Rattle.wb_target.specs.Carried.{AreSynced}
 use Rattle.wb_target.proofs.Syncing.{suspended_synced}
-use Rattle.wb_target.specs.Suspends.{AskedWith, RanSuspend, WasSuspended, SuspendLed, SuspendStep, IsReadyToSuspend, suspending_at, block_there, mapped_blocks}
+use Rattle.wb_target.specs.Suspends.{AskedWith, RanSuspend, WasSuspended, SuspendLed, SuspendStep, IsReadyToSuspend, suspending_at, block_within, mapped_blocks}
 use Rattle.wb_target.specs.declared.suspending.SuspendStage.{SuspendStage}
 
 -- its steps on the words take and let go no block
-pub free_of : (all : List OBlock) (most : ℕ) (step : CellStep) → IsSuspends all most (Cell step) → IsFree step
+pub free_of : (all : List OBlock) (most : ℕ) (step : CellStep) → IsSuspends all most (Cell step) → LeavesHolds step
 free_of all most (Look word) h = tt
 free_of all most SetFailed h = tt
 free_of all most SetSuspended h = tt
@@ -65,7 +65,7 @@ seen_length w g bits = refl
 abbrev Below : ℕ → OBlock → Type 0
 Below count block = block.0 < count
 
-one_below : (count : ℕ) (entry : Option Entry) → All (Below count) (block_there count entry)
+one_below : (count : ℕ) (entry : Option Entry) → All (Below count) (block_within count entry)
 one_below count None = All-nil (Below count)
 one_below count (Some entry) = by_test (nat_lt entry.origin.0 count) refl
   where
@@ -75,7 +75,7 @@ one_below count (Some entry) = by_test (nat_lt entry.origin.0 count) refl
 
 all_below : (count : ℕ) (tree : Mapping) (c : ℕ) → All (Below count) (mapped_blocks count tree c)
 all_below count tree zero = All-nil (Below count)
-all_below count tree (suc c) = All-append (Below count) (mapped_blocks count tree c) (block_there count (entry_at tree c)) (all_below count tree c) (one_below count (entry_at tree c))
+all_below count tree (suc c) = All-append (Below count) (mapped_blocks count tree c) (block_within count (entry_at tree c)) (all_below count tree c) (one_below count (entry_at tree c))
 
 pub below : (count : ℕ) (tree : Mapping) (c : ℕ) → AreBelow count (mapped_blocks count tree c)
 below count tree c block m = subst (Below count) m.2 (all_below count tree c m.0 block m.1)
@@ -85,10 +85,10 @@ below count tree c block m = subst (Below count) m.2 (all_below count tree c m.0
 module _ {P : Type 0} (hint_of : P → ℕ → ℕ) (with_entry : P → ℕ → ℕ → P) (without_entry : P → ℕ → P) where
   -- a clean commit begins, or is refused
   pub begun_works : (all : List OBlock) (fewest : ℕ) (seen : List Bool) (step : DeskStep) (clean : Bool) (most : ℕ) (got : Got) (old new : DeskState P) (commit commit' : Option RunningCommit) → step ≡ BeginCommit clean most → IsSuspends all fewest (Desk step)
-      → DidBeginClean hint_of seen most got old commit new commit' → DidAskDesk step got commit commit' × AskedWith hint_of with_entry without_entry seen step got commit commit'
+      → DidBeginWith hint_of (Some seen) most got old commit new commit' → DidAskDesk step got commit commit' × AskedWith hint_of with_entry without_entry seen step got commit commit'
   begun_works all fewest seen step true most got old new commit commit' is own did = rw is (asked got did, (old, (new, did)))
     where
-      asked : (got : Got) → DidBeginClean hint_of seen most got old commit new commit' → DidAskDesk (BeginCommit true most) got commit commit'
+      asked : (got : Got) → DidBeginWith hint_of (Some seen) most got old commit new commit' → DidAskDesk (BeginCommit true most) got commit commit'
       asked (Began nodes) d = (d.0, d.1, d.2, d.3)
       asked (Refused refusal) d = d.0
       asked got d = absurd d

@@ -47,12 +47,11 @@ module _ {D : Type 0} (runs : TaskJob → WorkState D → Answer → WorkState D
 
 -- ---- an order of one job
 
-module _ {D A : Type 0} (runs : List Order → TaskJob → WorkState D → Answer → WorkState D → Type 0) (r : Result A Refusal) (job : TaskJob) (jobs : Order → List TaskJob) (order given : Order) (is : order ≡ given) (single : jobs given ≡ job ∷ []) (old new : WorkState D) where
-  pub one_given_up : IfErr r (λ refusal. WasRefused (runs (given ∷ [])) job refusal old new) → IfErr r (λ refusal. GaveUpAmong (runs (order ∷ [])) (jobs order) refusal old new)
+module _ {D A : Type 0} (runs : List Order → TaskJob → WorkState D → Answer → WorkState D → Type 0) (r : Result A Refusal) (job : TaskJob) (jobs : Order → List TaskJob) (order : Order) (single : jobs order ≡ job ∷ []) (old new : WorkState D) where
+  pub one_given_up : IfErr r (λ refusal. WasRefused (runs (order ∷ [])) job refusal old new) → IfErr r (λ refusal. GaveUpAmong (runs (order ∷ [])) (jobs order) refusal old new)
   one_given_up h =
-      subst (λ (o : Order). IfErr r (λ refusal. GaveUpAmong (runs (o ∷ [])) (jobs o) refusal old new)) (sym is)
-      (subst (λ (js : List TaskJob). IfErr r (λ refusal. GaveUpAmong (runs (given ∷ [])) js refusal old new)) (sym single)
-      (IfErr-weaker r (λ refusal. WasRefused (runs (given ∷ [])) job refusal old new) (λ refusal. GaveUpAmong (runs (given ∷ [])) (job ∷ []) refusal old new) (λ refusal w. inl w) h))
+      subst (λ (js : List TaskJob). IfErr r (λ refusal. GaveUpAmong (runs (order ∷ [])) js refusal old new)) (sym single)
+      (IfErr-weaker r (λ refusal. WasRefused (runs (order ∷ [])) job refusal old new) (λ refusal. GaveUpAmong (runs (order ∷ [])) (job ∷ []) refusal old new) (λ refusal w. inl w) h)
 
 -- ---- a replacement, in the sizes that stay
 

@@ -21,9 +21,10 @@ use Rattle.wb_desk.specs.Desks.{DeskState}
 use Rattle.wb_desk.specs.Messages.{AreRanges}
 use Rattle.wb_port.specs.Hands.{DoneByPass, IsReadyOn, saw_fail_word}
 use Rattle.wb_port.specs.declared.hand.Hand.{Hand}
-use Rattle.wb_target.specs.Suspends.{block_there, listed}
+use Rattle.wb_target.specs.Suspends.{block_within, listed}
 use Rattle.wb_target.specs.Tries.{EndedAfter}
 use Rattle.wb_target.specs.Works.{DeskTold}
+use Rattle.wb_target.specs.declared.client.Client.{Client}
 use Rattle.wb_target.specs.declared.invalidating.InvalidateStage.{InvalidateStage}
 
 -- the table of an invalidation of a block, which moves no sector
@@ -60,16 +61,16 @@ InvalidationCame asked geometry answer block old new =
 
 -- some desk was asked for the block in this cache block, of so many on the origin, and told this one, or none
 abbrev pub WasFound : Type 0 → ℕ → ℕ → Option OBlock → Type 0
-WasFound P blocks place found = (d : DeskState P) × (((d.geometry.cache_blocks ≤ place) × (found ≡ None)) ⊎ (listed found ≡ block_there blocks (entry_at d.tree place)))
+WasFound P blocks place found = (d : DeskState P) × (((d.geometry.cache_blocks ≤ place) × (found ≡ None)) ⊎ (listed found ≡ block_within blocks (entry_at d.tree place)))
 
 -- The block that was found in a cache block, if any, has left the cache.
-abbrev pub IsLeft : {H : Type 0} → (OBlock → H → H → Type 0) → Option OBlock → H → H → Type 0
-IsLeft leaves None old new = new ≡ old
-IsLeft leaves (Some block) old new = leaves block old new
+abbrev pub LeavesIfFound : {H : Type 0} → (OBlock → H → H → Type 0) → Option OBlock → H → H → Type 0
+LeavesIfFound leaves None old new = new ≡ old
+LeavesIfFound leaves (Some block) old new = leaves block old new
 
 -- Some desk was asked for the block in this cache block, and what it told has left.
 abbrev pub IsEmptied : {H : Type 0} → (ℕ → Option OBlock → Type 0) → (OBlock → H → H → Type 0) → ℕ → H → H → Type 0
-IsEmptied found leaves place old new = (block : Option OBlock) × found place block × IsLeft leaves block old new
+IsEmptied found leaves place old new = (block : Option OBlock) × found place block × LeavesIfFound leaves block old new
 
 -- These cache blocks were emptied, one after the other.
 abbrev pub AreEmptied : {H : Type 0} → (ℕ → Option OBlock → Type 0) → (OBlock → H → H → Type 0) → List ℕ → H → H → Type 0
@@ -94,23 +95,27 @@ from_place first zero = []
 from_place first (suc count) = first ∷ from_place (first + 1) count
 
 -- the cache blocks of a range, rising
-abbrev pub places_of : CBlockRange → List ℕ
-places_of range = from_place range.begin.0 (range.end.0 - range.begin.0)
+abbrev pub range_places : CBlockRange → List ℕ
+range_places range = from_place range.begin.0 (range.end.0 - range.begin.0)
 
 -- The blocks in these cache blocks have left a client's cache.
-abbrev pub HaveLeft : {D : Type 0} → Type 0 → DeskTold → Geometry → List ℕ → Hand D → Hand D → Type 0
-HaveLeft P asked geometry places old new = AreEmptied (WasFound P geometry.origin_blocks) (InvalidationCame asked geometry Finished) places old new
+abbrev pub HaveLeftCache : {D : Type 0} → Type 0 → DeskTold → Geometry → List ℕ → Hand D → Hand D → Type 0
+HaveLeftCache P asked geometry places old new = AreEmptied (WasFound P geometry.origin_blocks) (InvalidationCame asked geometry Finished) places old new
 
 -- Those in the first of them have, and the next block met the fail word, which was set.
 abbrev pub HaveFailed : {D : Type 0} → Type 0 → DeskTold → Geometry → List ℕ → Hand D → Hand D → Type 0
 HaveFailed P asked geometry places old new = AreStopped (WasFound P geometry.origin_blocks) (InvalidationCame asked geometry Finished) (InvalidationCame asked geometry (Refuses Failed)) places old new
+
+-- Of a client an invalidation leaves its target, the sizes, the devices and the accesses that are unsettled.
+abbrev pub LeavesTheRest : {D P : Type 0} → Client D P → Client D P → Type 0
+LeavesTheRest old new = (new.target ≡ old.target) × (new.port.geometry ≡ old.port.geometry) × (new.port.hand.devices ≡ old.port.hand.devices) × (new.port.accesses ≡ old.port.accesses)
 
 -- The ranges are there, and the mode is passthrough; the blocks in all of them have left the cache, range by range, after a look at the fail
 -- word, which was clear.
 pub record WereInvalidated {D : Type 0} (P : Type 0) (asked : DeskTold) (geometry : Geometry) (ranges : List CBlockRange) (old new : Hand D) : Type 0 where
   pub there : AreRanges geometry.cache_blocks ranges
   pub passes : old.mode ≡ Passthrough
-  pub left : HaveLeft P asked geometry (flat_map places_of ranges) (saw_fail_word 0 old) new
+  pub left : HaveLeftCache P asked geometry (flat_map range_places ranges) (saw_fail_word 0 old) new
 
 -- Some range is empty or goes past the cache's end; or else the mode is another one; or else the fail word was set at the first look, and nothing
 -- was done, or at a later one.
@@ -118,4 +123,4 @@ pub data InvalidateRefused {D : Type 0} (P : Type 0) (asked : DeskTold) (geometr
   NoRange : refusal ≡ BadMessage → ¬ AreRanges geometry.cache_blocks ranges → new ≡ old → InvalidateRefused P asked geometry ranges refusal old new
   OtherMode : refusal ≡ WrongMode → AreRanges geometry.cache_blocks ranges → old.mode ≢ Passthrough → new ≡ old → InvalidateRefused P asked geometry ranges refusal old new
   HadFailed : refusal ≡ Failed → AreRanges geometry.cache_blocks ranges → old.mode ≡ Passthrough → (word : ℕ) → 0 < word → new ≡ saw_fail_word word old → InvalidateRefused P asked geometry ranges refusal old new
-  Stopped : refusal ≡ Failed → AreRanges geometry.cache_blocks ranges → old.mode ≡ Passthrough → HaveFailed P asked geometry (flat_map places_of ranges) (saw_fail_word 0 old) new → InvalidateRefused P asked geometry ranges refusal old new
+  Stopped : refusal ≡ Failed → AreRanges geometry.cache_blocks ranges → old.mode ≡ Passthrough → HaveFailed P asked geometry (flat_map range_places ranges) (saw_fail_word 0 old) new → InvalidateRefused P asked geometry ranges refusal old new

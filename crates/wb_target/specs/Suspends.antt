@@ -20,15 +20,15 @@ use Rattle.wb_devices.specs.declared.devices.Devices.{Devices}
 use Rattle.wb_devices.specs.declared.running.RunningCommit.{RunningCommit}
 use Rattle.wb_desk.specs.Desks.{DeskState}
 use Rattle.wb_stage.specs.Seen.{seen_after}
-use Rattle.wb_stage.specs.Stages.{DidAsk, DidBeginClean}
+use Rattle.wb_stage.specs.Stages.{DidAsk, DidBeginWith}
 use Rattle.wb_port.specs.Hands.{DoneByPass}
 use Rattle.wb_target.specs.Works.{DeskTold, WorksOn}
 use Rattle.wb_target.specs.declared.suspending.SuspendStage.{SuspendStage}
 
 -- the block of an entry, where it is there, of so many on the origin
-abbrev pub block_there : ℕ → Option Entry → List OBlock
-block_there count None = []
-block_there count (Some entry) = if nat_lt entry.origin.0 count then (entry.origin ∷ []) else []
+abbrev pub block_within : ℕ → Option Entry → List OBlock
+block_within count None = []
+block_within count (Some entry) = if nat_lt entry.origin.0 count then (entry.origin ∷ []) else []
 
 -- one that is there, or none
 abbrev pub listed : Option OBlock → List OBlock
@@ -38,12 +38,12 @@ listed (Some block) = block ∷ []
 -- the blocks in the first so many cache blocks, in that order
 abbrev pub mapped_blocks : ℕ → Mapping → ℕ → List OBlock
 mapped_blocks count tree zero = []
-mapped_blocks count tree (suc c) = mapped_blocks count tree c ++ block_there count (entry_at tree c)
+mapped_blocks count tree (suc c) = mapped_blocks count tree c ++ block_within count (entry_at tree c)
 
 -- Some desk was asked for this step, for who has taken no order, and answered so; where a commit begins, its image is clean, with the dirty
 -- bits that were seen.
 abbrev pub AskedWith : {P : Type 0} → (P → ℕ → ℕ) → (P → ℕ → ℕ → P) → (P → ℕ → P) → List Bool → DeskTold
-AskedWith {P} hint_of with_entry without_entry seen (BeginCommit true most) got commit commit' = (old : DeskState P) × ((new : DeskState P) × DidBeginClean hint_of seen most got old commit new commit')
+AskedWith {P} hint_of with_entry without_entry seen (BeginCommit true most) got commit commit' = (old : DeskState P) × ((new : DeskState P) × DidBeginWith hint_of (Some seen) most got old commit new commit')
 AskedWith {P} hint_of with_entry without_entry seen step got commit commit' = (old : DeskState P) × ((new : DeskState P) × DidAsk with_entry without_entry [] step got old commit new commit')
 
 -- What a suspend is at: its pass, the devices that it was lent, the commit that it runs, and for each cache block whether its copy was

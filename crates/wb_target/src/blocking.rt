@@ -52,31 +52,13 @@ impl<'t, D: Disk + Drop, P: Policy> Client<'t, D, P> {
         Ok(())
     }
 
-    /// Writes the sectors from `at` on, block by block, rising; a block that is busy is tried again. In write-through a mapped block is written on
-    /// the origin and in the cache.
+    /// Writes the sectors from `at` on, block by block, rising: how many blocks. A block that is busy is tried again. In write-through a mapped
+    /// block is written on the origin and in the cache.
     ///
     /// In passthrough a mapped block leaves the cache first.
     ///
     /// `Range` as `read`; `Failed`, `Worn` and `Io` where a block met them.
-    pub fn write<R: Wait>(&mut self, rt: &R, at: Sector, from: &[Content]) -> Result<(), Stopped>
-        ensures inside { OnOk result (IsInsideOrigin self.old.port.geometry at.0 (length from.now)) }
-        ensures written { OnOk result ((parts : ℕ) × InParts (WriteCame D.tells D.size D.contents D.faults (WasAsked P.with_entry P.without_entry []) self.old.port.geometry) self.old.port.geometry.block None parts at.0 self.old.port.hand from.now self.new.port.hand from.now) }
-        ensures waits { IfErr result (λ stopped. stopped.refusal ≢ Refusal.Busy) }
-        ensures stopped { IfErr result (λ stopped. IsStopped (WriteCame D.tells D.size D.contents D.faults (WasAsked P.with_entry P.without_entry []) self.old.port.geometry) self.old.port.geometry at.0 stopped self.old.port.hand from.now self.new.port.hand from.now) }
-        ensures target { self.new.target ≡ self.old.target }
-        ensures geometry { self.new.port.geometry ≡ self.old.port.geometry }
-    {
-        self.write_blocks(rt, at, from)?;
-        Ok(())
-    }
-
-    /// Writes as `write` does: how many blocks.
-    pub(crate) fn write_blocks<R: Wait>(
-        &mut self,
-        rt: &R,
-        at: Sector,
-        from: &[Content],
-    ) -> Result<u64, Stopped>
+    pub fn write<R: Wait>(&mut self, rt: &R, at: Sector, from: &[Content]) -> Result<u64, Stopped>
         ensures inside { OnOk result (IsInsideOrigin self.old.port.geometry at.0 (length from.now)) }
         ensures written { IfOk result (λ parts. InParts (WriteCame D.tells D.size D.contents D.faults (WasAsked P.with_entry P.without_entry []) self.old.port.geometry) self.old.port.geometry.block None parts at.0 self.old.port.hand from.now self.new.port.hand from.now) }
         ensures waits { IfErr result (λ stopped. stopped.refusal ≢ Refusal.Busy) }

@@ -1,7 +1,10 @@
 //! Orders carried out, and flushes, by a client on its own thread.
 
-ghost use Rattle.std.specs.Prelude.{◌≡◌, ◌<◌, ◌⊎◌, [], ◌∷◌, ℕ, OnOk, OnErr, IfOk, IfErr, IfSome, IfNone, Some, None, length};
+ghost use Rattle.std.specs.Prelude.{◌≡◌, ◌≢◌, ◌<◌, ◌⊎◌, [], ◌∷◌, ℕ, OnOk, OnErr, IfOk, IfErr, IfSome, IfNone, Some, None, length};
 ghost use Rattle.std.specs.Bool.{OnTrue, OnFalse};
+ghost use Rattle.wb_types.specs.declared.geometry.Geometry.{Geometry as GeometryValue};
+ghost use Rattle.wb_types.specs.declared.number.CBlock.{CBlock as CBlockValue};
+ghost use Rattle.wb_types.specs.declared.number.OBlock.{OBlock as OBlockValue};
 ghost use Rattle.wb_tasks.specs.Tables.{TaskJob};
 ghost use Rattle.wb_tasks.specs.Plan.{table};
 ghost use Rattle.wb_stage.specs.Jobs.{MayRun};
@@ -192,16 +195,30 @@ pub(crate) fn carry_out<R: Wait, D: Disk + Drop, P: Policy, G: Gate>(
     ensures geometry { port.new.geometry ≡ port.old.geometry }
 {
     match order {
-        Order::Promote(block, to) => {
-            migrate(rt, target, gate, port, order, Migration::Promote(to), block)
-        }
-        Order::Demote(block) => migrate(rt, target, gate, port, order, Migration::Demote, block),
-        Order::Clean(block) => migrate(rt, target, gate, port, order, Migration::Clean, block),
         Order::Replace(victim, block, to) => {
             migrate(rt, target, gate, port, order, Migration::Demote, victim)?;
             flush(rt, target, gate, port, &[order], Some(block))?;
             migrate(rt, target, gate, port, order, Migration::Promote(to), block)
         }
+        _ => {
+            let (what, block) = single(order);
+            migrate(rt, target, gate, port, order, what, block)
+        }
+    }
+}
+
+/// The one migration of an order that is no replacement, and its block.
+fn single(order: Order) -> (Migration, OBlock)
+    requires { (v x : OBlockValue) (c : CBlockValue) → order ≢ Order.Replace v x c }
+    ensures jobs { (geometry : GeometryValue) → jobs_of geometry order ≡ migration_of geometry result.0 result.1 ∷ [] }
+    ensures there { (geometry : GeometryValue) → BlocksAreThere geometry order → result.1.0 < geometry.origin_blocks }
+    ensures ordered { IsOrdered (order ∷ []) result.1 (copied_to result.0) }
+{
+    match order {
+        Order::Promote(block, to) => (Migration::Promote(to), block),
+        Order::Demote(block) => (Migration::Demote, block),
+        Order::Clean(block) => (Migration::Clean, block),
+        Order::Replace(_, _, _) => unreachable!(),
     }
 }
 

@@ -1,18 +1,18 @@
 //! Writes in passthrough of mapped blocks: the desk takes the block out of the cache, and then it is written on the origin.
 
 ghost use Rattle.std.specs.Prelude.{◌≡◌, ◌≢◌, ◌≤◌, ◌<◌, ◌+◌, ◌*◌, ◌/◌, ◌%◌, ◌^◌, [], Some, None, OnOk, OnErr, IfErr, length};
+ghost use Rattle.std.specs.Bool.{OnTrue};
 ghost use Rattle.wb_types.specs.declared.mode.Mode.TheVariants.{Passthrough};
 ghost use Rattle.wb_words.specs.declared.card.Hold.TheVariants.{Nothing};
-ghost use Rattle.wb_tasks.specs.Tables.{OnBlock, Displacing};
 ghost use Rattle.wb_tasks.specs.Plan.{table};
 ghost use Rattle.wb_tasks.specs.Ready.{StaysReady};
+ghost use Rattle.wb_tasks.specs.Tables.{OnBlock, Displacing};
+ghost use Rattle.wb_port.specs.Ports.{block_at};
 ghost use Rattle.wb_port.specs.Requests.{part_of};
 ghost use Rattle.wb_port.specs.Straight.{ComesTo};
-ghost use Rattle.wb_target.specs.Works.{WasAsked};
-ghost use Rattle.std.specs.Bool.{OnTrue};
-ghost use Rattle.wb_port.specs.Ports.{block_at};
 ghost use Rattle.wb_target.specs.Blocking.{IsInsideOrigin, WriteCame};
 ghost use Rattle.wb_target.specs.Displaces.{IsReadyToDisplace, DisplaceLed, WasDisplaced};
+ghost use Rattle.wb_target.specs.Works.{WasAsked};
 
 use crate::client::Client;
 use crate::target::Target;
@@ -25,6 +25,7 @@ use wb_tasks::{Answer, DeskStep, Got, Stage, Want, Work};
 use wb_types::{Content, Extent, Geometry, Mode, OBlock, Refusal, Sector};
 
 /// The stage of such a write.
+#[derive(Drop)]
 pub(crate) struct DisplaceStage<'a, R: Wait, D, P: Policy> {
     pub(crate) rt: &'a R,
     pub(crate) target: &'a Target<P>,
@@ -78,56 +79,6 @@ impl<'a, R: Wait, D: Disk, P: Policy> Stage for DisplaceStage<'a, R, D, P> {
     }
 }
 
-/// Writes a slice to sectors of this block in passthrough: `Busy`, `Failed`, `Worn` and `Io` as a write; a mapped block leaves the cache first.
-pub(crate) fn displace<'a, R: Wait, D: Disk, P: Policy>(
-    rt: &'a R,
-    target: &'a Target<P>,
-    cells: &'a Cells,
-    hand: &'a mut Hand<D>,
-    block_sectors: u32,
-    block: OBlock,
-    sectors: Extent,
-    from: &'a [Content],
-) -> Answer
-    requires some { 0 < block_sectors }
-    requires range { sectors.first + sectors.count < 2 ^ 64 }
-    requires inside { sectors.first % block_sectors + sectors.count ≤ block_sectors }
-    requires block { block.0 < cells.now.blocks }
-    requires of { sectors.first / block_sectors ≡ block.0 }
-    requires size { hand.old.block_sectors ≡ block_sectors }
-    requires at { hand.old.pass.table ≡ cells.now.table }
-    requires idle { hand.old.pass.card.hold ≡ Nothing }
-    requires passes { hand.old.mode ≡ Passthrough }
-    requires fits { length from.now ≡ sectors.count }
-    ensures displaced { WasDisplaced D.tells D.size D.contents D.faults (WasAsked P.with_entry P.without_entry []) cells.now.blocks block_sectors block sectors from.now hand.old result hand.new }
-    ensures at { hand.new.pass.table ≡ hand.old.pass.table }
-    ensures idle { hand.new.pass.card.hold ≡ Nothing }
-    ensures size { hand.new.block_sectors ≡ hand.old.block_sectors }
-{
-    let mut stage = DisplaceStage {
-        rt,
-        target,
-        write: WriteStage {
-            cells,
-            hand,
-            from,
-            moved: 0,
-        },
-    };
-    let answer = stage.serve(block_sectors, block, sectors);
-    let DisplaceStage {
-        rt: _,
-        target: _,
-        write: WriteStage {
-            cells: _,
-            hand: _,
-            from: _,
-            moved: _,
-        },
-    } = stage;
-    answer
-}
-
 /// Whether a write that was refused so in this mode is to be done by the desk.
 fn is_deferred(refusal: Refusal, mode: Mode) -> bool
     ensures { OnTrue result ((refusal ≡ Refusal.Defer) × (mode ≡ Passthrough)) }
@@ -147,6 +98,44 @@ fn block_of(geometry: &Geometry, first: u64) -> OBlock
     OBlock((first / u64::from(geometry.block)) as u32)
 }
 
+/// Writes the slice to the sectors from `at` on, of one block, in passthrough: `Busy`, `Failed`, `Worn` and `Io` as a write; a mapped block
+/// leaves the cache first.
+fn displace<'a, R: Wait, D: Disk, P: Policy>(
+    rt: &'a R,
+    target: &'a Target<P>,
+    cells: &'a Cells,
+    hand: &'a mut Hand<D>,
+    geometry: &Geometry,
+    at: Sector,
+    from: &'a [Content],
+) -> Answer
+    requires inside { IsInsideOrigin geometry.now at.0 (length from.now) }
+    requires fits { at.0 % geometry.now.block + length from.now ≤ geometry.now.block }
+    requires blocks { cells.now.blocks ≡ geometry.now.origin_blocks }
+    requires size { hand.old.block_sectors ≡ geometry.now.block }
+    requires passes { hand.old.mode ≡ Passthrough }
+    requires words { hand.old.pass.table ≡ cells.now.table }
+    requires idle { hand.old.pass.card.hold ≡ Nothing }
+    ensures displaced { WasDisplaced D.tells D.size D.contents D.faults (WasAsked P.with_entry P.without_entry []) geometry.now.origin_blocks geometry.now.block (block_at geometry.now at.0) (record { first = at.0; count = length from.now }) from.now hand.old result hand.new }
+    ensures size { hand.new.block_sectors ≡ hand.old.block_sectors }
+    ensures words { hand.new.pass.table ≡ hand.old.pass.table }
+    ensures idle { hand.new.pass.card.hold ≡ Nothing }
+{
+    let Sector(first) = at;
+    let sectors = Extent {
+        first,
+        count: from.len() as u64,
+    };
+    let write = WriteStage {
+        cells,
+        hand,
+        from,
+        moved: 0,
+    };
+    let mut stage = DisplaceStage { rt, target, write };
+    stage.serve(geometry.block, block_of(geometry, first), sectors)
+}
+
 /// Writes sectors of one block by the desk, on a port.
 fn displace_port<R: Wait, D: Disk, P: Policy>(
     rt: &R,
@@ -164,25 +153,18 @@ fn displace_port<R: Wait, D: Disk, P: Policy>(
     ensures kept { OnErr result (port.new.accesses ≡ port.old.accesses) }
     ensures geometry { port.new.geometry ≡ port.old.geometry }
 {
-    let Sector(first) = at;
-    let sectors = Extent {
-        first,
-        count: from.len() as u64,
-    };
-    let block = block_of(&port.geometry, first);
     let answer = displace(
         rt,
         target,
         &port.cells,
         &mut port.hand,
-        port.geometry.block,
-        block,
-        sectors,
+        &port.geometry,
+        at,
         from,
     );
     match answer {
         Answer::Done => {
-            port.accesses.push_reserved(block);
+            port.accesses.push_reserved(block_of(&port.geometry, at.0));
             Ok(())
         }
         Answer::Refused(refusal) => Err(refusal),

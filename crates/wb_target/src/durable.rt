@@ -33,7 +33,7 @@ impl<'t, D: Disk + Drop, P: Policy> Client<'t, D, P> {
         ensures target { self.new.target ≡ self.old.target }
         ensures geometry { self.new.port.geometry ≡ self.old.port.geometry }
     {
-        match self.write_blocks(rt, at, from) {
+        match self.write(rt, at, from) {
             Ok(done) => match self.flush(rt) {
                 Ok(flushed) => Ok(flushed),
                 Err(refusal) => Err(Stopped { done, refusal }),

@@ -1,31 +1,30 @@
 //! Invalidations: blocks leave the cache by a message in passthrough, where no copy in the cache is newer than the origin's.
 
 ghost use Rattle.std.specs.Prelude.{◌≡◌, ◌≢◌, ◌≤◌, ◌<◌, Some, [], OnOk, IfErr, IfSome};
-ghost use Rattle.std.specs.Bool.{OnTrue, OnFalse};
-ghost use Rattle.wb_types.specs.declared.mode.Mode.TheVariants.{Passthrough};
 ghost use Rattle.wb_types.specs.declared.number.OBlock.{OBlock as OBlockValue};
 ghost use Rattle.wb_words.specs.declared.card.Hold.TheVariants.{Nothing};
 ghost use Rattle.wb_tasks.specs.Ready.{StaysReady};
-ghost use Rattle.wb_desk.specs.Messages.{AreRanges};
-ghost use Rattle.wb_port.specs.Straight.{ComesTo};
 ghost use Rattle.wb_port.specs.Hands.{saw_fail_word};
+ghost use Rattle.wb_port.specs.Straight.{ComesTo};
+ghost use Rattle.wb_target.specs.Invalidates.{invalidation, IsReadyToInvalidate, InvalidateLed, WasInvalidated, InvalidationCame, WasFound, IsEmptied, range_places, HaveLeftCache, HaveFailed, LeavesTheRest, WereInvalidated, InvalidateRefused};
 ghost use Rattle.wb_target.specs.Works.{WasAsked};
-ghost use Rattle.wb_target.specs.Invalidates.{invalidation, IsReadyToInvalidate, InvalidateLed, WasInvalidated, InvalidationCame, WasFound, IsEmptied, places_of, HaveLeft, HaveFailed, WereInvalidated, InvalidateRefused};
 
 use crate::client::Client;
 use crate::office::Office;
-use crate::suspending::block_there;
+use crate::suspending::block_within;
 use crate::target::Target;
 use std::sync::Wait;
 use std::thread;
 use wb_cells::Cells;
+use wb_desk::may_invalidate;
 use wb_disk::Disk;
 use wb_policy::Policy;
 use wb_port::{Hand, Port};
 use wb_tasks::{Answer, BlockTask, DeskStep, Got, Stage, Want, drive};
-use wb_types::{CBlock, CBlockRange, Mode, OBlock, Refusal};
+use wb_types::{CBlock, CBlockRange, OBlock, Refusal};
 
 /// The stage of an invalidation, which touches no device.
+#[derive(Drop)]
 pub(crate) struct InvalidateStage<'a, R: Wait, D, P: Policy> {
     pub(crate) rt: &'a R,
     pub(crate) target: &'a Target<P>,
@@ -99,14 +98,7 @@ fn invalidate_port<R: Wait, D: Disk, P: Policy>(
         cells: &port.cells,
         hand: &mut port.hand,
     };
-    let answer = stage.empty(port.geometry.block, block);
-    let InvalidateStage {
-        rt: _,
-        target: _,
-        cells: _,
-        hand: _,
-    } = stage;
-    match answer {
+    match stage.empty(port.geometry.block, block) {
         Answer::Done => Ok(()),
         Answer::Refused(refusal) => Err(refusal),
     }
@@ -122,7 +114,7 @@ impl<P: Policy> Office<P> {
         if place.0 >= self.desk.geometry().cache_blocks {
             return None;
         }
-        block_there(blocks, self.desk.entry(place))
+        block_within(blocks, self.desk.entry(place))
     }
 }
 
@@ -152,12 +144,11 @@ impl<'t, D: Disk + Drop, P: Policy> Client<'t, D, P> {
         ensures target { self.new.target ≡ self.old.target }
         ensures geometry { self.new.port.geometry ≡ self.old.port.geometry }
     {
-        if !are_ranges(ranges, self.port.geometry.cache_blocks) {
-            return Err(Refusal::BadMessage);
-        }
-        if !passes(self.port.hand.mode()) {
-            return Err(Refusal::WrongMode);
-        }
+        may_invalidate(
+            ranges,
+            self.port.geometry.cache_blocks,
+            self.port.hand.mode(),
+        )?;
         if self.port.has_failed() {
             return Err(Refusal::Failed);
         }
@@ -169,12 +160,9 @@ impl<'t, D: Disk + Drop, P: Policy> Client<'t, D, P> {
 
     /// Takes the blocks in the cache blocks of a range out of the cache, rising.
     fn invalidate_range<R: Wait>(&mut self, rt: &R, range: CBlockRange) -> Result<(), Refusal>
-        ensures left { OnOk result (HaveLeft P (WasAsked P.with_entry P.without_entry []) self.old.port.geometry (places_of range) self.old.port.hand self.new.port.hand) }
-        ensures refused { IfErr result (λ refusal. (refusal ≡ Refusal.Failed) × HaveFailed P (WasAsked P.with_entry P.without_entry []) self.old.port.geometry (places_of range) self.old.port.hand self.new.port.hand) }
-        ensures devices { self.new.port.hand.devices ≡ self.old.port.hand.devices }
-        ensures accesses { self.new.port.accesses ≡ self.old.port.accesses }
-        ensures target { self.new.target ≡ self.old.target }
-        ensures geometry { self.new.port.geometry ≡ self.old.port.geometry }
+        ensures left { OnOk result (HaveLeftCache P (WasAsked P.with_entry P.without_entry []) self.old.port.geometry (range_places range) self.old.port.hand self.new.port.hand) }
+        ensures refused { IfErr result (λ refusal. (refusal ≡ Refusal.Failed) × HaveFailed P (WasAsked P.with_entry P.without_entry []) self.old.port.geometry (range_places range) self.old.port.hand self.new.port.hand) }
+        ensures rest { LeavesTheRest self.old self.new }
     {
         let mut at = range.begin.0;
         while at < range.end.0 {
@@ -188,10 +176,7 @@ impl<'t, D: Disk + Drop, P: Policy> Client<'t, D, P> {
     fn invalidate_at<R: Wait>(&mut self, rt: &R, place: CBlock) -> Result<(), Refusal>
         ensures emptied { OnOk result (IsEmptied (WasFound P self.old.port.geometry.origin_blocks) (InvalidationCame (WasAsked P.with_entry P.without_entry []) self.old.port.geometry Answer.Done) place.0 self.old.port.hand self.new.port.hand) }
         ensures refused { IfErr result (λ refusal. (refusal ≡ Refusal.Failed) × ((block : OBlockValue) × WasFound P self.old.port.geometry.origin_blocks place.0 (Some block) × InvalidationCame (WasAsked P.with_entry P.without_entry []) self.old.port.geometry (Answer.Refused Refusal.Failed) block self.old.port.hand self.new.port.hand)) }
-        ensures devices { self.new.port.hand.devices ≡ self.old.port.hand.devices }
-        ensures accesses { self.new.port.accesses ≡ self.old.port.accesses }
-        ensures target { self.new.target ≡ self.old.target }
-        ensures geometry { self.new.port.geometry ≡ self.old.port.geometry }
+        ensures rest { LeavesTheRest self.old self.new }
     {
         let blocks = self.port.geometry.origin_blocks;
         match self.target.block_in(rt, place, blocks) {
@@ -205,10 +190,7 @@ impl<'t, D: Disk + Drop, P: Policy> Client<'t, D, P> {
         requires there { block.0 < self.old.port.geometry.origin_blocks }
         ensures done { OnOk result (InvalidationCame (WasAsked P.with_entry P.without_entry []) self.old.port.geometry Answer.Done block self.old.port.hand self.new.port.hand) }
         ensures refused { IfErr result (λ refusal. (refusal ≡ Refusal.Failed) × InvalidationCame (WasAsked P.with_entry P.without_entry []) self.old.port.geometry (Answer.Refused Refusal.Failed) block self.old.port.hand self.new.port.hand) }
-        ensures devices { self.new.port.hand.devices ≡ self.old.port.hand.devices }
-        ensures accesses { self.new.port.accesses ≡ self.old.port.accesses }
-        ensures target { self.new.target ≡ self.old.target }
-        ensures geometry { self.new.port.geometry ≡ self.old.port.geometry }
+        ensures rest { LeavesTheRest self.old self.new }
     {
         for _ in rt.forever() {
             let target = self.target;
@@ -225,20 +207,4 @@ impl<'t, D: Disk + Drop, P: Policy> Client<'t, D, P> {
         }
         unreachable!()
     }
-}
-
-/// Whether each range has a cache block, and none past the last.
-fn are_ranges(ranges: &[CBlockRange], cache_blocks: u32) -> bool
-    ensures are { OnTrue result (AreRanges cache_blocks ranges.now) }
-    ensures other { OnFalse result (¬ AreRanges cache_blocks ranges.now) }
-{
-    ranges.iter().all(|range| range.begin.0 < range.end.0 && range.end.0 <= cache_blocks)
-}
-
-/// Whether a mode is passthrough.
-fn passes(mode: Mode) -> bool
-    ensures yes { OnTrue result (mode ≡ Passthrough) }
-    ensures no { OnFalse result (mode ≢ Passthrough) }
-{
-    matches!(mode, Mode::Passthrough)
 }

@@ -67,16 +67,5 @@ pub(crate) fn perform_task<'a, R: Wait, D: Disk, P: Policy, G: Gate, T: Task>(
         commit,
         gate,
     };
-    let answer = stage.run(task);
-    let WorkStage {
-        rt: _,
-        target: _,
-        cells: _,
-        hand: _,
-        buffer: _,
-        held: _,
-        commit: _,
-        gate: _,
-    } = stage;
-    answer
+    stage.run(task)
 }

@@ -11,11 +11,11 @@ ghost use Rattle.wb_tasks.specs.declared.step.Got.{Got as GotTerm};
 ghost use Rattle.wb_tasks.specs.declared.step.Want.TheVariants.{Cell as OnWord, Device as OnDevice, Desk as AskDesk};
 ghost use Rattle.wb_tasks.specs.declared.step.DeskStep.TheVariants.{BeginCommit, EndCommit};
 ghost use Rattle.wb_words.specs.Ready.{IsReady};
-ghost use Rattle.wb_port.specs.Kinds.{IsFree};
+ghost use Rattle.wb_port.specs.Kinds.{LeavesHolds};
 ghost use Rattle.wb_port.specs.Hands.{DoneByPass};
 ghost use Rattle.wb_stage.specs.Seen.{seen_after};
 ghost use Rattle.wb_target.specs.Works.{WorksOn};
-ghost use Rattle.wb_target.specs.Suspends.{AskedWith, IsReadyToSuspend, SuspendLed, RanSuspend, WasSuspended, SuspendRefused, block_there, listed, mapped_blocks};
+ghost use Rattle.wb_target.specs.Suspends.{AskedWith, IsReadyToSuspend, SuspendLed, RanSuspend, WasSuspended, SuspendRefused, block_within, listed, mapped_blocks};
 
 use crate::office::Office;
 use std::alloc::{AllocError, Global};
@@ -56,7 +56,7 @@ impl<'a, D: Disk, P: Policy> SuspendStage<'a, D, P> {
 
     /// A step on the words: what it shows of a seal is noted.
     fn word_step(&mut self, step: CellStep) -> Got
-        requires free { IsFree step }
+        requires free { LeavesHolds step }
         requires ready { IsReady self.old.watch.now.geometry.origin_blocks self.old.watch.now.pass.card step }
         ensures kind { Fits (OnWord step) result }
         ensures pass { DoneByPass self.old.watch.now.geometry.origin_blocks self.old.watch.now.pass (OnWord step) result self.new.watch.now.pass }
@@ -99,11 +99,11 @@ impl<'a, D: Disk, P: Policy> SuspendStage<'a, D, P> {
     {
         match step {
             DeskStep::BeginCommit(_, most) => {
-                asking::ask_clean(
+                asking::begin_commit(
                     self.alloc,
                     self.desk,
                     &mut self.commit,
-                    self.seen.as_slice(),
+                    Some(self.seen.as_slice()),
                     most,
                 )
             }
@@ -206,7 +206,7 @@ impl<P: Policy> Office<P> {
         let mut blocks = Vec::new(alloc);
         for c in 0..self.desk.geometry().cache_blocks {
             // All are there; the lock cannot say that its desk and its words are of one cache.
-            if let Some(block) = block_there(
+            if let Some(block) = block_within(
                 self.watch.geometry.origin_blocks,
                 self.desk.entry(CBlock(c)),
             ) {
@@ -218,8 +218,8 @@ impl<P: Policy> Office<P> {
 }
 
 /// The block of an entry, where it is there.
-pub(crate) fn block_there(count: u32, entry: Option<Entry>) -> Option<OBlock>
-    ensures listed { listed result ≡ block_there count entry }
+pub(crate) fn block_within(count: u32, entry: Option<Entry>) -> Option<OBlock>
+    ensures listed { listed result ≡ block_within count entry }
     ensures there { IfSome result (λ block. block.0 < count) }
 {
     let block = entry?.origin;

@@ -11,6 +11,7 @@ use wb_port::Hand;
 use wb_types::Content;
 
 /// The stage of a migration or a flush.
+#[derive(Drop)]
 pub struct WorkStage<'a, R: Wait, D, P: Policy, G: Gate> {
     pub rt: &'a R,
     pub target: &'a Target<P>,

@@ -12,18 +12,15 @@ use Rattle.wb_target.proofs.client.Client.invalidate_block.Goals as goal
 
 pub loop-preserved : goal.loop-preserved
 loop-preserved g c = record {
-  target = c.loop.invariant.target;
-  geometry = c.invalidate_port.ensures.geometry ∙ c.loop.invariant.geometry;
-  devices = c.invalidate_port.ensures.devices ∙ c.loop.invariant.devices;
-  accesses = c.invalidate_port.ensures.accesses ∙ c.loop.invariant.accesses;
+  rest = (c.loop.invariant.rest.0, c.invalidate_port.ensures.geometry ∙ c.loop.invariant.rest.1, c.invalidate_port.ensures.devices ∙ c.loop.invariant.rest.2, c.invalidate_port.ensures.accesses ∙ c.loop.invariant.rest.3);
   tried = again (λ s t. WasInvalidated (WasAsked g.P.Policy.with_entry g.P.Policy.without_entry []) c.args.self.now.port.geometry.origin_blocks c.args.self.now.port.geometry.block c.args.block s (Refuses Busy) t) c.args.self.now.port.hand c.loop.self.port.hand c.invalidate_port.new.port.hand c.loop.invariant.tried
       (subst (λ (refusal : Refusal). WasInvalidated (WasAsked g.P.Policy.with_entry g.P.Policy.without_entry []) c.args.self.now.port.geometry.origin_blocks c.args.self.now.port.geometry.block c.args.block c.loop.self.port.hand (Refuses refusal) c.invalidate_port.new.port.hand) (is_busy c.in-Err.refusal (sym c.if-eq.ensures))
-      (subst (λ (geometry : Geometry). WasInvalidated (WasAsked g.P.Policy.with_entry g.P.Policy.without_entry []) geometry.origin_blocks geometry.block c.args.block c.loop.self.port.hand (Refuses c.in-Err.refusal) c.invalidate_port.new.port.hand) c.loop.invariant.geometry c.in-Err.ensures.refused));
+      (subst (λ (geometry : Geometry). WasInvalidated (WasAsked g.P.Policy.with_entry g.P.Policy.without_entry []) geometry.origin_blocks geometry.block c.args.block c.loop.self.port.hand (Refuses c.in-Err.refusal) c.invalidate_port.new.port.hand) c.loop.invariant.rest.1 c.in-Err.ensures.refused));
 }
 
 pub returns-else-eq-clause-refused : goal.returns-else-eq-clause-refused
 returns-else-eq-clause-refused g c =
-    let was = subst (λ (geometry : Geometry). WasInvalidated (WasAsked g.P.Policy.with_entry g.P.Policy.without_entry []) geometry.origin_blocks geometry.block c.args.block c.loop.self.port.hand (Refuses c.in-Err.refusal) c.invalidate_port.new.port.hand) c.loop.invariant.geometry c.in-Err.ensures.refused in
+    let was = subst (λ (geometry : Geometry). WasInvalidated (WasAsked g.P.Policy.with_entry g.P.Policy.without_entry []) geometry.origin_blocks geometry.block c.args.block c.loop.self.port.hand (Refuses c.in-Err.refusal) c.invalidate_port.new.port.hand) c.loop.invariant.rest.1 c.in-Err.ensures.refused in
     let alone = failed_alone (WasAsked g.P.Policy.with_entry g.P.Policy.without_entry []) _ _ c.args.block c.in-Err.refusal _ _ (not_busy c.in-Err.refusal (sym c.if-eq.ensures)) was in (
       alone,
       record {
@@ -39,5 +36,5 @@ returns-in-Ok-clause-done g c = record {
   tries = c.loop.invariant.tried.0;
   before = c.loop.self.port.hand;
   tried = c.loop.invariant.tried.1;
-  ended = subst (λ (geometry : Geometry). WasInvalidated (WasAsked g.P.Policy.with_entry g.P.Policy.without_entry []) geometry.origin_blocks geometry.block c.args.block c.loop.self.port.hand Finished c.invalidate_port.new.port.hand) c.loop.invariant.geometry c.in-Ok.ensures.done;
+  ended = subst (λ (geometry : Geometry). WasInvalidated (WasAsked g.P.Policy.with_entry g.P.Policy.without_entry []) geometry.origin_blocks geometry.block c.args.block c.loop.self.port.hand Finished c.invalidate_port.new.port.hand) c.loop.invariant.rest.1 c.in-Ok.ensures.done;
 }

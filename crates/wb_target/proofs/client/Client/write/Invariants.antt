@@ -2,7 +2,7 @@ use Rattle.std.proofs.Common.{[], ◌≡◌, ◌≤◌, ◌-◌, length}
 use Rattle.wb_target.specs.Works.{WasAsked}
 use Rattle.wb_target.specs.Blocking.{WriteCame}
 use Rattle.wb_target.proofs.Parts.{ComeTo}
-use Rattle.wb_target.proofs.client.Client.write_blocks.Given as goal
+use Rattle.wb_target.proofs.client.Client.write.Given as goal
 
 abbrev pub invariant-loop-sent : goal.invariant-loop-sent
 invariant-loop-sent g l = record {
