@@ -1,6 +1,5 @@
 -- The answer of an opening.
 use Rattle.std.proofs.Common.{◌≡◌, ◌<◌, ℕ, true, List, [], Option, Some, None, refl, sym, ap, subst, ◌∙◌, length, length-set, replicate, slice_set}
-use Rattle.wb_types.specs.declared.mode.Mode.TheVariants.{Writeback}
 use Rattle.wb_policy.specs.declared.quiet.Quiet.{Quiet}
 use Rattle.std.specs.declared.alloc.Global.{Global}
 use Rattle.wb_types.specs.Limits.{node_count}
@@ -28,6 +27,7 @@ use Rattle.wb_promise.specs.declared.job.Job.TheVariants.{Open}
 use Rattle.wb_promise.specs.States.{Actor, Gone, Opens, Shape, Stands, Target, resting}
 use Rattle.wb_promise.specs.Happenings.{Opened, Plain}
 use Rattle.wb_promise.specs.Effects.{card_by, device_done, job_of, seals_of, stepped, target_over, with_actor}
+use Rattle.wb_machine.specs.declared.asked.Asked.{Asked}
 use Rattle.wb_machine.specs.declared.making.Made.{Made}
 use Rattle.wb_machine.specs.declared.opener.Opener.{Opener}
 use Rattle.wb_machine.specs.declared.phase.Phase.{Phase}
@@ -44,10 +44,10 @@ use Rattle.wb_machine.proofs.Openings.{busy, length_replicate, set_replicate, th
 use Rattle.wb_contents.proofs.Lists.{set_twice}
 
 -- the target is the one that was made
-target_is : (g : Geometry) (n a : ℕ) (made : Made) → IsMade g n a made → record { words = made.target.crew.words; desk = made.target.desk } ≡ target_over (shape_of g n) Writeback made.target.desk.policy (read_of made)
+target_is : (g : Geometry) (n : ℕ) (a : Asked) (made : Made) → IsMade g n a made → record { words = made.target.crew.words; desk = made.target.desk } ≡ target_over (shape_of g n) a.mode made.target.desk.policy (read_of made)
 target_is g n a made is = rw (← is.words_are, ← is.desk_is) refl
 
-sizes : (g : Geometry) (n a : ℕ) (made : Made) → IsMade g n a made → made.target.desk.geometry ≡ g
+sizes : (g : Geometry) (n : ℕ) (a : Asked) (made : Made) → IsMade g n a made → made.target.desk.geometry ≡ g
 sizes g n a made is = ap (λ (d : DeskState Quiet). d.geometry) is.desk_is
 
 module _ (g : Geometry) (n : ℕ) (devices : Devices Memory) (o : Opener) (made : Made) where
@@ -55,7 +55,7 @@ module _ (g : Geometry) (n : ℕ) (devices : Devices Memory) (o : Opener) (made 
   shape = shape_of g n
 
   abbrev over : Option Made → Now
-  over m = record { devices = contents_of devices; commit = o.opening.commit; phase = Opens Writeback (reading_by m o.opening.reading); actors = actors_of n (Underway o) }
+  over m = record { devices = contents_of devices; commit = o.opening.commit; phase = Opens o.asked.mode (reading_by m o.opening.reading); actors = actors_of n (Underway o) }
 
   abbrev standing : Option RunningCommit → Target Quiet → List Actor → Now
   standing commit t xs = record { devices = contents_of devices; commit = commit; phase = Stands t; actors = xs }
@@ -67,50 +67,50 @@ module _ (g : Geometry) (n : ℕ) (devices : Devices Memory) (o : Opener) (made 
   abbrev rested : Actor
   rested = record { task = None; card = card; orders = []; awaiting = []; buffer = [] }
 
-  actors : IsMade g n o.actor made → with_cards made.members.items made.target.crew.cards ≡ slice_set (actors_of n (Underway o)) o.actor rested
+  actors : IsMade g n o.asked made → with_cards made.members.items made.target.crew.cards ≡ slice_set (actors_of n (Underway o)) o.asked.actor rested
   actors is = ap (λ (ms : List Member). with_cards ms made.target.crew.cards) is.members_are ∙ ap (λ (cs : List Card). with_cards (replicate n free) cs) is.cards_are
-      ∙ all_free n o.actor card ∙ sym (set_twice (replicate n resting) o.actor (opening_actor o.task) rested)
+      ∙ all_free n o.asked.actor card ∙ sym (set_twice (replicate n resting) o.asked.actor (opening_actor o.asked.mode o.task) rested)
 
   -- its answer, which is done
-  pub opened : o.actor < n → want o.task ≡ End Finished → o.made ≡ Some made → IsMade g n o.actor made → is_all_done o.opening.commit ≡ true →
-      Happens shape (state_of n devices (Underway o)) (Step o.actor) (Stepped (End Finished) Done) [] (state_of n devices (Standing made.target made.members))
-  opened h next made_is is done = subst (λ (m : Option Made). Happens shape (over m) (Step o.actor) (Stepped (End Finished) Done) [] (state_of n devices (Standing made.target made.members))) (sym made_is) (record {
+  pub opened : o.asked.actor < n → want o.task ≡ End Finished → o.made ≡ Some made → IsMade g n o.asked made → is_all_done o.opening.commit ≡ true →
+      Happens shape (state_of n devices (Underway o)) (Step o.asked.actor) (Stepped (End Finished) Done) [] (state_of n devices (Standing made.target made.members))
+  opened h next made_is is done = subst (λ (m : Option Made). Happens shape (over m) (Step o.asked.actor) (Stepped (End Finished) Done) [] (state_of n devices (Standing made.target made.members))) (sym made_is) (record {
     chosen = Opened made.target.desk.policy;
     may = busy n o _ h (sym next, (refl, refl, (tt, done)));
     leads = ap (λ (commit : Option RunningCommit). standing commit (record { words = made.target.crew.words; desk = made.target.desk }) (with_cards made.members.items made.target.crew.cards)) is.commit_is
         ∙ ap (λ (xs : List Actor). standing None (record { words = made.target.crew.words; desk = made.target.desk }) xs) (actors is)
-        ∙ ap (λ (t : Target Quiet). standing None t (slice_set (actors_of n (Underway o)) o.actor rested)) (target_is g n o.actor made is)
-        ∙ sym (ap (λ (x : Option Actor). with_actor (over (Some made)) x (λ y. stepped shape (over (Some made)) o.actor y (End Finished) Done (Opened made.target.desk.policy) (λ step. device_done {P = Quiet} {A = Global} (job_of y.task) y.buffer step (Opened made.target.desk.policy)))) (there n o h));
+        ∙ ap (λ (t : Target Quiet). standing None t (slice_set (actors_of n (Underway o)) o.asked.actor rested)) (target_is g n o.asked made is)
+        ∙ sym (ap (λ (x : Option Actor). with_actor (over (Some made)) x (λ y. stepped shape (over (Some made)) o.asked.actor y (End Finished) Done (Opened made.target.desk.policy) (λ step. device_done {P = Quiet} {A = Global} (job_of y.task) y.buffer step (Opened made.target.desk.policy)))) (there n o h));
   })
 
 -- its answer, which is a refusal
-pub refused : (shape : Shape) (n : ℕ) (devices : Devices Memory) (o : Opener) → o.actor < n → (refusal : Refusal) (what : What) → want o.task ≡ End (Refuses refusal) → what ≡ Stepped (End (Refuses refusal)) Done →
-    Happens shape (state_of n devices (Underway o)) (Step o.actor) what [] (state_of n devices Closed)
+pub refused : (shape : Shape) (n : ℕ) (devices : Devices Memory) (o : Opener) → o.asked.actor < n → (refusal : Refusal) (what : What) → want o.task ≡ End (Refuses refusal) → what ≡ Stepped (End (Refuses refusal)) Done →
+    Happens shape (state_of n devices (Underway o)) (Step o.asked.actor) what [] (state_of n devices Closed)
 refused shape n devices o h refusal what next e = rw e (record {
   chosen = Plain;
   may = busy n o _ h (sym next, ((refl, refl), refl));
-  leads = ap (λ xs. record { devices = contents_of devices; commit = None; phase = Gone; actors = xs }) (sym (set_twice (replicate n resting) o.actor (opening_actor o.task) resting ∙ set_replicate n o.actor resting))
-      ∙ sym (ap (λ (x : Option Actor). with_actor (state_of n devices (Underway o)) x (λ y. stepped shape (state_of n devices (Underway o)) o.actor y (End (Refuses refusal)) Done Plain (λ step. device_done {P = Quiet} {A = Global} (Open Writeback) y.buffer step Plain))) (there n o h));
+  leads = ap (λ xs. record { devices = contents_of devices; commit = None; phase = Gone; actors = xs }) (sym (set_twice (replicate n resting) o.asked.actor (opening_actor o.asked.mode o.task) resting ∙ set_replicate n o.asked.actor resting))
+      ∙ sym (ap (λ (x : Option Actor). with_actor (state_of n devices (Underway o)) x (λ y. stepped shape (state_of n devices (Underway o)) o.asked.actor y (End (Refuses refusal)) Done Plain (λ step. device_done {P = Quiet} {A = Global} (Open o.asked.mode) y.buffer step Plain))) (there n o h));
 })
 
 -- ---- wherever it stands, where its next step is none on a device
 
 pub record Answers (g : Geometry) (n : ℕ) (devices : Devices Memory) (o : Opener) (next : Phase) : Type 0 where
-  pub happens : Happens (shape_of g n) (state_of n devices (Underway o)) (Step o.actor) (Stepped (want o.task) Done) [] (state_of n devices next)
+  pub happens : Happens (shape_of g n) (state_of n devices (Underway o)) (Step o.asked.actor) (Stepped (want o.task) Done) [] (state_of n devices next)
   pub is_there : IsThere n next
   pub so : StandsSo g n next
 
-answers_done : (g : Geometry) (n : ℕ) (devices : Devices Memory) (o : Opener) → o.actor < n → want o.task ≡ End Finished → is_all_done o.opening.commit ≡ true → (made : Option Made) → o.made ≡ made → HasMade g n o.actor made → Answers g n devices o (answered (Underway o))
+answers_done : (g : Geometry) (n : ℕ) (devices : Devices Memory) (o : Opener) → o.asked.actor < n → want o.task ≡ End Finished → is_all_done o.opening.commit ≡ true → (made : Option Made) → o.made ≡ made → HasMade g n o.asked made → Answers g n devices o (answered (Underway o))
 answers_done g n devices o h next done None made_is is = absurd is
 answers_done g n devices o h next done (Some made) made_is is =
     let stood : stands_by (want o.task) o.made ≡ Standing made.target made.members = ap (λ (w : Want). stands_by w o.made) next ∙ ap (λ (m : Option Made). stands_by (End Finished) m) made_is in
     subst (Answers g n devices o) (sym stood) (record {
-      happens = subst (λ (w : Want). Happens (shape_of g n) (state_of n devices (Underway o)) (Step o.actor) (Stepped w Done) [] (state_of n devices (Standing made.target made.members))) (sym next) (opened g n devices o made h next made_is is done);
-      is_there = (ap length is.cards_are ∙ length-set (replicate n blank_card) o.actor _ ∙ length_replicate n blank_card, ap length is.members_are ∙ length_replicate n free);
-      so = record { blocks = is.blocks_are; failed = is.failed_is; sizes = sizes g n o.actor made is; roomy = subst (λ (ms : List Member). AllRoomy (node_count g.cache_blocks) ms) (sym is.members_are) (roomy_free (node_count g.cache_blocks) n) };
+      happens = subst (λ (w : Want). Happens (shape_of g n) (state_of n devices (Underway o)) (Step o.asked.actor) (Stepped w Done) [] (state_of n devices (Standing made.target made.members))) (sym next) (opened g n devices o made h next made_is is done);
+      is_there = (ap length is.cards_are ∙ length-set (replicate n blank_card) o.asked.actor _ ∙ length_replicate n blank_card, ap length is.members_are ∙ length_replicate n free);
+      so = record { blocks = is.blocks_are; failed = is.failed_is; sizes = sizes g n o.asked made is; roomy = subst (λ (ms : List Member). AllRoomy (node_count g.cache_blocks) ms) (sym is.members_are) (roomy_free (node_count g.cache_blocks) n) };
     })
 
-answers_refused : (g : Geometry) (n : ℕ) (devices : Devices Memory) (o : Opener) → o.actor < n → (refusal : Refusal) → want o.task ≡ End (Refuses refusal) → Answers g n devices o (answered (Underway o))
+answers_refused : (g : Geometry) (n : ℕ) (devices : Devices Memory) (o : Opener) → o.asked.actor < n → (refusal : Refusal) → want o.task ≡ End (Refuses refusal) → Answers g n devices o (answered (Underway o))
 answers_refused g n devices o h refusal next =
     subst (Answers g n devices o) (sym (ap (λ (w : Want). stands_by w o.made) next)) (record {
       happens = refused (shape_of g n) n devices o h refusal (Stepped (want o.task) Done) next (ap (λ (w : Want). Stepped w Done) next);
@@ -121,11 +121,11 @@ answers_refused g n devices o h refusal next =
 all_done : (g : Geometry) (reading : Option (ReadSteps Global)) (commit : Option RunningCommit) → HasReadAll g Committed reading commit → is_all_done commit ≡ true
 all_done g reading commit all = ap is_all_done all.commit_is ∙ ap is_committed all.steps_are
 
-answers_at : (g : Geometry) (n : ℕ) (devices : Devices Memory) (o : Opener) → o.actor < n → (point : OpenPoint) → o.task ≡ plan_from g.meta_sectors point → HasComeTo g point (reading_of o) o.opening.commit → HasMadeThere g n point o.actor o.made → device_step_of (want (plan_from g.meta_sectors point)) ≡ None
+answers_at : (g : Geometry) (n : ℕ) (devices : Devices Memory) (o : Opener) → o.asked.actor < n → (point : OpenPoint) → o.task ≡ plan_from g.meta_sectors point → HasComeTo g point (reading_of o) o.opening.commit → HasMadeThere g n point o.asked o.made → device_step_of (want (plan_from g.meta_sectors point)) ≡ None
     → Answers g n devices o (answered (Underway o))
 answers_at g n devices o h AtEnd plan come made none = answers_done g n devices o h (ap want plan) (all_done g (reading_of o) o.opening.commit come) o.made refl made
 answers_at g n devices o h (AtRefusal refusal) plan come made none = answers_refused g n devices o h refusal (ap want plan)
 answers_at g n devices o h point plan come made none = absurd (cc)
 
-pub answers : (g : Geometry) (n : ℕ) (devices : Devices Memory) (o : Opener) → o.actor < n → StandsAt g n o → device_step_of (want o.task) ≡ None → Answers g n devices o (answered (Underway o))
+pub answers : (g : Geometry) (n : ℕ) (devices : Devices Memory) (o : Opener) → o.asked.actor < n → StandsAt g n o → device_step_of (want o.task) ≡ None → Answers g n devices o (answered (Underway o))
 answers g n devices o h at none = answers_at g n devices o h at.point at.plan_is at.come at.made (ap (λ p. device_step_of (want p)) (sym at.plan_is) ∙ none)

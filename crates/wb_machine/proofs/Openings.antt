@@ -6,7 +6,8 @@ use Rattle.std.specs.Bool.{OnTrue, OnFalse}
 use Rattle.std.specs.declared.alloc.Global.{Global}
 use Rattle.wb_types.specs.declared.geometry.Geometry.{Geometry}
 use Rattle.wb_words.specs.SharedWords.{flag}
-use Rattle.wb_types.specs.declared.mode.Mode.TheVariants.{Writeback}
+use Rattle.wb_types.specs.declared.mode.Mode.{Mode}
+use Rattle.wb_types.specs.declared.mode.Mode.TheVariants.{Writeback, Writethrough, Passthrough}
 use Rattle.wb_types.specs.declared.mode.Dev.{Dev}
 use Rattle.wb_types.specs.declared.mode.Dev.TheVariants.{Metadata, Cache, Origin}
 use Rattle.wb_policy.specs.declared.quiet.Quiet.{Quiet}
@@ -41,7 +42,7 @@ use Rattle.wb_promise.specs.Effects.{after_what, all_crashed, all_resting, job_o
 use Rattle.wb_machine.specs.declared.opener.Opener.{Opener}
 use Rattle.wb_machine.specs.declared.phase.Phase.{Phase}
 use Rattle.wb_machine.specs.declared.phase.Phase.TheVariants.{Closed, Underway, Standing}
-use Rattle.wb_machine.specs.Life.{Now, Happens, FailsOn, IsThere, device_step_of, actors_of, contents_of, has_task, is_opening, is_sound, opening_actor, phase_of, reading_synced, reading_failed, stands, state_of, wants_target}
+use Rattle.wb_machine.specs.Life.{Now, Happens, FailsOn, IsThere, device_step_of, actors_of, contents_of, has_task, is_sound, opened_in, opening_actor, phase_of, reading_synced, reading_failed, stands, state_of, wants_target}
 use Rattle.wb_machine.specs.Making.{reading_of}
 use Rattle.wb_machine.specs.Standing.{StandsSo}
 use Rattle.wb_machine.proofs.Members.{busy_there, idle_there, length_seated}
@@ -64,7 +65,7 @@ resting_all (x ∷ xs) = ap (λ ys. resting ∷ ys) (resting_all xs)
 
 many : (n : ℕ) (o : Phase) → IsThere n o → length (actors_of n o) ≡ n
 many n Closed h = length_replicate n resting
-many n (Underway o) h = length-set (replicate n resting) o.actor (opening_actor o.task) ∙ length_replicate n resting
+many n (Underway o) h = length-set (replicate n resting) o.asked.actor (opening_actor o.asked.mode o.task) ∙ length_replicate n resting
 many n (Standing t members) h = length_seated members.items t.crew.cards (h.1 ∙ sym h.0) ∙ h.0
 
 pub all_rest : (n : ℕ) (o : Phase) → IsThere n o → all_resting (actors_of n o) ≡ replicate n resting
@@ -73,21 +74,21 @@ all_rest n o h = resting_all (actors_of n o) ∙ ap (λ k. replicate k resting) 
 within : (n : ℕ) (o : Phase) → IsThere n o → (a : ℕ) → a < n → (x : Actor) × (slice_get (actors_of n o) a ≡ Some x)
 within n o t a h = there_is (actors_of n o) a (let l = many n o t in omega (arith, l))
 
-pub there : (n : ℕ) (o : Opener) → o.actor < n → slice_get (actors_of n (Underway o)) o.actor ≡ Some (opening_actor o.task)
-there n o h = set_there (replicate n resting) o.actor resting (opening_actor o.task) (replicated_there n o.actor resting h)
+pub there : (n : ℕ) (o : Opener) → o.asked.actor < n → slice_get (actors_of n (Underway o)) o.asked.actor ≡ Some (opening_actor o.asked.mode o.task)
+there n o h = set_there (replicate n resting) o.asked.actor resting (opening_actor o.asked.mode o.task) (replicated_there n o.asked.actor resting h)
 
 rests : (n a : ℕ) (P : Job × Plan → Type 0) → OfSome (slice_get (replicate n resting) a) (λ (x : Actor). OfSome x.task P) → ⊥
 rests zero a P h = h
 rests (suc n) zero P h = h
 rests (suc n) (suc a) P h = rests n a P h
 
-pub idle_beside : (n : ℕ) (o : Opener) (a : ℕ) (P : Job × Plan → Type 0) → o.actor ≢ a → OfSome (slice_get (actors_of n (Underway o)) a) (λ (x : Actor). OfSome x.task P) → ⊥
-idle_beside n o a P e h = rests n a P (subst (λ (x : Option Actor). OfSome x (λ (y : Actor). OfSome y.task P)) (set_other (replicate n resting) o.actor a (opening_actor o.task) (λ q. e (sym q))) h)
+pub idle_beside : (n : ℕ) (o : Opener) (a : ℕ) (P : Job × Plan → Type 0) → o.asked.actor ≢ a → OfSome (slice_get (actors_of n (Underway o)) a) (λ (x : Actor). OfSome x.task P) → ⊥
+idle_beside n o a P e h = rests n a P (subst (λ (x : Option Actor). OfSome x (λ (y : Actor). OfSome y.task P)) (set_other (replicate n resting) o.asked.actor a (opening_actor o.asked.mode o.task) (λ q. e (sym q))) h)
 
 -- who has no task is at nothing
 pub idle : (n : ℕ) (o : Phase) (a : ℕ) (P : Job × Plan → Type 0) → has_task a o ≡ false → OfSome (slice_get (actors_of n o) a) (λ (x : Actor). OfSome x.task P) → ⊥
 idle n Closed a P e h = rests n a P h
-idle n (Underway o) a P e h = idle_beside n o a P (eqb-false o.actor a e) h
+idle n (Underway o) a P e h = idle_beside n o a P (eqb-false o.asked.actor a e) h
 idle n (Standing t members) a P e h = idle_there members.items t.crew.cards a P e h
 
 -- where neither an opening is at work nor a target stands, nobody has one
@@ -97,10 +98,10 @@ nobody_opens (Underway x) a e h = absurd (h x refl)
 nobody_opens (Standing t members) a e h = absurd (cc)
 
 -- and who opens is at its opening
-pub busy : (n : ℕ) (o : Opener) (P : Job × Plan → Type 0) → o.actor < n → P (Open Writeback, o.task) → OfSome (slice_get (actors_of n (Underway o)) o.actor) (λ (x : Actor). OfSome x.task P)
+pub busy : (n : ℕ) (o : Opener) (P : Job × Plan → Type 0) → o.asked.actor < n → P (Open o.asked.mode, o.task) → OfSome (slice_get (actors_of n (Underway o)) o.asked.actor) (λ (x : Actor). OfSome x.task P)
 busy n o P h p = subst (λ (x : Option Actor). OfSome x (λ (y : Actor). OfSome y.task P)) (sym (there n o h)) p
 
-pub only_busy : (n : ℕ) (o : Opener) (P : Job × Plan → Type 0) → o.actor < n → OfSome (slice_get (actors_of n (Underway o)) o.actor) (λ (x : Actor). OfSome x.task P) → P (Open Writeback, o.task)
+pub only_busy : (n : ℕ) (o : Opener) (P : Job × Plan → Type 0) → o.asked.actor < n → OfSome (slice_get (actors_of n (Underway o)) o.asked.actor) (λ (x : Actor). OfSome x.task P) → P (Open o.asked.mode, o.task)
 only_busy n o P h p = subst (λ (x : Option Actor). OfSome x (λ (y : Actor). OfSome y.task P)) (there n o h) p
 
 -- ---- an event that does not apply
@@ -127,7 +128,7 @@ nobody_starts devices n o t a job h = inl (slice_get_past (actors_of n o) a (let
 pub busy_starts : (devices : Devices Memory) (n : ℕ) (o : Phase) (a : ℕ) (job : Job) → IsThere n o → has_task a o ≡ true → DoesNotApply (state_of n devices o) (Start a job)
 busy_starts devices n Closed a job h e = absurd (cc)
 busy_starts devices n (Underway o) a job h e =
-    let same : o.actor ≡ a = eqb-true o.actor a e in
+    let same : o.asked.actor ≡ a = eqb-true o.asked.actor a e in
     inr (inl (subst (λ k. OfSome (slice_get (actors_of n (Underway o)) k) (λ (x : Actor). OfSome x.task (λ doing. Unit {0}))) same (busy n o (λ doing. Unit {0}) h tt)))
 busy_starts devices n (Standing t members) a job h e = inr (inl (busy_there members.items t.crew.cards a (let l = h.0 in let k = h.1 in omega (arith, l, k)) e))
 
@@ -138,60 +139,66 @@ no_target devices n Closed a job e f = inr (inr (λ t. t))
 no_target devices n (Underway o) a job e f = inr (inr (λ t. t))
 no_target devices n (Standing t members) a job e f = absurd (cc)
 
-begun_state : (n : ℕ) (devices : Devices Memory) (o : Phase) → IsThere n o → (a : ℕ) (plan : Plan) (new : Opener) → new.actor ≡ a → new.task ≡ plan → reading_of new ≡ None → new.opening.commit ≡ None →
-    state_of n devices (Underway new) ≡ record { devices = contents_of devices; commit = None; phase = Opens Writeback None; actors = slice_set (all_resting (actors_of n o)) a (opening_actor plan) }
-begun_state n devices o t a plan new e f g k = rw (e, f, g, k, all_rest n o t) refl
+begun_state : (n : ℕ) (devices : Devices Memory) (o : Phase) → IsThere n o → (a : ℕ) (mode : Mode) (plan : Plan) (new : Opener) → new.asked ≡ record { actor = a; mode = mode } → new.task ≡ plan → reading_of new ≡ None → new.opening.commit ≡ None →
+    state_of n devices (Underway new) ≡ record { devices = contents_of devices; commit = None; phase = Opens mode None; actors = slice_set (all_resting (actors_of n o)) a (opening_actor mode plan) }
+begun_state n devices o t a mode plan new e f g k = rw (e, f, g, k, all_rest n o t) refl
 
-no_standing : (g : Geometry) (n : ℕ) (o : Phase) → StandsSo g n o → is_sound o ≡ false → ((OfTarget (phase_of o) (λ t. t.words.fail ≡ 0)) ⊎ (Writeback ≢ Writeback)) → ⊥
-no_standing g n o s f (inr d) = d refl
-no_standing g n Closed s f (inl t) = t
-no_standing g n (Underway o) s f (inl t) = t
-no_standing g n (Standing x members) s f (inl t) = has_not x.failed f (s.failed ∙ ap flag t)
+no_standing : (g : Geometry) (n : ℕ) (o : Phase) (mode : Mode) → mode ≢ Passthrough → StandsSo g n o → is_sound o ≡ false → ((OfTarget (phase_of o) (λ t. t.words.fail ≡ 0)) ⊎ (mode ≡ Passthrough)) → ⊥
+no_standing g n o mode other s f (inr d) = other d
+no_standing g n Closed mode other s f (inl t) = t
+no_standing g n (Underway o) mode other s f (inl t) = t
+no_standing g n (Standing x members) mode other s f (inl t) = has_not x.failed f (s.failed ∙ ap flag t)
 
-pub starts : (shape : Shape) (devices : Devices Memory) (n : ℕ) (o : Phase) → IsThere n o → StandsSo shape.geometry n o → (a : ℕ) (job : Job) (what : What) (new : Opener) → is_opening job ≡ true → a < n → has_task a o ≡ false → is_sound o ≡ false →
-    new.actor ≡ a → new.task ≡ table (Opening shape.geometry.meta_sectors) → reading_of new ≡ None → new.opening.commit ≡ None → what ≡ Started →
-    Happens shape (state_of n devices o) (Start a job) what [] (state_of n devices (Underway new))
-starts shape devices n o is_there so a (Open Writeback) what new j h i calm e f g k s = rw s (record {
-  chosen = Plain;
-  may = (refl, applies, tt);
-  leads = begun_state n devices o is_there a (table (Opening shape.geometry.meta_sectors)) new e f g k ∙ sym given;
-})
-  where
-    some : slice_get (all_resting (actors_of n o)) a ≡ Some resting
-    some = ap (λ xs. slice_get xs a) (all_rest n o is_there) ∙ replicated_there n a resting h
+module _ (shape : Shape) (devices : Devices Memory) (n : ℕ) (o : Phase) (is_there : IsThere n o) (so : StandsSo shape.geometry n o) (a : ℕ) (h : a < n) (i : has_task a o ≡ false) (calm : is_sound o ≡ false) where
+  -- an opening in any mode but passthrough
+  starts_in : (mode : Mode) (what : What) (new : Opener) → mode ≢ Passthrough → new.asked ≡ record { actor = a; mode = mode } → new.task ≡ table (Opening shape.geometry.meta_sectors) → reading_of new ≡ None → new.opening.commit ≡ None → what ≡ Started →
+      Happens shape (state_of n devices o) (Start a (Open mode)) what [] (state_of n devices (Underway new))
+  starts_in mode what new other e f g k s = rw s (record {
+    chosen = Plain;
+    may = (refl, applies, tt);
+    leads = begun_state n devices o is_there a mode (table (Opening shape.geometry.meta_sectors)) new e f g k ∙ sym given;
+  })
+    where
+      some : slice_get (all_resting (actors_of n o)) a ≡ Some resting
+      some = ap (λ xs. slice_get xs a) (all_rest n o is_there) ∙ replicated_there n a resting h
 
-    given : after_what shape (state_of n devices o) (Start a (Open Writeback)) Started Plain
-        ≡ record { devices = contents_of devices; commit = None; phase = Opens Writeback None; actors = slice_set (all_resting (actors_of n o)) a (opening_actor (table (Opening shape.geometry.meta_sectors))) }
-    given = rw some refl
+      given : after_what shape (state_of n devices o) (Start a (Open mode)) Started Plain
+          ≡ record { devices = contents_of devices; commit = None; phase = Opens mode None; actors = slice_set (all_resting (actors_of n o)) a (opening_actor mode (table (Opening shape.geometry.meta_sectors))) }
+      given = rw some refl
 
-    applies : DoesNotApply (state_of n devices o) (Start a (Open Writeback)) → ⊥
-    applies (inl none) = let inside = within n o is_there a h in let is = inside.1 in absurd (cc)
-    applies (inr (inl t)) = idle n o a (λ doing. Unit {0}) i t
-    applies (inr (inr p)) = no_standing shape.geometry n o so calm p
-starts shape devices n o is_there so a job what new j h i calm e f g k s = absurd (cc)
+      applies : DoesNotApply (state_of n devices o) (Start a (Open mode)) → ⊥
+      applies (inl none) = let inside = within n o is_there a h in let is = inside.1 in absurd (cc)
+      applies (inr (inl t)) = idle n o a (λ doing. Unit {0}) i t
+      applies (inr (inr p)) = no_standing shape.geometry n o mode other so calm p
+
+  pub starts : (job : Job) (mode : Mode) (what : What) (new : Opener) → opened_in job ≡ Some mode → new.asked ≡ record { actor = a; mode = mode } → new.task ≡ table (Opening shape.geometry.meta_sectors) → reading_of new ≡ None → new.opening.commit ≡ None → what ≡ Started →
+      Happens shape (state_of n devices o) (Start a job) what [] (state_of n devices (Underway new))
+  starts (Open Writeback) mode what new j e f g k s = let same : Writeback ≡ mode = cc in starts_in Writeback what new (λ p. cc) (rw same e) f g k s
+  starts (Open Writethrough) mode what new j e f g k s = let same : Writethrough ≡ mode = cc in starts_in Writethrough what new (λ p. cc) (rw same e) f g k s
+  starts job mode what new j e f g k s = absurd (cc)
 
 -- ---- steps of who opens
 
-module _ (shape : Shape) (n : ℕ) (devices devices' : Devices Memory) (o new : Opener) (h : o.actor < n) (same : new.actor ≡ o.actor) where
+module _ (shape : Shape) (n : ℕ) (devices devices' : Devices Memory) (o new : Opener) (h : o.asked.actor < n) (same : new.asked ≡ o.asked) where
   -- before its step, with this commit
   abbrev w : Option RunningCommit → Now
   w commit = record { devices = contents_of devices; commit = commit; phase = phase_of (Underway o); actors = actors_of n (Underway o) }
 
   -- the actors once its task is this
-  acts : (plan : Plan) → new.task ≡ plan → actors_of n (Underway new) ≡ slice_set (actors_of n (Underway o)) o.actor (opening_actor plan)
-  acts plan t = rw (same, t) (sym (set_twice (replicate n resting) o.actor (opening_actor o.task) (opening_actor plan)))
+  acts : (plan : Plan) → new.task ≡ plan → actors_of n (Underway new) ≡ slice_set (actors_of n (Underway o)) o.asked.actor (opening_actor o.asked.mode plan)
+  acts plan t = rw (same, t) (sym (set_twice (replicate n resting) o.asked.actor (opening_actor o.asked.mode o.task) (opening_actor o.asked.mode plan)))
 
   -- what its step leads to
   leads : (commit : Option RunningCommit) (next : Want) (got : Got) (chosen : Chosen Quiet Global) (change : Job → List Bytes → DeviceStep → List History → List History) →
-      went shape (w commit) o.actor next got chosen change ≡ stepped shape (w commit) o.actor (opening_actor o.task) next got chosen (change (Open Writeback) [])
-  leads commit next got chosen change = ap (λ (x : Option Actor). with_actor (w commit) x (λ y. stepped shape (w commit) o.actor y next got chosen (change (job_of y.task) y.buffer))) (there n o h)
+      went shape (w commit) o.asked.actor next got chosen change ≡ stepped shape (w commit) o.asked.actor (opening_actor o.asked.mode o.task) next got chosen (change (Open o.asked.mode) [])
+  leads commit next got chosen change = ap (λ (x : Option Actor). with_actor (w commit) x (λ y. stepped shape (w commit) o.asked.actor y next got chosen (change (job_of y.task) y.buffer))) (there n o h)
 
   next_state : (contents : Devices (List History)) (reading : Option (ReadSteps Global)) (commit : Option RunningCommit) (plan : Plan) → contents_of devices' ≡ contents → (reading_of new) ≡ reading → new.opening.commit ≡ commit → new.task ≡ plan →
-      state_of n devices' (Underway new) ≡ record { devices = contents; commit = commit; phase = Opens Writeback reading; actors = slice_set (actors_of n (Underway o)) o.actor (opening_actor plan) }
-  next_state contents reading commit plan d r c t = rw (d, r, c, acts plan t) refl
+      state_of n devices' (Underway new) ≡ record { devices = contents; commit = commit; phase = Opens o.asked.mode reading; actors = slice_set (actors_of n (Underway o)) o.asked.actor (opening_actor o.asked.mode plan) }
+  next_state contents reading commit plan d r c t = rw (d, r, c, acts plan t, same) refl
 
   pub syncs : (alloc : Global) (device : Dev) (what : What) → want o.task ≡ Device (Sync device) → what ≡ Stepped (Device (Sync device)) Done → new.task ≡ after o.task Done → (reading_of new) ≡ reading_synced alloc device None (reading_of o) → new.opening.commit ≡ None →
-      contents_of devices' ≡ with_device device (contents_of devices) (synced (device_in device (contents_of devices))) → Happens shape (w None) (Step o.actor) what [] (state_of n devices' (Underway new))
+      contents_of devices' ≡ with_device device (contents_of devices) (synced (device_in device (contents_of devices))) → Happens shape (w None) (Step o.asked.actor) what [] (state_of n devices' (Underway new))
   syncs alloc Metadata what next e t r c d = rw e (record {
     chosen = Begins (Begun alloc alloc);
     may = busy n o _ h (sym next, (refl, refl, refl));
@@ -209,7 +216,7 @@ module _ (shape : Shape) (n : ℕ) (devices devices' : Devices Memory) (o new : 
   })
 
   pub fails : (choice : Choice) (step : DeviceStep) (what : What) → step ≢ WriteRoot → device_step_of (want o.task) ≡ Some step → want o.task ≡ Device step → what ≡ Stepped (Device step) Fault → MayFail (device_of step) choice (length (device_in (device_of step) (contents_of devices))) → new.task ≡ after o.task Fault → (reading_of new) ≡ reading_failed (device_of step) (reading_of o) → new.opening.commit ≡ None →
-      FailsOn None step choice (contents_of devices) (contents_of devices') → Happens shape (w None) (FaultStep o.actor choice) what [] (state_of n devices' (Underway new))
+      FailsOn None step choice (contents_of devices) (contents_of devices') → Happens shape (w None) (FaultStep o.asked.actor choice) what [] (state_of n devices' (Underway new))
   fails choice (ReadMetadata left) what other kind next e m t r c d = rw e (record {
     chosen = Plain;
     may = (refl, refl, busy n o _ h (sym next, m, (refl, refl)));
@@ -234,20 +241,20 @@ module _ (shape : Shape) (n : ℕ) (devices devices' : Devices Memory) (o new : 
   fails choice step what other kind next e m t r c d = absurd (cc)
 
   pub reads : (left : ℕ) (was : ReadSteps Global) (got : Got) (what : What) → want o.task ≡ Device (ReadMetadata left) → what ≡ Stepped (Device (ReadMetadata left)) got → (reading_of o) ≡ Some was →
-      DoesRead {P = Quiet} shape.geometry left was devices.metadata.contents None got (Reaches (reading_of new) new.opening.commit) → new.task ≡ after o.task got → contents_of devices' ≡ contents_of devices → Happens shape (w None) (Step o.actor) what [] (state_of n devices' (Underway new))
+      DoesRead {P = Quiet} shape.geometry left was devices.metadata.contents None got (Reaches (reading_of new) new.opening.commit) → new.task ≡ after o.task got → contents_of devices' ≡ contents_of devices → Happens shape (w None) (Step o.asked.actor) what [] (state_of n devices' (Underway new))
   reads left was got what next e present does t d = rw e (record {
     chosen = Reaches (reading_of new) new.opening.commit;
     may = busy n o _ h (sym next, (refl, refl, of_reading (reading_of o) present));
     leads = next_state _ _ _ _ d refl refl t ∙ sym (leads None (Device (ReadMetadata left)) got (Reaches (reading_of new) new.opening.commit) (λ job buffer step. device_done {P = Quiet} {A = Global} job buffer step (Reaches (reading_of new) new.opening.commit)));
   })
     where
-      of_reading : (reading : Option (ReadSteps Global)) → reading ≡ Some was → OfReading {P = Quiet} (Opens Writeback reading) (λ mode r. DoesRead {P = Quiet} shape.geometry left r devices.metadata.contents None got (Reaches (reading_of new) new.opening.commit))
-      of_reading reading e = subst (λ x. OfReading {P = Quiet} (Opens Writeback x) (λ mode r. DoesRead {P = Quiet} shape.geometry left r devices.metadata.contents None got (Reaches (reading_of new) new.opening.commit))) (sym e) does
+      of_reading : (reading : Option (ReadSteps Global)) → reading ≡ Some was → OfReading {P = Quiet} (Opens o.asked.mode reading) (λ mode r. DoesRead {P = Quiet} shape.geometry left r devices.metadata.contents None got (Reaches (reading_of new) new.opening.commit))
+      of_reading reading e = subst (λ x. OfReading {P = Quiet} (Opens o.asked.mode x) (λ mode r. DoesRead {P = Quiet} shape.geometry left r devices.metadata.contents None got (Reaches (reading_of new) new.opening.commit))) (sym e) does
 
   -- the root is written
   pub puts : (c : RunningCommit) (what : What) → want o.task ≡ Device WriteRoot → what ≡ Stepped (Device WriteRoot) Done → goes_on (length devices.metadata.contents) c.image c.steps WriteRoot ≡ true →
       DoesStep c.image c.steps devices.metadata.contents devices'.metadata.contents → new.task ≡ after o.task Done → (reading_of new) ≡ (reading_of o) → new.opening.commit ≡ Some (record c { steps = steps_after c.image c.steps }) →
-      contents_of devices' ≡ record (contents_of devices) { metadata = devices'.metadata.contents } → Happens shape (w (Some c)) (Step o.actor) what [] (state_of n devices' (Underway new))
+      contents_of devices' ≡ record (contents_of devices) { metadata = devices'.metadata.contents } → Happens shape (w (Some c)) (Step o.asked.actor) what [] (state_of n devices' (Underway new))
   puts c what next e on does t r k d = rw e (record {
     chosen = Puts devices'.metadata.contents;
     may = busy n o _ h (sym next, (refl, refl, (on, does)));
@@ -257,7 +264,7 @@ module _ (shape : Shape) (n : ℕ) (devices devices' : Devices Memory) (o new : 
   -- it is durable
   pub settles : (c : RunningCommit) (what : What) → want o.task ≡ Device (Sync Metadata) → what ≡ Stepped (Device (Sync Metadata)) Done → goes_on (length devices.metadata.contents) c.image c.steps (Sync Metadata) ≡ true →
       new.task ≡ after o.task Done → (reading_of new) ≡ (reading_of o) → new.opening.commit ≡ Some (record c { steps = steps_after c.image c.steps }) →
-      contents_of devices' ≡ record (contents_of devices) { metadata = synced devices.metadata.contents } → Happens shape (w (Some c)) (Step o.actor) what [] (state_of n devices' (Underway new))
+      contents_of devices' ≡ record (contents_of devices) { metadata = synced devices.metadata.contents } → Happens shape (w (Some c)) (Step o.asked.actor) what [] (state_of n devices' (Underway new))
   settles c what next e on t r k d = rw e (record {
     chosen = Plain;
     may = busy n o _ h (sym next, (refl, refl, (on, refl)));
@@ -269,7 +276,7 @@ module _ (shape : Shape) (n : ℕ) (devices devices' : Devices Memory) (o new : 
       MayFail Metadata choice (length devices.metadata.contents) →
       LandedOr (lands Metadata choice (sector_put (coming_step c.image c.steps))) (DoesStep c.image c.steps devices.metadata.contents devices'.metadata.contents) (devices'.metadata.contents ≡ devices.metadata.contents) →
       new.task ≡ after o.task Fault → (reading_of new) ≡ None → new.opening.commit ≡ None →
-      contents_of devices' ≡ record (contents_of devices) { metadata = devices'.metadata.contents } → Happens shape (w (Some c)) (FaultStep o.actor choice) what [] (state_of n devices' (Underway new))
+      contents_of devices' ≡ record (contents_of devices) { metadata = devices'.metadata.contents } → Happens shape (w (Some c)) (FaultStep o.asked.actor choice) what [] (state_of n devices' (Underway new))
   fails_to_put choice c what next e on m landed t r k d = rw e (record {
     chosen = Puts devices'.metadata.contents;
     may = (refl, refl, busy n o _ h (sym next, m, (on, landed)));
@@ -279,7 +286,7 @@ module _ (shape : Shape) (n : ℕ) (devices devices' : Devices Memory) (o new : 
   -- its sync fails
   pub fails_to_settle : (choice : Choice) (c : RunningCommit) (what : What) → want o.task ≡ Device (Sync Metadata) → what ≡ Stepped (Device (Sync Metadata)) Fault → goes_on (length devices.metadata.contents) c.image c.steps (Sync Metadata) ≡ true →
       MayFail Metadata choice (length devices.metadata.contents) → new.task ≡ after o.task Fault → (reading_of new) ≡ None → new.opening.commit ≡ None →
-      contents_of devices' ≡ record (contents_of devices) { metadata = synced_where (lands Metadata choice) devices.metadata.contents } → Happens shape (w (Some c)) (FaultStep o.actor choice) what [] (state_of n devices' (Underway new))
+      contents_of devices' ≡ record (contents_of devices) { metadata = synced_where (lands Metadata choice) devices.metadata.contents } → Happens shape (w (Some c)) (FaultStep o.asked.actor choice) what [] (state_of n devices' (Underway new))
   fails_to_settle choice c what next e on m t r k d = rw e (record {
     chosen = Plain;
     may = (refl, refl, busy n o _ h (sym next, m, ((refl, (on, tt)))));

@@ -69,12 +69,12 @@ refused_busy shape desk m (Open mode) desk' m' e t = absurd (cc)
 abbrev pub tasked : Member → Job → Plan → Member
 tasked m job plan = record { task = Some (job, plan); orders = m.orders; awaiting = m.awaiting; buffer = m.buffer }
 
--- the task of a job that starts, by who has these orders
-abbrev pub begins : Shape → Member → Job → Plan
-begins shape m job = table (task_job shape m.awaiting job (cut_for shape job))
+-- the task of a job that starts over this desk, by who has these orders
+abbrev pub begins : Shape → DeskState Quiet → Member → Job → Plan
+begins shape desk m job = table (task_job shape desk.mode m.awaiting job (cut_for shape job))
 
 -- a job that needs no order starts
-pub started_request : (shape : Shape) (desk : DeskState Quiet) (m : Member) (job : Job) (plan : Plan) → wants_target job ≡ true → is_ordered job ≡ false → job_refusal shape job ≡ None → plan ≡ begins shape m job → GetsJob shape desk m job Started desk (tasked m (begun_as job) plan)
+pub started_request : (shape : Shape) (desk : DeskState Quiet) (m : Member) (job : Job) (plan : Plan) → wants_target job ≡ true → is_ordered job ≡ false → job_refusal shape job ≡ None → plan ≡ begins shape desk m job → GetsJob shape desk m job Started desk (tasked m (begun_as job) plan)
 started_request shape desk m (Read extent) plan w o r p = record { chosen = Cut (cut_for shape (Read extent)); gives = λ words card. (r, pieces_cut 1 extent (omega arith)); leaves = (refl, ap (λ (x : Plan). tasked m (Read extent) x) p) }
 started_request shape desk m (Write extent content) plan w o r p = record { chosen = Cut (cut_for shape (Write extent content)); gives = λ words card. (r, pieces_cut 1 extent (omega arith)); leaves = (refl, ap (λ (x : Plan). tasked m (Write extent content) x) p) }
 started_request shape desk m Flush plan w o r p = record { chosen = Plain; gives = λ words card. tt; leaves = (refl, ap (λ (x : Plan). tasked m Flush x) p) }
@@ -87,13 +87,13 @@ tasked_so : (m m' : Member) (job : Job) (plan begun : Plan) → plan ≡ begun �
 tasked_so m m' job plan begun p e = ap (λ (x : Plan). tasked m' job x) p ∙ ap (λ (x : Member). tasked x job begun) e
 
 -- a migration or a replacement starts under the order that was had or taken
-pub started_ordered : (shape : Shape) (desk : DeskState Quiet) (m : Member) (job : Job) (desk' : DeskState Quiet) (m' : Member) (plan : Plan) → is_ordered job ≡ true → TakesOrder desk m job true desk' m' → plan ≡ begins shape m job →
+pub started_ordered : (shape : Shape) (desk : DeskState Quiet) (m : Member) (job : Job) (desk' : DeskState Quiet) (m' : Member) (plan : Plan) → is_ordered job ≡ true → TakesOrder desk m job true desk' m' → plan ≡ begins shape desk m job →
     GetsJob shape desk m job Started desk' (tasked m' (begun_as job) plan)
 started_ordered shape desk m (Migrate migration block) desk' m' plan e t p = elim t [
   | inl has ↦ record {
     chosen = Cut (cut_for shape (Migrate migration block));
     gives = λ words card. (pieces_cut 1 (whole_block (block_size shape) block) (omega arith), has.0);
-    leaves = (has.1, tasked_so m m' (Migrate migration block) plan (begins shape m (Migrate migration block)) p has.2);
+    leaves = (has.1, tasked_so m m' (Migrate migration block) plan (begins shape desk m (Migrate migration block)) p has.2);
   }
   | inr given ↦
       let order : Order = given.1.0 in
@@ -102,14 +102,14 @@ started_ordered shape desk m (Migrate migration block) desk' m' plan e t p = eli
       record {
         chosen = Orders (cut_for shape (Migrate migration block)) given.0;
         gives = λ words card. (pieces_cut 1 (whole_block (block_size shape) block) (omega arith), r.0);
-        leaves = (r.1, tasked_so (record m { orders = order_for migration block ∷ m.orders }) m' (Migrate migration block) plan (begins shape m (Migrate migration block)) p r.2);
+        leaves = (r.1, tasked_so (record m { orders = order_for migration block ∷ m.orders }) m' (Migrate migration block) plan (begins shape desk m (Migrate migration block)) p r.2);
       }
 ]
 started_ordered shape desk m (Replace old new) desk' m' plan e t p = elim t [
   | inl has ↦ record {
     chosen = Cut (cut_for shape (Replace old new));
     gives = λ words card. (pieces_cut 1 (whole_block (block_size shape) old) (omega arith), has.0);
-    leaves = (has.1, tasked_so m m' (Migrate Demote old) plan (begins shape m (Replace old new)) p has.2);
+    leaves = (has.1, tasked_so m m' (Migrate Demote old) plan (begins shape desk m (Replace old new)) p has.2);
   }
   | inr given ↦
       let order : Order = given.1.0 in
@@ -118,7 +118,7 @@ started_ordered shape desk m (Replace old new) desk' m' plan e t p = elim t [
       record {
         chosen = Orders (cut_for shape (Replace old new)) given.0;
         gives = λ words card. (pieces_cut 1 (whole_block (block_size shape) old) (omega arith), r.0);
-        leaves = (r.1, tasked_so (record m { orders = ReplaceOrder old new given.0 ∷ m.orders }) m' (Migrate Demote old) plan (begins shape m (Replace old new)) p r.2);
+        leaves = (r.1, tasked_so (record m { orders = ReplaceOrder old new given.0 ∷ m.orders }) m' (Migrate Demote old) plan (begins shape desk m (Replace old new)) p r.2);
       }
 ]
 started_ordered shape desk m (Read extent) desk' m' plan e t p = absurd (cc)

@@ -3,7 +3,6 @@ use Rattle.std.proofs.Common.{◌≡◌, ◌<◌, ◌≤◌, ◌==◌, ◌+◌, 
 use Rattle.std.proofs.lemmas.List.{get_or-set_same, get_or-replicate, set-get_or, length-replicate}
 use Rattle.std.specs.List.{count_by}
 use Rattle.wb_types.specs.declared.geometry.Geometry.{Geometry}
-use Rattle.wb_types.specs.declared.mode.Mode.TheVariants.{Writeback}
 use Rattle.wb_tree.specs.Mapping.{Mapping}
 use Rattle.wb_policy.specs.declared.quiet.Quiet.{Quiet}
 use Rattle.wb_desk.specs.Desks.{DeskState}
@@ -18,6 +17,7 @@ use Rattle.wb_words.specs.Cards.{blank_card}
 use Rattle.wb_words.specs.Effects.{words_after, card_after}
 use Rattle.wb_cells.specs.Crews.{CrewState, card_of, crew_after}
 use Rattle.wb_promise.specs.Effects.{card_by, sealing_steps, seals_of, words_by}
+use Rattle.wb_machine.specs.declared.asked.Asked.{Asked}
 use Rattle.wb_machine.specs.declared.making.Made.{Made}
 use Rattle.wb_machine.specs.Making.{AllFree, IsMade, block_seals, crew_by, read_of}
 use Rattle.wb_machine.specs.Members.{free}
@@ -93,27 +93,27 @@ as_many crew a [] = refl
 as_many crew a (step ∷ steps) = as_many (crew_after crew a step) a steps ∙ length-set crew.cards a (card_after crew.words step (card_of crew a))
 
 -- What is made of what was read: the desk has the tree, and the blocks of its entries were sealed.
-pub made_so : (g : Geometry) (n a : ℕ) (made : Made) (tree : Mapping) (crew : CrewState) → a < n
-    → made.target.desk ≡ opened g (made.root.generation + 1) tree made.used.items Writeback made.target.desk.policy (threshold_of None) (count_by is_some made.target.desk.tree.entries)
-    → made.target.crew ≡ crew_by crew a (sealing_steps made.root.clean 0 tree.entries)
-    → crew.words ≡ fresh_words g.origin_blocks → crew.cards ≡ replicate n blank_card → crew.blocks ≡ g.origin_blocks → made.target.failed ≡ false → made.target.commit ≡ None → made.members.items ≡ replicate n free → IsMade g n a made
-made_so g n a made tree crew h desk sealed fresh cards blocks failed commit members =
+pub made_so : (g : Geometry) (n : ℕ) (asked : Asked) (made : Made) (tree : Mapping) (crew : CrewState) → asked.actor < n
+    → made.target.desk ≡ opened g (made.root.generation + 1) tree made.used.items asked.mode made.target.desk.policy (threshold_of None) (count_by is_some made.target.desk.tree.entries)
+    → made.target.crew ≡ crew_by crew asked.actor (sealing_steps made.root.clean 0 tree.entries)
+    → crew.words ≡ fresh_words g.origin_blocks → crew.cards ≡ replicate n blank_card → crew.blocks ≡ g.origin_blocks → made.target.failed ≡ false → made.target.commit ≡ None → made.members.items ≡ replicate n free → IsMade g n asked made
+made_so g n asked made tree crew h desk sealed fresh cards blocks failed commit members =
     let seals = sealing_steps made.root.clean 0 tree.entries in
     let words = fresh_words g.origin_blocks in
     let same : made.target.desk.tree ≡ tree = ap (λ (d : DeskState Quiet). d.tree) desk in
     let steps : seals ≡ seals_of (read_of made) = ap (λ (t : Mapping). sealing_steps made.root.clean 0 t.entries) (sym same) in
-    let words_so : made.target.crew.words ≡ words_by words seals = ap (λ (k : CrewState). k.words) sealed ∙ words_come crew a seals ∙ ap (λ (w : Words). words_by w seals) fresh in
-    let blank : card_of crew a ≡ blank_card = ap (λ (cs : List Card). get_or cs a blank_card) cards ∙ get_or-replicate n a blank_card blank_card h in
-    let there : a < length crew.cards = subst (λ k. a < k) (sym (ap length cards ∙ length-replicate n blank_card)) h in
+    let words_so : made.target.crew.words ≡ words_by words seals = ap (λ (k : CrewState). k.words) sealed ∙ words_come crew asked.actor seals ∙ ap (λ (w : Words). words_by w seals) fresh in
+    let blank : card_of crew asked.actor ≡ blank_card = ap (λ (cs : List Card). get_or cs asked.actor blank_card) cards ∙ get_or-replicate n asked.actor blank_card blank_card h in
+    let there : asked.actor < length crew.cards = subst (λ k. asked.actor < k) (sym (ap length cards ∙ length-replicate n blank_card)) h in
     record {
-      desk_is = desk ∙ ap (λ (t : Mapping). opened g (made.root.generation + 1) t made.used.items Writeback made.target.desk.policy (threshold_of None) (count_by is_some made.target.desk.tree.entries)) (sym same);
+      desk_is = desk ∙ ap (λ (t : Mapping). opened g (made.root.generation + 1) t made.used.items asked.mode made.target.desk.policy (threshold_of None) (count_by is_some made.target.desk.tree.entries)) (sym same);
       words_are = words_so ∙ ap (λ (ss : List CellStep). words_by words ss) steps;
-      cards_are = ap (λ (k : CrewState). k.cards) sealed ∙ cards_come crew a seals there
-          ∙ ap (λ (w : Words). slice_set crew.cards a (card_by w (card_of crew a) seals)) fresh
-          ∙ ap (λ (c : Card). slice_set crew.cards a (card_by words c seals)) blank
-          ∙ ap (λ (cs : List Card). slice_set cs a (card_by words blank_card seals)) cards
-          ∙ ap (λ (ss : List CellStep). slice_set (replicate n blank_card) a (card_by words blank_card ss)) steps;
-      blocks_are = ap (λ (k : CrewState). k.blocks) sealed ∙ blocks_stay crew a seals ∙ blocks;
+      cards_are = ap (λ (k : CrewState). k.cards) sealed ∙ cards_come crew asked.actor seals there
+          ∙ ap (λ (w : Words). slice_set crew.cards asked.actor (card_by w (card_of crew asked.actor) seals)) fresh
+          ∙ ap (λ (c : Card). slice_set crew.cards asked.actor (card_by words c seals)) blank
+          ∙ ap (λ (cs : List Card). slice_set cs asked.actor (card_by words blank_card seals)) cards
+          ∙ ap (λ (ss : List CellStep). slice_set (replicate n blank_card) asked.actor (card_by words blank_card ss)) steps;
+      blocks_are = ap (λ (k : CrewState). k.blocks) sealed ∙ blocks_stay crew asked.actor seals ∙ blocks;
       failed_is = failed ∙ sym (ap (λ (w : Words). flag w.fail) words_so ∙ ap flag (fail_stays words made.root.clean 0 tree.entries));
       commit_is = commit;
       members_are = members;

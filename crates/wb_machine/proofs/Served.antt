@@ -93,14 +93,14 @@ phase_so words desk (Replace old new) (Opened policy) = refl
 
 -- a job that is no opening clears nothing
 given_so : (shape : Shape) (devices : Devices (List History)) (t : Target) (actors : List Actor) (a : ℕ) (x : Actor) (job : Job) (chosen : Chosen Quiet Global) → wants_target job ≡ true → slice_get actors a ≡ Some x →
-    over devices (record t { desk = desk_given t.desk job chosen }) (slice_set actors a (given {P = Quiet} {A = Global} shape x job chosen)) ≡ after_what shape (over devices t actors) (Start a job) Started chosen
+    over devices (record t { desk = desk_given t.desk job chosen }) (slice_set actors a (given {P = Quiet} {A = Global} shape t.desk.mode x job chosen)) ≡ after_what shape (over devices t actors) (Start a job) Started chosen
 given_so shape devices t actors a x (Read extent) chosen w at = rw at refl
 given_so shape devices t actors a x (Write extent content) chosen w at = rw at refl
 given_so shape devices t actors a x Flush chosen w at = rw at refl
 given_so shape devices t actors a x (Open mode) chosen w at = absurd (cc)
-given_so shape devices t actors a x (Migrate migration block) chosen w at = rw at (ap (λ (p : Phase Quiet Global). record { devices = devices; commit = t.commit; phase = p; actors = slice_set actors a (given {P = Quiet} {A = Global} shape x (Migrate migration block) chosen) })
+given_so shape devices t actors a x (Migrate migration block) chosen w at = rw at (ap (λ (p : Phase Quiet Global). record { devices = devices; commit = t.commit; phase = p; actors = slice_set actors a (given {P = Quiet} {A = Global} shape t.desk.mode x (Migrate migration block) chosen) })
     (phase_so t.crew.words t.desk (Migrate migration block) chosen))
-given_so shape devices t actors a x (Replace old new) chosen w at = rw at (ap (λ (p : Phase Quiet Global). record { devices = devices; commit = t.commit; phase = p; actors = slice_set actors a (given {P = Quiet} {A = Global} shape x (Replace old new) chosen) })
+given_so shape devices t actors a x (Replace old new) chosen w at = rw at (ap (λ (p : Phase Quiet Global). record { devices = devices; commit = t.commit; phase = p; actors = slice_set actors a (given {P = Quiet} {A = Global} shape t.desk.mode x (Replace old new) chosen) })
     (phase_so t.crew.words t.desk (Replace old new) chosen))
 
 -- ---- an actor that is there
@@ -409,7 +409,7 @@ fault_roomy nodes choice devices commit m what devices' commit' m' r f = by_task
 pub start_roomy : (shape : Shape) (nodes : ℕ) (desk : DeskState Quiet) (m : Member) (job : Job) (what : What) (desk' : DeskState Quiet) (m' : Member) → nodes ≤ node_count shape.geometry.cache_blocks → IsRoomy nodes m.task → Starts shape desk m job what desk' m' → IsRoomy nodes m'.task
 start_roomy shape nodes desk m job what desk' m' l r s = by_test (is_none m.task) s
   where
-    by_job : (job : Job) (chosen : Chosen Quiet Global) → IsRoomy nodes (Some (begun_as job, table (task_job shape m.awaiting job (cut_of chosen))))
+    by_job : (job : Job) (chosen : Chosen Quiet Global) → IsRoomy nodes (Some (begun_as job, table (task_job shape desk.mode m.awaiting job (cut_of chosen))))
     by_job (Read extent) chosen = tt
     by_job (Write extent content) chosen = tt
     by_job Flush chosen = l

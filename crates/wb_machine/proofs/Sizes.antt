@@ -1,5 +1,5 @@
 -- In every run the cache and the origin keep their sizes.
-use Rattle.std.proofs.Common.{◌≡◌, ◌∙◌, ℕ, suc, true, List, [], ◌∷◌, Option, Some, None, refl, ap, if◌then◌else◌, length, slice_get, slice_set}
+use Rattle.std.proofs.Common.{◌≡◌, ◌∙◌, ℕ, suc, true, List, [], ◌∷◌, Option, Some, None, refl, ap, length, slice_get, slice_set}
 use Rattle.std.proofs.lemmas.List.{length-replicate, length-map}
 use Rattle.std.specs.declared.alloc.Global.{Global}
 use Rattle.wb_types.specs.declared.mode.Dev.{Dev}
@@ -24,7 +24,7 @@ use Rattle.wb_promise.specs.declared.event.Event.{Event}
 use Rattle.wb_promise.specs.declared.event.Event.TheVariants.{Start, Step, FaultStep, Stop}
 use Rattle.wb_promise.specs.declared.event.What.{What}
 use Rattle.wb_promise.specs.declared.event.What.TheVariants.{Started, Stepped, Stopped}
-use Rattle.wb_promise.specs.States.{Actor, Shape, cache_sector_count, sector_count, start}
+use Rattle.wb_promise.specs.States.{Actor, Shape, cache_sector_count, mode_of, sector_count, start}
 use Rattle.wb_promise.specs.Happenings.{Chosen, Plain, Falters, Gives, MayBe, OfSome}
 use Rattle.wb_promise.specs.Effects.{IsRun, after_all, after_happening, after_what, all_crashed, cleared, contents_for, device_done, device_failed, devices_then, given, job_of, phase_given, put_by, stepped, with_actor}
 use Rattle.wb_machine.specs.Life.{Happened, Now}
@@ -125,7 +125,7 @@ crashed_size : (choice : Choice) (devices : Devices (List History)) → AsLarge 
 crashed_size choice devices = record { cache = length-crashed Cache choice 0 devices.cache; origin = length-crashed Origin choice 0 devices.origin }
 
 pub event_size : (shape : Shape) (w : Now) (event : Event) (what : What) (read : List Bytes) (chosen : Chosen Quiet Global) → MayBe shape w event what read chosen → AsLarge w.devices (after_what shape w event what chosen).devices
-event_size shape w (Start a job) Started read chosen m = actor_size (cleared w job) (slice_get (cleared w job).actors a) (λ x. record (cleared w job) { phase = phase_given (cleared w job).phase job chosen; actors = slice_set (cleared w job).actors a (given shape x job chosen) }) w.devices (cleared_size w job) (λ x. cleared_size w job)
+event_size shape w (Start a job) Started read chosen m = actor_size (cleared w job) (slice_get (cleared w job).actors a) (λ x. record (cleared w job) { phase = phase_given (cleared w job).phase job chosen; actors = slice_set (cleared w job).actors a (given shape (mode_of (cleared w job).phase) x job chosen) }) w.devices (cleared_size w job) (λ x. cleared_size w job)
 event_size shape w (Step a) (Stepped next got) read chosen m = went_size shape w next got chosen a (λ job buffer step. device_done job buffer step chosen) (slice_get w.actors a) _ m (λ x job plan g. done_size shape w x got read chosen x.buffer job next g.1)
 event_size shape w (FaultStep a choice) (Stepped next got) read chosen m = went_size shape w next got chosen a (λ job buffer step. device_failed (lands (device_of step) choice) job buffer step chosen) (slice_get w.actors a) _ m.2 (λ x job plan g. failed_size shape w x got read chosen x.buffer choice job next g.2)
 event_size shape w (Stop choice) Stopped read chosen m = crashed_size choice w.devices

@@ -30,6 +30,7 @@ use Rattle.wb_tasks.specs.declared.step.Want.TheVariants.{Device}
 use Rattle.wb_tasks.specs.declared.step.Got.{Got}
 use Rattle.wb_tasks.specs.declared.step.Got.TheVariants.{Done, Fault, Refused, More}
 use Rattle.wb_devices.specs.Opened.{DidTell, HasCome, HasNextRoot, ReadsOf, HasGeneration as DevicesGeneration, got_of_refusal}
+use Rattle.wb_machine.specs.declared.asked.Asked.{Asked}
 use Rattle.wb_machine.specs.declared.making.Made.{Made}
 use Rattle.wb_machine.specs.declared.opener.Opener.{Opener}
 use Rattle.wb_machine.specs.Making.{MadeBy, reading_of}
@@ -66,14 +67,14 @@ pub finds : (g : Geometry) (n : ℕ) (o : Opener) (step : DeviceStep) → Stands
 finds g n o step at e = finds_at g at.point step (ap (λ p. device_step_of (want p)) (sym at.plan_is) ∙ e) (reading_of o) o.opening.commit at.come
 
 -- at its next point, after what came of a step, an opening of this actor has come so far
-record Goes (g : Geometry) (n a : ℕ) (point : OpenPoint) (got : Got) (reading : Option (ReadSteps Global)) (commit : Option RunningCommit) (made : Option Made) : Type 0 where
+record Goes (g : Geometry) (n : ℕ) (a : Asked) (point : OpenPoint) (got : Got) (reading : Option (ReadSteps Global)) (commit : Option RunningCommit) (made : Option Made) : Type 0 where
   pub next : OpenPoint
   pub plan : after (plan_from g.meta_sectors point) got ≡ plan_from g.meta_sectors next
   pub come : HasComeTo g next reading commit
   pub made_is : HasMadeThere g n next a made
 
-goes_on : (g : Geometry) (n : ℕ) (o new : Opener) (got : Got) (at : StandsAt g n o) → new.actor ≡ o.actor → new.task ≡ after o.task got → new.opening.geometry ≡ o.opening.geometry
-    → Goes g n o.actor at.point got (reading_of new) new.opening.commit new.made → StandsAt g n new
+goes_on : (g : Geometry) (n : ℕ) (o new : Opener) (got : Got) (at : StandsAt g n o) → new.asked ≡ o.asked → new.task ≡ after o.task got → new.opening.geometry ≡ o.opening.geometry
+    → Goes g n o.asked at.point got (reading_of new) new.opening.commit new.made → StandsAt g n new
 goes_on g n o new got at same p q goes = record {
   point = goes.next;
   plan_is = p ∙ ap (λ x. after x got) at.plan_is ∙ goes.plan;
@@ -95,7 +96,7 @@ gone_on g steps steps' reading commit all = record {
   steps_are = refl;
 }
 
-synced_from : (g : Geometry) (n a : ℕ) (point : OpenPoint) (device : Dev) → want (plan_from g.meta_sectors point) ≡ Device (Sync device) → (alloc : Global) (reading : Option (ReadSteps Global)) (commit : Option RunningCommit) (made : Option Made)
+synced_from : (g : Geometry) (n : ℕ) (a : Asked) (point : OpenPoint) (device : Dev) → want (plan_from g.meta_sectors point) ≡ Device (Sync device) → (alloc : Global) (reading : Option (ReadSteps Global)) (commit : Option RunningCommit) (made : Option Made)
     → HasComeTo g point reading commit → HasMadeThere g n point a made → Goes g n a point Done (reading_synced alloc device commit reading) (commit_synced device commit) (made_synced device commit made)
 synced_from g n a AtFirst Metadata e alloc reading commit made come is = rw come (record { next = AtCache; plan = refl; come = (refl, (λ d. d), tt, omega arith); made_is = refl })
 synced_from g n a AtCache Cache e alloc reading commit made come is = record { next = AtOrigin; plan = refl; come = come; made_is = is }
@@ -103,14 +104,14 @@ synced_from g n a AtOrigin Origin e alloc reading commit made come is = record {
 synced_from g n a AtRootSync Metadata e alloc reading commit made come is = rw come.commit_is (record { next = AtEnd; plan = refl; come = gone_on g RootWritten Committed reading commit come; made_is = is })
 synced_from g n a point device e alloc reading commit made come is = absurd (cc)
 
-pub synced_stands : (g : Geometry) (n : ℕ) (o new : Opener) (alloc : Global) (device : Dev) → StandsAt g n o → want o.task ≡ Device (Sync device) → new.actor ≡ o.actor → new.task ≡ after o.task Done → new.opening.geometry ≡ o.opening.geometry
+pub synced_stands : (g : Geometry) (n : ℕ) (o new : Opener) (alloc : Global) (device : Dev) → StandsAt g n o → want o.task ≡ Device (Sync device) → new.asked ≡ o.asked → new.task ≡ after o.task Done → new.opening.geometry ≡ o.opening.geometry
     → new.opening.commit ≡ commit_synced device o.opening.commit → reading_of new ≡ reading_synced alloc device o.opening.commit (reading_of o) → new.made ≡ made_synced device o.opening.commit o.made → StandsAt g n new
 synced_stands g n o new alloc device at next same p q c r m =
-    goes_on g n o new Done at same p q (rw (c, r, m) (synced_from g n o.actor at.point device (ap want (sym at.plan_is) ∙ next) alloc (reading_of o) o.opening.commit o.made at.come at.made))
+    goes_on g n o new Done at same p q (rw (c, r, m) (synced_from g n o.asked at.point device (ap want (sym at.plan_is) ∙ next) alloc (reading_of o) o.opening.commit o.made at.come at.made))
 
 -- ---- after a fault
 
-failed_from : (g : Geometry) (n a : ℕ) (point : OpenPoint) (step : DeviceStep) → device_step_of (want (plan_from g.meta_sectors point)) ≡ Some step → (reading : Option (ReadSteps Global)) (commit : Option RunningCommit) (made : Option Made) → Goes g n a point Fault reading commit made
+failed_from : (g : Geometry) (n : ℕ) (a : Asked) (point : OpenPoint) (step : DeviceStep) → device_step_of (want (plan_from g.meta_sectors point)) ≡ Some step → (reading : Option (ReadSteps Global)) (commit : Option RunningCommit) (made : Option Made) → Goes g n a point Fault reading commit made
 failed_from g n a AtFirst step e reading commit made = record { next = AtRefusal (Io Metadata); plan = refl; come = tt; made_is = tt }
 failed_from g n a AtCache step e reading commit made = record { next = AtRefusal (Io Cache); plan = refl; come = tt; made_is = tt }
 failed_from g n a AtOrigin step e reading commit made = record { next = AtRefusal (Io Origin); plan = refl; come = tt; made_is = tt }
@@ -120,9 +121,9 @@ failed_from g n a AtRootSync step e reading commit made = record { next = AtRefu
 failed_from g n a AtEnd step e reading commit made = absurd (cc)
 failed_from g n a (AtRefusal refusal) step e reading commit made = absurd (cc)
 
-pub failed_stands : (g : Geometry) (n : ℕ) (o new : Opener) (step : DeviceStep) → StandsAt g n o → device_step_of (want o.task) ≡ Some step → new.actor ≡ o.actor → new.task ≡ after o.task Fault → new.opening.geometry ≡ o.opening.geometry → StandsAt g n new
+pub failed_stands : (g : Geometry) (n : ℕ) (o new : Opener) (step : DeviceStep) → StandsAt g n o → device_step_of (want o.task) ≡ Some step → new.asked ≡ o.asked → new.task ≡ after o.task Fault → new.opening.geometry ≡ o.opening.geometry → StandsAt g n new
 failed_stands g n o new step at next same p q =
-    goes_on g n o new Fault at same p q (failed_from g n o.actor at.point step (ap (λ x. device_step_of (want x)) (sym at.plan_is) ∙ next) (reading_of new) new.opening.commit new.made)
+    goes_on g n o new Fault at same p q (failed_from g n o.asked at.point step (ap (λ x. device_step_of (want x)) (sym at.plan_is) ∙ next) (reading_of new) new.opening.commit new.made)
 
 landed_size : (landed : Bool) (root : Root) (old new : List History) → LandedOr landed (PutsRoot root old new) (new ≡ old) → length new ≡ length old
 landed_size true root old new put = ap length put.wrote ∙ length-written old (slot_of root).0 put.content
@@ -144,30 +145,30 @@ failed_size g commit step reading choice old new found failed = ap (λ (d : Devi
 
 -- ---- at the root
 
-roots_from : (g : Geometry) (n a : ℕ) (point : OpenPoint) → want (plan_from g.meta_sectors point) ≡ Device WriteRoot → (reading : Option (ReadSteps Global)) (commit : Option RunningCommit) (made : Option Made)
+roots_from : (g : Geometry) (n : ℕ) (a : Asked) (point : OpenPoint) → want (plan_from g.meta_sectors point) ≡ Device WriteRoot → (reading : Option (ReadSteps Global)) (commit : Option RunningCommit) (made : Option Made)
     → HasComeTo g point reading commit → HasMadeThere g n point a made → Goes g n a point Done reading (commit_written commit) made
 roots_from g n a AtRoot e reading commit made come is = rw come.commit_is (record { next = AtRootSync; plan = refl; come = gone_on g NodesSynced RootWritten reading commit come; made_is = is })
 roots_from g n a point e reading commit made come is = absurd (cc)
 
-pub written_stands : (g : Geometry) (n : ℕ) (o new : Opener) → StandsAt g n o → want o.task ≡ Device WriteRoot → new.actor ≡ o.actor → new.task ≡ after o.task Done → new.opening.geometry ≡ o.opening.geometry
+pub written_stands : (g : Geometry) (n : ℕ) (o new : Opener) → StandsAt g n o → want o.task ≡ Device WriteRoot → new.asked ≡ o.asked → new.task ≡ after o.task Done → new.opening.geometry ≡ o.opening.geometry
     → new.opening.commit ≡ commit_written o.opening.commit → reading_of new ≡ reading_of o → new.made ≡ o.made → StandsAt g n new
 written_stands g n o new at next same p q c r m =
-    goes_on g n o new Done at same p q (rw (c, r, m) (roots_from g n o.actor at.point (ap want (sym at.plan_is) ∙ next) (reading_of o) o.opening.commit o.made at.come at.made))
+    goes_on g n o new Done at same p q (rw (c, r, m) (roots_from g n o.asked at.point (ap want (sym at.plan_is) ∙ next) (reading_of o) o.opening.commit o.made at.come at.made))
 
 -- ---- at a read
 
-pub record Reads (g : Geometry) (n a : ℕ) (point : OpenPoint) (left : ℕ) (reading : Option (ReadSteps Global)) (commit : Option RunningCommit) (made : Option Made) : Type 0 where
+pub record Reads (g : Geometry) (n : ℕ) (a : Asked) (point : OpenPoint) (left : ℕ) (reading : Option (ReadSteps Global)) (commit : Option RunningCommit) (made : Option Made) : Type 0 where
   pub is : point ≡ AtRead left
   pub at : IsReading g left reading commit
   pub none : made ≡ None
 
-reads_from : (g : Geometry) (n a : ℕ) (point : OpenPoint) (left : ℕ) → want (plan_from g.meta_sectors point) ≡ Device (ReadMetadata left) → (reading : Option (ReadSteps Global)) (commit : Option RunningCommit) (made : Option Made)
+reads_from : (g : Geometry) (n : ℕ) (a : Asked) (point : OpenPoint) (left : ℕ) → want (plan_from g.meta_sectors point) ≡ Device (ReadMetadata left) → (reading : Option (ReadSteps Global)) (commit : Option RunningCommit) (made : Option Made)
     → HasComeTo g point reading commit → HasMadeThere g n point a made → Reads g n a point left reading commit made
 reads_from g n a (AtRead other) left e reading commit made come is = let same : other ≡ left = cc in record { is = ap AtRead same; at = subst (λ k. IsReading g k reading commit) same come; none = is }
 reads_from g n a point left e reading commit made come is = absurd (cc)
 
-pub reads_at : (g : Geometry) (n : ℕ) (o : Opener) (left : ℕ) (at : StandsAt g n o) → want o.task ≡ Device (ReadMetadata left) → Reads g n o.actor at.point left (reading_of o) o.opening.commit o.made
-reads_at g n o left at next = reads_from g n o.actor at.point left (ap want (sym at.plan_is) ∙ next) (reading_of o) o.opening.commit o.made at.come at.made
+pub reads_at : (g : Geometry) (n : ℕ) (o : Opener) (left : ℕ) (at : StandsAt g n o) → want o.task ≡ Device (ReadMetadata left) → Reads g n o.asked at.point left (reading_of o) o.opening.commit o.made
+reads_at g n o left at next = reads_from g n o.asked at.point left (ap want (sym at.plan_is) ∙ next) (reading_of o) o.opening.commit o.made at.come at.made
 
 -- the reading is there, and not all was read
 pub record UnderWay (g : Geometry) (left : ℕ) (reading : Option (ReadSteps Global)) (commit : Option RunningCommit) : Type 0 where
@@ -244,7 +245,7 @@ module _ (g : Geometry) (left : ℕ) (was : ReadSteps Global) (device : List His
     ],
   )
 
-  more_on : (n a : ℕ) (now : ReadSteps Global) → AreStepsOn g.meta_sectors now → sectors_read now ≡ sectors_read was + 1 → ¬ IsDone now → 1 ≤ left → after' ≡ Some now → commit' ≡ None → (made : Option Made) → made ≡ None → Goes g n a (AtRead left) More after' commit' made
+  more_on : (n : ℕ) (a : Asked) (now : ReadSteps Global) → AreStepsOn g.meta_sectors now → sectors_read now ≡ sectors_read was + 1 → ¬ IsDone now → 1 ≤ left → after' ≡ Some now → commit' ≡ None → (made : Option Made) → made ≡ None → Goes g n a (AtRead left) More after' commit' made
   more_on n a now on one more some after_is c made none = record {
     next = AtRead (left - 1);
     plan = refl;
@@ -267,24 +268,24 @@ module _ (g : Geometry) (left : ℕ) (was : ReadSteps Global) (device : List His
   all_read (FirstSlotRead alloc global first) on is fits root = absurd root.is_done
   all_read (RootFound global known loader) on is fits root = absurd root.is_done
 
-  goes_more : (n a : ℕ) (other : Got) → (now : ReadSteps Global) → AreStepsOn g.meta_sectors now → sectors_read now ≡ sectors_read was + 1 → (other ≡ More → ¬ IsDone now) → HasCome g left now None other after' commit' → (other ≡ Fault → ⊥) → (made : Option Made) → MadeBy g n other a made → Goes g n a (AtRead left) other after' commit' made
+  goes_more : (n : ℕ) (a : Asked) (other : Got) → (now : ReadSteps Global) → AreStepsOn g.meta_sectors now → sectors_read now ≡ sectors_read was + 1 → (other ≡ More → ¬ IsDone now) → HasCome g left now None other after' commit' → (other ≡ Fault → ⊥) → (made : Option Made) → MadeBy g n other a made → Goes g n a (AtRead left) other after' commit' made
   goes_more n a More now on one more come fault made is = more_on n a now on one (more refl) come.0 come.1 come.3 made is
   goes_more n a Done now on one more come fault made is = record { next = AtRoot; plan = refl; come = all_read now on come.0 come.1 come.2; made_is = is }
   goes_more n a (Refused refusal) now on one more come fault made is = record { next = AtRefusal refusal; plan = refl; come = tt; made_is = tt }
   goes_more n a Fault now on one more come fault made is = absurd (fault refl)
   goes_more n a other now on one more come fault made is = absurd come
 
-  goes_told : (n a : ℕ) (made : Option Made) → MadeBy g n got a made → Goes g n a (AtRead left) got after' commit' made
+  goes_told : (n : ℕ) (a : Asked) (made : Option Made) → MadeBy g n got a made → Goes g n a (AtRead left) got after' commit' made
   goes_told n a made is = elim told [
     | inl t ↦ goes_more n a got t.now t.on (one_more t.now t.one) t.more t.come never_fault made is
     | inr t ↦ subst (λ x. Goes g n a (AtRead left) x after' commit' made) (sym (t.is ∙ refused_as t.refusal (t.faults 0))) (record { next = AtRefusal t.refusal; plan = refl; come = tt; made_is = tt })
   ]
 
-  pub read_stands : (n : ℕ) (o new : Opener) (at : StandsAt g n o) → want o.task ≡ Device (ReadMetadata left) → new.actor ≡ o.actor → new.task ≡ after o.task got → new.opening.geometry ≡ o.opening.geometry
-      → reading_of new ≡ after' → new.opening.commit ≡ commit' → MadeBy g n got o.actor new.made → StandsAt g n new
+  pub read_stands : (n : ℕ) (o new : Opener) (at : StandsAt g n o) → want o.task ≡ Device (ReadMetadata left) → new.asked ≡ o.asked → new.task ≡ after o.task got → new.opening.geometry ≡ o.opening.geometry
+      → reading_of new ≡ after' → new.opening.commit ≡ commit' → MadeBy g n got o.asked new.made → StandsAt g n new
   read_stands n o new at next same p q r c is =
       let reads = reads_at g n o left at next in
-      goes_on g n o new got at same p q (rw (r, c) (subst (λ x. Goes g n o.actor x got after' commit' new.made) (sym reads.is) (goes_told n o.actor new.made is)))
+      goes_on g n o new got at same p q (rw (r, c) (subst (λ x. Goes g n o.asked x got after' commit' new.made) (sym reads.is) (goes_told n o.asked new.made is)))
 
   -- once all was read
   pub all_told : got ≡ Done → HasReadAll g NodesSynced after' commit'
@@ -311,7 +312,7 @@ module _ (g : Geometry) (left : ℕ) (was : ReadSteps Global) (device : List His
   ]
 
 -- nothing was made where a reading is not done
-pub none_made : (g : Geometry) (n a : ℕ) (got : Got) (made : Option Made) → (got ≡ Done → ⊥) → made ≡ None → MadeBy g n got a made
+pub none_made : (g : Geometry) (n : ℕ) (a : Asked) (got : Got) (made : Option Made) → (got ≡ Done → ⊥) → made ≡ None → MadeBy g n got a made
 none_made g n a Done made other none = absurd (other refl)
 none_made g n a got made other none = none
 

@@ -58,10 +58,10 @@ fits_device g size all whole = whole ∙ ap (λ (x : Geometry). x.meta_sectors) 
 goes_on_to : (c : RunningCommit) (steps steps' : CommitSteps) → c.steps ≡ steps → steps_after c.image steps ≡ steps' → Some (record c { steps = steps' }) ≡ Some (record c { steps = steps_after c.image c.steps })
 goes_on_to c steps steps' e f = ap (λ (s : CommitSteps). Some (record c { steps = s })) (sym (ap (λ (s : CommitSteps). steps_after c.image s) e ∙ f))
 
-module _ (shape : Shape) (n : ℕ) (devices devices' : Devices Memory) (o new : Opener) (h : o.actor < n) (same : new.actor ≡ o.actor)
+module _ (shape : Shape) (n : ℕ) (devices devices' : Devices Memory) (o new : Opener) (h : o.asked.actor < n) (same : new.asked ≡ o.asked)
     (whole : length devices.metadata.contents ≡ shape.geometry.meta_sectors) (stands : StandsAt shape.geometry n o) where
   abbrev Step_to : What → Now → Type 0
-  Step_to what w = Happens shape w (Step o.actor) what [] (state_of n devices' (Underway new))
+  Step_to what w = Happens shape w (Step o.asked.actor) what [] (state_of n devices' (Underway new))
 
   root_settles : (device : Dev) (what : What) → Sync device ≡ Sync Metadata → (all : HasReadAll shape.geometry RootWritten (reading_of o) o.opening.commit) → want o.task ≡ Device (Sync device) → what ≡ Stepped (Device (Sync device)) Done → new.task ≡ after o.task Done →
       (reading_of new) ≡ reading_synced o.opening.alloc device o.opening.commit (reading_of o) → new.opening.commit ≡ commit_synced device o.opening.commit →
@@ -75,7 +75,7 @@ module _ (shape : Shape) (n : ℕ) (devices devices' : Devices Memory) (o new : 
 
   pub syncs_there : (device : Dev) (what : What) → want o.task ≡ Device (Sync device) → what ≡ Stepped (Device (Sync device)) Done → new.task ≡ after o.task Done →
       (reading_of new) ≡ reading_synced o.opening.alloc device o.opening.commit (reading_of o) → new.opening.commit ≡ commit_synced device o.opening.commit →
-      contents_of devices' ≡ with_device device (contents_of devices) (synced (device_in device (contents_of devices))) → Happens shape (state_of n devices (Underway o)) (Step o.actor) what [] (state_of n devices' (Underway new))
+      contents_of devices' ≡ with_device device (contents_of devices) (synced (device_in device (contents_of devices))) → Happens shape (state_of n devices (Underway o)) (Step o.asked.actor) what [] (state_of n devices' (Underway new))
   syncs_there device what next e t r c d = elim (finds shape.geometry n o (Sync device) stands (ap device_step_of next)) [
     | inl none ↦ at_commit n devices o (Step_to what) None none.0
         (syncs shape n devices devices' o new h same o.opening.alloc device what next e t (r ∙ ap (λ k. reading_synced o.opening.alloc device k (reading_of o)) none.0) (c ∙ still_none device o.opening.commit none.0) d)
@@ -95,7 +95,7 @@ module _ (shape : Shape) (n : ℕ) (devices devices' : Devices Memory) (o new : 
   ]
 
   pub puts_there : (what : What) → want o.task ≡ Device WriteRoot → what ≡ Stepped (Device WriteRoot) Done → new.task ≡ after o.task Done → (reading_of new) ≡ (reading_of o) → new.opening.commit ≡ commit_written o.opening.commit →
-      PutsCommitted o.opening.commit devices.metadata.contents devices'.metadata.contents → contents_of devices' ≡ record (contents_of devices) { metadata = devices'.metadata.contents } → Happens shape (state_of n devices (Underway o)) (Step o.actor) what [] (state_of n devices' (Underway new))
+      PutsCommitted o.opening.commit devices.metadata.contents devices'.metadata.contents → contents_of devices' ≡ record (contents_of devices) { metadata = devices'.metadata.contents } → Happens shape (state_of n devices (Underway o)) (Step o.asked.actor) what [] (state_of n devices' (Underway new))
   puts_there what next e t r c put d =
       let all = root_at (sym next) in
       let old = devices.metadata.contents in
@@ -109,7 +109,7 @@ module _ (shape : Shape) (n : ℕ) (devices devices' : Devices Memory) (o new : 
   -- ---- steps that fail
 
   abbrev Fails_to : Choice → What → Now → Type 0
-  Fails_to choice what w = Happens shape w (FaultStep o.actor choice) what [] (state_of n devices' (Underway new))
+  Fails_to choice what w = Happens shape w (FaultStep o.asked.actor choice) what [] (state_of n devices' (Underway new))
 
   root_fails : (choice : Choice) (step : DeviceStep) (what : What) → step ≡ WriteRoot → (all : HasReadAll shape.geometry NodesSynced (reading_of o) o.opening.commit) → want o.task ≡ Device step → what ≡ Stepped (Device step) Fault → MayFail (device_of step) choice (length (device_in (device_of step) (contents_of devices))) →
       new.task ≡ after o.task Fault → (reading_of new) ≡ reading_failed (device_of step) (reading_of o) → new.opening.commit ≡ commit_failed (device_of step) o.opening.commit →
@@ -132,7 +132,7 @@ module _ (shape : Shape) (n : ℕ) (devices devices' : Devices Memory) (o new : 
 
   pub fails_there : (choice : Choice) (step : DeviceStep) (what : What) → device_step_of (want o.task) ≡ Some step → want o.task ≡ Device step → what ≡ Stepped (Device step) Fault → MayFail (device_of step) choice (length (device_in (device_of step) (contents_of devices))) →
       new.task ≡ after o.task Fault → (reading_of new) ≡ reading_failed (device_of step) (reading_of o) → new.opening.commit ≡ commit_failed (device_of step) o.opening.commit →
-      FailsOn o.opening.commit step choice (contents_of devices) (contents_of devices') → Happens shape (state_of n devices (Underway o)) (FaultStep o.actor choice) what [] (state_of n devices' (Underway new))
+      FailsOn o.opening.commit step choice (contents_of devices) (contents_of devices') → Happens shape (state_of n devices (Underway o)) (FaultStep o.asked.actor choice) what [] (state_of n devices' (Underway new))
   fails_there choice step what kind next e m t r c d = elim (finds shape.geometry n o step stands kind) [
     | inl none ↦ at_commit n devices o (Fails_to choice what) None none.0
         (fails shape n devices devices' o new h same choice step what none.1 kind next e m t r (c ∙ none_failed (device_of step) o.opening.commit none.0)

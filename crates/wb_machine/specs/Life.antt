@@ -4,7 +4,8 @@ use Rattle.std.specs.declared.alloc.Global.{Global}
 use Rattle.wb_types.specs.declared.geometry.Geometry.{Geometry}
 use Rattle.wb_types.specs.declared.mode.Dev.{Dev}
 use Rattle.wb_types.specs.declared.mode.Dev.TheVariants.{Metadata}
-use Rattle.wb_types.specs.declared.mode.Mode.TheVariants.{Writeback}
+use Rattle.wb_types.specs.declared.mode.Mode.{Mode}
+use Rattle.wb_types.specs.declared.mode.Mode.TheVariants.{Passthrough}
 use Rattle.wb_disk.specs.Device.{Content as Bytes, History}
 use Rattle.wb_disk.specs.Memory.{Memory}
 use Rattle.wb_disk.specs.Crash.{Choice}
@@ -64,19 +65,19 @@ pub record Life : Type 0 where
 abbrev pub contents_of : Devices Memory → Devices (List History)
 contents_of devices = record { metadata = devices.metadata.contents; cache = devices.cache.contents; origin = devices.origin.contents }
 
--- who opens, with this left of the opening
-abbrev pub opening_actor : Plan → Actor
-opening_actor plan = record { task = Some (Open Writeback, plan); card = blank_card; orders = []; awaiting = []; buffer = [] }
+-- who opens in this mode, with this left of the opening
+abbrev pub opening_actor : Mode → Plan → Actor
+opening_actor mode plan = record { task = Some (Open mode, plan); card = blank_card; orders = []; awaiting = []; buffer = [] }
 
 -- Beside who opens nobody is at anything. Over a target each is at what its member is at, and has a card.
 abbrev pub actors_of : ℕ → Phase → List Actor
 actors_of actors Closed = replicate actors resting
-actors_of actors (Underway opener) = slice_set (replicate actors resting) opener.actor (opening_actor opener.task)
+actors_of actors (Underway opener) = slice_set (replicate actors resting) opener.asked.actor (opening_actor opener.asked.mode opener.task)
 actors_of actors (Standing target members) = with_cards members.items target.crew.cards
 
 abbrev pub phase_of : Phase → RunPhase Quiet Global
 phase_of Closed = Gone
-phase_of (Underway opener) = Opens Writeback (reading_of opener)
+phase_of (Underway opener) = Opens opener.asked.mode (reading_of opener)
 phase_of (Standing target members) = Stands (record { words = target.crew.words; desk = target.desk })
 
 -- the commit of an opening's root, once all was read, or that of a flush
@@ -91,7 +92,7 @@ state_of actors devices phase = record { devices = contents_of devices; commit =
 -- who opens is one of so many, and a target has a card and a member for each
 abbrev pub IsThere : ℕ → Phase → Type 0
 IsThere actors Closed = Unit {0}
-IsThere actors (Underway opener) = opener.actor < actors
+IsThere actors (Underway opener) = opener.asked.actor < actors
 IsThere actors (Standing target members) = (length target.crew.cards ≡ actors) × (length members.items ≡ actors)
 
 -- a target stands once an opening was answered done
@@ -106,7 +107,7 @@ answered phase = Closed
 -- this actor has a task: it opens, or its member is at something
 abbrev pub has_task : ℕ → Phase → Bool
 has_task a Closed = false
-has_task a (Underway opener) = opener.actor == a
+has_task a (Underway opener) = opener.asked.actor == a
 has_task a (Standing target members) = works_there members.items a
 
 -- a target stands
@@ -119,10 +120,11 @@ abbrev pub is_sound : Phase → Bool
 is_sound (Standing target members) = not target.failed
 is_sound phase = false
 
--- a job that may start where no target stands that has not failed
-abbrev pub is_opening : Job → Bool
-is_opening (Open Writeback) = true
-is_opening job = false
+-- the mode of an opening, where it may start if no target stands that has not failed: none does in passthrough
+abbrev pub opened_in : Job → Option Mode
+opened_in (Open Passthrough) = None
+opened_in (Open mode) = Some mode
+opened_in job = None
 
 -- a job of a target that stands
 abbrev pub wants_target : Job → Bool

@@ -4,6 +4,7 @@ use Rattle.std.specs.declared.alloc.Global.{Global}
 use Rattle.wb_types.specs.Extents.{pieces}
 use Rattle.wb_types.specs.declared.extent.Extent.{Extent}
 use Rattle.wb_types.specs.declared.geometry.Geometry.{Geometry}
+use Rattle.wb_types.specs.declared.mode.Mode.{Mode}
 use Rattle.wb_types.specs.declared.mode.Dev.{Dev}
 use Rattle.wb_types.specs.declared.mode.Dev.TheVariants.{Metadata}
 use Rattle.wb_disk.specs.Device.{Content as Bytes, History}
@@ -88,13 +89,13 @@ desk_given desk (Migrate migration block) (Orders cut cache) = reserved desk cac
 desk_given desk (Replace old new) (Orders cut cache) = reserved desk cache (ReplaceOrder old new cache) false
 desk_given desk job chosen = desk
 
--- what is at this job from now on
-abbrev pub member_given : Shape → Member → Job → Chosen Quiet Global → Member
-member_given shape m job chosen = record { task = Some (begun_as job, table (task_job shape m.awaiting job (cut_of chosen))); orders = orders_given m.orders job chosen; awaiting = m.awaiting; buffer = m.buffer }
+-- what is at this job from now on, over a target of this mode
+abbrev pub member_given : Shape → Mode → Member → Job → Chosen Quiet Global → Member
+member_given shape mode m job chosen = record { task = Some (begun_as job, table (task_job shape mode m.awaiting job (cut_of chosen))); orders = orders_given m.orders job chosen; awaiting = m.awaiting; buffer = m.buffer }
 
 -- What a start that is not skipped leaves of the desk and of who starts: an order may be given.
 abbrev pub LeavesStarted : Shape → DeskState Quiet → Member → Job → What → Chosen Quiet Global → DeskState Quiet → Member → Type 0
-LeavesStarted shape desk m job Started chosen desk' m' = (desk' ≡ desk_given desk job chosen) × (m' ≡ member_given shape m job chosen)
+LeavesStarted shape desk m job Started chosen desk' m' = (desk' ≡ desk_given desk job chosen) × (m' ≡ member_given shape desk.mode m job chosen)
 LeavesStarted shape desk m job (Refused refusal) chosen desk' m' = (desk' ≡ desk) × (m' ≡ m)
 LeavesStarted shape desk m job what chosen desk' m' = ⊥
 

@@ -1,5 +1,5 @@
 -- Where an opening of the machine stands in its table, and how far its reading has come there.
-use Rattle.std.specs.Prelude.{◌≡◌, ◌≤◌, ◌+◌, ℕ, List, [], ◌∷◌, Option, Some, None, length, slice_get}
+use Rattle.std.specs.Prelude.{◌≡◌, ◌≤◌, ◌+◌, ℕ, List, Option, Some, None, length, slice_get}
 use Rattle.std.specs.declared.alloc.Global.{Global}
 use Rattle.wb_types.specs.Limits.{node_count}
 use Rattle.wb_types.specs.declared.geometry.Geometry.{Geometry}
@@ -19,6 +19,7 @@ use Rattle.wb_devices.specs.declared.running.RunningCommit.{RunningCommit}
 use Rattle.wb_words.specs.SharedWords.{flag}
 use Rattle.wb_promise.specs.declared.job.Job.{Job}
 use Rattle.wb_machine.specs.Members.{Member}
+use Rattle.wb_machine.specs.declared.asked.Asked.{Asked}
 use Rattle.wb_machine.specs.declared.making.Made.{Made}
 use Rattle.wb_machine.specs.declared.opener.Opener.{Opener}
 use Rattle.wb_machine.specs.declared.phase.Phase.{Phase}
@@ -57,12 +58,12 @@ HasComeTo g AtEnd reading commit = HasReadAll g Committed reading commit
 HasComeTo g (AtRefusal refusal) reading commit = Unit {0}
 
 -- What the answer wants was made once all was read, and not before.
-abbrev pub HasMadeThere : Geometry → ℕ → OpenPoint → ℕ → Option Made → Type 0
-HasMadeThere g actors AtRoot actor made = HasMade g actors actor made
-HasMadeThere g actors AtRootSync actor made = HasMade g actors actor made
-HasMadeThere g actors AtEnd actor made = HasMade g actors actor made
-HasMadeThere g actors (AtRefusal refusal) actor made = Unit {0}
-HasMadeThere g actors point actor made = made ≡ None
+abbrev pub HasMadeThere : Geometry → ℕ → OpenPoint → Asked → Option Made → Type 0
+HasMadeThere g actors AtRoot asked made = HasMade g actors asked made
+HasMadeThere g actors AtRootSync asked made = HasMade g actors asked made
+HasMadeThere g actors AtEnd asked made = HasMade g actors asked made
+HasMadeThere g actors (AtRefusal refusal) asked made = Unit {0}
+HasMadeThere g actors point asked made = made ≡ None
 
 -- An opening over metadata of this geometry, for so many actors, stands at some point.
 pub record StandsAt (g : Geometry) (actors : ℕ) (o : Opener) : Type 0 where
@@ -70,7 +71,7 @@ pub record StandsAt (g : Geometry) (actors : ℕ) (o : Opener) : Type 0 where
   pub plan_is : o.task ≡ plan_from g.meta_sectors point
   pub geometry : o.opening.geometry ≡ g
   pub come : HasComeTo g point (reading_of o) o.opening.commit
-  pub made : HasMadeThere g actors point o.actor o.made
+  pub made : HasMadeThere g actors point o.asked o.made
 
 -- a flush allows as many nodes as an image may have
 abbrev pub AllowsImages : ℕ → TaskJob → Type 0

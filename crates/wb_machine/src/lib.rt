@@ -1,9 +1,10 @@
 //! A cache over three devices in memory that runs by events, one atomic step at a time: what happens in it is what the
 //! definitions of wb_promise allow.
 //!
-//! Over a target that was opened reads, writes, flushes, promotions, demotions, write-backs and replacements run.
+//! Openings start in write-back and in write-through. Over a target that was opened reads, writes, flushes, promotions, demotions, write-backs and replacements run.
 #![tactic(auto)]
 
+mod asked;
 mod asking;
 mod keeping;
 mod known_crew;
@@ -26,6 +27,7 @@ mod trace;
 mod viewing;
 mod work;
 
+pub use asked::Asked;
 pub use known_crew::KnownCrew;
 pub use machine::{ACTORS, Machine};
 pub use making::Made;

@@ -8,6 +8,7 @@ ghost use Rattle.wb_machine.specs.declared.machine.TheConstants.{ACTORS};
 ghost use Rattle.wb_machine.specs.Making.{IsMade, read_of};
 ghost use Rattle.wb_machine.specs.Members.{free};
 
+use crate::asked::Asked;
 use crate::known_crew::KnownCrew;
 use crate::machine::ACTORS;
 use crate::member::Member;
@@ -18,7 +19,7 @@ use wb_desk::Desk;
 use wb_format::Root;
 use wb_meta::State;
 use wb_policy::Quiet;
-use wb_types::{Mode, Place, Refusal};
+use wb_types::{Place, Refusal};
 
 /// The target that stands once the opening is answered done, and its actors, which wants no more memory, and the root and the
 /// places that were read; the tree that was read is the desk's.
@@ -30,17 +31,17 @@ pub struct Made {
     pub members: Vec<Member>,
 }
 
-/// The target over what an actor's opening has read, by the root that comes next. `Memory` where there is none for it.
+/// The target over what an opening that was asked for so has read, by the root that comes next. `Memory` where there is none for it.
 pub(crate) fn make(
     alloc: Global,
-    actor: usize,
+    asked: Asked,
     state: State<Global>,
     next: Root,
 ) -> Result<Made, Refusal>
-    requires actor { actor < ACTORS }
+    requires actor { asked.actor < ACTORS }
     requires fits { FitsDevice state.root.geometry.meta_sectors state.root state.tree state.used.items }
     requires next { next ≡ reopened state.root }
-    ensures made { IfOk result (IsMade state.root.geometry ACTORS actor) }
+    ensures made { IfOk result (IsMade state.root.geometry ACTORS asked) }
     ensures read { IfOk result (λ made. read_of made ≡ state) }
     ensures refused { IfErr result (λ refusal. refusal ≡ Memory) }
 {
@@ -49,13 +50,13 @@ pub(crate) fn make(
     let places = copied(alloc, &used)?;
     let members = resting_members(alloc)?;
     let mut crew = KnownCrew::new(alloc, geometry.origin_blocks, ACTORS)?;
-    seal_all(&mut crew, actor, &geometry, root.clean, &tree);
+    seal_all(&mut crew, asked.actor, &geometry, root.clean, &tree);
     let state = State {
         root: next,
         tree,
         used: places,
     };
-    let desk = Desk::new(alloc, state, Mode::Writeback, Quiet, &[])?;
+    let desk = Desk::new(alloc, state, asked.mode, Quiet, &[])?;
     let target = Target {
         crew,
         desk,

@@ -107,7 +107,8 @@ impl Member {
         if let Some(refusal) = refusal_of(geometry, job) {
             return Ok(What::Refused(refusal));
         }
-        let task = task_of(alloc, geometry, self.awaiting.as_slice(), job)?;
+        let mode = desk.mode();
+        let task = task_of(alloc, geometry, mode, self.awaiting.as_slice(), job)?;
         if is_ordered(job) {
             let has_order = self.take_order(desk, job)?;
             if !has_order {

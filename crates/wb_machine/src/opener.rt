@@ -26,6 +26,7 @@ ghost use Rattle.wb_machine.specs.Making.{HasMade, MadeBy, reading_of};
 ghost use Rattle.wb_machine.specs.Serving.{ComesNext, RootComes, SyncComes};
 ghost use Rattle.wb_machine.specs.Standing.{HasReadAll, IsReading, StandsAt};
 
+use crate::asked::Asked;
 use crate::machine::ACTORS;
 use crate::making::{Made, make};
 use crate::moving::{device_of, falter, make_room, sectors_of};
@@ -37,11 +38,11 @@ use wb_meta::ReadSteps;
 use wb_tasks::{DeviceStep, Got, Task};
 use wb_types::{Content, Dev, Geometry, Refusal, SECTOR_BYTES};
 
-/// Who opens, what is left of the opening, and what was read: the reading begins once the metadata were synced, and is over where
+/// Who opens in which mode, what is left of the opening, and what was read: the reading begins once the metadata were synced, and is over where
 /// the metadata device has failed, as is the commit of the root. Once all was read, what the answer wants has been made of it.
 #[derive(Drop)]
 pub struct Opener {
-    pub actor: usize,
+    pub asked: Asked,
     pub task: OpenTask,
     pub opening: Opening,
     pub made: Option<Made>,
@@ -57,12 +58,12 @@ impl Opener {
     ) -> Result<Got, Refusal>
         requires next { device_step_of (want self.old.task) ≡ Some step }
         requires whole { length devices.old.metadata.contents ≡ geometry.now.meta_sectors }
-        requires there { self.old.actor < ACTORS }
+        requires there { self.old.asked.actor < ACTORS }
         requires stands { StandsAt geometry.now ACTORS self.old }
-        ensures actor { self.new.actor ≡ self.old.actor }
+        ensures asked { self.new.asked ≡ self.old.asked }
         ensures whole { length devices.new.metadata.contents ≡ geometry.now.meta_sectors }
         ensures stands { StandsAt geometry.now ACTORS self.new }
-        ensures does { IfOk result (λ got. Happens (shape_of geometry.now ACTORS) (state_of ACTORS devices.old (Underway self.old)) (Step self.old.actor) (Stepped (Device step) got) [] (state_of ACTORS devices.new (Underway self.new))) }
+        ensures does { IfOk result (λ got. Happens (shape_of geometry.now ACTORS) (state_of ACTORS devices.old (Underway self.old)) (Step self.old.asked.actor) (Stepped (Device step) got) [] (state_of ACTORS devices.new (Underway self.new))) }
         ensures err { OnErr result ((contents_of devices.new ≡ contents_of devices.old) × (self.new ≡ self.old)) }
         ensures refusal { IfErr result (λ refusal. refusal ≡ Memory) }
     {
@@ -85,7 +86,7 @@ impl Opener {
     fn sync(&mut self, devices: &mut Devices<MemDisk>, device: Dev)
         requires next { want self.old.task ≡ Device (Sync device) }
         requires comes { SyncComes device self.old.opening.commit devices.old.metadata.contents }
-        ensures actor { self.new.actor ≡ self.old.actor }
+        ensures asked { self.new.asked ≡ self.old.asked }
         ensures task { self.new.task ≡ after self.old.task Done }
         ensures geometry { self.new.opening.geometry ≡ self.old.opening.geometry }
         ensures commit { self.new.opening.commit ≡ commit_synced device self.old.opening.commit }
@@ -100,7 +101,7 @@ impl Opener {
 
     /// Where no commit runs, the metadata that are made durable are to be read.
     fn begin(&mut self, device: Dev)
-        ensures actor { self.new.actor ≡ self.old.actor }
+        ensures asked { self.new.asked ≡ self.old.asked }
         ensures task { self.new.task ≡ self.old.task }
         ensures geometry { self.new.opening.geometry ≡ self.old.opening.geometry }
         ensures commit { self.new.opening.commit ≡ self.old.opening.commit }
@@ -125,7 +126,7 @@ impl Opener {
         requires next { want self.old.task ≡ Device WriteRoot }
         requires comes { ComesNext self.old.opening.commit WriteRoot devices.old.metadata.contents }
         ensures size { length devices.new.metadata.contents ≡ length devices.old.metadata.contents }
-        ensures actor { self.new.actor ≡ self.old.actor }
+        ensures asked { self.new.asked ≡ self.old.asked }
         ensures task { OnOk result (self.new.task ≡ after self.old.task Done) }
         ensures geometry { self.new.opening.geometry ≡ self.old.opening.geometry }
         ensures reading { reading_of self.new ≡ reading_of self.old }
@@ -143,18 +144,18 @@ impl Opener {
 
     /// Reads the metadata sector that comes next, as the next step, where at most so many may follow.
     fn read(&mut self, geometry: &Geometry, metadata: &mut MemDisk, left: u32) -> Got
-        requires there { self.old.actor < ACTORS }
+        requires there { self.old.asked.actor < ACTORS }
         requires next { want self.old.task ≡ Device (ReadMetadata left) }
         requires none { self.old.made ≡ None }
         requires geometry { self.old.opening.geometry ≡ geometry.now }
         requires size { length metadata.old.contents ≡ geometry.now.meta_sectors }
         requires reads { IsReading geometry.now left self.old.opening.reading self.old.opening.commit }
         ensures contents { metadata.new.contents ≡ metadata.old.contents }
-        ensures actor { self.new.actor ≡ self.old.actor }
+        ensures asked { self.new.asked ≡ self.old.asked }
         ensures task { self.new.task ≡ after self.old.task result }
         ensures geometry { self.new.opening.geometry ≡ self.old.opening.geometry }
         ensures did { (was : Steps GlobalValue) → self.old.opening.reading ≡ Some was → DidTell geometry.now geometry.now.meta_sectors left was metadata.old.contents self.old.opening.commit result (reading_of self.new) self.new.opening.commit }
-        ensures made { MadeBy geometry.now ACTORS result self.old.actor self.new.made }
+        ensures made { MadeBy geometry.now ACTORS result self.old.asked self.new.made }
     {
         let got = self.tell(geometry, metadata, left);
         self.task.next(got);
@@ -164,18 +165,18 @@ impl Opener {
     /// Tells the opening what stands in the metadata sector that comes next. Where all was read, what the answer wants is made; the
     /// opening is refused where there is no memory for it.
     fn tell(&mut self, geometry: &Geometry, metadata: &mut MemDisk, left: u32) -> Got
-        requires there { self.old.actor < ACTORS }
+        requires there { self.old.asked.actor < ACTORS }
         requires none { self.old.made ≡ None }
         requires geometry { self.old.opening.geometry ≡ geometry.now }
         requires size { length metadata.old.contents ≡ geometry.now.meta_sectors }
         requires reads { IsReading geometry.now left self.old.opening.reading self.old.opening.commit }
         ensures contents { metadata.new.contents ≡ metadata.old.contents }
-        ensures actor { self.new.actor ≡ self.old.actor }
+        ensures asked { self.new.asked ≡ self.old.asked }
         ensures task { self.new.task ≡ self.old.task }
         ensures kind { Fits (Device (ReadMetadata left)) result }
         ensures geometry { self.new.opening.geometry ≡ self.old.opening.geometry }
         ensures did { (was : Steps GlobalValue) → self.old.opening.reading ≡ Some was → DidTell geometry.now geometry.now.meta_sectors left was metadata.old.contents self.old.opening.commit result (reading_of self.new) self.new.opening.commit }
-        ensures made { MadeBy geometry.now ACTORS result self.old.actor self.new.made }
+        ensures made { MadeBy geometry.now ACTORS result self.old.asked self.new.made }
     {
         let _two_slots = geometry.node_count();
         match self.opening.read(metadata, left) {
@@ -189,15 +190,15 @@ impl Opener {
 
     /// Makes what the answer wants, once all was read. `Memory` where there is none for it: then the reading is over.
     fn prepare(&mut self) -> Result<(), Refusal>
-        requires there { self.old.actor < ACTORS }
+        requires there { self.old.asked.actor < ACTORS }
         requires none { self.old.made ≡ None }
         requires all { HasReadAll self.old.opening.geometry NodesSynced self.old.opening.reading self.old.opening.commit }
-        ensures actor { self.new.actor ≡ self.old.actor }
+        ensures asked { self.new.asked ≡ self.old.asked }
         ensures task { self.new.task ≡ self.old.task }
         ensures geometry { self.new.opening.geometry ≡ self.old.opening.geometry }
         ensures reading { OnOk result (reading_of self.new ≡ self.old.opening.reading) }
         ensures commit { OnOk result (self.new.opening.commit ≡ self.old.opening.commit) }
-        ensures made { OnOk result (HasMade self.old.opening.geometry ACTORS self.old.actor self.new.made) }
+        ensures made { OnOk result (HasMade self.old.opening.geometry ACTORS self.old.asked self.new.made) }
         ensures over { OnErr result ((reading_of self.new ≡ None) × (self.new.opening.commit ≡ None) × (self.new.made ≡ None)) }
         ensures refused { IfErr result (λ refusal. refusal ≡ Memory) }
     {
@@ -208,7 +209,7 @@ impl Opener {
             return Ok(());
         };
         let next = commit.image().root;
-        match make(self.opening.alloc, self.actor, state, next) {
+        match make(self.opening.alloc, self.asked, state, next) {
             Ok(made) => {
                 self.made = Some(made);
                 Ok(())
@@ -223,7 +224,7 @@ impl Opener {
     /// Its next step, on a device, has failed.
     pub(crate) fn fail(&mut self, step: DeviceStep)
         requires { device_step_of (want self.old.task) ≡ Some step }
-        ensures actor { self.new.actor ≡ self.old.actor }
+        ensures asked { self.new.asked ≡ self.old.asked }
         ensures task { self.new.task ≡ after self.old.task Fault }
         ensures geometry { self.new.opening.geometry ≡ self.old.opening.geometry }
         ensures commit { self.new.opening.commit ≡ commit_failed (device_of step) self.old.opening.commit }
@@ -238,7 +239,7 @@ impl Opener {
 
     /// The reading is over, and what was made of it is gone.
     fn close(&mut self)
-        ensures actor { self.new.actor ≡ self.old.actor }
+        ensures asked { self.new.asked ≡ self.old.asked }
         ensures task { self.new.task ≡ self.old.task }
         ensures geometry { self.new.opening.geometry ≡ self.old.opening.geometry }
         ensures commit { self.new.opening.commit ≡ None }

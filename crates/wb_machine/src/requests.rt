@@ -82,27 +82,28 @@ pub(crate) fn order_for(migration: Migration, block: OBlock) -> Order
     }
 }
 
-/// The task of a job that may be started, by an actor of whom these orders wait for a flush: of a read's, write's or migration's steps on
+/// The task of a job that may be started over a target of this mode, by an actor of whom these orders wait for a flush: of a read's, write's or migration's steps on
 /// a device each takes one sector, and a flush serves those orders and allows as many nodes as an image may have. `Memory` where there
 /// is none for the list of what it serves.
 pub(crate) fn task_of(
     alloc: Global,
     geometry: &Geometry,
+    mode: Mode,
     awaiting: &[Order],
     job: &Job,
 ) -> Result<Work, Refusal>
     requires over { wants_target job.now ≡ true }
     requires may_start { job_refusal (shape_of geometry.now ACTORS) job.now ≡ None }
-    ensures task { IfOk result (λ task. task ≡ table (task_job (shape_of geometry.now ACTORS) awaiting.now job.now (cut_for (shape_of geometry.now ACTORS) job.now))) }
+    ensures task { IfOk result (λ task. task ≡ table (task_job (shape_of geometry.now ACTORS) mode awaiting.now job.now (cut_for (shape_of geometry.now ACTORS) job.now))) }
     ensures refusal { IfErr result (λ refusal. refusal ≡ Memory) }
 {
     match job {
         Job::Read(extent) => {
-            let task = moves(geometry, wb_tasks::Work::Read, *extent);
+            let task = moves(geometry, mode, wb_tasks::Work::Read, *extent);
             Ok(Work::on_block(task))
         }
         Job::Write(extent, _) => {
-            let task = moves(geometry, wb_tasks::Work::Write, *extent);
+            let task = moves(geometry, mode, wb_tasks::Work::Write, *extent);
             Ok(Work::on_block(task))
         }
         Job::Flush => {
@@ -121,13 +122,13 @@ fn migrates(geometry: &Geometry, migration: Migration, block: OBlock) -> Work
     Work::on_block(BlockTask::migrate(migration, geometry.block, block, 1))
 }
 
-/// The task that does this with sectors of one block.
-fn moves(geometry: &Geometry, work: wb_tasks::Work, extent: Extent) -> BlockTask
+/// The task that does this with sectors of one block, in this mode.
+fn moves(geometry: &Geometry, mode: Mode, work: wb_tasks::Work, extent: Extent) -> BlockTask
     requires { extent_refusal (shape_of geometry.now ACTORS) extent ≡ None }
-    ensures { result ≡ table (OnBlock (job_on_block work (block_range (shape_of geometry.now ACTORS) extent (pieces 1 extent)))) }
+    ensures { result ≡ table (OnBlock (job_on_block work (block_range (shape_of geometry.now ACTORS) mode extent (pieces 1 extent)))) }
 {
     let block = block_of(geometry, extent);
-    BlockTask::new(work, Mode::Writeback, geometry.block, block, extent, 1)
+    BlockTask::new(work, mode, geometry.block, block, extent, 1)
 }
 
 /// The block in which these sectors lie.

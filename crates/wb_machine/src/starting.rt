@@ -3,10 +3,11 @@
 ghost use Rattle.std.specs.Prelude.{◌≡◌, ◌<◌, [], false, length};
 ghost use Rattle.wb_promise.specs.declared.event.Event.TheVariants.{Start};
 ghost use Rattle.wb_machine.specs.declared.machine.TheConstants.{ACTORS};
-ghost use Rattle.wb_machine.specs.Life.{Happens, IsThere, has_task, is_opening, is_sound, shape_of, state_of, wants_target};
+ghost use Rattle.wb_machine.specs.Life.{Happens, IsThere, has_task, is_sound, opened_in, shape_of, state_of, wants_target};
 ghost use Rattle.wb_machine.specs.Members.{works_there};
 ghost use Rattle.wb_machine.specs.Standing.{IsSoundPhase};
 
+use crate::asked::Asked;
 use crate::machine::ACTORS;
 use crate::member::Member;
 use crate::opener::Opener;
@@ -18,8 +19,8 @@ use wb_flow::OpenTask;
 use wb_promise::{Job, What};
 use wb_types::{Geometry, Mode};
 
-/// An actor gets an opening, if it has no task. It starts in write-back mode, and what another actor was opening is given up; over
-/// a target that stands it starts once that has failed, and ends it and what everybody was at.
+/// An actor gets an opening, if it has no task. It starts in write-back and in write-through, and what another actor was opening is given
+/// up; over a target that stands it starts once that has failed, and ends it and what everybody was at.
 pub(crate) fn open(
     geometry: &Geometry,
     alloc: Global,
@@ -38,11 +39,14 @@ pub(crate) fn open(
     if actor >= ACTORS || is_busy(phase, actor) {
         return What::Skipped;
     }
-    if !is_opening(job) || is_sound(phase) {
+    let Some(mode) = opened_in(job) else {
+        return What::Skipped;
+    };
+    if is_sound(phase) {
         return What::Skipped;
     }
     let opener = Opener {
-        actor,
+        asked: Asked { actor, mode },
         task: OpenTask::reading(geometry.meta_sectors),
         opening: Opening {
             geometry: *geometry,
@@ -56,11 +60,15 @@ pub(crate) fn open(
     What::Started
 }
 
-/// Whether the job is an opening in write-back mode.
-fn is_opening(job: &Job) -> bool
-    ensures { result ≡ is_opening job.now }
+/// The mode of an opening, if the job is one that starts: none does in passthrough.
+fn opened_in(job: &Job) -> Option<Mode>
+    ensures { result ≡ opened_in job.now }
 {
-    matches!(job, Job::Open(Mode::Writeback))
+    match job {
+        Job::Open(Mode::Passthrough) => None,
+        Job::Open(mode) => Some(*mode),
+        _ => None,
+    }
 }
 
 /// Whether this actor has a task.
@@ -71,7 +79,7 @@ fn is_busy(phase: &Phase, actor: usize) -> bool
 {
     match phase {
         Phase::Closed => false,
-        Phase::Underway(opener) => opener.actor == actor,
+        Phase::Underway(opener) => opener.asked.actor == actor,
         Phase::Standing(_, members) => works(members, actor),
     }
 }

@@ -37,7 +37,7 @@ pub(crate) fn step_opening(
     let Phase::Underway(opener) = phase else {
         return Ok(What::Skipped);
     };
-    if opener.actor != actor {
+    if opener.asked.actor != actor {
         return Ok(What::Skipped);
     }
     let want = opener.task.want();
@@ -102,7 +102,7 @@ pub(crate) fn fail_opening(
     let Phase::Underway(opener) = phase else {
         return Ok(What::Skipped);
     };
-    if opener.actor != actor {
+    if opener.asked.actor != actor {
         return Ok(What::Skipped);
     }
     let want = opener.task.want();

@@ -20,8 +20,9 @@ returns-then-actor-ge-ACTORS-clause-does c =
 pub returns-clause-does : goal.returns-clause-does
 returns-clause-does c =
     let shape = shape_of c.args.geometry.now ACTORS in
-    rw c.put.ensures (starts shape c.args.devices.now ACTORS c.args.phase.now c.requires.there c.requires.sound.stands c.args.actor c.args.job.now _ (record { actor = c.args.actor; task = c.reading.result; opening = record { geometry = c.args.geometry.now; alloc = c.args.alloc; reading = None; commit = None }; made = None })
-    (sym c.is_opening.ensures ∙ c.if-not-is_opening.false) (omega (arith, c.if-actor-ge-ACTORS.false)) (sym c.is_busy.ensures ∙ c.if-is_busy.false) (sym c.is_sound.ensures ∙ c.if-is_sound.false) refl c.reading.ensures refl refl refl)
+    rw c.put.ensures (starts shape c.args.devices.now ACTORS c.args.phase.now c.requires.there c.requires.sound.stands c.args.actor (omega (arith, c.if-actor-ge-ACTORS.false)) (sym c.is_busy.ensures ∙ c.if-is_busy.false) (sym c.is_sound.ensures ∙ c.if-is_sound.false)
+    c.args.job.now c.in-Some.mode _ (record { asked = record { actor = c.args.actor; mode = c.in-Some.mode }; task = c.reading.result; opening = record { geometry = c.args.geometry.now; alloc = c.args.alloc; reading = None; commit = None }; made = None })
+    (sym c.opened_in.ensures ∙ c.in-Some.is) refl c.reading.ensures refl refl refl)
 
 pub returns-clause-there : goal.returns-clause-there
 returns-clause-there c = rw c.put.ensures (omega (arith, c.if-actor-ge-ACTORS.false))

@@ -27,7 +27,7 @@ returns-then-not-fails-clause-ok c =
     let kind = sym c.device_step_of.ensures ∙ c.in-Some.is in
     let next = is_device_step c.want-want.result c.in-Some.step kind in
     let kept = on_false c.in_ok-fails.fails c.if-not-fails.true c.in_ok-fails.ensures.kept in
-    rw (c.in-Underway.is, ← c.if-opener-actor.false, kept, c.in_ok-fails.ensures.commit) (passes (shape_of c.args.geometry.now ACTORS) (state_of ACTORS c.args.devices.now (Underway c.in-Underway.opener)) (FaultStep c.in-Underway.opener.actor c.args.choice.now) _
+    rw (c.in-Underway.is, ← c.if-opener-actor.false, kept, c.in_ok-fails.ensures.commit) (passes (shape_of c.args.geometry.now ACTORS) (state_of ACTORS c.args.devices.now (Underway c.in-Underway.opener)) (FaultStep c.in-Underway.opener.asked.actor c.args.choice.now) _
     (λ may. cannot_fail c.in_ok-fails.fails c.if-not-fails.true (c.in_ok-fails.ensures.may.1 (subst (λ w. MayFailAt (contents_of c.args.devices.now) c.args.choice.now w) (sym c.want-want.ensures ∙ next) (only_busy ACTORS c.in-Underway.opener _ inside may)))) refl)
 
 pub returns-clause-ok : goal.returns-clause-ok
@@ -40,7 +40,7 @@ returns-clause-ok c =
     let coming = ap device_step_of (sym c.want-want.ensures) ∙ kind in
     let failed = on_true c.in_ok-fails.fails c.if-not-fails.false c.in_ok-fails.ensures.failed in
     rw (c.in-Underway.is, ← c.if-opener-actor.false, next)
-    (fails_there shape ACTORS c.args.devices.now c.fail_step.new.devices c.in-Underway.opener c.fail.new.self inside c.fail.ensures.actor c.requires.sound.whole stands c.args.choice.now c.in-Some.step _
+    (fails_there shape ACTORS c.args.devices.now c.fail_step.new.devices c.in-Underway.opener c.fail.new.self inside c.fail.ensures.asked c.requires.sound.whole stands c.args.choice.now c.in-Some.step _
     coming (sym c.want-want.ensures ∙ next) refl (c.in_ok-fails.ensures.may.0 c.if-not-fails.false) c.fail.ensures.task c.fail.ensures.reading (c.fail.ensures.commit ∙ ap (λ k. commit_failed (device_of c.in-Some.step) k) c.in_ok-fails.ensures.commit) failed)
 
 pub returns-clause-sound : goal.returns-clause-sound
@@ -53,7 +53,7 @@ returns-clause-sound c =
     let step = c.in-Some.step in
     record {
       whole = failed_size c.args.geometry.now opener.opening.commit step (reading_of opener) c.args.choice.now (contents_of c.args.devices.now) (contents_of c.fail_step.new.devices) (finds c.args.geometry.now ACTORS opener step stands coming) failed ∙ c.requires.sound.whole;
-      stands = failed_stands c.args.geometry.now ACTORS opener c.fail.new.self step stands coming c.fail.ensures.actor c.fail.ensures.task c.fail.ensures.geometry;
+      stands = failed_stands c.args.geometry.now ACTORS opener c.fail.new.self step stands coming c.fail.ensures.asked c.fail.ensures.task c.fail.ensures.geometry;
     }
 
 pub returns-in_default-device_step_of-clause-ok : goal.returns-in_default-device_step_of-clause-ok
@@ -62,7 +62,7 @@ returns-in_default-device_step_of-clause-ok c =
     let inside = subst (λ o. IsThere ACTORS o) c.in-Underway.is c.requires.there in
     let stands = subst (λ o. StandsSo c.args.geometry.now ACTORS o) c.in-Underway.is c.requires.sound.stands in
     let none = ap device_step_of (sym c.want-want.ensures) ∙ sym c.device_step_of.ensures ∙ c.in_default-device_step_of.is in
-    rw (c.in-Underway.is, ← c.if-opener-actor.false) (passes (shape_of c.args.geometry.now ACTORS) (state_of ACTORS c.args.devices.now (Underway opener)) (FaultStep opener.actor c.args.choice.now) _
+    rw (c.in-Underway.is, ← c.if-opener-actor.false) (passes (shape_of c.args.geometry.now ACTORS) (state_of ACTORS c.args.devices.now (Underway opener)) (FaultStep opener.asked.actor c.args.choice.now) _
     (λ may. never_fails c.args.geometry.now ACTORS opener stands none (contents_of c.args.devices.now) c.args.choice.now (only_busy ACTORS opener _ inside may)) refl)
 
 pub fail_step-requires-clause-comes : goal.fail_step-requires-clause-comes

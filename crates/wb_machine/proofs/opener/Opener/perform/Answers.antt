@@ -24,14 +24,14 @@ returns-in-Sync-clause-stands c =
     let self = c.args.self.now in
     let did = c.sync.ensures in
     let next : want self.task ≡ Device (Sync c.in-Sync.device) = is_device_step (want self.task) c.args.step c.requires.next ∙ ap (λ s. Device s) c.in-Sync.is in
-    synced_stands c.args.geometry.now ACTORS self c.sync.new.self self.opening.alloc c.in-Sync.device c.requires.stands next did.actor did.task did.geometry did.commit did.reading did.made
+    synced_stands c.args.geometry.now ACTORS self c.sync.new.self self.opening.alloc c.in-Sync.device c.requires.stands next did.asked did.task did.geometry did.commit did.reading did.made
 
 pub returns-in-Sync-clause-does : goal.returns-in-Sync-clause-does
 returns-in-Sync-clause-does c =
     let self = c.args.self.now in
     let shape = shape_of c.args.geometry.now ACTORS in
     let next : want self.task ≡ Device (Sync c.in-Sync.device) = is_device_step (want self.task) c.args.step c.requires.next ∙ ap (λ s. Device s) c.in-Sync.is in
-    syncs_there shape ACTORS c.args.devices.now c.sync.new.devices self c.sync.new.self c.requires.there c.sync.ensures.actor c.requires.whole c.requires.stands c.in-Sync.device (Stepped (Device c.args.step) Done) next (ap (λ s. Stepped (Device s) Done) c.in-Sync.is) c.sync.ensures.task c.sync.ensures.reading c.sync.ensures.commit c.sync.ensures.devices
+    syncs_there shape ACTORS c.args.devices.now c.sync.new.devices self c.sync.new.self c.requires.there c.sync.ensures.asked c.requires.whole c.requires.stands c.in-Sync.device (Stepped (Device c.args.step) Done) next (ap (λ s. Stepped (Device s) Done) c.in-Sync.is) c.sync.ensures.task c.sync.ensures.reading c.sync.ensures.commit c.sync.ensures.devices
 
 pub read-requires-clause-next : goal.read-requires-clause-next
 read-requires-clause-next c = is_device_step (want c.args.self.now.task) c.args.step c.requires.next ∙ ap (λ s. Device s) c.in-ReadMetadata.is
@@ -65,7 +65,7 @@ returns-in-ReadMetadata-clause-stands c =
     let u = under_way g left self.opening.reading self.opening.commit plain in
     let two : 2 ≤ g.meta_sectors = omega (arith, c.node_count-two_slots.ensures.two_images_fit) in
     let told = subst (λ x. DidTell g g.meta_sectors left u.was device x c.read.result (reading_of new) new.opening.commit) u.commit_is (did.did u.was u.is) in
-    read_stands g left u.was device c.read.result (reading_of new) new.opening.commit two c.requires.whole u.not_done u.left_is told ACTORS self new c.requires.stands next did.actor did.task did.geometry refl refl did.made
+    read_stands g left u.was device c.read.result (reading_of new) new.opening.commit two c.requires.whole u.not_done u.left_is told ACTORS self new c.requires.stands next did.asked did.task did.geometry refl refl did.made
 
 pub returns-in-ReadMetadata-clause-does : goal.returns-in-ReadMetadata-clause-does
 returns-in-ReadMetadata-clause-does c =
@@ -83,8 +83,8 @@ returns-in-ReadMetadata-clause-does c =
     let two : 2 ≤ g.meta_sectors = omega (arith, c.node_count-two_slots.ensures.two_images_fit) in
     let told = subst (λ x. DidTell g g.meta_sectors left u.was device x c.read.result (reading_of new) new.opening.commit) u.commit_is (did.did u.was u.is) in
     let after = record c.args.devices.now { metadata = c.read.new.metadata } in
-    at_commit ACTORS c.args.devices.now self (λ w. Happens shape w (Step self.actor) (Stepped (Device c.args.step) c.read.result) [] (state_of ACTORS after (Underway new))) None u.commit_is
-    (reads shape ACTORS c.args.devices.now after self new c.requires.there did.actor left u.was c.read.result (Stepped (Device c.args.step) c.read.result) next (ap (λ s. Stepped (Device s) c.read.result) c.in-ReadMetadata.is)
+    at_commit ACTORS c.args.devices.now self (λ w. Happens shape w (Step self.asked.actor) (Stepped (Device c.args.step) c.read.result) [] (state_of ACTORS after (Underway new))) None u.commit_is
+    (reads shape ACTORS c.args.devices.now after self new c.requires.there did.asked left u.was c.read.result (Stepped (Device c.args.step) c.read.result) next (ap (λ s. Stepped (Device s) c.read.result) c.in-ReadMetadata.is)
     (ap (λ m. reading_by m self.opening.reading) at.none ∙ u.is)
     (does_read g left u.was device c.read.result (reading_of new) new.opening.commit two c.requires.whole u.not_done u.left_is told) did.task (ap (λ (m : List History). record (contents_of c.args.devices.now) { metadata = m }) did.contents))
 
@@ -93,7 +93,7 @@ returns-in_ok-write_root-in-WriteRoot-clause-stands c =
     let self = c.args.self.now in
     let next : want self.task ≡ Device WriteRoot = is_device_step (want self.task) c.args.step c.requires.next ∙ ap (λ s. Device s) c.in-WriteRoot.is in
     let done = c.in_ok-write_root-in-WriteRoot.ensures in
-    written_stands c.args.geometry.now ACTORS self c.write_root.new.self c.requires.stands next done.actor done.task done.geometry done.commit done.reading done.made
+    written_stands c.args.geometry.now ACTORS self c.write_root.new.self c.requires.stands next done.asked done.task done.geometry done.commit done.reading done.made
 
 pub returns-in_ok-write_root-in-WriteRoot-clause-does : goal.returns-in_ok-write_root-in-WriteRoot-clause-does
 returns-in_ok-write_root-in-WriteRoot-clause-does c =
@@ -102,7 +102,7 @@ returns-in_ok-write_root-in-WriteRoot-clause-does c =
     let after = c.write_root.new.devices in
     let next : want self.task ≡ Device WriteRoot = is_device_step (want self.task) c.args.step c.requires.next ∙ ap (λ s. Device s) c.in-WriteRoot.is in
     let done = c.in_ok-write_root-in-WriteRoot.ensures in
-    puts_there (shape_of c.args.geometry.now ACTORS) ACTORS c.args.devices.now after self new c.requires.there done.actor c.requires.whole c.requires.stands (Stepped (Device c.args.step) Done) next (ap (λ s. Stepped (Device s) Done) c.in-WriteRoot.is) done.task done.reading done.commit done.puts done.others
+    puts_there (shape_of c.args.geometry.now ACTORS) ACTORS c.args.devices.now after self new c.requires.there done.asked c.requires.whole c.requires.stands (Stepped (Device c.args.step) Done) next (ap (λ s. Stepped (Device s) Done) c.in-WriteRoot.is) done.task done.reading done.commit done.puts done.others
 
 pub write_root-requires-clause-comes : goal.write_root-requires-clause-comes
 write_root-requires-clause-comes c =

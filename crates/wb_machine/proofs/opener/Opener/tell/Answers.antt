@@ -68,4 +68,4 @@ returns-in_default-clause-did c was present =
     rw c.requires.none did
 
 pub returns-in_default-clause-made : goal.returns-in_default-clause-made
-returns-in_default-clause-made c = none_made c.args.geometry.now ACTORS c.args.self.now.actor c.read.result _ c.in_default.not-Done c.requires.none
+returns-in_default-clause-made c = none_made c.args.geometry.now ACTORS c.args.self.now.asked c.read.result _ c.in_default.not-Done c.requires.none
