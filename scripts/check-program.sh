@@ -488,7 +488,7 @@ check 'a block follows one that it replaces, after a flush' "$(replayed "$replac
 check 'a line of no replay' "$(replayed 'setup writeback 64 4 10 4 / start 0 suspend')" 'bad line 2: 1'
 check 'a setup that is refused' "$(replayed 'setup writeback 63 4 10 4')" 'refused 9 Geometry: 1'
 check 'a replay of no line' "$("$cache" replay </dev/null; echo $?)" 0
-has 'help explains replays' "$("$cache" replay --help)" 'setup writeback <block>'
+has 'help explains replays' "$("$cache" replay --help)" 'setup <mode> <block>'
 printf 'setup writeback 64 4 10 4\nview 0 1\n' | "$cache" replay >/dev/full
 check 'a replay that cannot be written ends with 4' $? 4
 

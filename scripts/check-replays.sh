@@ -23,9 +23,10 @@ joined() { # texts: those that are not empty, with slashes between them
   printf '%s' "$all"
 }
 
-while IFS='|' read -r kind one two three four five six <&3; do
+while IFS='|' read -r kind one two three four five six seven eight nine <&3; do
   case $kind in
     '' | '#'*) ;;
+    setup) setup=$one ;;
     plain) compare "$(joined "$setup" "$one")" "$two" ;;
     crash)
       begun=$(joined "$setup" "$one")
@@ -33,6 +34,17 @@ while IFS='|' read -r kind one two three four five six <&3; do
       for base in old new; do
         case $base in old) shown=$five ;; new) shown=$six ;; esac
         compare "$(joined "$begun" "$two" "step 0 $three" "stop $base" "$four")" "$(joined "$told" "$shown")"
+      done
+      ;;
+    both)
+      begun=$(joined "$setup" "$one")
+      told=$(replayed "$begun")
+      for fault in old new; do
+        for base in old new; do
+          case $fault$base in oldold) shown=$six ;; oldnew) shown=$seven ;; newold) shown=$eight ;; newnew) shown=$nine ;; esac
+          compare "$(joined "$begun" "$two" "step 0 $three" "fault 0 $fault" "end 0" "stop $base" "$five")" \
+            "$(joined "$told" "0 refused 5 Io $four" "$shown")"
+        done
       done
       ;;
     fault)

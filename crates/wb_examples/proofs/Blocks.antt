@@ -4,6 +4,7 @@ use Rattle.std.proofs.Common.{◌≡◌, ◌∙◌, ◌≤◌, ◌+◌, inr, ℕ
 use Rattle.std.specs.Prelude.{drop}
 use Rattle.std.proofs.lemmas.List.{length-map}
 use Rattle.std.specs.Int.Bits.{bit_or}
+use Rattle.wb_types.specs.declared.mode.Mode.TheVariants.{Writeback}
 use Rattle.wb_types.specs.declared.mode.Dev.TheVariants.{Origin}
 use Rattle.wb_types.specs.declared.refusal.Refusal.TheVariants.{Memory}
 use Rattle.wb_disk.specs.Device.{Content as Bytes, History, ReadGives, grown, only, newest, written, synced}
@@ -87,7 +88,7 @@ module _ (P A : Type 0) (more : ℕ) (s : Setting P more) where
 
   -- at the last step of a migration of it, which was cut into one extent
   abbrev migrated : Job → Option (Job × Plan)
-  migrated job = over job (task_job (shape P more s) [] job (whole ∷ []))
+  migrated job = over job (task_job (shape P more s) Writeback [] job (whole ∷ []))
 
   -- once its seal was put
   abbrev sealed : ℕ → Words
@@ -151,32 +152,32 @@ module _ (P A : Type 0) (s : Setting P 1) where
     here words desk task orders awaiting = record { devices = d; words = words; desk = desk; task = task; orders = orders; awaiting = awaiting; buffer = buffer }
 
     abbrev wrote : Bytes → Scene P
-    wrote content = here (words 3 0 1 0) (stood P 1 s) (over (Write first_sector content) (task_job shape1 [] (Write first_sector content) (first_sector ∷ []))) [] []
+    wrote content = here (words 3 0 1 0) (stood P 1 s) (over (Write first_sector content) (task_job shape1 Writeback [] (Write first_sector content) (first_sector ∷ []))) [] []
 
     abbrev written_back : Scene P
     written_back = here (words 2 0 1 0) (cleaned P 1 s) (migrated P A 1 s (Migrate Clean first_block)) [] []
 
     abbrev left : Scene P
-    left = here (words 0 0 1 0) (claimed P 1 s) (over (Migrate Demote first_block) (task_job shape1 [] replaces (whole ∷ []))) [] (replacement ∷ [])
+    left = here (words 0 0 1 0) (claimed P 1 s) (over (Migrate Demote first_block) (task_job shape1 Writeback [] replaces (whole ∷ []))) [] (replacement ∷ [])
 
     abbrev failed : Option (Job × Plan) → Scene P
     failed task = record { devices = d; words = record (words 3 0 1 (bit_or 0 1)) { cells = 1 ∷ 0 ∷ [] }; desk = leaving P 1 s replacement; task = task; orders = replacement ∷ []; awaiting = []; buffer = buffer }
 
     -- a flush of these orders has still to do this, and is refused then
     abbrev refused : List Want → Option (Job × Plan)
-    refused steps = Some (Flush, record { job = task_job shape1 (replacement ∷ []) Flush []; steps = steps; answer = IsRefused Memory })
+    refused steps = Some (Flush, record { job = task_job shape1 Writeback (replacement ∷ []) Flush []; steps = steps; answer = IsRefused Memory })
 
     abbrev given : Scene P
     given = here (words 0 0 1 0) (given_up P 1 s) (refused []) [] []
 
     abbrev served : Scene P
-    served = here (words 0 0 1 0) (settled P 1 s) (over Flush (task_job shape1 (replacement ∷ []) Flush [])) [] (replacement ∷ [])
+    served = here (words 0 0 1 0) (settled P 1 s) (over Flush (task_job shape1 Writeback (replacement ∷ []) Flush [])) [] (replacement ∷ [])
 
     abbrev begun : Scene P
-    begun = here (words 0 0 1 0) (settled P 1 s) (Some (follows_job, table (task_job shape1 [] follows_job (next_whole ∷ [])))) (replacement ∷ []) []
+    begun = here (words 0 0 1 0) (settled P 1 s) (Some (follows_job, table (task_job shape1 Writeback [] follows_job (next_whole ∷ [])))) (replacement ∷ []) []
 
     abbrev followed_there : Scene P
-    followed_there = here (words 0 2 1 0) (followed P 1 s) (over follows_job (task_job shape1 [] follows_job (next_whole ∷ []))) [] []
+    followed_there = here (words 0 2 1 0) (followed P 1 s) (over follows_job (task_job shape1 Writeback [] follows_job (next_whole ∷ []))) [] []
 
   -- ---- what happens there
 

@@ -4,7 +4,7 @@ use Rattle.std.proofs.Common.{Global, ◌≡◌, ◌≤◌, ◌+◌, ◌⊎◌, 
 use Rattle.wb_types.specs.declared.extent.Extent.{Extent}
 use Rattle.wb_types.specs.declared.mode.Dev.{Dev}
 use Rattle.wb_types.specs.declared.mode.Dev.TheVariants.{Metadata, Cache, Origin}
-use Rattle.wb_types.specs.declared.mode.Mode.TheVariants.{Writeback}
+use Rattle.wb_types.specs.declared.mode.Mode.TheVariants.{Writeback, Writethrough}
 use Rattle.wb_types.proofs.Truth.{and_true}
 use Rattle.wb_disk.specs.Device.{Content as Bytes}
 use Rattle.wb_disk.specs.Crash.{Choice}
@@ -115,11 +115,12 @@ abbrev is_idle : Option Actor → Bool
 is_idle None = false
 is_idle (Some x) = is_free x.task
 
--- an opening is in place where no target stands, any other job where one does
+-- an opening in write-back or write-through is in place where no target stands, any other job where one does
 abbrev is_in_place : {P A : Type 0} → Phase P A → Job → Bool
 is_in_place (Stands t) (Open mode) = false
 is_in_place (Stands t) job = true
 is_in_place Gone (Open Writeback) = true
+is_in_place Gone (Open Writethrough) = true
 is_in_place phase job = false
 
 -- a step that needs nothing shown
@@ -197,7 +198,8 @@ idle_applies {P} {A} (Some x) phase job e f d = elim d [ inl none ↦ absurd (cc
     placed : (phase : Phase P A) (job : Job) → is_in_place phase job ≡ true → IsOutOfPlace phase job → ⊥
     placed (Stands t) (Open mode) e out = absurd (cc)
     placed (Stands t) job e out = out tt
-    placed Gone (Open Writeback) e out = elim out [ inl t ↦ t | inr other ↦ other refl ]
+    placed Gone (Open Writeback) e out = elim out [ inl t ↦ t | inr past ↦ absurd (cc) ]
+    placed Gone (Open Writethrough) e out = elim out [ inl t ↦ t | inr past ↦ absurd (cc) ]
     placed phase job e out = absurd (cc)
 
 module _ {P A : Type 0} (global : Global) (shape : Shape) (w : State P A) where

@@ -7,6 +7,7 @@ use Rattle.std.proofs.lemmas.List.Elements.{All-nil}
 use lib.ListN.{get_or}
 use Rattle.std.proofs.Math.Nat.{mod-lt}
 use Rattle.wb_types.specs.declared.geometry.Geometry.{Geometry}
+use Rattle.wb_types.specs.declared.mode.Mode.TheVariants.{Writeback}
 use Rattle.wb_types.specs.declared.mode.Dev.{Dev}
 use Rattle.wb_types.specs.declared.mode.Dev.TheVariants.{Metadata, Cache, Origin}
 use Rattle.wb_disk.specs.Device.{Content as Bytes, History, Crashed, newest, only, synced, written}
@@ -97,7 +98,7 @@ module _ (P A : Type 0) (policy : P) (alloc : A) (s : Setting P 0) (metadata cac
 
   -- at the last step of a job on the first sector
   abbrev ending : Job → Option (Job × Plan)
-  ending job = over job (task_job shape0 [] job (first_sector ∷ []))
+  ending job = over job (task_job shape0 Writeback [] job (first_sector ∷ []))
 
   abbrev history : History
   history = record { first = first; later = content ∷ [] }
@@ -115,7 +116,7 @@ module _ (P A : Type 0) (policy : P) (alloc : A) (s : Setting P 0) (metadata cac
   desk_then = ended (commit_begun (desk P 0 s) (desk P 0 s).tree)
 
   abbrev durable : Scene P
-  durable = here (synced (rooted (bare_commit global shape0.geometry (s.generation + 1)) (synced metadata))) (synced cache) (only content ∷ synced sectors) (words 1 1 1) desk_then (over Flush (task_job shape0 [] Flush []))
+  durable = here (synced (rooted (bare_commit global shape0.geometry (s.generation + 1)) (synced metadata))) (synced cache) (only content ∷ synced sectors) (words 1 1 1) desk_then (over Flush (task_job shape0 Writeback [] Flush []))
 
   abbrev notes : History → (last : ℕ) → Option Doing → Notes
   notes history last doing = record { histories = history ∷ histories; finished = last ∷ finished; floors = 0 ∷ floors; doings = doing ∷ doings }

@@ -57,7 +57,7 @@ IsAnsweredRightly floor doing answer shown = AnswersRightly shown (with_floor fl
 
 -- the floors once a flush is answered that began when so much was finished
 abbrev pub floors_after : Shape → ℕ → Answer → List ℕ
-floors_after shape finished answer = (noted_what shape [] (with_floor 0 (record (at_job Flush) { then_finished = finished ∷ [] })) (Step 0) (Stepped (End answer) Done) []).floors
+floors_after shape finished answer = (noted_what shape Writeback [] (with_floor 0 (record (at_job Flush) { then_finished = finished ∷ [] })) (Step 0) (Stepped (End answer) Done) []).floors
 
 pub record ExcludesWrongAnswers (P A : Type 0) : Type 0 where
   -- a finished read was given the last entry, once

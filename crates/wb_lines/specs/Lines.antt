@@ -1,6 +1,7 @@
 -- What the lines of a replay ask.
 use Rattle.std.specs.Prelude.{◌≡◌, ◌==◌, ◌<◌, ◌^◌, ℕ, List, [], ◌∷◌, codes}
 use Rattle.std.specs.List.{slice_split}
+use Rattle.wb_types.specs.declared.mode.Mode.{Mode}
 use Rattle.wb_types.specs.declared.mode.Dev.{Dev}
 use Rattle.wb_types.specs.declared.mode.Dev.TheVariants.{Metadata, Cache, Origin}
 use Rattle.wb_disk.specs.declared.crash_choice.Base.{Base}
@@ -8,11 +9,12 @@ use Rattle.wb_disk.specs.declared.crash_choice.Base.TheVariants.{Durable, Newest
 use Rattle.wb_disk.specs.declared.crash_choice.NamedContent.{NamedContent}
 use Rattle.wb_table.specs.Numbers.{SpellsNumber}
 use Rattle.wb_table.specs.Sectors.{SpellsSectors, SpellsFill}
+use Rattle.wb_table.specs.Status.{mode_name}
 use Rattle.wb_lines.specs.declared.line.TheConstants.{ACTORS}
 use Rattle.wb_lines.specs.declared.line.Line.{Line}
 use Rattle.wb_lines.specs.declared.line.Line.TheVariants.{Nothing, Start, Step, End, Fault, Stop, Open, View}
 use Rattle.wb_lines.specs.declared.line.Task.{Task}
-use Rattle.wb_lines.specs.declared.line.Task.TheVariants.{Read, Write, Flush, Promote, Demote, Clean, Replace}
+use Rattle.wb_lines.specs.declared.line.Task.TheVariants.{Read, Write, Flush, Promote, Demote, Clean, Replace, Open as OpenTask}
 use Rattle.wb_lines.specs.declared.setup.Setup.{Setup}
 
 -- one of the actors
@@ -71,7 +73,12 @@ abbrev pub SpellsOnlyBlock : List (List ℕ) → ℕ → Type 0
 SpellsOnlyBlock (word ∷ []) block = SpellsBlock word block
 SpellsOnlyBlock words block = ⊥
 
--- The words of a task: `r S N`, `w S N hh`, `flush`, `promote b c`, `demote b`, `clean b` or `replace v x`.
+-- a mode, and nothing behind it
+abbrev pub SpellsMode : List (List ℕ) → Mode → Type 0
+SpellsMode (word ∷ []) mode = word ≡ mode_name mode
+SpellsMode words mode = ⊥
+
+-- The words of a task: `r S N`, `w S N hh`, `flush`, `promote b c`, `demote b`, `clean b`, `replace v x` or `open <mode>`.
 abbrev pub SpellsTask : List (List ℕ) → Task → Type 0
 SpellsTask (name ∷ words) (Read at count) = (name ≡ codes "r") × SpellsSectors words at.0 count
 SpellsTask (name ∷ words) (Write at count fill) = (name ≡ codes "w") × SpellsFill words at.0 count fill
@@ -80,6 +87,7 @@ SpellsTask (name ∷ words) (Promote block cache) = (name ≡ codes "promote") �
 SpellsTask (name ∷ words) (Demote block) = (name ≡ codes "demote") × SpellsOnlyBlock words block
 SpellsTask (name ∷ words) (Clean block) = (name ≡ codes "clean") × SpellsOnlyBlock words block
 SpellsTask (name ∷ words) (Replace old new) = (name ≡ codes "replace") × SpellsBlocks words old new
+SpellsTask (name ∷ words) (OpenTask mode) = (name ≡ codes "open") × SpellsMode words mode
 SpellsTask words task = ⊥
 
 -- how many steps: one where no number stands
@@ -121,17 +129,17 @@ Asks (name ∷ words) (Step actor steps) = (name ≡ codes "step") × SpellsStep
 Asks (name ∷ words) (End actor) = (name ≡ codes "end") × SpellsEnd words actor
 Asks (name ∷ words) (Fault actor base) = (name ≡ codes "fault") × SpellsFault words actor base
 Asks (name ∷ words) (Stop base named) = (name ≡ codes "stop") × SpellsStop words base named.items
-Asks (name ∷ words) Open = (name ≡ codes "open") × (words ≡ codes "writeback" ∷ [])
+Asks (name ∷ words) (Open mode) = (name ≡ codes "open") × SpellsMode words mode
 Asks (name ∷ words) (View at count) = (name ≡ codes "view") × SpellsSectors words at.0 count
 Asks words line = ⊥
 
--- The words of the first line: `setup writeback <block> <cache blocks> <origin blocks> <metadata sectors>`.
+-- The words of the first line: `setup <mode> <block> <cache blocks> <origin blocks> <metadata sectors>`.
 pub record SetsUp (words : List (List ℕ)) (setup : Setup) : Type 0 where
   pub block : List ℕ
   pub cache : List ℕ
   pub origin : List ℕ
   pub metadata : List ℕ
-  pub spelled : words ≡ codes "setup" ∷ codes "writeback" ∷ block ∷ cache ∷ origin ∷ metadata ∷ []
+  pub spelled : words ≡ codes "setup" ∷ mode_name setup.mode ∷ block ∷ cache ∷ origin ∷ metadata ∷ []
   pub of_block : SpellsNumber block setup.block
   pub of_cache : SpellsNumber cache setup.cache_blocks
   pub of_origin : SpellsNumber origin setup.origin_blocks

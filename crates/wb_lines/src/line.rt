@@ -2,9 +2,11 @@
 
 ghost use Rattle.std.specs.Prelude.{◌≡◌, ◌≢◌, ◌∷◌, ℕ, [], IfSome, OnSome, IfNone, IfOk, IfErr, codes};
 ghost use Rattle.wb_types.specs.declared.refusal.Refusal.TheVariants.{Memory};
+ghost use Rattle.wb_types.specs.declared.mode.Mode.{Mode as ModeTerm};
+ghost use Rattle.wb_table.specs.Status.{mode_name};
 ghost use Rattle.wb_table.specs.Words.{words_of};
 ghost use Rattle.wb_disk.specs.declared.crash_choice.Base.{Base as Kept};
-ghost use Rattle.wb_lines.specs.Lines.{Asks, SpellsActor, SpellsBlock, SpellsBlocks, SpellsEnd, SpellsFault, SpellsOnlyBlock, SpellsStart, SpellsStep, SpellsSteps, SpellsTask};
+ghost use Rattle.wb_lines.specs.Lines.{Asks, SpellsActor, SpellsBlock, SpellsBlocks, SpellsEnd, SpellsFault, SpellsMode, SpellsOnlyBlock, SpellsStart, SpellsStep, SpellsSteps, SpellsTask};
 ghost use Rattle.wb_lines.specs.declared.line.Line.{Line as Asked};
 ghost use Rattle.wb_lines.specs.declared.line.Task.{Task as Told};
 
@@ -12,7 +14,7 @@ use crate::named::{read_all_named, read_base};
 use std::alloc::Global;
 use wb_disk::{Base, NamedContent};
 use wb_table::{SplitSpaces, read_fill, read_number, read_sectors};
-use wb_types::{Refusal, Sector};
+use wb_types::{Mode, Refusal, Sector};
 
 /// How many actors there are; they are counted from 0.
 pub const ACTORS: u64 = 64;
@@ -34,6 +36,8 @@ pub enum Task {
     Clean { block: u32 },
     /// `replace v x`: demotes the first block, under an order by which the second one follows it in its cache block.
     Replace { old: u32, new: u32 },
+    /// `open <mode>`: opens the cache.
+    Open { mode: Mode },
 }
 
 /// What a line asks.
@@ -65,8 +69,10 @@ pub enum Line {
         base: Base,
         named: Vec<NamedContent>,
     },
-    /// `open writeback`: an opening, from its start to its answer.
-    Open,
+    /// `open <mode>`: an opening, from its start to its answer.
+    Open {
+        mode: Mode,
+    },
     /// `view S N`: what the opened target holds.
     View {
         at: Sector,
@@ -115,8 +121,8 @@ fn read_other(name: &str, words: SplitSpaces<'_>) -> Option<Line>
 {
     match name {
         "open" => {
-            read_mode(words)?;
-            Some(Line::Open)
+            let mode = read_last_mode(words)?;
+            Some(Line::Open { mode })
         }
         "view" => {
             let (at, count) = read_sectors(words)?;
@@ -126,13 +132,27 @@ fn read_other(name: &str, words: SplitSpaces<'_>) -> Option<Line>
     }
 }
 
-/// Reads the one mode there is, and nothing behind it.
-fn read_mode(mut words: SplitSpaces<'_>) -> Option<()>
-    ensures found { OnSome result (words_of words.entry.0.now ≡ codes "writeback" ∷ []) }
-    ensures none { IfNone result (words_of words.entry.0.now ≢ codes "writeback" ∷ []) }
+/// Reads a mode, and nothing behind it.
+fn read_last_mode(mut words: SplitSpaces<'_>) -> Option<Mode>
+    ensures found { IfSome result (SpellsMode (words_of words.entry.0.now)) }
+    ensures none { IfNone result ((mode : ModeTerm) → ¬ SpellsMode (words_of words.entry.0.now) mode) }
 {
-    words.expect("writeback")?;
-    words.expect_end()
+    let mode = read_mode(words.next()?)?;
+    words.expect_end()?;
+    Some(mode)
+}
+
+/// Reads the name of a mode.
+pub(crate) fn read_mode(word: &str) -> Option<Mode>
+    ensures found { IfSome result (λ mode. word.now ≡ mode_name mode) }
+    ensures none { IfNone result ((mode : ModeTerm) → ¬ (word.now ≡ mode_name mode)) }
+{
+    match word {
+        "writeback" => Some(Mode::Writeback),
+        "writethrough" => Some(Mode::Writethrough),
+        "passthrough" => Some(Mode::Passthrough),
+        _ => None,
+    }
 }
 
 /// Reads a line of an actor.
@@ -244,6 +264,10 @@ fn read_task(mut words: SplitSpaces<'_>) -> Option<Task>
         "replace" => {
             let (old, new) = read_blocks(words)?;
             Some(Task::Replace { old, new })
+        }
+        "open" => {
+            let mode = read_last_mode(words)?;
+            Some(Task::Open { mode })
         }
         _ => None,
     }

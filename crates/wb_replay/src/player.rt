@@ -50,19 +50,27 @@ impl Player {
             Line::Stop { base, named } => {
                 self.unless_skipped(Event::Stop(CrashChoice::new(base, named)), text)
             }
-            Line::Open => self.open(text),
+            Line::Open { mode } => {
+                self.open(mode, text)?;
+                Ok(())
+            }
             Line::View { at, count } => self.view(at, count, text),
         }
     }
 
-    /// An opening by the first actor, from its start to its answer.
-    pub(crate) fn open(&mut self, text: &mut String) -> Result<(), Refusal> {
-        match self.happen(Event::Start(0, Job::Open(Mode::Writeback)))? {
+    /// An opening in this mode by the first actor, from its start to its answer. False, and only that it is skipped is told, where it does not
+    /// start.
+    pub(crate) fn open(&mut self, mode: Mode, text: &mut String) -> Result<bool, Refusal> {
+        match self.happen(Event::Start(0, Job::Open(mode)))? {
             What::Started => {
                 self.begin(0, Given::Open, 0);
-                self.steps(0, u64::MAX, text)
+                self.steps(0, u64::MAX, text)?;
+                Ok(true)
             }
-            _ => tell_skipped(text),
+            _ => {
+                tell_skipped(text)?;
+                Ok(false)
+            }
         }
     }
 
@@ -227,6 +235,7 @@ fn job_of(task: Task) -> (Given, u64, Job) {
             Job::Migrate(Migration::Clean, OBlock(block)),
         ),
         Task::Replace { old, new } => (Given::Other, 0, Job::Replace(OBlock(old), OBlock(new))),
+        Task::Open { mode } => (Given::Open, 0, Job::Open(mode)),
     }
 }
 

@@ -47,7 +47,7 @@ enum Halt {
     StreamFailed,
 }
 
-/// Plays a replay: the first line sets up a cache over three devices in memory, formatted and opened, and each line after it is events
+/// Plays a replay: the first line sets up a cache over three devices in memory, formatted and opened in its mode, and each line after it is events
 /// of that cache, one atomic step at a time. What a line tells is out before the next one is read. Empty lines, and those that begin
 /// with `#`, do nothing, and count; without any line nothing is printed.
 ///
@@ -134,14 +134,18 @@ fn play_line(
     }
 }
 
-/// A cache as the first line says, opened.
+/// A cache as the first line says, opened: only that the opening is skipped is told.
 fn set_up(alloc: Global, words: &str, number: u64, text: &mut String) -> Result<Player, Halt> {
     let Some(setup) = read_setup(words) else {
         return Err(Halt::BadLine(number));
     };
     let mut player = Player::new(alloc, setup).map_err(|refusal| Halt::Refused(refusal))?;
-    player.open(text).map_err(|refusal| Halt::Refused(refusal))?;
-    text.clear();
+    let opened = player
+        .open(setup.mode, text)
+        .map_err(|refusal| Halt::Refused(refusal))?;
+    if opened {
+        text.clear();
+    }
     Ok(player)
 }
 

@@ -78,6 +78,28 @@ const PROMOTIONS: [Row; 4] = [
     },
 ];
 
+/// In write-through a cached block is written to, on the origin and then in the cache, and the power is lost.
+const WRITTEN_THROUGH: [Row; 3] = [
+    Row {
+        name: "between the two writes the origin alone has it",
+        lines: "setup writethrough 64 4 10 4\nstart 0 promote 0 0\nend 0\nstart 0 flush\nend 0\nstart 0 w 0 1 22\nstep 0 6\nstop new\nopen writeback\nview 0 1\n",
+        prints: "0 done\n0 done\nopen 3 1 1\n0 00\n",
+        ends: Ended::Played,
+    },
+    Row {
+        name: "behind the second both have it, if it landed",
+        lines: "setup writethrough 64 4 10 4\nstart 0 promote 0 0\nend 0\nstart 0 flush\nend 0\nstart 0 w 0 1 22\nstep 0 7\nstop new\nopen writeback\nview 0 1\n",
+        prints: "0 done\n0 done\nopen 3 1 1\n0 22\n",
+        ends: Ended::Played,
+    },
+    Row {
+        name: "and it is durable once it was flushed",
+        lines: "setup writethrough 64 4 10 4\nstart 0 promote 0 0\nend 0\nstart 0 w 0 1 22\nend 0\nstart 0 flush\nend 0\nstop old\nopen writethrough\nstart 0 r 0 1\nend 0\n",
+        prints: "0 done\n0 done\n0 done\nopen 3 1 1\n0 0 22\n0 done\n",
+        ends: Ended::Played,
+    },
+];
+
 /// The power is lost once the root of a second promotion was written.
 const PROMOTED_TWICE: [Row; 2] = [
     Row {
@@ -199,7 +221,7 @@ const REPLACEMENTS: [Row; 5] = [
 ];
 
 /// Lines that do not apply, that are refused at the start, and that do nothing.
-const SKIPPED: [Row; 3] = [
+const SKIPPED: [Row; 4] = [
     Row {
         name: "who has no task has no step, and no sector outside is shown",
         lines: "setup writeback 64 4 10 4\nstep 5\nend 5\nfault 5 old\nview 640 1\nview 639 2\nview 0 0\nstep 5 0\nstop old o:0:1\n",
@@ -216,6 +238,12 @@ const SKIPPED: [Row; 3] = [
         name: "without a target there are openings alone",
         lines: "# none\n\nsetup writeback 64 4 10 4\nstop old\nview 0 1\nstart 1 w 0 1 11\n  # open it\nopen writeback",
         prints: "skipped\nskipped\nopen 2 0 0\n",
+        ends: Ended::Played,
+    },
+    Row {
+        name: "in passthrough no opening starts",
+        lines: "setup passthrough 64 4 10 4\nstart 0 r 0 1\nopen passthrough\nstart 3 open writethrough\nend 3\nview 0 1\n",
+        prints: "skipped\nskipped\nskipped\nopen 1 0 0\n0 00\n",
         ends: Ended::Played,
     },
 ];
@@ -291,6 +319,11 @@ fn what_was_flushed_survives(rt: HostRuntime) -> Result<(), Fail> {
 #[test]
 fn what_was_promoted_survives(rt: HostRuntime) -> Result<(), Fail> {
     compare(rt.alloc(), &PROMOTIONS)
+}
+
+#[test]
+fn what_was_written_through_is_on_both(rt: HostRuntime) -> Result<(), Fail> {
+    compare(rt.alloc(), &WRITTEN_THROUGH)
 }
 
 #[test]

@@ -61,8 +61,9 @@ Example:
 pub const REPLAYS: &str = "\
 A replay runs a cache over three devices in memory, one atomic step at a time.
 It is read from standard input, and its first line is
-  setup writeback <block> <cache blocks> <origin blocks> <metadata sectors>
-with sectors in a block, and sectors of 512 bytes. The other lines:
+  setup <mode> <block> <cache blocks> <origin blocks> <metadata sectors>
+with sectors in a block, and sectors of 512 bytes. The mode is writeback or
+writethrough; in passthrough no opening starts. The other lines:
   start A r S N, start A w S N hh, start A flush   give actor A, 0 to 63, a task
   start A promote B C   copy block B into the cache's block C and map it there
   start A demote B      copy block B home where it is dirty, and unmap it
@@ -78,7 +79,8 @@ with sectors in a block, and sectors of 512 bytes. The other lines:
   stop old, stop new [m:S:K] [c:S:K] [o:S:K] ..   power is lost: each sector
                 keeps its durable content or its newest, one that is named the
                 content K of its list, from 0 on
-  open writeback   open the cache: prints 'open <generation> <mapped> <dirty>'
+  open <mode>   open the cache: prints 'open <generation> <mapped> <dirty>'
+  start A open <mode>   the same as a task of actor A, to be stepped
   view S N      what it shows: prints '<sector> <hh>' or '<sector> mixed'
   # ..          nothing; empty lines too
 An answer prints 'A done', or 'A refused <number> <Name>'; a read prints

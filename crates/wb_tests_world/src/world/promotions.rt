@@ -10,6 +10,8 @@ const FIRST_BLOCK: OBlock = OBlock(0);
 
 const OPENED: Line = Line::Finishes(Act::Open(0, Mode::Writeback), 0);
 
+const OPENED_THROUGH: Line = Line::Finishes(Act::Open(0, Mode::Writethrough), 0);
+
 const WRITTEN: Line = Line::Finishes(Act::WriteOf(0, FIRST_SECTOR, 0x11), 0);
 
 const PROMOTED: Line = Line::Finishes(Act::Promote(0, FIRST_BLOCK, CBlock(0)), 0);
@@ -19,7 +21,7 @@ const FLUSHED: Line = Line::Finishes(Act::Flush(0), 0);
 /// Behind a promotion this is written to the cache.
 const WRITTEN_AGAIN: Line = Line::Finishes(Act::WriteOf(0, BOTH_SECTORS, 0x22), 0);
 
-pub const PROMOTIONS: [Row; 4] = [
+pub const PROMOTIONS: [Row; 6] = [
     Row {
         name: "a promoted block is shown from the cache, with what was written there",
         lines: &[
@@ -82,6 +84,33 @@ pub const PROMOTIONS: [Row; 4] = [
             ),
             Line::Finishes(Act::Promote(1, OBlock(1), CBlock(1)), 1),
             Line::Opened(1, 1, 0),
+        ],
+    },
+    Row {
+        name: "in write-through a write of a cached block reaches the origin too, and the block stays clean",
+        lines: &[
+            OPENED_THROUGH,
+            PROMOTED,
+            FLUSHED,
+            WRITTEN,
+            Line::Opened(2, 1, 0),
+            Line::Shows(0, 0x11),
+            Line::Finishes(Act::Demote(0, FIRST_BLOCK), 0),
+            Line::Opened(2, 0, 0),
+            Line::Shows(0, 0x11),
+        ],
+    },
+    Row {
+        name: "where a crash leaves that write on the origin alone the next opening shows the cache",
+        lines: &[
+            OPENED_THROUGH,
+            PROMOTED,
+            FLUSHED,
+            WRITTEN,
+            Line::Does(Act::CrashOf(Dev::Cache, 0, 0), What::Stopped),
+            OPENED,
+            Line::Opened(3, 1, 1),
+            Line::Shows(0, 0),
         ],
     },
 ];
