@@ -36,7 +36,7 @@ use wb_disk::{CrashChoice, Disk, MemDisk};
 use wb_flow::OpenTask;
 use wb_meta::ReadSteps;
 use wb_tasks::{DeviceStep, Got, Task};
-use wb_types::{Content, Dev, Geometry, Refusal, SECTOR_BYTES};
+use wb_types::{Content, Dev, Geometry, Mode, Refusal, SECTOR_BYTES};
 
 /// Who opens in which mode, what is left of the opening, and what was read: the reading begins once the metadata were synced, and is over where
 /// the metadata device has failed, as is the commit of the root. Once all was read, what the answer wants has been made of it.
@@ -179,7 +179,7 @@ impl Opener {
         ensures made { MadeBy geometry.now ACTORS result self.old.asked self.new.made }
     {
         let _two_slots = geometry.node_count();
-        match self.opening.read(metadata, left) {
+        match self.opening.read(Mode::Writeback, metadata, left) {
             Got::Done => match self.prepare() {
                 Ok(()) => Got::Done,
                 Err(refusal) => Got::Refused(refusal),

@@ -77,9 +77,9 @@ ClientDid tells size contents faults asked settled ticked next messaged old (Mes
 
 -- For what a message is refused: a setting for its key or value, or as failed; ranges of cache blocks where some are not there, and else for the
 -- mode, or as failed.
-abbrev pub MayRefuse : Geometry → Message → Refusal → Type 0
-MayRefuse geometry (Set key value) refusal = (refusal ≡ BadMessage) ⊎ (refusal ≡ Failed)
-MayRefuse geometry (InvalidateCblocks ranges) refusal =
+abbrev pub MayRefuseMessage : Geometry → Message → Refusal → Type 0
+MayRefuseMessage geometry (Set key value) refusal = (refusal ≡ BadMessage) ⊎ (refusal ≡ Failed)
+MayRefuseMessage geometry (InvalidateCblocks ranges) refusal =
     ((refusal ≡ BadMessage) × ¬ AreRanges geometry.cache_blocks ranges) ⊎ (AreRanges geometry.cache_blocks ranges × ((refusal ≡ WrongMode) ⊎ (refusal ≡ Failed)))
 
 -- It has carried out orders, one after the other, the one that waits longest first, until the gate said no.

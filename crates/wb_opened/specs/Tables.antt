@@ -8,9 +8,9 @@ use Rattle.wb_table.specs.declared.table.PolicyName.TheVariants.{TinyLfu, Cleane
 use Rattle.wb_desk.specs.Opening.{last_value}
 
 -- the name of the policy that a table names
-abbrev pub name_of : PolicyName → List ℕ
-name_of TinyLfu = codes "tinylfu"
-name_of Cleaner = codes "cleaner"
+abbrev pub policy_name : PolicyName → List ℕ
+policy_name TinyLfu = codes "tinylfu"
+policy_name Cleaner = codes "cleaner"
 
 -- A list of keys with their values gives each key what a table does: a value, or none.
 pub record Lists (list : List (Key × ℕ)) (given : Keys) : Type 0 where

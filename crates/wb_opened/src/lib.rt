@@ -13,6 +13,6 @@ mod unserved;
 
 pub use difference::Difference;
 pub use play::{LANES, Lanes, Next, Play};
-pub use served::{Served, Service, Shown, Visit};
+pub use served::{Served, Service, Shown};
 pub use serving::{serve_all, serve_each, serve_lanes};
 pub use unserved::Unserved;

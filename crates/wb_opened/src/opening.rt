@@ -1,7 +1,7 @@
 //! Opening a target over the files of a table.
 
 ghost use Rattle.std.specs.Prelude.{◌≡◌, IfOk, IfErr};
-ghost use Rattle.wb_opened.specs.Tables.{name_of, Lists};
+ghost use Rattle.wb_opened.specs.Tables.{policy_name, Lists};
 
 use crate::difference::find_difference;
 use crate::unserved::Unserved;
@@ -77,7 +77,7 @@ pub(crate) fn open_target<'a, P: Policy, D: Disk + Drop>(
     devices: Devices<D>,
     table: &Table<'a>,
 ) -> Result<(Devices<D>, Target<P>), Unserved<'a>>
-    requires policy { P.name ≡ name_of table.now.policy }
+    requires policy { P.name ≡ policy_name table.now.policy }
     ensures mode { IfOk result (λ opened. opened.1.mode ≡ table.now.mode) }
 {
     let keys = match listed(alloc, &table.keys) {

@@ -5,7 +5,7 @@ ghost use Rattle.std.specs.Bool.{OnTrue};
 ghost use Rattle.wb_types.specs.declared.geometry.Geometry.{Geometry as Sizes};
 ghost use Rattle.wb_target.specs.declared.gate.Point.{Point as WorkPoint};
 ghost use Rattle.wb_target.specs.Workers.{IsFailure};
-ghost use Rattle.wb_opened.specs.Deeds.{Deed, Read, Wrote, WroteDurably, TriedRead, TriedWrite, Settled, Flushed, Ticked, Worked, Messaged, MayRefuse};
+ghost use Rattle.wb_opened.specs.Deeds.{Deed, Read, Wrote, WroteDurably, TriedRead, TriedWrite, Settled, Flushed, Ticked, Worked, Messaged, MayRefuseMessage};
 ghost use Rattle.wb_table.specs.Status.{status_line};
 ghost use Rattle.wb_table.specs.declared.status.Fields.{Fields};
 ghost use Rattle.wb_opened.specs.Inside.{IsInside};
@@ -86,7 +86,7 @@ pub trait Served {
     /// `WrongMode` for ranges outside passthrough; `Failed`. Nothing changed then, but that blocks before one that met the failure have left.
     fn message<R: Wait>(&mut self, rt: &R, message: &Message) -> Result<(), Refusal>
         ensures done { OnOk result (did self.old (Messaged message.now) self.new) }
-        ensures refused { IfErr result (MayRefuse (sizes self.old) message.now) }
+        ensures refused { IfErr result (MayRefuseMessage (sizes self.old) message.now) }
         ensures sizes { sizes self.new ≡ sizes self.old };
 
     /// Carries out the order that waits longest, if any, and says which: `Failed`, `Io`, `Memory`, and `GenerationEnd`.
@@ -118,21 +118,6 @@ pub trait Shown {
         ensures line { OnOk result ((told : Fields) × (string_bytes text.new ≡ string_bytes text.old ++ status_line told)) }
         ensures refused { IfErr result (λ refusal. refusal ≡ Refusal.Memory) }
         ensures unchanged { OnErr result (string_bytes text.new ≡ string_bytes text.old) };
-}
-
-/// What is done by the one client of an opened target, and behind a suspend.
-pub trait Visit {
-    /// What it tells at its end.
-    type Told: Drop;
-
-    /// Does what a client is for: whether a suspend of the target is to come next, once the client was taken back, or it has ended.
-    fn serve<R: Wait, C: Served>(&mut self, rt: &R, client: &mut C) -> bool;
-
-    /// Goes on behind the suspend, which was done or refused.
-    fn go_on<R: Wait, T: Shown>(&mut self, rt: &R, suspended: Result<(), Refusal>, target: &T);
-
-    /// What it tells.
-    fn told(self) -> Self::Told;
 }
 
 /// What is done by a client of an opened target.

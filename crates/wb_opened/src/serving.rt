@@ -1,7 +1,7 @@
 //! Serving the target of a table.
 
 ghost use Rattle.std.specs.Prelude.{◌≡◌, ◌≢◌};
-ghost use Rattle.wb_opened.specs.Tables.{name_of};
+ghost use Rattle.wb_opened.specs.Tables.{policy_name};
 
 use crate::lanes::{Again, played};
 use crate::opening::{open_devices, open_named, open_target, open_unlocked};
@@ -118,7 +118,7 @@ fn serve_played<
     lanes: &L,
     play: V,
 ) -> Result<V::Told, Unserved<'a>>
-    requires policy { P.name ≡ name_of again.now.table.now.policy }
+    requires policy { P.name ≡ policy_name again.now.table.now.policy }
 {
     let (devices, target) = open_target::<P, _>(alloc, devices, again.table)?;
     let mut play = play;
@@ -156,7 +156,7 @@ fn serve_several<
     table: &Table<'a>,
     errands: Vec<Sent<D, Doing<S>>>,
 ) -> Result<(Vec<Result<S::Told, Refusal>>, Result<(), Refusal>), Unserved<'a>>
-    requires policy { P.name ≡ name_of table.now.policy }
+    requires policy { P.name ≡ policy_name table.now.policy }
 {
     let (devices, target) = open_target::<P, D>(alloc, devices, table)?;
     let told = beside_one_another(waits, alloc, &target, errands);
@@ -184,7 +184,7 @@ fn serve_one_and_several<
     first: F,
     errands: Vec<Sent<D, Doing<S>>>,
 ) -> Result<(F::Told, Vec<Result<S::Told, Refusal>>), Unserved<'a>>
-    requires policy { P.name ≡ name_of table.now.policy }
+    requires policy { P.name ≡ policy_name table.now.policy }
 {
     let (devices, target) = open_target::<P, D>(alloc, devices, table)?;
     let told = serve_by(waits, &target, devices, first).map_err(|refusal| Unserved::Refused(

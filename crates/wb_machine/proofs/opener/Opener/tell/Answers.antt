@@ -1,5 +1,6 @@
-use Rattle.std.proofs.Common.{◌≡◌, ◌≤◌, ◌∙◌, None, arith, length, sym, subst}
+use Rattle.std.proofs.Common.{◌≡◌, ◌≢◌, ◌≤◌, ◌∙◌, None, arith, length, sym, subst}
 use Rattle.wb_meta.specs.declared.commit_steps.CommitSteps.TheVariants.{NodesSynced}
+use Rattle.wb_types.specs.declared.mode.Mode.TheVariants.{Writeback, Passthrough}
 use Rattle.wb_types.specs.declared.refusal.Refusal.TheVariants.{Memory}
 use Rattle.wb_tasks.specs.declared.step.Got.TheVariants.{Refused}
 use Rattle.wb_machine.specs.Making.{reading_of}
@@ -9,6 +10,9 @@ use Rattle.wb_machine.specs.Standing.{HasReadAll}
 use Rattle.wb_machine.proofs.Standing.{all_told, none_made, under_way, wants_memory}
 use Rattle.wb_machine.proofs.opener.Opener.tell.Goals as goal
 
+other_mode : Writeback ≢ Passthrough
+other_mode e = cc
+
 pub prepare-requires-clause-all : goal.prepare-requires-clause-all
 prepare-requires-clause-all c =
     let self = c.args.self.now in
@@ -17,7 +21,7 @@ prepare-requires-clause-all c =
     let new = c.read.new.self in
     let u = under_way g c.args.left self.opening.reading self.opening.commit c.requires.reads in
     let two : 2 ≤ g.meta_sectors = omega (arith, c.node_count-two_slots.ensures.two_images_fit) in
-    let raw = c.read.ensures.told u.was tt (λ may. may.1) u.is in
+    let raw = c.read.ensures.told u.was other_mode tt (λ may. may.1) u.is in
     let did = subst (λ x. DidTell x g.meta_sectors c.args.left u.was device None c.read.result new.reading new.commit) c.requires.geometry
     (subst (λ n. DidTell self.opening.geometry n c.args.left u.was device None c.read.result new.reading new.commit) c.requires.size
     (subst (λ x. DidTell self.opening.geometry (length device) c.args.left u.was device x c.read.result new.reading new.commit) u.commit_is raw)) in
@@ -30,7 +34,7 @@ returns-in-Ok-clause-did c was present =
     let g = c.args.geometry.now in
     let device = c.args.metadata.now.contents in
     let new = c.read.new.self in
-    let raw = c.read.ensures.told was tt (λ may. may.1) present in
+    let raw = c.read.ensures.told was other_mode tt (λ may. may.1) present in
     let did = subst (λ x. DidTell x g.meta_sectors c.args.left was device self.opening.commit c.read.result new.reading new.commit) c.requires.geometry
     (subst (λ n. DidTell self.opening.geometry n c.args.left was device self.opening.commit c.read.result new.reading new.commit) c.requires.size raw) in
     rw (c.in-Ok.ensures.reading, c.in-Ok.ensures.commit) (subst (λ got. DidTell g g.meta_sectors c.args.left was device self.opening.commit got new.reading new.commit) c.in-Done.is did)
@@ -44,7 +48,7 @@ returns-in-Err-clause-did c was present =
     let u = under_way g c.args.left self.opening.reading self.opening.commit c.requires.reads in
     let same : u.was ≡ was = let e = sym u.is ∙ present in cc in
     let two : 2 ≤ g.meta_sectors = omega (arith, c.node_count-two_slots.ensures.two_images_fit) in
-    let raw = c.read.ensures.told u.was tt (λ may. may.1) u.is in
+    let raw = c.read.ensures.told u.was other_mode tt (λ may. may.1) u.is in
     let did = subst (λ x. DidTell x g.meta_sectors c.args.left u.was device None c.read.result new.reading new.commit) c.requires.geometry
     (subst (λ n. DidTell self.opening.geometry n c.args.left u.was device None c.read.result new.reading new.commit) c.requires.size
     (subst (λ x. DidTell self.opening.geometry (length device) c.args.left u.was device x c.read.result new.reading new.commit) u.commit_is raw)) in
@@ -62,7 +66,7 @@ returns-in_default-clause-did c was present =
     let g = c.args.geometry.now in
     let device = c.args.metadata.now.contents in
     let new = c.read.new.self in
-    let raw = c.read.ensures.told was tt (λ may. may.1) present in
+    let raw = c.read.ensures.told was other_mode tt (λ may. may.1) present in
     let did = subst (λ x. DidTell x g.meta_sectors c.args.left was device self.opening.commit c.read.result new.reading new.commit) c.requires.geometry
     (subst (λ n. DidTell self.opening.geometry n c.args.left was device self.opening.commit c.read.result new.reading new.commit) c.requires.size raw) in
     rw c.requires.none did
