@@ -3,7 +3,6 @@
 ghost use Rattle.std.specs.Prelude.{◌≡◌, ◌≢◌, ◌∷◌, ℕ, [], IfSome, OnSome, IfNone, IfOk, IfErr, codes};
 ghost use Rattle.wb_types.specs.declared.refusal.Refusal.TheVariants.{Memory};
 ghost use Rattle.wb_types.specs.declared.mode.Mode.{Mode as ModeTerm};
-ghost use Rattle.wb_table.specs.Status.{mode_name};
 ghost use Rattle.wb_table.specs.Words.{words_of};
 ghost use Rattle.wb_disk.specs.declared.crash_choice.Base.{Base as Kept};
 ghost use Rattle.wb_lines.specs.Lines.{Asks, SpellsActor, SpellsBlock, SpellsBlocks, SpellsEnd, SpellsFault, SpellsMode, SpellsOnlyBlock, SpellsStart, SpellsStep, SpellsSteps, SpellsTask};
@@ -13,7 +12,7 @@ ghost use Rattle.wb_lines.specs.declared.line.Task.{Task as Told};
 use crate::named::{read_all_named, read_base};
 use std::alloc::Global;
 use wb_disk::{Base, NamedContent};
-use wb_table::{SplitSpaces, read_fill, read_number, read_sectors};
+use wb_table::{SplitSpaces, read_fill, read_mode, read_number, read_sectors};
 use wb_types::{Mode, Refusal, Sector};
 
 /// How many actors there are; they are counted from 0.
@@ -140,19 +139,6 @@ fn read_last_mode(mut words: SplitSpaces<'_>) -> Option<Mode>
     let mode = read_mode(words.next()?)?;
     words.expect_end()?;
     Some(mode)
-}
-
-/// Reads the name of a mode.
-pub(crate) fn read_mode(word: &str) -> Option<Mode>
-    ensures found { IfSome result (λ mode. word.now ≡ mode_name mode) }
-    ensures none { IfNone result ((mode : ModeTerm) → ¬ (word.now ≡ mode_name mode)) }
-{
-    match word {
-        "writeback" => Some(Mode::Writeback),
-        "writethrough" => Some(Mode::Writethrough),
-        "passthrough" => Some(Mode::Passthrough),
-        _ => None,
-    }
 }
 
 /// Reads a line of an actor.

@@ -5,8 +5,7 @@ ghost use Rattle.wb_table.specs.Words.{words_of};
 ghost use Rattle.wb_lines.specs.Lines.{SetsUp};
 ghost use Rattle.wb_lines.specs.declared.setup.Setup.{Setup as Sizes};
 
-use crate::line::read_mode;
-use wb_table::{SplitSpaces, read_number};
+use wb_table::{SplitSpaces, read_mode, read_number};
 use wb_types::Mode;
 
 /// The mode in which a replay opens its cache first, and the sizes of what it runs: a block in sectors, cache and origin in blocks, the metadata

@@ -15,6 +15,6 @@ pub use message::read_message;
 pub use number::{read_byte, read_number};
 pub use sectors::{read_fill, read_sectors};
 pub use status::{Fields, status_text};
-pub use table::{Keys, PolicyName, Table, read_table};
+pub use table::{Keys, PolicyName, Table, read_mode, read_table};
 pub use table_fault::{TableFault, find_table_fault};
 pub use words::SplitSpaces;

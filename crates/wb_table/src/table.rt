@@ -132,8 +132,8 @@ fn read_features(words: &mut SplitSpaces<'_>) -> Option<Mode>
     }
 }
 
-/// Reads the feature that a mode is.
-pub(crate) fn read_mode(word: &str) -> Option<Mode>
+/// Reads the name of a mode: `writeback`, `writethrough` or `passthrough`. None is any other word.
+pub fn read_mode(word: &str) -> Option<Mode>
     ensures found { IfSome result (λ mode. word.now ≡ mode_name mode) }
     ensures none { IfNone result ((mode : ModeTerm) → ¬ (word.now ≡ mode_name mode)) }
 {
