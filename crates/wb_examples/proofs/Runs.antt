@@ -1,6 +1,8 @@
 -- How runs begin, whatever they pass through; and those through an opening, and a flush behind it.
-use Rattle.std.proofs.Common.{Global, ◌≡◌, ◌≤◌, ◌*◌, ℕ, zero, suc, List, [], ◌∷◌, ◌++◌, refl, sym, subst, arith, length, replicate}
+use Rattle.std.proofs.Common.{Global, ◌≡◌, ◌≢◌, ◌≤◌, ◌*◌, ℕ, zero, suc, List, [], ◌∷◌, ◌++◌, refl, sym, subst, arith, length, replicate}
 use Rattle.wb_types.specs.declared.geometry.Geometry.{Geometry}
+use Rattle.wb_types.specs.declared.mode.Mode.{Mode}
+use Rattle.wb_types.specs.declared.mode.Mode.TheVariants.{Writeback, Passthrough}
 use Rattle.wb_disk.specs.Device.{History}
 use Rattle.wb_disk.specs.Memory.{blank}
 use Rattle.wb_words.specs.SharedWords.{fresh_words}
@@ -51,8 +53,10 @@ can_pass P A Suits conditions some f policy reading begun shape metadata suits i
 
 module _ (P A : Type 0) where
   -- before the first opening, over formatted metadata
-  abbrev pub first_down : P → A → Global → (geometry : Geometry) (threshold others : ℕ) (metadata : List History) → IsFormatted geometry metadata → length metadata ≡ geometry.meta_sectors → Down P A
-  first_down policy alloc global geometry threshold others metadata f size = record {
+  abbrev pub first_down : (mode : Mode) → mode ≢ Passthrough → P → A → Global → (geometry : Geometry) (threshold others : ℕ) (metadata : List History) → IsFormatted geometry metadata → length metadata ≡ geometry.meta_sectors → Down P A
+  first_down mode writes policy alloc global geometry threshold others metadata f size = record {
+    mode = mode;
+    writes = writes;
     policy = policy;
     alloc = alloc;
     global = global;
@@ -67,12 +71,12 @@ module _ (P A : Type 0) where
 
   pub can_open : CanOpen P A
   can_open = can_pass P A HasActors (λ shape. (λ w n. TargetHas w (λ target. Unit {0})) ∷ []) (λ shape some. some) (λ policy alloc global geometry threshold others metadata some f size.
-      let d = first_down policy alloc global geometry threshold others metadata f size in
+      let d = first_down Writeback (λ e. cc) policy alloc global geometry threshold others metadata f size in
       (played global d.shape (down P A d) (opening P A d), goes_on global d.shape (down P A d) (opening P A d) (opening_may P A d), tt, tt))
 
   pub can_flush : CanFlush P A
   can_flush = can_pass P A HasActors (λ shape. (λ w n. AboutToAnswer Flush w) ∷ []) (λ shape some. some) (λ policy alloc global geometry threshold others metadata some f size.
-      by_down (first_down policy alloc global geometry threshold others metadata f size))
+      by_down (first_down Writeback (λ e. cc) policy alloc global geometry threshold others metadata f size))
     where
       by_down : (d : Down P A) → PassesThrough d.shape (down P A d) (formatted d.shape) ((λ w n. AboutToAnswer Flush w) ∷ [])
       by_down d =
