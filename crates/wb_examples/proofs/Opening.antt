@@ -4,7 +4,7 @@ use Rattle.std.proofs.Common.{Global, ◌≡◌, ◌≢◌, ◌∙◌, ◌-◌, 
 use Rattle.std.proofs.lemmas.List.{length-map}
 use Rattle.wb_types.specs.declared.geometry.Geometry.{Geometry}
 use Rattle.wb_types.specs.declared.mode.Mode.{Mode}
-use Rattle.wb_types.specs.declared.mode.Mode.TheVariants.{Passthrough}
+use Rattle.wb_types.specs.declared.mode.Mode.TheVariants.{Writeback, Passthrough}
 use Rattle.wb_types.specs.declared.mode.Dev.TheVariants.{Metadata}
 use Rattle.wb_types.specs.Limits.{node_count}
 use Rattle.wb_disk.specs.Device.{History, newest, only, synced}
@@ -37,6 +37,10 @@ use Rattle.wb_examples.proofs.Beginning.{bare_commit, begins_bare}
 use Rattle.wb_examples.proofs.Completing.{stored, next_commit, all_read}
 use Rattle.wb_examples.proofs.Shown.{no_seals}
 use Rattle.wb_examples.proofs.Playing.{Move, Gets, Does, goes, ends, played, MayGo, goes_on, if_writes, ◌⨟◌}
+
+-- openings start in write-back
+pub write_back_starts : Writeback ≢ Passthrough
+write_back_starts e = cc
 
 -- Where nothing stands and nobody is at anything, over metadata without a tree, and an opening in this mode is to come.
 pub record Down (P A : Type 0) : Type 0 where

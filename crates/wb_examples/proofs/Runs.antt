@@ -19,7 +19,7 @@ use Rattle.wb_promise.specs.Headline.{noted}
 use Rattle.wb_examples.specs.Possible.{PassesThrough, CanPass, HasActors, TargetHas, AboutToAnswer, CanOpen, CanFlush}
 use Rattle.wb_runs.proofs.Formatted.{formatted_none}
 use Rattle.wb_examples.proofs.Playing.{played, goes_on, run_append, after_append, noted_append}
-use Rattle.wb_examples.proofs.Opening.{Down, down, opening, opening_may, opened, opened_is, bare, may_begin, target, Idle, idle, flushing, flushing_may}
+use Rattle.wb_examples.proofs.Opening.{write_back_starts, Down, down, opening, opening_may, opened, opened_is, bare, may_begin, target, Idle, idle, flushing, flushing_may}
 
 -- ---- how runs begin
 
@@ -71,12 +71,12 @@ module _ (P A : Type 0) where
 
   pub can_open : CanOpen P A
   can_open = can_pass P A HasActors (λ shape. (λ w n. TargetHas w (λ target. Unit {0})) ∷ []) (λ shape some. some) (λ policy alloc global geometry threshold others metadata some f size.
-      let d = first_down Writeback (λ e. cc) policy alloc global geometry threshold others metadata f size in
+      let d = first_down Writeback write_back_starts policy alloc global geometry threshold others metadata f size in
       (played global d.shape (down P A d) (opening P A d), goes_on global d.shape (down P A d) (opening P A d) (opening_may P A d), tt, tt))
 
   pub can_flush : CanFlush P A
   can_flush = can_pass P A HasActors (λ shape. (λ w n. AboutToAnswer Flush w) ∷ []) (λ shape some. some) (λ policy alloc global geometry threshold others metadata some f size.
-      by_down (first_down Writeback (λ e. cc) policy alloc global geometry threshold others metadata f size))
+      by_down (first_down Writeback write_back_starts policy alloc global geometry threshold others metadata f size))
     where
       by_down : (d : Down P A) → PassesThrough d.shape (down P A d) (formatted d.shape) ((λ w n. AboutToAnswer Flush w) ∷ [])
       by_down d =

@@ -45,12 +45,12 @@ use Rattle.wb_runs.proofs.Spelling.{spelling, spelled_root}
 use Rattle.wb_examples.proofs.Beginning.{bare_root, bare_commit}
 use Rattle.wb_examples.proofs.Shown.{written_same, origin_shown}
 use Rattle.wb_examples.proofs.Playing.{Move, Gets, Moves, Reads, Fails, Stops, goes, played, ends, MayGo, goes_on, ◌⨟◌}
-use Rattle.wb_examples.proofs.Opening.{Down, down, opening, opening_may, opened_is, target, bare, Idle, flushing, flushing_may}
+use Rattle.wb_examples.proofs.Opening.{write_back_starts, Down, down, opening, opening_may, opened_is, target, bare, Idle, flushing, flushing_may}
 use Rattle.wb_examples.proofs.Desks.{Setting, shape, desk}
 use Rattle.wb_examples.proofs.Scenes.{Scene, Formatted, at, over, Leads, goes_to, FromNoted, noted_stretch, opened_scene, down_at, setting, devices, devices_size, shape_at, opened_at, known_at, opening_run, Whole, from_opened, small_can, uncut, nothing_lands, may_fail}
 
 -- the root that was written last, if the newest root has its generation
-root_there : (m : List History) (r q : Root) → 2 ≤ length m → r.generation < 2 ^ 64 → q.generation ≡ r.generation → IsNewestRoot (map newest (synced (written (synced m) (r.generation % 2) (spelling r)))) q → q ≡ r
+pub root_there : (m : List History) (r q : Root) → 2 ≤ length m → r.generation < 2 ^ 64 → q.generation ≡ r.generation → IsNewestRoot (map newest (synced (written (synced m) (r.generation % 2) (spelling r)))) q → q ≡ r
 root_there m r q some fits same n =
     let at = r.generation % 2 in
     let low : at < 2 = mod-lt r.generation (omega arith) in
@@ -64,7 +64,7 @@ root_there m r q some fits same n =
     one_root (spelling r) q r (subst (λ (s : Bytes). SpellsRoot s q) is n.valid.spelled) (spelled_root r fits)
 
 -- metadata that stand quietly by a root without a tree, once a crash has left of them what it will
-none_after : (P : Type 0) (g : Geometry) (i : Images) (desk : DeskState P) (m m' : List History) (q : Quiet g i desk m) → q.stored.root.top ≡ None → q.stored.root.generation + 2 < 2 ^ 64 → Crashed m m' → HasNoTree g m'
+pub none_after : (P : Type 0) (g : Geometry) (i : Images) (desk : DeskState P) (m m' : List History) (q : Quiet g i desk m) → q.stored.root.top ≡ None → q.stored.root.generation + 2 < 2 ^ 64 → Crashed m m' → HasNoTree g m'
 none_after P g i desk m m' q top more crash = record {
   root = q.stored.root;
   geometry_is = q.same;
@@ -197,7 +197,7 @@ module _ (P A : Type 0) (policy : P) (alloc : A) (s : Setting P 0 Writeback) (me
     abbrev again : Down P A
     again = record {
       mode = Writeback;
-      writes = λ e. cc;
+      writes = write_back_starts;
       policy = policy;
       alloc = alloc;
       global = global;
@@ -262,4 +262,4 @@ module _ (P A : Type 0) (f : Formatted P A 0 Writeback) where
       (survives P A f.policy f.alloc (setting P A 0 Writeback f) (devices P A 0 Writeback f).metadata (devices P A 0 Writeback f).cache sectors_then (map only contents_then) (newest blank) finished_then finished_then nobody_else content other (devices_size P A 0 Writeback f) refl blank_card (known_at P A 0 Writeback f)))
 
 pub can_survive : (P A : Type 0) → CanSurvive P A
-can_survive P A content other = small_can P A 0 0 Writeback (λ e. cc) (λ shape. to_survive shape content other) (λ f room. survives_from P A f content other)
+can_survive P A content other = small_can P A 0 0 Writeback write_back_starts (λ shape. to_survive shape content other) (λ f room. survives_from P A f content other)
