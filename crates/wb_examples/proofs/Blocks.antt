@@ -4,6 +4,7 @@ use Rattle.std.proofs.Common.{◌≡◌, ◌∙◌, ◌≤◌, ◌+◌, inr, ℕ
 use Rattle.std.specs.Prelude.{drop}
 use Rattle.std.proofs.lemmas.List.{length-map}
 use Rattle.std.specs.Int.Bits.{bit_or}
+use Rattle.wb_types.specs.declared.mode.Mode.{Mode}
 use Rattle.wb_types.specs.declared.mode.Mode.TheVariants.{Writeback}
 use Rattle.wb_types.specs.declared.mode.Dev.TheVariants.{Origin}
 use Rattle.wb_types.specs.declared.refusal.Refusal.TheVariants.{Memory}
@@ -53,7 +54,7 @@ first_stays (c ∷ cs) device at = first_stays cs (written device (suc at) c) (s
     one (Some h) [] = refl
     one (Some h) (g ∷ device) = refl
 
-first_written : (device : List History) (c : Bytes) → 1 ≤ length device → ReadGives (written device 0 c) 0 c
+pub first_written : (device : List History) (c : Bytes) → 1 ≤ length device → ReadGives (written device 0 c) 0 c
 first_written [] c l = absurd (omega (arith, l))
 first_written (h ∷ device) c l = (_, refl, newest-added h c)
 
@@ -72,7 +73,7 @@ carried_gives (h ∷ from) to c count g l =
 
 -- ---- the first block comes, and goes again
 
-abbrev promotes : Job
+abbrev pub promotes : Job
 promotes = Migrate (Promote first_cache_block) first_block
 
 -- a migration of the first block starts under a new order
@@ -80,50 +81,50 @@ abbrev ordering : {P A : Type 0} → Job → List (Move P A) → List (Move P A)
 ordering job moves = Gets job (Orders (whole ∷ []) first_cache_block) ∷ goes 5 moves
 
 -- the devices once the first block was copied into the first cache block
-abbrev filled : Devices (List History) → Devices (List History)
+abbrev pub filled : Devices (List History) → Devices (List History)
 filled d = record d { cache = written_each d.cache 0 (contents_at d.origin whole) }
 
-module _ (P A : Type 0) (more : ℕ) (s : Setting P more) where
+module _ (P A : Type 0) (more : ℕ) (mode : Mode) (s : Setting P more mode) where
   open s use {global, sizes.{threshold}}
 
   -- at the last step of a migration of it, which was cut into one extent
   abbrev migrated : Job → Option (Job × Plan)
-  migrated job = over job (task_job (shape P more s) Writeback [] job (whole ∷ []))
+  migrated job = over job (task_job (shape P more mode s) mode [] job (whole ∷ []))
 
   -- once its seal was put
   abbrev sealed : ℕ → Words
   sealed seal = record (fresh_words (suc more)) { seals = seal ∷ replicate more 0 }
 
-  abbrev came : Devices (List History) → Scene P
-  came d = record { devices = filled d; words = sealed 2; desk = stood P more s; task = migrated promotes; orders = []; awaiting = []; buffer = contents_at d.origin whole }
+  abbrev pub came : Devices (List History) → Scene P
+  came d = record { devices = filled d; words = sealed 2; desk = stood P more mode s; task = migrated promotes; orders = []; awaiting = []; buffer = contents_at d.origin whole }
 
-  abbrev promoting : List (Move P A)
-  promoting = ordering promotes (Moves ∷ Moves ∷ Does Done (Asks (stood P more s)) ∷ goes 2 [])
+  abbrev pub promoting : List (Move P A)
+  promoting = ordering promotes (Moves ∷ Moves ∷ Does Done (Asks (stood P more mode s)) ∷ goes 2 [])
 
-  promoting_leads : (d : Devices (List History)) → 64 ≤ length d.cache → 64 ≤ length d.origin → 64 ≤ threshold → (card : Card) → Leads P A more s (at P A more s (opened_scene P A more s d) card) promoting (came d)
-  promoting_leads d cache_size origin_size room card = goes_to P A more s _ _ _ ((uncut whole (omega arith), may_promote P more s room) ⨟ (tt, omega (arith, origin_size)) ⨟ (tt, omega (arith, cache_size)) ⨟ (refl, (may_map P more s, comes P more s, refl)) ⨟ tt) refl
+  pub promoting_leads : (d : Devices (List History)) → 64 ≤ length d.cache → 64 ≤ length d.origin → 64 ≤ threshold → (card : Card) → Leads P A more mode s (at P A more mode s (opened_scene P A more mode s d) card) promoting (came d)
+  promoting_leads d cache_size origin_size room card = goes_to P A more mode s _ _ _ ((uncut whole (omega arith), may_promote P more mode s room) ⨟ (tt, omega (arith, origin_size)) ⨟ (tt, omega (arith, cache_size)) ⨟ (refl, (may_map P more mode s, comes P more mode s, refl)) ⨟ tt) refl
 
   abbrev gone : Scene P → Scene P
-  gone scene = record scene { words = sealed 0; desk = demoted P more s; task = migrated (Migrate Demote first_block) }
+  gone scene = record scene { words = sealed 0; desk = demoted P more mode s; task = migrated (Migrate Demote first_block) }
 
   abbrev demoting : List (Move P A)
-  demoting = goes 1 (ordering (Migrate Demote first_block) (Does Done (Asks (demoted P more s)) ∷ goes 2 []))
+  demoting = goes 1 (ordering (Migrate Demote first_block) (Does Done (Asks (demoted P more mode s)) ∷ goes 2 []))
 
-  demoting_leads : (d : Devices (List History)) → 64 ≤ threshold → (card : Card) → Leads P A more s (at P A more s (came d) card) demoting (gone (came d))
-  demoting_leads d room card = goes_to P A more s _ _ _ ((uncut whole (omega arith), may_demote P more s room) ⨟ (refl, refl, demotes P more s) ⨟ tt) refl
+  demoting_leads : (d : Devices (List History)) → 64 ≤ threshold → (card : Card) → Leads P A more mode s (at P A more mode s (came d) card) demoting (gone (came d))
+  demoting_leads d room card = goes_to P A more mode s _ _ _ ((uncut whole (omega arith), may_demote P more mode s room) ⨟ (refl, refl, demotes P more mode s) ⨟ tt) refl
 
 pub can_promote : (P A : Type 0) → CanPromote P A
-can_promote P A = small_can P A 0 64 (λ shape. (λ w n. IsPromoted w) ∷ []) (λ f room.
-    let s = setting P A 0 f in let d = devices P A 0 f in
-    from_opened P A 0 f ((λ w n. IsPromoted w) ∷ []) (λ n e. stretch P A 0 s (opened_scene P A 0 s d) (came P A 0 s d) (promoting P A 0 s) ((λ w n. IsPromoted w) ∷ []) (λ card known. promoting_leads P A 0 s d (cache_size P A 0 f) (omega (arith, origin_size P A 0 f)) room card)
-    (λ card n. ((refl, refl), refl, refl)) (done P A 0 s (came P A 0 s d)) blank_card (known_at P A 0 f) n))
+can_promote P A = small_can P A 0 64 Writeback (λ e. cc) (λ shape. (λ w n. IsPromoted w) ∷ []) (λ f room.
+    let s = setting P A 0 Writeback f in let d = devices P A 0 Writeback f in
+    from_opened P A 0 Writeback f ((λ w n. IsPromoted w) ∷ []) (λ n e. stretch P A 0 Writeback s (opened_scene P A 0 Writeback s d) (came P A 0 Writeback s d) (promoting P A 0 Writeback s) ((λ w n. IsPromoted w) ∷ []) (λ card known. promoting_leads P A 0 Writeback s d (cache_size P A 0 Writeback f) (omega (arith, origin_size P A 0 Writeback f)) room card)
+    (λ card n. ((refl, refl), refl, refl)) (done P A 0 Writeback s (came P A 0 Writeback s d)) blank_card (known_at P A 0 Writeback f) n))
 
 pub can_demote : (P A : Type 0) → CanDemote P A
-can_demote P A = small_can P A 0 64 (λ shape. to_demote) (λ f room.
-    let s = setting P A 0 f in let d = devices P A 0 f in
-    from_opened P A 0 f to_demote (λ n e. stretch P A 0 s (opened_scene P A 0 s d) (came P A 0 s d) (promoting P A 0 s) to_demote (λ card known. promoting_leads P A 0 s d (cache_size P A 0 f) (omega (arith, origin_size P A 0 f)) room card)
+can_demote P A = small_can P A 0 64 Writeback (λ e. cc) (λ shape. to_demote) (λ f room.
+    let s = setting P A 0 Writeback f in let d = devices P A 0 Writeback f in
+    from_opened P A 0 Writeback f to_demote (λ n e. stretch P A 0 Writeback s (opened_scene P A 0 Writeback s d) (came P A 0 Writeback s d) (promoting P A 0 Writeback s) to_demote (λ card known. promoting_leads P A 0 Writeback s d (cache_size P A 0 Writeback f) (omega (arith, origin_size P A 0 Writeback f)) room card)
     (λ card n. ((refl, refl), refl, refl))
-    (stretch P A 0 s (came P A 0 s d) (gone P A 0 s (came P A 0 s d)) (demoting P A 0 s) (drop 1 to_demote) (λ card known. demoting_leads P A 0 s d room card) (λ card n. ((refl, refl), nowhere 0 1 f.sizes.k, refl, refl)) (done P A 0 s (gone P A 0 s (came P A 0 s d)))) blank_card (known_at P A 0 f) n))
+    (stretch P A 0 Writeback s (came P A 0 Writeback s d) (gone P A 0 Writeback s (came P A 0 Writeback s d)) (demoting P A 0 Writeback s) (drop 1 to_demote) (λ card known. demoting_leads P A 0 Writeback s d room card) (λ card n. ((refl, refl), nowhere 0 1 f.sizes.k, refl, refl)) (done P A 0 Writeback s (gone P A 0 Writeback s (came P A 0 Writeback s d)))) blank_card (known_at P A 0 Writeback f) n))
 
 -- ---- of two blocks the first is written to, and written back or replaced
 
@@ -133,17 +134,17 @@ replaces = Replace first_block second_block
 abbrev follows_job : Job
 follows_job = Migrate (Promote first_cache_block) second_block
 
-module _ (P A : Type 0) (s : Setting P 1) where
+module _ (P A : Type 0) (s : Setting P 1 Writeback) where
   open s use {global}
 
   abbrev shape1 : Shape
-  shape1 = shape P 1 s
+  shape1 = shape P 1 Writeback s
 
   abbrev words : (first second number fail : ℕ) → Words
   words first second number fail = record { cells = 0 ∷ 0 ∷ []; seals = first ∷ second ∷ []; numbers = number ∷ 0 ∷ []; read_hits = 0; read_misses = 0; write_hits = number; write_misses = 0; fail = fail }
 
   abbrev state : Scene P → Card → State P A
-  state scene card = at P A 1 s scene card
+  state scene card = at P A 1 Writeback s scene card
 
   -- ---- where it is
 
@@ -152,32 +153,32 @@ module _ (P A : Type 0) (s : Setting P 1) where
     here words desk task orders awaiting = record { devices = d; words = words; desk = desk; task = task; orders = orders; awaiting = awaiting; buffer = buffer }
 
     abbrev wrote : Bytes → Scene P
-    wrote content = here (words 3 0 1 0) (stood P 1 s) (over (Write first_sector content) (task_job shape1 Writeback [] (Write first_sector content) (first_sector ∷ []))) [] []
+    wrote content = here (words 3 0 1 0) (stood P 1 Writeback s) (over (Write first_sector content) (task_job shape1 Writeback [] (Write first_sector content) (first_sector ∷ []))) [] []
 
     abbrev written_back : Scene P
-    written_back = here (words 2 0 1 0) (cleaned P 1 s) (migrated P A 1 s (Migrate Clean first_block)) [] []
+    written_back = here (words 2 0 1 0) (cleaned P 1 Writeback s) (migrated P A 1 Writeback s (Migrate Clean first_block)) [] []
 
     abbrev left : Scene P
-    left = here (words 0 0 1 0) (claimed P 1 s) (over (Migrate Demote first_block) (task_job shape1 Writeback [] replaces (whole ∷ []))) [] (replacement ∷ [])
+    left = here (words 0 0 1 0) (claimed P 1 Writeback s) (over (Migrate Demote first_block) (task_job shape1 Writeback [] replaces (whole ∷ []))) [] (replacement ∷ [])
 
     abbrev failed : Option (Job × Plan) → Scene P
-    failed task = record { devices = d; words = record (words 3 0 1 (bit_or 0 1)) { cells = 1 ∷ 0 ∷ [] }; desk = leaving P 1 s replacement; task = task; orders = replacement ∷ []; awaiting = []; buffer = buffer }
+    failed task = record { devices = d; words = record (words 3 0 1 (bit_or 0 1)) { cells = 1 ∷ 0 ∷ [] }; desk = leaving P 1 Writeback s replacement; task = task; orders = replacement ∷ []; awaiting = []; buffer = buffer }
 
     -- a flush of these orders has still to do this, and is refused then
     abbrev refused : List Want → Option (Job × Plan)
     refused steps = Some (Flush, record { job = task_job shape1 Writeback (replacement ∷ []) Flush []; steps = steps; answer = IsRefused Memory })
 
     abbrev given : Scene P
-    given = here (words 0 0 1 0) (given_up P 1 s) (refused []) [] []
+    given = here (words 0 0 1 0) (given_up P 1 Writeback s) (refused []) [] []
 
     abbrev served : Scene P
-    served = here (words 0 0 1 0) (settled P 1 s) (over Flush (task_job shape1 Writeback (replacement ∷ []) Flush [])) [] (replacement ∷ [])
+    served = here (words 0 0 1 0) (settled P 1 Writeback s) (over Flush (task_job shape1 Writeback (replacement ∷ []) Flush [])) [] (replacement ∷ [])
 
     abbrev begun : Scene P
-    begun = here (words 0 0 1 0) (settled P 1 s) (Some (follows_job, table (task_job shape1 Writeback [] follows_job (next_whole ∷ [])))) (replacement ∷ []) []
+    begun = here (words 0 0 1 0) (settled P 1 Writeback s) (Some (follows_job, table (task_job shape1 Writeback [] follows_job (next_whole ∷ [])))) (replacement ∷ []) []
 
     abbrev followed_there : Scene P
-    followed_there = here (words 0 2 1 0) (followed P 1 s) (over follows_job (task_job shape1 Writeback [] follows_job (next_whole ∷ []))) [] []
+    followed_there = here (words 0 2 1 0) (followed P 1 Writeback s) (over follows_job (task_job shape1 Writeback [] follows_job (next_whole ∷ []))) [] []
 
   -- ---- what happens there
 
@@ -185,10 +186,10 @@ module _ (P A : Type 0) (s : Setting P 1) where
   writing content = goes 1 (Gets (Write first_sector content) (Cut (first_sector ∷ [])) ∷ goes 6 (Moves ∷ goes 3 []))
 
   abbrev cleaning : List (Move P A)
-  cleaning = goes 1 (ordering (Migrate Clean first_block) (Moves ∷ Moves ∷ goes 2 (Does Done (Asks (cleaned P 1 s)) ∷ [])))
+  cleaning = goes 1 (ordering (Migrate Clean first_block) (Moves ∷ Moves ∷ goes 2 (Does Done (Asks (cleaned P 1 Writeback s)) ∷ [])))
 
   abbrev replacing : List (Move P A)
-  replacing = goes 1 (ordering replaces (Moves ∷ Moves ∷ Does Done (Asks (claimed P 1 s)) ∷ goes 2 []))
+  replacing = goes 1 (ordering replaces (Moves ∷ Moves ∷ Does Done (Asks (claimed P 1 Writeback s)) ∷ goes 2 []))
 
   abbrev failing : List (Move P A)
   failing = goes 1 (ordering replaces (Moves ∷ Fails nothing_lands ∷ goes 2 []))
@@ -200,7 +201,7 @@ module _ (P A : Type 0) (s : Setting P 1) where
   answering = goes 1 (Gets follows_job (Cut (next_whole ∷ [])) ∷ [])
 
   abbrev following : List (Move P A)
-  following = goes 5 (Moves ∷ Moves ∷ Does Done (Asks (followed P 1 s)) ∷ goes 2 [])
+  following = goes 5 (Moves ∷ Moves ∷ Does Done (Asks (followed P 1 Writeback s)) ∷ goes 2 [])
 
   module _ (d : Devices (List History)) (buffer : List Bytes) (cache_size : 64 ≤ length d.cache) (origin_size : 128 ≤ length d.origin) where
     -- what was read of the cache, and the devices once it was written home
@@ -210,23 +211,23 @@ module _ (P A : Type 0) (s : Setting P 1) where
     abbrev home : Devices (List History)
     home = record d { origin = written_each d.origin 0 taken_home }
 
-    writing_leads : (content : Bytes) (card : Card) → Leads P A 1 s (state (here d buffer (words 2 0 0 0) (stood P 1 s) (migrated P A 1 s promotes) [] []) card) (writing content) (wrote (record d { cache = written d.cache 0 content }) buffer content)
-    writing_leads content card = goes_to P A 1 s _ _ _ ((refl, uncut first_sector (omega arith)) ⨟ (tt, omega (arith, cache_size)) ⨟ tt) refl
+    writing_leads : (content : Bytes) (card : Card) → Leads P A 1 Writeback s (state (here d buffer (words 2 0 0 0) (stood P 1 Writeback s) (migrated P A 1 Writeback s promotes) [] []) card) (writing content) (wrote (record d { cache = written d.cache 0 content }) buffer content)
+    writing_leads content card = goes_to P A 1 Writeback s _ _ _ ((refl, uncut first_sector (omega arith)) ⨟ (tt, omega (arith, cache_size)) ⨟ tt) refl
 
-    cleaning_leads : 64 ≤ s.sizes.threshold → (content : Bytes) (card : Card) → Leads P A 1 s (state (wrote d buffer content) card) cleaning (written_back home taken_home)
-    cleaning_leads room content card = goes_to P A 1 s _ _ _ ((uncut whole (omega arith), may_clean P 1 s room) ⨟ (tt, omega (arith, cache_size)) ⨟ (tt, omega (arith, origin_size)) ⨟ (refl, refl, cleans P 1 s) ⨟ tt) refl
+    cleaning_leads : 64 ≤ s.sizes.threshold → (content : Bytes) (card : Card) → Leads P A 1 Writeback s (state (wrote d buffer content) card) cleaning (written_back home taken_home)
+    cleaning_leads room content card = goes_to P A 1 Writeback s _ _ _ ((uncut whole (omega arith), may_clean P 1 Writeback s room) ⨟ (tt, omega (arith, cache_size)) ⨟ (tt, omega (arith, origin_size)) ⨟ (refl, refl, cleans P 1 Writeback s) ⨟ tt) refl
 
-    replacing_leads : 128 ≤ s.sizes.threshold → (content : Bytes) (card : Card) → Leads P A 1 s (state (wrote d buffer content) card) replacing (left home taken_home)
-    replacing_leads room content card = goes_to P A 1 s _ _ _ ((uncut whole (omega arith), may_replace P 1 s room refl) ⨟ (tt, omega (arith, cache_size)) ⨟ (tt, omega (arith, origin_size)) ⨟ (refl, refl, leaves P 1 s) ⨟ tt) refl
+    replacing_leads : 128 ≤ s.sizes.threshold → (content : Bytes) (card : Card) → Leads P A 1 Writeback s (state (wrote d buffer content) card) replacing (left home taken_home)
+    replacing_leads room content card = goes_to P A 1 Writeback s _ _ _ ((uncut whole (omega arith), may_replace P 1 Writeback s room refl) ⨟ (tt, omega (arith, cache_size)) ⨟ (tt, omega (arith, origin_size)) ⨟ (refl, refl, leaves P 1 Writeback s) ⨟ tt) refl
 
-    failing_leads : 128 ≤ s.sizes.threshold → (content : Bytes) (card : Card) → Leads P A 1 s (state (wrote d buffer content) card) failing (failed (record d { origin = written_where (lands Origin nothing_lands) d.origin 0 taken_home }) taken_home None)
-    failing_leads room content card = goes_to P A 1 s _ _ _ ((uncut whole (omega arith), may_replace P 1 s room refl) ⨟ (tt, omega (arith, cache_size)) ⨟ (may_fail (length d.origin), (refl, tt)) ⨟ tt) refl
+    failing_leads : 128 ≤ s.sizes.threshold → (content : Bytes) (card : Card) → Leads P A 1 Writeback s (state (wrote d buffer content) card) failing (failed (record d { origin = written_where (lands Origin nothing_lands) d.origin 0 taken_home }) taken_home None)
+    failing_leads room content card = goes_to P A 1 Writeback s _ _ _ ((uncut whole (omega arith), may_replace P 1 Writeback s room refl) ⨟ (tt, omega (arith, cache_size)) ⨟ (may_fail (length d.origin), (refl, tt)) ⨟ tt) refl
 
-    refusing_leads : (card : Card) → Leads P A 1 s (state (left d buffer) card) refusing (record (left d buffer) { task = refused d buffer (Desk (ReleaseOrder first_block) ∷ []) })
-    refusing_leads card = goes_to P A 1 s _ _ _ (tt ⨟ (refl, refl, record { idle = refl; next = omega (arith, s.later) }) ⨟ tt) refl
+    refusing_leads : (card : Card) → Leads P A 1 Writeback s (state (left d buffer) card) refusing (record (left d buffer) { task = refused d buffer (Desk (ReleaseOrder first_block) ∷ []) })
+    refusing_leads card = goes_to P A 1 Writeback s _ _ _ (tt ⨟ (refl, refl, record { idle = refl; next = omega (arith, s.later) }) ⨟ tt) refl
 
     abbrev idle_there : Card → Idle P
-    idle_there card = record { global = global; shape = shape1; words = words 0 0 1 0; desk = claimed P 1 s; devices = d; actor = record { task = None; card = card; orders = []; awaiting = replacement ∷ []; buffer = buffer }; rest = s.rest }
+    idle_there card = record { global = global; shape = shape1; words = words 0 0 1 0; desk = claimed P 1 Writeback s; devices = d; actor = record { task = None; card = card; orders = []; awaiting = replacement ∷ []; buffer = buffer }; rest = s.rest }
 
     abbrev flush : List (Move P A)
     flush = goes 1 (flushing P A (idle_there blank_card))
@@ -234,27 +235,27 @@ module _ (P A : Type 0) (s : Setting P 1) where
     abbrev durable : Devices (List History)
     durable = record { metadata = synced (rooted (bare_commit global shape1.geometry (s.generation + 1)) (synced d.metadata)); cache = synced d.cache; origin = synced d.origin }
 
-    flush_leads : (card : Card) → IsKnown P A shape1 (state (left d buffer) card) → Leads P A 1 s (state (left d buffer) card) flush (served durable buffer)
-    flush_leads card known = goes_to P A 1 s _ _ _ (flushing_may P A (idle_there card) (record { images = known.images; known = known.known; entries = refl }) (record { idle = refl; next = omega (arith, s.later) })) refl
+    flush_leads : (card : Card) → IsKnown P A shape1 (state (left d buffer) card) → Leads P A 1 Writeback s (state (left d buffer) card) flush (served durable buffer)
+    flush_leads card known = goes_to P A 1 Writeback s _ _ _ (flushing_may P A (idle_there card) (record { images = known.images; known = known.known; entries = refl }) (record { idle = refl; next = omega (arith, s.later) })) refl
 
-    answering_leads : (card : Card) → Leads P A 1 s (state (served d buffer) card) answering (begun d buffer)
-    answering_leads card = goes_to P A 1 s _ _ _ ((uncut next_whole (omega arith), inr (first_block, (0, omega arith, refl), refl)) ⨟ tt) refl
+    answering_leads : (card : Card) → Leads P A 1 Writeback s (state (served d buffer) card) answering (begun d buffer)
+    answering_leads card = goes_to P A 1 Writeback s _ _ _ ((uncut next_whole (omega arith), inr (first_block, (0, omega arith, refl), refl)) ⨟ tt) refl
 
     abbrev brought : List Bytes
     brought = contents_at d.origin next_whole
 
-    following_leads : (card : Card) → Leads P A 1 s (state (begun d buffer) card) following (followed_there (record d { cache = written_each d.cache 0 brought }) brought)
-    following_leads card = goes_to P A 1 s _ _ _ ((tt, omega (arith, origin_size)) ⨟ (tt, omega (arith, cache_size)) ⨟ (refl, (may_follow P 1 s, follows P 1 s, refl)) ⨟ tt) refl
+    following_leads : (card : Card) → Leads P A 1 Writeback s (state (begun d buffer) card) following (followed_there (record d { cache = written_each d.cache 0 brought }) brought)
+    following_leads card = goes_to P A 1 Writeback s _ _ _ ((tt, omega (arith, origin_size)) ⨟ (tt, omega (arith, cache_size)) ⨟ (refl, (may_follow P 1 Writeback s, follows P 1 Writeback s, refl)) ⨟ tt) refl
 
 -- ---- the whole runs
 
-module _ (P A : Type 0) (f : Formatted P A 1) (room : 128 ≤ f.sizes.threshold) (content : Bytes) where
-  abbrev s : Setting P 1
-  s = setting P A 1 f
+module _ (P A : Type 0) (f : Formatted P A 1 Writeback) (room : 128 ≤ f.sizes.threshold) (content : Bytes) where
+  abbrev s : Setting P 1 Writeback
+  s = setting P A 1 Writeback f
 
   -- the devices after the opening, once the block came, was written to, was written home, and what was written was made durable
   abbrev d0 : Devices (List History)
-  d0 = devices P A 1 f
+  d0 = devices P A 1 Writeback f
 
   abbrev buffer : List Bytes
   buffer = contents_at d0.origin whole
@@ -275,13 +276,13 @@ module _ (P A : Type 0) (f : Formatted P A 1) (room : 128 ≤ f.sizes.threshold)
   d4 = record { metadata = synced (rooted (bare_commit s.global (shape1 P A s).geometry (s.generation + 1)) (synced d3.metadata)); cache = synced d3.cache; origin = synced d3.origin }
 
   cache1 : 64 ≤ length d1.cache
-  cache1 = omega (arith, length_written_where (λ at. true) d0.cache 0 buffer, cache_size P A 1 f)
+  cache1 = omega (arith, length_written_where (λ at. true) d0.cache 0 buffer, cache_size P A 1 Writeback f)
 
   cache2 : 64 ≤ length d2.cache
   cache2 = omega (arith, length_written_where (λ at. true) d1.cache 0 (content ∷ []), cache1)
 
   origin0 : 128 ≤ length d0.origin
-  origin0 = omega (arith, origin_size P A 1 f)
+  origin0 = omega (arith, origin_size P A 1 Writeback f)
 
   origin3 : 128 ≤ length d3.origin
   origin3 = omega (arith, length_written_where (λ at. true) d2.origin 0 carried, origin0)
@@ -299,66 +300,66 @@ module _ (P A : Type 0) (f : Formatted P A 1) (room : 128 ≤ f.sizes.threshold)
   goes_home = carried_gives d2.cache d2.origin content 63 has_content (omega (arith, origin0))
 
   -- the block comes, and is written to
-  comes_written : (conditions : List (State P A → Notes → Type 0)) → From P A 1 s (wrote P A s d2 buffer content) conditions → From P A 1 s (opened_scene P A 1 s d0) ((λ w n. IsPromoted w) ∷ (λ w n. IsWrittenTo content w) ∷ conditions)
-  comes_written conditions behind = stretch P A 1 s (opened_scene P A 1 s d0) (came P A 1 s d0) (promoting P A 1 s) ((λ w n. IsPromoted w) ∷ (λ w n. IsWrittenTo content w) ∷ conditions)
-      (λ card known. promoting_leads P A 1 s d0 (cache_size P A 1 f) (omega (arith, origin0)) (omega (arith, room)) card) (λ card n. ((refl, refl), refl, refl))
-      (stretch P A 1 s (came P A 1 s d0) (wrote P A s d2 buffer content) (writing P A s content) ((λ w n. IsWrittenTo content w) ∷ conditions) (λ card known. writing_leads P A s d1 buffer cache1 origin0 content card) (λ card n. ((refl, refl), has_content)) behind)
+  comes_written : (conditions : List (State P A → Notes → Type 0)) → From P A 1 Writeback s (wrote P A s d2 buffer content) conditions → From P A 1 Writeback s (opened_scene P A 1 Writeback s d0) ((λ w n. IsPromoted w) ∷ (λ w n. IsWrittenTo content w) ∷ conditions)
+  comes_written conditions behind = stretch P A 1 Writeback s (opened_scene P A 1 Writeback s d0) (came P A 1 Writeback s d0) (promoting P A 1 Writeback s) ((λ w n. IsPromoted w) ∷ (λ w n. IsWrittenTo content w) ∷ conditions)
+      (λ card known. promoting_leads P A 1 Writeback s d0 (cache_size P A 1 Writeback f) (omega (arith, origin0)) (omega (arith, room)) card) (λ card n. ((refl, refl), refl, refl))
+      (stretch P A 1 Writeback s (came P A 1 Writeback s d0) (wrote P A s d2 buffer content) (writing P A s content) ((λ w n. IsWrittenTo content w) ∷ conditions) (λ card known. writing_leads P A s d1 buffer cache1 origin0 content card) (λ card n. ((refl, refl), has_content)) behind)
 
-  comes_unseen : (conditions : List (State P A → Notes → Type 0)) → From P A 1 s (wrote P A s d2 buffer content) conditions → From P A 1 s (opened_scene P A 1 s d0) conditions
-  comes_unseen conditions behind = on P A 1 s (opened_scene P A 1 s d0) (came P A 1 s d0) (promoting P A 1 s) conditions (promoting_leads P A 1 s d0 (cache_size P A 1 f) (omega (arith, origin0)) (omega (arith, room)))
-      (on P A 1 s (came P A 1 s d0) (wrote P A s d2 buffer content) (writing P A s content) conditions (writing_leads P A s d1 buffer cache1 origin0 content) behind)
+  comes_unseen : (conditions : List (State P A → Notes → Type 0)) → From P A 1 Writeback s (wrote P A s d2 buffer content) conditions → From P A 1 Writeback s (opened_scene P A 1 Writeback s d0) conditions
+  comes_unseen conditions behind = on P A 1 Writeback s (opened_scene P A 1 Writeback s d0) (came P A 1 Writeback s d0) (promoting P A 1 Writeback s) conditions (promoting_leads P A 1 Writeback s d0 (cache_size P A 1 Writeback f) (omega (arith, origin0)) (omega (arith, room)))
+      (on P A 1 Writeback s (came P A 1 Writeback s d0) (wrote P A s d2 buffer content) (writing P A s content) conditions (writing_leads P A s d1 buffer cache1 origin0 content) behind)
 
-  whole_run : (conditions : List (State P A → Notes → Type 0)) → From P A 1 s (opened_scene P A 1 s d0) conditions → Whole P A 1 f conditions
-  whole_run conditions from = from_opened P A 1 f conditions (λ n e. from blank_card (known_at P A 1 f) n)
+  whole_run : (conditions : List (State P A → Notes → Type 0)) → From P A 1 Writeback s (opened_scene P A 1 Writeback s d0) conditions → Whole P A 1 Writeback f conditions
+  whole_run conditions from = from_opened P A 1 Writeback f conditions (λ n e. from blank_card (known_at P A 1 Writeback f) n)
 
   half_replaced : (card : Card) → IsHalfReplaced (state P A s (left P A s d3 carried) card)
-  half_replaced card = ((refl, refl), refl, lives P 1 s)
+  half_replaced card = ((refl, refl), refl, lives P 1 Writeback s)
 
-  pub writes_back : Whole P A 1 f (to_write_back content)
+  pub writes_back : Whole P A 1 Writeback f (to_write_back content)
   writes_back = whole_run (to_write_back content) (comes_written (drop 2 (to_write_back content)) (
-      stretch P A 1 s (wrote P A s d2 buffer content) (written_back P A s d3 carried) (cleaning P A s) (drop 2 (to_write_back content)) (λ card known. cleaning_leads P A s d2 buffer cache2 origin0 (omega (arith, room)) content card)
-      (λ card n. ((refl, refl), (refl, refl), goes_home, refl, refl, refl)) (done P A 1 s (written_back P A s d3 carried))))
+      stretch P A 1 Writeback s (wrote P A s d2 buffer content) (written_back P A s d3 carried) (cleaning P A s) (drop 2 (to_write_back content)) (λ card known. cleaning_leads P A s d2 buffer cache2 origin0 (omega (arith, room)) content card)
+      (λ card n. ((refl, refl), (refl, refl), goes_home, refl, refl, refl)) (done P A 1 Writeback s (written_back P A s d3 carried))))
 
-  pub replaces_all : Whole P A 1 f (to_replace content)
+  pub replaces_all : Whole P A 1 Writeback f (to_replace content)
   replaces_all = whole_run (to_replace content) (comes_written (drop 2 (to_replace content)) (
-      stretch P A 1 s (wrote P A s d2 buffer content) (left P A s d3 carried) (replacing P A s) (drop 2 (to_replace content)) (λ card known. replacing_leads P A s d2 buffer cache2 origin0 room content card) (λ card n. ((refl, refl), half_replaced card)) (
-      stretch P A 1 s (left P A s d3 carried) (served P A s d4 carried) (flush P A s d3 carried cache2 origin3) (drop 3 (to_replace content)) (flush_leads P A s d3 carried cache2 origin3) (λ card n. ((refl, refl), (refl, refl), refl)) (
-      stretch P A 1 s (served P A s d4 carried) (begun P A s d4 carried) (answering P A s) (drop 4 (to_replace content)) (λ card known. answering_leads P A s d4 carried cache4 origin4 card) (λ card n. (refl, (refl, refl))) (
-      stretch P A 1 s (begun P A s d4 carried) (followed_there P A s (record d4 { cache = written_each d4.cache 0 (contents_at d4.origin next_whole) }) (contents_at d4.origin next_whole)) (following P A s) (drop 5 (to_replace content)) (λ card known. following_leads P A s d4 carried cache4 origin4 card)
+      stretch P A 1 Writeback s (wrote P A s d2 buffer content) (left P A s d3 carried) (replacing P A s) (drop 2 (to_replace content)) (λ card known. replacing_leads P A s d2 buffer cache2 origin0 room content card) (λ card n. ((refl, refl), half_replaced card)) (
+      stretch P A 1 Writeback s (left P A s d3 carried) (served P A s d4 carried) (flush P A s d3 carried cache2 origin3) (drop 3 (to_replace content)) (flush_leads P A s d3 carried cache2 origin3) (λ card n. ((refl, refl), (refl, refl), refl)) (
+      stretch P A 1 Writeback s (served P A s d4 carried) (begun P A s d4 carried) (answering P A s) (drop 4 (to_replace content)) (λ card known. answering_leads P A s d4 carried cache4 origin4 card) (λ card n. (refl, (refl, refl))) (
+      stretch P A 1 Writeback s (begun P A s d4 carried) (followed_there P A s (record d4 { cache = written_each d4.cache 0 (contents_at d4.origin next_whole) }) (contents_at d4.origin next_whole)) (following P A s) (drop 5 (to_replace content)) (λ card known. following_leads P A s d4 carried cache4 origin4 card)
       (λ card n. ((refl, refl), (refl, refl), sync_gives d3.origin content goes_home, refl, nowhere 0 1 f.sizes.k, refl))
-      (done P A 1 s (followed_there P A s (record d4 { cache = written_each d4.cache 0 (contents_at d4.origin next_whole) }) (contents_at d4.origin next_whole))))))))
+      (done P A 1 Writeback s (followed_there P A s (record d4 { cache = written_each d4.cache 0 (contents_at d4.origin next_whole) }) (contents_at d4.origin next_whole))))))))
 
   abbrev to_refuse : Scene P
   to_refuse = record (left P A s d3 carried) { task = refused P A s d3 carried (Desk (ReleaseOrder first_block) ∷ []) }
 
-  pub gives_up_all : Whole P A 1 f (to_give_up (shape1 P A s))
+  pub gives_up_all : Whole P A 1 Writeback f (to_give_up (shape1 P A s))
   gives_up_all =
-      let giving : Move P A = Does Done (Asks (given_up P 1 s)) in
+      let giving : Move P A = Does Done (Asks (given_up P 1 Writeback s)) in
       whole_run (to_give_up (shape1 P A s)) (comes_unseen (to_give_up (shape1 P A s)) (
-      stretch P A 1 s (wrote P A s d2 buffer content) (left P A s d3 carried) (replacing P A s) (to_give_up (shape1 P A s)) (λ card known. replacing_leads P A s d2 buffer cache2 origin0 room content card) (λ card n. half_replaced card) (
-      stretch P A 1 s (left P A s d3 carried) to_refuse (refusing P A s) (drop 1 (to_give_up (shape1 P A s))) (λ card known. refusing_leads P A s d3 carried cache2 origin3 card)
-      (λ card n. ((refl, refl), ((refl, refl), refl, lives P 1 s), (happens s.global (state P A s to_refuse card) giving, may_move s.global (shape1 P A s) (state P A s to_refuse card) giving (refl, refl, gives_up P 1 s), ((refl, refl), (refl, refl), refl, refl))))
-      (done P A 1 s to_refuse))))
+      stretch P A 1 Writeback s (wrote P A s d2 buffer content) (left P A s d3 carried) (replacing P A s) (to_give_up (shape1 P A s)) (λ card known. replacing_leads P A s d2 buffer cache2 origin0 room content card) (λ card n. half_replaced card) (
+      stretch P A 1 Writeback s (left P A s d3 carried) to_refuse (refusing P A s) (drop 1 (to_give_up (shape1 P A s))) (λ card known. refusing_leads P A s d3 carried cache2 origin3 card)
+      (λ card n. ((refl, refl), ((refl, refl), refl, lives P 1 Writeback s), (happens s.global (state P A s to_refuse card) giving, may_move s.global (shape1 P A s) (state P A s to_refuse card) giving (refl, refl, gives_up P 1 Writeback s), ((refl, refl), (refl, refl), refl, refl))))
+      (done P A 1 Writeback s to_refuse))))
 
   abbrev kept : Scene P
   kept = failed P A s (record d2 { origin = written_where (lands Origin nothing_lands) d2.origin 0 carried }) carried None
 
-  pub starts_again : Whole P A 1 f (to_start_again (shape1 P A s))
+  pub starts_again : Whole P A 1 Writeback f (to_start_again (shape1 P A s))
   starts_again =
       let again : Move P A = Gets replaces (Cut (whole ∷ [])) in
       whole_run (to_start_again (shape1 P A s)) (comes_unseen (to_start_again (shape1 P A s)) (
-      stretch P A 1 s (wrote P A s d2 buffer content) kept (failing P A s) (to_start_again (shape1 P A s)) (λ card known. failing_leads P A s d2 buffer cache2 origin0 room content card)
+      stretch P A 1 Writeback s (wrote P A s d2 buffer content) kept (failing P A s) (to_start_again (shape1 P A s)) (λ card known. failing_leads P A s d2 buffer cache2 origin0 room content card)
       (λ card n. (refl, (refl, refl), (happens s.global (state P A s kept card) again, may_move s.global (shape1 P A s) (state P A s kept card) again (uncut whole (omega arith), (first_cache_block, (0, omega arith, refl), refl)), (refl, (refl, refl)))))
-      (done P A 1 s kept)))
+      (done P A 1 Writeback s kept)))
 
 pub can_write_back : (P A : Type 0) → CanWriteBack P A
-can_write_back P A content = small_can P A 1 128 (λ shape. to_write_back content) (λ f room. writes_back P A f room content)
+can_write_back P A content = small_can P A 1 128 Writeback (λ e. cc) (λ shape. to_write_back content) (λ f room. writes_back P A f room content)
 
 pub can_replace : (P A : Type 0) → CanReplace P A
-can_replace P A content = small_can P A 1 128 (λ shape. to_replace content) (λ f room. replaces_all P A f room content)
+can_replace P A content = small_can P A 1 128 Writeback (λ e. cc) (λ shape. to_replace content) (λ f room. replaces_all P A f room content)
 
 pub can_give_up : (P A : Type 0) → CanGiveUp P A
-can_give_up P A = small_can P A 1 128 to_give_up (λ f room. gives_up_all P A f room [])
+can_give_up P A = small_can P A 1 128 Writeback (λ e. cc) to_give_up (λ f room. gives_up_all P A f room [])
 
 pub can_start_again : (P A : Type 0) → CanStartAgain P A
-can_start_again P A = small_can P A 1 128 to_start_again (λ f room. starts_again P A f room [])
+can_start_again P A = small_can P A 1 128 Writeback (λ e. cc) to_start_again (λ f room. starts_again P A f room [])

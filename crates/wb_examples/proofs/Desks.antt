@@ -5,7 +5,8 @@ use Rattle.std.specs.List.{count_by}
 use Rattle.wb_types.specs.Limits.{IsWithinLimits}
 use Rattle.wb_types.specs.declared.entry.Entry.{Entry}
 use Rattle.wb_types.specs.declared.geometry.Geometry.{Geometry}
-use Rattle.wb_types.specs.declared.mode.Mode.TheVariants.{Writeback}
+use Rattle.wb_types.specs.declared.mode.Mode.{Mode}
+use Rattle.wb_types.specs.declared.mode.Mode.TheVariants.{Passthrough}
 use Rattle.wb_types.specs.declared.number.OBlock.{OBlock}
 use Rattle.wb_types.specs.declared.number.CBlock.{CBlock}
 use Rattle.wb_types.specs.declared.version.Version.{Version}
@@ -45,8 +46,9 @@ geometry_of more sizes = record { block = 64; cache_blocks = suc sizes.k; origin
 abbrev pub shape_of : (more : ℕ) → Sizes more → Shape
 shape_of more sizes = record { geometry = geometry_of more sizes; threshold = sizes.threshold; actors = suc sizes.others }
 
--- a target over it, what its desk was opened with, and the others, who are at nothing
-pub record Setting (P : Type 0) (more : ℕ) : Type 0 where
+-- a target over it that was opened in this mode, what its desk was opened with, and the others, who are at nothing
+pub record Setting (P : Type 0) (more : ℕ) (mode : Mode) : Type 0 where
+  pub writes : mode ≢ Passthrough
   pub global : Global
   pub sizes : Sizes more
   pub policy : P
@@ -84,7 +86,7 @@ lives_first k (suc at) here live e = absurd (nobody k at e)
 
 -- ---- the desk
 
-module _ (P : Type 0) (more : ℕ) (s : Setting P more) where
+module _ (P : Type 0) (more : ℕ) (mode : Mode) (s : Setting P more mode) where
   open s use {policy, sizes.{k, threshold}}
 
   abbrev pub shape : Shape
@@ -92,7 +94,7 @@ module _ (P : Type 0) (more : ℕ) (s : Setting P more) where
 
   -- as it was opened: nothing is cached
   abbrev pub desk : DeskState P
-  desk = opened shape.geometry s.generation (empty_mapping (suc k)) [] Writeback policy threshold (count_by is_some (replicate {A = Option Entry} (suc k) None))
+  desk = opened shape.geometry s.generation (empty_mapping (suc k)) [] mode policy threshold (count_by is_some (replicate {A = Option Entry} (suc k) None))
 
   abbrev promotion : Order
   promotion = PromoteOrder first_block first_cache_block
@@ -179,28 +181,28 @@ module _ (P : Type 0) (more : ℕ) (s : Setting P more) where
   module _ (room : 64 ≤ threshold) where
     pub may_promote : MayReserve desk first_cache_block promotion
     may_promote = record {
-      mode = λ e. absurd (cc);
+      mode = s.writes;
       lawful = (refl, refl, none_mapped (suc k) 0);
       give = record { vacant = refl; idle = (refl, refl); room = omega (arith, room, no_cost k); countable = omega arith };
     }
 
     pub may_demote : MayReserve stood first_cache_block (DemoteOrder first_block)
     may_demote = record {
-      mode = λ e. absurd (cc);
+      mode = s.writes;
       lawful = refl;
       give = record { vacant = refl; idle = (refl, refl); room = omega (arith, room, no_cost k); countable = omega arith };
     }
 
     pub may_clean : MayReserve stood first_cache_block (CleanOrder first_block)
     may_clean = record {
-      mode = λ e. absurd (cc);
+      mode = s.writes;
       lawful = refl;
       give = record { vacant = refl; idle = (refl, refl); room = omega (arith, room, no_cost k); countable = omega arith };
     }
 
   pub may_replace : 128 ≤ threshold → slice_get (replicate more false) 0 ≡ Some false → MayReserve stood first_cache_block replacement
   may_replace room second = record {
-    mode = λ e. absurd (cc);
+    mode = s.writes;
     lawful = (refl, refl, λ at. other_nowhere first_block k 1 at (λ e. absurd (cc)));
     give = record { vacant = refl; idle = (refl, second); room = omega (arith, room, no_cost k); countable = omega arith };
   }

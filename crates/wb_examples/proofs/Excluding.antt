@@ -43,6 +43,8 @@ excludes P A = record {
   read_twice = λ wrong. let many = length_permutation (0 ∷ []) (0 ∷ 0 ∷ []) wrong.0 in omega (arith, many);
   wrote = IsPermutation-refl (0 ∷ []);
   unwritten = λ wrong. let many = length_permutation (0 ∷ []) [] wrong in omega (arith, many);
+  wrote_twice = λ wrong. let many = length_permutation (0 ∷ []) (0 ∷ 0 ∷ []) wrong in omega (arith, many);
+  not_again = λ shape. refl;
   elsewhere = moved;
   unflushed = shows 0 0 (opening []) older (omega arith) refl;
   kept = shows 1 1 (opening []) newer (omega arith) refl;

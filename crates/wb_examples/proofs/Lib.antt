@@ -9,4 +9,5 @@ mod Runs
 mod Scenes
 mod Blocks
 mod Surviving
+mod Through
 mod Excluding

@@ -1,9 +1,10 @@
 -- A run in which an opening is answered done, where no target stands and the metadata have no tree; and a flush over a target that may begin a
 -- commit whose desk has no entry.
-use Rattle.std.proofs.Common.{Global, ◌≡◌, ◌∙◌, ◌-◌, ◌+◌, inl, inr, ℕ, List, [], ◌∷◌, Some, None, refl, sym, ap, subst, arith, length, slice_get, replicate, map}
+use Rattle.std.proofs.Common.{Global, ◌≡◌, ◌≢◌, ◌∙◌, ◌-◌, ◌+◌, inl, inr, ℕ, List, [], ◌∷◌, Some, None, refl, sym, ap, subst, arith, length, slice_get, replicate, map}
 use Rattle.std.proofs.lemmas.List.{length-map}
 use Rattle.wb_types.specs.declared.geometry.Geometry.{Geometry}
-use Rattle.wb_types.specs.declared.mode.Mode.TheVariants.{Writeback}
+use Rattle.wb_types.specs.declared.mode.Mode.{Mode}
+use Rattle.wb_types.specs.declared.mode.Mode.TheVariants.{Writeback, Passthrough}
 use Rattle.wb_types.specs.declared.mode.Dev.TheVariants.{Metadata}
 use Rattle.wb_types.specs.Limits.{node_count}
 use Rattle.wb_disk.specs.Device.{History, newest, only, synced}
@@ -35,10 +36,16 @@ use Rattle.wb_examples.proofs.Bare.{BareDesk}
 use Rattle.wb_examples.proofs.Beginning.{bare_commit, begins_bare}
 use Rattle.wb_examples.proofs.Completing.{stored, next_commit, all_read}
 use Rattle.wb_examples.proofs.Shown.{no_seals}
-use Rattle.wb_examples.proofs.Playing.{Move, Gets, Does, goes, ends, played, MayGo, goes_on, ◌⨟◌}
+use Rattle.wb_examples.proofs.Playing.{Move, Gets, Does, goes, ends, played, MayGo, goes_on, if_writes, ◌⨟◌}
 
--- Where nothing stands and nobody is at anything, over metadata without a tree.
+-- openings start in write-back
+pub write_back_starts : Writeback ≢ Passthrough
+write_back_starts e = cc
+
+-- Where nothing stands and nobody is at anything, over metadata without a tree, and an opening in this mode is to come.
 pub record Down (P A : Type 0) : Type 0 where
+  pub mode : Mode
+  pub writes : mode ≢ Passthrough
   pub policy : P
   pub alloc : A
   pub global : Global
@@ -80,7 +87,7 @@ module _ (P A : Type 0) (d : Down P A) where
 
   abbrev pub opening : List (Move P A)
   opening =
-      Gets (Open Writeback) Plain
+      Gets (Open d.mode) Plain
       ∷ Does Done (Begins (Begun d.alloc global))
       ∷ goes 2 (Does More (Reaches (Some (FirstSlotRead d.alloc global slot.0)) None)
       ∷ Does Done (Reaches (Some (AllRead all_stored)) (Some commit))
@@ -97,7 +104,7 @@ module _ (P A : Type 0) (d : Down P A) where
 
   pub opening_may : MayGo global shape down opening
   opening_may =
-      tt
+      if_writes d.mode (Unit {0}) d.writes tt
       ⨟ (refl, refl, refl)
       ⨟ (refl, refl, first_read P A shape.geometry durable d.alloc global left slot.0 slot.1 (omega (arith, shape.geometry.within.meta_from)))
       ⨟ (refl, refl, all_read A global shape.geometry durable none_then same_size P (left - 1) d.alloc global slot.0 slot.1)
@@ -107,7 +114,7 @@ module _ (P A : Type 0) (d : Down P A) where
       ⨟ tt
 
   abbrev pub target : Target P
-  target = target_over shape Writeback d.policy all_stored
+  target = target_over shape d.mode d.policy all_stored
 
   abbrev pub opened : State P A
   opened = record {

@@ -1,10 +1,11 @@
 -- Plays a run in which the first actor alone is at work, from a list of what comes next: what happens at each, where it leads, and what is to
 -- be shown for it. Steps that give what they must need nothing shown.
-use Rattle.std.proofs.Common.{Global, ◌≡◌, ◌≤◌, ◌+◌, ◌⊎◌, inl, inr, ℕ, zero, suc, Bool, true, false, ◌&&◌, List, [], ◌∷◌, ◌++◌, Option, Some, None, refl, arith, length, slice_get}
+use Rattle.std.proofs.Common.{Global, ◌≡◌, ◌≢◌, ◌≤◌, ◌+◌, ◌⊎◌, inl, inr, ℕ, zero, suc, Bool, true, false, ◌&&◌, List, [], ◌∷◌, ◌++◌, Option, Some, None, refl, ap, arith, length, slice_get}
 use Rattle.wb_types.specs.declared.extent.Extent.{Extent}
 use Rattle.wb_types.specs.declared.mode.Dev.{Dev}
 use Rattle.wb_types.specs.declared.mode.Dev.TheVariants.{Metadata, Cache, Origin}
-use Rattle.wb_types.specs.declared.mode.Mode.TheVariants.{Writeback, Writethrough}
+use Rattle.wb_types.specs.declared.mode.Mode.{Mode}
+use Rattle.wb_types.specs.declared.mode.Mode.TheVariants.{Writeback, Writethrough, Passthrough}
 use Rattle.wb_types.proofs.Truth.{and_true}
 use Rattle.wb_disk.specs.Device.{Content as Bytes}
 use Rattle.wb_disk.specs.Crash.{Choice}
@@ -115,12 +116,16 @@ abbrev is_idle : Option Actor → Bool
 is_idle None = false
 is_idle (Some x) = is_free x.task
 
--- an opening in write-back or write-through is in place where no target stands, any other job where one does
+-- a mode in which openings start
+abbrev pub is_writing : Mode → Bool
+is_writing Passthrough = false
+is_writing mode = true
+
+-- an opening in such a mode is in place where no target stands, any other job where one does
 abbrev is_in_place : {P A : Type 0} → Phase P A → Job → Bool
 is_in_place (Stands t) (Open mode) = false
 is_in_place (Stands t) job = true
-is_in_place Gone (Open Writeback) = true
-is_in_place Gone (Open Writethrough) = true
+is_in_place Gone (Open mode) = is_writing mode
 is_in_place phase job = false
 
 -- a step that needs nothing shown
@@ -157,6 +162,12 @@ abbrev pub MayGo : {P A : Type 0} → Global → Shape → State P A → List (M
 MayGo global shape w [] = Unit {0}
 MayGo global shape w (Goes ∷ moves) = If (is_plain_task w.phase (task_of (slice_get w.actors 0))) (MayGo global shape (then global shape w Goes) moves)
 MayGo global shape w (move ∷ moves) = Needs shape w move × MayGo global shape (then global shape w move) moves
+
+-- what holds where an opening in this mode starts
+pub if_writes : (mode : Mode) (X : Type 0) → mode ≢ Passthrough → X → If (is_writing mode) X
+if_writes Writeback X n x = x
+if_writes Writethrough X n x = x
+if_writes Passthrough X n x = absurd (n refl)
 
 -- what is shown for one, and for those behind it
 infixr 20 ◌⨟◌
@@ -198,8 +209,7 @@ idle_applies {P} {A} (Some x) phase job e f d = elim d [ inl none ↦ absurd (cc
     placed : (phase : Phase P A) (job : Job) → is_in_place phase job ≡ true → IsOutOfPlace phase job → ⊥
     placed (Stands t) (Open mode) e out = absurd (cc)
     placed (Stands t) job e out = out tt
-    placed Gone (Open Writeback) e out = elim out [ inl t ↦ t | inr past ↦ absurd (cc) ]
-    placed Gone (Open Writethrough) e out = elim out [ inl t ↦ t | inr past ↦ absurd (cc) ]
+    placed Gone (Open mode) e out = elim out [ inl t ↦ t | inr past ↦ absurd (let same : is_writing mode ≡ false = ap is_writing past in cc) ]
     placed phase job e out = absurd (cc)
 
 module _ {P A : Type 0} (global : Global) (shape : Shape) (w : State P A) where

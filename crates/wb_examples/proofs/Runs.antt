@@ -1,6 +1,8 @@
 -- How runs begin, whatever they pass through; and those through an opening, and a flush behind it.
-use Rattle.std.proofs.Common.{Global, ◌≡◌, ◌≤◌, ◌*◌, ℕ, zero, suc, List, [], ◌∷◌, ◌++◌, refl, sym, subst, arith, length, replicate}
+use Rattle.std.proofs.Common.{Global, ◌≡◌, ◌≢◌, ◌≤◌, ◌*◌, ℕ, zero, suc, List, [], ◌∷◌, ◌++◌, refl, sym, subst, arith, length, replicate}
 use Rattle.wb_types.specs.declared.geometry.Geometry.{Geometry}
+use Rattle.wb_types.specs.declared.mode.Mode.{Mode}
+use Rattle.wb_types.specs.declared.mode.Mode.TheVariants.{Writeback, Passthrough}
 use Rattle.wb_disk.specs.Device.{History}
 use Rattle.wb_disk.specs.Memory.{blank}
 use Rattle.wb_words.specs.SharedWords.{fresh_words}
@@ -17,7 +19,7 @@ use Rattle.wb_promise.specs.Headline.{noted}
 use Rattle.wb_examples.specs.Possible.{PassesThrough, CanPass, HasActors, TargetHas, AboutToAnswer, CanOpen, CanFlush}
 use Rattle.wb_runs.proofs.Formatted.{formatted_none}
 use Rattle.wb_examples.proofs.Playing.{played, goes_on, run_append, after_append, noted_append}
-use Rattle.wb_examples.proofs.Opening.{Down, down, opening, opening_may, opened, opened_is, bare, may_begin, target, Idle, idle, flushing, flushing_may}
+use Rattle.wb_examples.proofs.Opening.{write_back_starts, Down, down, opening, opening_may, opened, opened_is, bare, may_begin, target, Idle, idle, flushing, flushing_may}
 
 -- ---- how runs begin
 
@@ -51,8 +53,10 @@ can_pass P A Suits conditions some f policy reading begun shape metadata suits i
 
 module _ (P A : Type 0) where
   -- before the first opening, over formatted metadata
-  abbrev pub first_down : P → A → Global → (geometry : Geometry) (threshold others : ℕ) (metadata : List History) → IsFormatted geometry metadata → length metadata ≡ geometry.meta_sectors → Down P A
-  first_down policy alloc global geometry threshold others metadata f size = record {
+  abbrev pub first_down : (mode : Mode) → mode ≢ Passthrough → P → A → Global → (geometry : Geometry) (threshold others : ℕ) (metadata : List History) → IsFormatted geometry metadata → length metadata ≡ geometry.meta_sectors → Down P A
+  first_down mode writes policy alloc global geometry threshold others metadata f size = record {
+    mode = mode;
+    writes = writes;
     policy = policy;
     alloc = alloc;
     global = global;
@@ -67,12 +71,12 @@ module _ (P A : Type 0) where
 
   pub can_open : CanOpen P A
   can_open = can_pass P A HasActors (λ shape. (λ w n. TargetHas w (λ target. Unit {0})) ∷ []) (λ shape some. some) (λ policy alloc global geometry threshold others metadata some f size.
-      let d = first_down policy alloc global geometry threshold others metadata f size in
+      let d = first_down Writeback write_back_starts policy alloc global geometry threshold others metadata f size in
       (played global d.shape (down P A d) (opening P A d), goes_on global d.shape (down P A d) (opening P A d) (opening_may P A d), tt, tt))
 
   pub can_flush : CanFlush P A
   can_flush = can_pass P A HasActors (λ shape. (λ w n. AboutToAnswer Flush w) ∷ []) (λ shape some. some) (λ policy alloc global geometry threshold others metadata some f size.
-      by_down (first_down policy alloc global geometry threshold others metadata f size))
+      by_down (first_down Writeback write_back_starts policy alloc global geometry threshold others metadata f size))
     where
       by_down : (d : Down P A) → PassesThrough d.shape (down P A d) (formatted d.shape) ((λ w n. AboutToAnswer Flush w) ∷ [])
       by_down d =

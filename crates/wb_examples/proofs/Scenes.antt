@@ -1,5 +1,5 @@
 -- Where a run is in which the first actor alone is at work over a small shape, how its stretches are put together, and that an opening leads there.
-use Rattle.std.proofs.Common.{Global, IsPermutation, ◌≡◌, ◌∙◌, ◌≤◌, ◌*◌, ◌+◌, ℕ, zero, suc, List, [], ◌∷◌, Option, Some, None, refl, sym, ap, subst, arith, length, replicate, is_some}
+use Rattle.std.proofs.Common.{Global, IsPermutation, ◌≡◌, ◌≢◌, ◌∙◌, ◌≤◌, ◌*◌, ◌+◌, ℕ, zero, suc, List, [], ◌∷◌, Option, Some, None, refl, sym, ap, subst, arith, length, replicate, is_some}
 use Rattle.std.specs.List.{count_by}
 use Rattle.std.proofs.lemmas.List.{append-nil, length-map, length-replicate}
 use Rattle.std.proofs.lemmas.List.Elements.{All-cons, All-nil}
@@ -10,7 +10,8 @@ use Rattle.wb_types.specs.declared.extent.Extent.{Extent}
 use Rattle.wb_types.specs.declared.geometry.Geometry.{Geometry}
 use Rattle.wb_types.specs.Extents.{IsCutInto, sectors_in}
 use Rattle.wb_types.specs.declared.mode.Dev.TheVariants.{Origin}
-use Rattle.wb_types.specs.declared.mode.Mode.TheVariants.{Writeback}
+use Rattle.wb_types.specs.declared.mode.Mode.{Mode}
+use Rattle.wb_types.specs.declared.mode.Mode.TheVariants.{Passthrough}
 use Rattle.wb_types.specs.declared.version.Version.{Version}
 use Rattle.wb_disk.specs.Device.{Content as Bytes, History, only, newest}
 use Rattle.wb_disk.specs.Memory.{blank}
@@ -80,7 +81,7 @@ abbrev card_in : List Actor → Card
 card_in [] = blank_card
 card_in (x ∷ xs) = x.card
 
-module _ (P A : Type 0) (more : ℕ) (s : Setting P more) where
+module _ (P A : Type 0) (more : ℕ) (mode : Mode) (s : Setting P more mode) where
   open s use {global, rest}
 
   abbrev pub at : Scene P → Card → State P A
@@ -93,12 +94,12 @@ module _ (P A : Type 0) (more : ℕ) (s : Setting P more) where
 
   -- it leads there, but for what its actor knows then
   pub record Leads (w : State P A) (moves : List (Move P A)) (to : Scene P) : Type 0 where
-    pub may : MayGo global (shape P more s) w moves
+    pub may : MayGo global (shape P more mode s) w moves
     pub card : Card
-    pub is : ends global (shape P more s) w moves ≡ at to card
+    pub is : ends global (shape P more mode s) w moves ≡ at to card
 
-  pub goes_to : (w : State P A) (moves : List (Move P A)) (to : Scene P) → MayGo global (shape P more s) w moves → ends global (shape P more s) w moves ≡ at to (card_in (ends global (shape P more s) w moves).actors) → Leads w moves to
-  goes_to w moves to may is = record { may = may; card = card_in (ends global (shape P more s) w moves).actors; is = is }
+  pub goes_to : (w : State P A) (moves : List (Move P A)) (to : Scene P) → MayGo global (shape P more mode s) w moves → ends global (shape P more mode s) w moves ≡ at to (card_in (ends global (shape P more mode s) w moves).actors) → Leads w moves to
+  goes_to w moves to may is = record { may = may; card = card_in (ends global (shape P more mode s) w moves).actors; is = is }
 
   -- the first of these conditions, and the others
   abbrev pub First : List (State P A → Notes → Type 0) → State P A → Notes → Type 0
@@ -111,29 +112,29 @@ module _ (P A : Type 0) (more : ℕ) (s : Setting P more) where
 
   -- what a run may pass through from there on, where this is noted, or whatever is
   abbrev pub FromNoted : Scene P → Notes → List (State P A → Notes → Type 0) → Type 0
-  FromNoted scene n conditions = (card : Card) → IsKnown P A (shape P more s) (at scene card) → PassesThrough (shape P more s) (at scene card) n conditions
+  FromNoted scene n conditions = (card : Card) → IsKnown P A (shape P more mode s) (at scene card) → PassesThrough (shape P more mode s) (at scene card) n conditions
 
   abbrev pub From : Scene P → List (State P A → Notes → Type 0) → Type 0
-  From scene conditions = (card : Card) → IsKnown P A (shape P more s) (at scene card) → (n : Notes) → PassesThrough (shape P more s) (at scene card) n conditions
+  From scene conditions = (card : Card) → IsKnown P A (shape P more mode s) (at scene card) → (n : Notes) → PassesThrough (shape P more mode s) (at scene card) n conditions
 
   pub done : (scene : Scene P) → From scene []
   done scene card known n = tt
 
-  known_then : (scene to : Scene P) (moves : List (Move P A)) (card : Card) (r : Leads (at scene card) moves to) → IsKnown P A (shape P more s) (at scene card) → IsKnown P A (shape P more s) (at to r.card)
+  known_then : (scene to : Scene P) (moves : List (Move P A)) (card : Card) (r : Leads (at scene card) moves to) → IsKnown P A (shape P more mode s) (at scene card) → IsKnown P A (shape P more mode s) (at to r.card)
   known_then scene to moves card r known =
-      subst (λ (w : State P A). IsKnown P A (shape P more s) w) r.is (known_always P A (shape P more s) (at scene card) (played global (shape P more s) (at scene card) moves) known (goes_on global (shape P more s) (at scene card) moves r.may))
+      subst (λ (w : State P A). IsKnown P A (shape P more mode s) w) r.is (known_always P A (shape P more mode s) (at scene card) (played global (shape P more mode s) (at scene card) moves) known (goes_on global (shape P more mode s) (at scene card) moves r.may))
 
   -- a stretch, after which this is noted, and those behind it
-  pub noted_stretch : (scene to : Scene P) (moves : List (Move P A)) (n m : Notes) (conditions : List (State P A → Notes → Type 0)) (card : Card) → IsKnown P A (shape P more s) (at scene card) → Leads (at scene card) moves to →
-      noted (shape P more s) (at scene card) n (played global (shape P more s) (at scene card) moves) ≡ m → ((card : Card) → First conditions (at to card) m) → FromNoted to m (Later conditions) → PassesThrough (shape P more s) (at scene card) n conditions
+  pub noted_stretch : (scene to : Scene P) (moves : List (Move P A)) (n m : Notes) (conditions : List (State P A → Notes → Type 0)) (card : Card) → IsKnown P A (shape P more mode s) (at scene card) → Leads (at scene card) moves to →
+      noted (shape P more mode s) (at scene card) n (played global (shape P more mode s) (at scene card) moves) ≡ m → ((card : Card) → First conditions (at to card) m) → FromNoted to m (Later conditions) → PassesThrough (shape P more mode s) (at scene card) n conditions
   noted_stretch scene to moves n m [] card known r e is behind = tt
   noted_stretch scene to moves n m (Is ∷ conditions) card known r e is behind =
-      let Holds : State P A → Notes → Type 0 = λ w k. Is w k × PassesThrough (shape P more s) w k conditions in
-      let hs = played global (shape P more s) (at scene card) moves in
-      let p = subst (λ (w : State P A). Holds w (noted (shape P more s) (at scene card) n hs)) (sym r.is) (subst (λ (k : Notes). Holds (at to r.card) k) (sym e) (is r.card, behind r.card (known_then scene to moves card r known))) in
-      (hs, goes_on global (shape P more s) (at scene card) moves r.may, p.0, p.1)
+      let Holds : State P A → Notes → Type 0 = λ w k. Is w k × PassesThrough (shape P more mode s) w k conditions in
+      let hs = played global (shape P more mode s) (at scene card) moves in
+      let p = subst (λ (w : State P A). Holds w (noted (shape P more mode s) (at scene card) n hs)) (sym r.is) (subst (λ (k : Notes). Holds (at to r.card) k) (sym e) (is r.card, behind r.card (known_then scene to moves card r known))) in
+      (hs, goes_on global (shape P more mode s) (at scene card) moves r.may, p.0, p.1)
 
-  pub stretch : (scene to : Scene P) (moves : List (Move P A)) (conditions : List (State P A → Notes → Type 0)) → ((card : Card) → IsKnown P A (shape P more s) (at scene card) → Leads (at scene card) moves to) → ((card : Card) (n : Notes) → First conditions (at to card) n) → From to (Later conditions) →
+  pub stretch : (scene to : Scene P) (moves : List (Move P A)) (conditions : List (State P A → Notes → Type 0)) → ((card : Card) → IsKnown P A (shape P more mode s) (at scene card) → Leads (at scene card) moves to) → ((card : Card) (n : Notes) → First conditions (at to card) n) → From to (Later conditions) →
       From scene conditions
   stretch scene to moves conditions leads is behind card known n =
       noted_stretch scene to moves n _ conditions card known (leads card known) refl (λ c. is c _) (λ c now. behind c now _)
@@ -142,15 +143,16 @@ module _ (P A : Type 0) (more : ℕ) (s : Setting P more) where
   pub on : (scene to : Scene P) (moves : List (Move P A)) (conditions : List (State P A → Notes → Type 0)) → ((card : Card) → Leads (at scene card) moves to) → From to conditions → From scene conditions
   on scene to moves conditions leads behind card known n =
       let r = leads card in
-      along (shape P more s) (at scene card) (at to r.card) n (played global (shape P more s) (at scene card) moves) conditions r.is (goes_on global (shape P more s) (at scene card) moves r.may) (behind r.card (known_then scene to moves card r known) _)
+      along (shape P more mode s) (at scene card) (at to r.card) n (played global (shape P more mode s) (at scene card) moves) conditions r.is (goes_on global (shape P more mode s) (at scene card) moves r.may) (behind r.card (known_then scene to moves card r known) _)
 
   abbrev pub opened_scene : Devices (List History) → Scene P
-  opened_scene devices = record { devices = devices; words = fresh_words (suc more); desk = desk P more s; task = None; orders = []; awaiting = []; buffer = [] }
+  opened_scene devices = record { devices = devices; words = fresh_words (suc more); desk = desk P more mode s; task = None; orders = []; awaiting = []; buffer = [] }
 
 -- ---- what an opening leads to
 
--- formatted metadata for such a shape, and what an opening over them wants
-pub record Formatted (P A : Type 0) (more : ℕ) : Type 0 where
+-- formatted metadata for such a shape, and what an opening over them in this mode wants
+pub record Formatted (P A : Type 0) (more : ℕ) (mode : Mode) : Type 0 where
+  pub writes : mode ≢ Passthrough
   pub policy : P
   pub alloc : A
   pub global : Global
@@ -159,14 +161,15 @@ pub record Formatted (P A : Type 0) (more : ℕ) : Type 0 where
   pub is_formatted : IsFormatted (geometry_of more sizes) metadata
   pub size : length metadata ≡ sizes.meta_sectors
 
-module _ (P A : Type 0) (more : ℕ) (f : Formatted P A more) where
+module _ (P A : Type 0) (more : ℕ) (mode : Mode) (f : Formatted P A more mode) where
   open f use {global, sizes.{k, others}}
 
   abbrev pub down_at : Down P A
-  down_at = first_down P A f.policy f.alloc global (geometry_of more f.sizes) f.sizes.threshold others f.metadata f.is_formatted f.size
+  down_at = first_down P A mode f.writes f.policy f.alloc global (geometry_of more f.sizes) f.sizes.threshold others f.metadata f.is_formatted f.size
 
-  abbrev pub setting : Setting P more
+  abbrev pub setting : Setting P more mode
   setting = record {
+    writes = f.writes;
     global = global;
     sizes = f.sizes;
     policy = f.policy;
@@ -191,11 +194,11 @@ module _ (P A : Type 0) (more : ℕ) (f : Formatted P A more) where
   origin_size = length-map down_at.origin (λ (h : History). only (newest h)) ∙ length-replicate (64 * suc more) blank
 
   abbrev pub opened_at : State P A
-  opened_at = at P A more setting (opened_scene P A more setting devices) blank_card
+  opened_at = at P A more mode setting (opened_scene P A more mode setting devices) blank_card
 
   opened_there : opened P A down_at ≡ opened_at
   opened_there = ap (λ (g : Geometry). record opened_at {
-    phase = Stands (record { words = fresh_words (suc more); desk = opened_desk (geometry_of more f.sizes) setting.generation (empty_mapping g.cache_blocks) [] Writeback f.policy f.sizes.threshold (count_by is_some (replicate {A = Option Entry} g.cache_blocks None)) });
+    phase = Stands (record { words = fresh_words (suc more); desk = opened_desk (geometry_of more f.sizes) setting.generation (empty_mapping g.cache_blocks) [] mode f.policy f.sizes.threshold (count_by is_some (replicate {A = Option Entry} g.cache_blocks None)) });
   }) (none_then P A down_at).geometry_is
 
   pub known_at : IsKnown P A shape_at opened_at
@@ -218,14 +221,14 @@ Claim P A conditions b c o m v w threshold others metadata = let geometry : Geom
     IsFormatted geometry metadata → length metadata ≡ m → PassesThrough shape (start shape metadata) (formatted shape) (conditions shape)
 
 -- a small shape is one of such sizes
-pub small_can : (P A : Type 0) (more asked : ℕ) (conditions : Shape → List (State P A → Notes → Type 0)) → ((f : Formatted P A more) → asked ≤ f.sizes.threshold → Whole P A more f (conditions (shape_of more f.sizes))) → CanPass P A (IsSmall (suc more) asked) conditions
-small_can P A more asked conditions passes = can_pass P A (IsSmall (suc more) asked) conditions (λ shape suits. suits.actors) (λ policy alloc global g threshold others metadata suits is_formatted size.
+pub small_can : (P A : Type 0) (more asked : ℕ) (mode : Mode) (writes : mode ≢ Passthrough) (conditions : Shape → List (State P A → Notes → Type 0)) → ((f : Formatted P A more mode) → asked ≤ f.sizes.threshold → Whole P A more mode f (conditions (shape_of more f.sizes))) → CanPass P A (IsSmall (suc more) asked) conditions
+small_can P A more asked mode writes conditions passes = can_pass P A (IsSmall (suc more) asked) conditions (λ shape suits. suits.actors) (λ policy alloc global g threshold others metadata suits is_formatted size.
     by_sizes policy alloc global g.block g.cache_blocks g.origin_blocks g.meta_sectors g.version g.within threshold others metadata suits.block suits.origin suits.room is_formatted size)
   where
     by_cache : (policy : P) (alloc : A) (global : Global) (c m : ℕ) (v : Version) (w : IsWithinLimits 64 c (suc more) m) (threshold others : ℕ) (metadata : List History) → asked ≤ threshold → Claim P A conditions 64 c (suc more) m v w threshold others metadata
     by_cache policy alloc global zero m v w threshold others metadata room is_formatted size = absurd (omega (arith, w.cache_from))
     by_cache policy alloc global (suc k) m v w threshold others metadata room is_formatted size =
-        passes (record { policy = policy; alloc = alloc; global = global; sizes = record { k = k; meta_sectors = m; within = w; version = v; threshold = threshold; others = others }; metadata = metadata; is_formatted = is_formatted; size = size }) room
+        passes (record { writes = writes; policy = policy; alloc = alloc; global = global; sizes = record { k = k; meta_sectors = m; within = w; version = v; threshold = threshold; others = others }; metadata = metadata; is_formatted = is_formatted; size = size }) room
 
     by_sizes : (policy : P) (alloc : A) (global : Global) (b c o m : ℕ) (v : Version) (w : IsWithinLimits b c o m) (threshold others : ℕ) (metadata : List History) → b ≡ 64 → o ≡ suc more → asked ≤ threshold → Claim P A conditions b c o m v w threshold others metadata
     by_sizes policy alloc global b c o m v w threshold others metadata e f room =

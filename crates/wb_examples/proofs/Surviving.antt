@@ -45,12 +45,12 @@ use Rattle.wb_runs.proofs.Spelling.{spelling, spelled_root}
 use Rattle.wb_examples.proofs.Beginning.{bare_root, bare_commit}
 use Rattle.wb_examples.proofs.Shown.{written_same, origin_shown}
 use Rattle.wb_examples.proofs.Playing.{Move, Gets, Moves, Reads, Fails, Stops, goes, played, ends, MayGo, goes_on, ◌⨟◌}
-use Rattle.wb_examples.proofs.Opening.{Down, down, opening, opening_may, opened_is, target, bare, Idle, flushing, flushing_may}
+use Rattle.wb_examples.proofs.Opening.{write_back_starts, Down, down, opening, opening_may, opened_is, target, bare, Idle, flushing, flushing_may}
 use Rattle.wb_examples.proofs.Desks.{Setting, shape, desk}
 use Rattle.wb_examples.proofs.Scenes.{Scene, Formatted, at, over, Leads, goes_to, FromNoted, noted_stretch, opened_scene, down_at, setting, devices, devices_size, shape_at, opened_at, known_at, opening_run, Whole, from_opened, small_can, uncut, nothing_lands, may_fail}
 
 -- the root that was written last, if the newest root has its generation
-root_there : (m : List History) (r q : Root) → 2 ≤ length m → r.generation < 2 ^ 64 → q.generation ≡ r.generation → IsNewestRoot (map newest (synced (written (synced m) (r.generation % 2) (spelling r)))) q → q ≡ r
+pub root_there : (m : List History) (r q : Root) → 2 ≤ length m → r.generation < 2 ^ 64 → q.generation ≡ r.generation → IsNewestRoot (map newest (synced (written (synced m) (r.generation % 2) (spelling r)))) q → q ≡ r
 root_there m r q some fits same n =
     let at = r.generation % 2 in
     let low : at < 2 = mod-lt r.generation (omega arith) in
@@ -64,7 +64,7 @@ root_there m r q some fits same n =
     one_root (spelling r) q r (subst (λ (s : Bytes). SpellsRoot s q) is n.valid.spelled) (spelled_root r fits)
 
 -- metadata that stand quietly by a root without a tree, once a crash has left of them what it will
-none_after : (P : Type 0) (g : Geometry) (i : Images) (desk : DeskState P) (m m' : List History) (q : Quiet g i desk m) → q.stored.root.top ≡ None → q.stored.root.generation + 2 < 2 ^ 64 → Crashed m m' → HasNoTree g m'
+pub none_after : (P : Type 0) (g : Geometry) (i : Images) (desk : DeskState P) (m m' : List History) (q : Quiet g i desk m) → q.stored.root.top ≡ None → q.stored.root.generation + 2 < 2 ^ 64 → Crashed m m' → HasNoTree g m'
 none_after P g i desk m m' q top more crash = record {
   root = q.stored.root;
   geometry_is = q.same;
@@ -76,11 +76,11 @@ none_after P g i desk m m' q top more crash = record {
     nothing : (sectors : List Bytes) → IsNewestRoot sectors q.stored.root → Represents sectors q.stored.root (nothing_found q.stored.root)
     nothing sectors n = record { newest = n; nodes = λ place. None; reached = λ place e. absurd (cc); reads = ap (λ t. top_read q.stored.root (λ place. None) t) top }
 
-module _ (P A : Type 0) (policy : P) (alloc : A) (s : Setting P 0) (metadata cache sectors histories : List History) (first : Bytes) (finished floors : List ℕ) (doings : List (Option Doing)) (content other : Bytes) where
+module _ (P A : Type 0) (policy : P) (alloc : A) (s : Setting P 0 Writeback) (metadata cache sectors histories : List History) (first : Bytes) (finished floors : List ℕ) (doings : List (Option Doing)) (content other : Bytes) where
   open s use {global}
 
   abbrev shape0 : Shape
-  shape0 = shape P 0 s
+  shape0 = shape P 0 Writeback s
 
   abbrev lead : State P A → List (Move P A) → State P A
   lead w moves = ends global shape0 w moves
@@ -104,16 +104,16 @@ module _ (P A : Type 0) (policy : P) (alloc : A) (s : Setting P 0) (metadata cac
   history = record { first = first; later = content ∷ [] }
 
   abbrev pub opened0 : Scene P
-  opened0 = opened_scene P A 0 s (record { metadata = metadata; cache = cache; origin = only first ∷ sectors })
+  opened0 = opened_scene P A 0 Writeback s (record { metadata = metadata; cache = cache; origin = only first ∷ sectors })
 
   abbrev wrote : Scene P
-  wrote = here metadata cache (history ∷ sectors) (words 1 0 1) (desk P 0 s) (ending (Write first_sector content))
+  wrote = here metadata cache (history ∷ sectors) (words 1 0 1) (desk P 0 Writeback s) (ending (Write first_sector content))
 
   abbrev was_read : Scene P
-  was_read = here metadata cache (history ∷ sectors) (words 1 1 1) (desk P 0 s) (ending (Read first_sector))
+  was_read = here metadata cache (history ∷ sectors) (words 1 1 1) (desk P 0 Writeback s) (ending (Read first_sector))
 
   abbrev desk_then : DeskState P
-  desk_then = ended (commit_begun (desk P 0 s) (desk P 0 s).tree)
+  desk_then = ended (commit_begun (desk P 0 Writeback s) (desk P 0 Writeback s).tree)
 
   abbrev durable : Scene P
   durable = here (synced (rooted (bare_commit global shape0.geometry (s.generation + 1)) (synced metadata))) (synced cache) (only content ∷ synced sectors) (words 1 1 1) desk_then (over Flush (task_job shape0 Writeback [] Flush []))
@@ -149,7 +149,7 @@ module _ (P A : Type 0) (policy : P) (alloc : A) (s : Setting P 0) (metadata cac
   reading = goes 1 (starting (Read first_sector) (Reads content ∷ goes 2 []))
 
   abbrev idle_there : Card → Idle P
-  idle_there card = record { global = global; shape = shape0; words = words 1 1 1; desk = desk P 0 s; devices = was_read.devices; actor = record { task = None; card = card; orders = []; awaiting = []; buffer = [] }; rest = s.rest }
+  idle_there card = record { global = global; shape = shape0; words = words 1 1 1; desk = desk P 0 Writeback s; devices = was_read.devices; actor = record { task = None; card = card; orders = []; awaiting = []; buffer = [] }; rest = s.rest }
 
   abbrev flush : List (Move P A)
   flush = goes 1 (flushing P A (idle_there blank_card))
@@ -160,16 +160,16 @@ module _ (P A : Type 0) (policy : P) (alloc : A) (s : Setting P 0) (metadata cac
   abbrev crash : List (Move P A)
   crash = Stops nothing_lands ∷ []
 
-  writing_leads : (card : Card) → Leads P A 0 s (at P A 0 s opened0 card) writing wrote
-  writing_leads card = goes_to P A 0 s _ _ _ ((refl, uncut first_sector (omega arith)) ⨟ (tt, omega arith) ⨟ tt) refl
+  writing_leads : (card : Card) → Leads P A 0 Writeback s (at P A 0 Writeback s opened0 card) writing wrote
+  writing_leads card = goes_to P A 0 Writeback s _ _ _ ((refl, uncut first_sector (omega arith)) ⨟ (tt, omega arith) ⨟ tt) refl
 
-  reading_leads : (card : Card) → Leads P A 0 s (at P A 0 s wrote card) reading was_read
-  reading_leads card = goes_to P A 0 s _ _ _ ((refl, uncut first_sector (omega arith)) ⨟ (tt, refl, refl, refl, ((_, refl, refl), tt)) ⨟ tt) refl
+  reading_leads : (card : Card) → Leads P A 0 Writeback s (at P A 0 Writeback s wrote card) reading was_read
+  reading_leads card = goes_to P A 0 Writeback s _ _ _ ((refl, uncut first_sector (omega arith)) ⨟ (tt, refl, refl, refl, ((_, refl, refl), tt)) ⨟ tt) refl
 
-  flush_leads : (card : Card) → IsKnown P A shape0 (at P A 0 s was_read card) → Leads P A 0 s (at P A 0 s was_read card) flush durable
-  flush_leads card known = goes_to P A 0 s _ _ _ (flushing_may P A (idle_there card) (record { images = known.images; known = known.known; entries = refl }) (record { idle = refl; next = omega (arith, s.later) })) refl
+  flush_leads : (card : Card) → IsKnown P A shape0 (at P A 0 Writeback s was_read card) → Leads P A 0 Writeback s (at P A 0 Writeback s was_read card) flush durable
+  flush_leads card known = goes_to P A 0 Writeback s _ _ _ (flushing_may P A (idle_there card) (record { images = known.images; known = known.known; entries = refl }) (record { idle = refl; next = omega (arith, s.later) })) refl
 
-  failing_may : (card : Card) → MayGo global shape0 (at P A 0 s durable card) failing
+  failing_may : (card : Card) → MayGo global shape0 (at P A 0 Writeback s durable card) failing
   failing_may card = (refl, uncut first_sector (omega arith)) ⨟ (may_fail _, (refl, tt)) ⨟ tt
 
   keeps : (device : Dev) (sectors : List History) → Applies device nothing_lands sectors
@@ -177,9 +177,9 @@ module _ (P A : Type 0) (policy : P) (alloc : A) (s : Setting P 0) (metadata cac
 
   -- ---- the second opening, which finds the root of the flush, and shows the origin, since nothing is cached
 
-  module _ (size : length metadata ≡ s.sizes.meta_sectors) (many : length sectors ≡ 63) (card : Card) (known : IsKnown P A shape0 (at P A 0 s durable card)) where
+  module _ (size : length metadata ≡ s.sizes.meta_sectors) (many : length sectors ≡ 63) (card : Card) (known : IsKnown P A shape0 (at P A 0 Writeback s durable card)) where
     abbrev settled : State P A
-    settled = at P A 0 s durable card
+    settled = at P A 0 Writeback s durable card
 
     abbrev down_again : State P A
     down_again = lead (lead settled failing) crash
@@ -196,6 +196,8 @@ module _ (P A : Type 0) (policy : P) (alloc : A) (s : Setting P 0) (metadata cac
 
     abbrev again : Down P A
     again = record {
+      mode = Writeback;
+      writes = write_back_starts;
       policy = policy;
       alloc = alloc;
       global = global;
@@ -226,13 +228,13 @@ module _ (P A : Type 0) (policy : P) (alloc : A) (s : Setting P 0) (metadata cac
       ),
     )
 
-  pub survives : length metadata ≡ s.sizes.meta_sectors → length sectors ≡ 63 → FromNoted P A 0 s opened0 n0 conditions
-  survives size many c0 known = noted_stretch P A 0 s opened0 wrote writing n0 n1 conditions c0 known (writing_leads c0) refl (λ c. (refl, refl)) (λ c1 known1.
-      noted_stretch P A 0 s wrote was_read reading n1 n2 (drop 1 conditions) c1 known1 (reading_leads c1) refl (λ c. ((refl, refl), refl)) (λ c2 known2.
-      noted_stretch P A 0 s was_read durable flush n2 n3 (drop 2 conditions) c2 known2 (flush_leads c2 known2) refl (λ c. ((refl, refl), refl, refl)) (last_stretches size many)))
+  pub survives : length metadata ≡ s.sizes.meta_sectors → length sectors ≡ 63 → FromNoted P A 0 Writeback s opened0 n0 conditions
+  survives size many c0 known = noted_stretch P A 0 Writeback s opened0 wrote writing n0 n1 conditions c0 known (writing_leads c0) refl (λ c. (refl, refl)) (λ c1 known1.
+      noted_stretch P A 0 Writeback s wrote was_read reading n1 n2 (drop 1 conditions) c1 known1 (reading_leads c1) refl (λ c. ((refl, refl), refl)) (λ c2 known2.
+      noted_stretch P A 0 Writeback s was_read durable flush n2 n3 (drop 2 conditions) c2 known2 (flush_leads c2 known2) refl (λ c. ((refl, refl), refl, refl)) (last_stretches size many)))
 
 -- what is noted once the first opening was answered: of each sector what is shown of it
-module _ (P A : Type 0) (f : Formatted P A 0) where
+module _ (P A : Type 0) (f : Formatted P A 0 Writeback) where
   abbrev sectors_then : List History
   sectors_then = synced (replicate 63 blank)
 
@@ -246,18 +248,18 @@ module _ (P A : Type 0) (f : Formatted P A 0) where
   nobody_else = replicate (length (nobody (replicate f.sizes.others None))) None
 
   abbrev down0 : Down P A
-  down0 = down_at P A 0 f
+  down0 = down_at P A 0 Writeback f
 
-  noted_then : noted (shape_at P A 0 f) (down P A down0) (formatted (shape_at P A 0 f)) (opening_run P A 0 f)
+  noted_then : noted (shape_at P A 0 Writeback f) (down P A down0) (formatted (shape_at P A 0 Writeback f)) (opening_run P A 0 Writeback f)
       ≡ record { histories = only (newest blank) ∷ map only contents_then; finished = 0 ∷ finished_then; floors = 0 ∷ finished_then; doings = None ∷ nobody_else }
   noted_then = ap (λ (ss : List Bytes). begins (suc (length (nobody (replicate f.sizes.others None)))) ss) (
-      ap (λ (w : State P A). shown (shape_at P A 0 f) w) (opened_is P A down0)
-      ∙ origin_shown (shape_at P A 0 f) (target P A down0).desk.tree.entries (map newest (devices P A 0 f).cache) (map newest (devices P A 0 f).origin) (suc f.sizes.k) (bare P A down0).entries refl)
+      ap (λ (w : State P A). shown (shape_at P A 0 Writeback f) w) (opened_is P A down0)
+      ∙ origin_shown (shape_at P A 0 Writeback f) (target P A down0).desk.tree.entries (map newest (devices P A 0 Writeback f).cache) (map newest (devices P A 0 Writeback f).origin) (suc f.sizes.k) (bare P A down0).entries refl)
 
-  pub survives_from : (content other : Bytes) → Whole P A 0 f (to_survive (shape_at P A 0 f) content other)
-  survives_from content other = from_opened P A 0 f (to_survive (shape_at P A 0 f) content other) (λ n e.
-      subst (λ (m : Notes). PassesThrough (shape_at P A 0 f) (opened_at P A 0 f) m (to_survive (shape_at P A 0 f) content other)) (sym (e ∙ noted_then))
-      (survives P A f.policy f.alloc (setting P A 0 f) (devices P A 0 f).metadata (devices P A 0 f).cache sectors_then (map only contents_then) (newest blank) finished_then finished_then nobody_else content other (devices_size P A 0 f) refl blank_card (known_at P A 0 f)))
+  pub survives_from : (content other : Bytes) → Whole P A 0 Writeback f (to_survive (shape_at P A 0 Writeback f) content other)
+  survives_from content other = from_opened P A 0 Writeback f (to_survive (shape_at P A 0 Writeback f) content other) (λ n e.
+      subst (λ (m : Notes). PassesThrough (shape_at P A 0 Writeback f) (opened_at P A 0 Writeback f) m (to_survive (shape_at P A 0 Writeback f) content other)) (sym (e ∙ noted_then))
+      (survives P A f.policy f.alloc (setting P A 0 Writeback f) (devices P A 0 Writeback f).metadata (devices P A 0 Writeback f).cache sectors_then (map only contents_then) (newest blank) finished_then finished_then nobody_else content other (devices_size P A 0 Writeback f) refl blank_card (known_at P A 0 Writeback f)))
 
 pub can_survive : (P A : Type 0) → CanSurvive P A
-can_survive P A content other = small_can P A 0 0 (λ shape. to_survive shape content other) (λ f room. survives_from P A f content other)
+can_survive P A content other = small_can P A 0 0 Writeback write_back_starts (λ shape. to_survive shape content other) (λ f room. survives_from P A f content other)

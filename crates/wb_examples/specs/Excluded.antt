@@ -3,13 +3,15 @@
 use Rattle.std.specs.Prelude.{◌≡◌, ℕ, List, [], ◌∷◌, Some, None, map}
 use Rattle.wb_types.specs.declared.mode.Dev.{Dev}
 use Rattle.wb_types.specs.declared.mode.Dev.TheVariants.{Cache, Origin}
-use Rattle.wb_types.specs.declared.mode.Mode.TheVariants.{Writeback}
+use Rattle.wb_types.specs.declared.mode.Mode.{Mode}
+use Rattle.wb_types.specs.declared.mode.Mode.TheVariants.{Writeback, Writethrough}
 use Rattle.wb_types.specs.declared.number.Place.{Place}
 use Rattle.wb_types.specs.declared.refusal.Refusal.TheVariants.{Io, Memory, GenerationEnd, NotFormatted, Damaged, Mismatch, Geometry}
-use Rattle.wb_disk.specs.Device.{Content as Bytes}
+use Rattle.wb_disk.specs.Device.{Content as Bytes, History}
 use Rattle.wb_tasks.specs.declared.step.Answer.{Answer}
 use Rattle.wb_tasks.specs.declared.step.Answer.TheVariants.{Done as Finished, Refused as Refuses}
-use Rattle.wb_tasks.specs.declared.step.Want.TheVariants.{End}
+use Rattle.wb_tasks.specs.declared.step.DeviceStep.TheVariants.{Write as WriteExtent}
+use Rattle.wb_tasks.specs.declared.step.Want.TheVariants.{Device, End}
 use Rattle.wb_tasks.specs.declared.step.Got.TheVariants.{Done}
 use Rattle.wb_promise.specs.declared.job.Job.{Job}
 use Rattle.wb_promise.specs.declared.job.Job.TheVariants.{Read, Write, Flush, Open}
@@ -59,16 +61,23 @@ IsAnsweredRightly floor doing answer shown = AnswersRightly shown (with_floor fl
 abbrev pub floors_after : Shape → ℕ → Answer → List ℕ
 floors_after shape finished answer = (noted_what shape Writeback [] (with_floor 0 (record (at_job Flush) { then_finished = finished ∷ [] })) (Step 0) (Stepped (End answer) Done) []).floors
 
+-- the histories once a write of something else has written this of a device, over a target of this mode
+abbrev pub histories_after : Shape → Mode → Dev → List History
+histories_after shape mode device = (noted_what shape mode [] (with_floor 0 (at_job (Write first_sector foreign))) (Step 0) (Stepped (Device (WriteExtent device first_sector)) Done) []).histories
+
 pub record ExcludesWrongAnswers (P A : Type 0) : Type 0 where
   -- a finished read was given the last entry, once
   pub read : IsAnsweredRightly 0 (having_read (newer ∷ [])) Finished []
   pub stale : ¬ IsAnsweredRightly 0 (having_read (older ∷ [])) Finished []
   pub unread : ¬ IsAnsweredRightly 0 (having_read []) Finished []
   pub read_twice : ¬ IsAnsweredRightly 0 (having_read (newer ∷ newer ∷ [])) Finished []
-  -- a finished write has entered its sector
+  -- a finished write has entered its sector, once
   pub wrote : IsAnsweredRightly 0 (having_entered (record { sector = 0; position = 1 } ∷ [])) Finished []
   pub unwritten : ¬ IsAnsweredRightly 0 (having_entered []) Finished []
+  pub wrote_twice : ¬ IsAnsweredRightly 0 (having_entered (record { sector = 0; position = 1 } ∷ record { sector = 0; position = 2 } ∷ [])) Finished []
   pub elsewhere : ¬ IsAnsweredRightly 0 (having_entered (record { sector = 1; position = 1 } ∷ [])) Finished []
+  -- in write-through it enters nothing where it writes the cache, behind the origin
+  pub not_again : (shape : Shape) → histories_after shape Writethrough Cache ≡ record { first = older; later = newer ∷ [] } ∷ []
   -- what an opening shows is an entry at the floor or later, of each sector
   pub unflushed : IsAnsweredRightly 0 (opening []) Finished (older ∷ [])
   pub kept : IsAnsweredRightly 1 (opening []) Finished (newer ∷ [])

@@ -1,7 +1,9 @@
 -- That the promises are not empty: runs that pass through what they speak of.
 use Rattle.std.specs.Prelude.{true, false, ◌≡◌, ◌≤◌, ◌∷◌, ℕ, List, [], Some, None, length, slice_get}
 use Rattle.wb_types.specs.declared.extent.Extent.{Extent}
-use Rattle.wb_types.specs.declared.mode.Dev.TheVariants.{Origin}
+use Rattle.wb_types.specs.declared.mode.Mode.{Mode}
+use Rattle.wb_types.specs.declared.mode.Mode.TheVariants.{Writeback, Writethrough}
+use Rattle.wb_types.specs.declared.mode.Dev.TheVariants.{Cache, Origin}
 use Rattle.wb_types.specs.declared.refusal.Refusal.TheVariants.{Memory}
 use Rattle.wb_types.specs.declared.number.OBlock.{OBlock}
 use Rattle.wb_types.specs.declared.number.CBlock.{CBlock}
@@ -19,9 +21,10 @@ use Rattle.wb_meta.specs.Reads.{sectors_read}
 use Rattle.wb_meta.specs.declared.read_steps.ReadSteps.{ReadSteps}
 use Rattle.wb_tasks.specs.Plan.{want}
 use Rattle.wb_tasks.specs.declared.step.Answer.TheVariants.{Done as Finished, Refused as IsRefused}
+use Rattle.wb_tasks.specs.declared.step.DeviceStep.TheVariants.{Write as WriteExtent}
 use Rattle.wb_tasks.specs.declared.step.DeskStep.TheVariants.{ReleaseOrder}
 use Rattle.wb_tasks.specs.declared.step.Want.{Want}
-use Rattle.wb_tasks.specs.declared.step.Want.TheVariants.{Desk, End}
+use Rattle.wb_tasks.specs.declared.step.Want.TheVariants.{Device, Desk, End}
 use Rattle.wb_promise.specs.declared.job.Job.{Job}
 use Rattle.wb_promise.specs.declared.job.Job.TheVariants.{Read, Write, Flush, Migrate}
 use Rattle.wb_promise.specs.States.{Shape, State, Target, Gone, OfTarget, start}
@@ -164,18 +167,51 @@ CanDemote P A = CanPass P A (IsSmall 1 64) (λ shape. to_demote)
 abbrev pub IsWrittenTo : {P A : Type 0} → Bytes → State P A → Type 0
 IsWrittenTo content w = AboutToAnswer (Write first_sector content) w × ReadGives w.devices.cache 0 content
 
+-- the seal of the first block says that its copy in the first cache block is clean
+abbrev pub IsSealedClean : {P A : Type 0} → State P A → Type 0
+IsSealedClean w = TargetHas w (λ target. word_at target.words.seals first_block ≡ seal_word (Some first_cache_block) false)
+
 -- The first block comes, is written to, and is written back: what was written is on the origin then too, the block stands where it was, its
 -- seal says that it is clean, and no order lives there.
 abbrev pub to_write_back : {P A : Type 0} → Bytes → List (State P A → Notes → Type 0)
 to_write_back content =
     (λ w n. IsPromoted w)
     ∷ (λ w n. IsWrittenTo content w)
-    ∷ (λ w n. AboutToAnswer (Migrate Clean first_block) w × FirstHas [] [] w × ReadGives w.devices.origin 0 content × StandsCached first_block w × NoOrderLives w
-    × TargetHas w (λ target. word_at target.words.seals first_block ≡ seal_word (Some first_cache_block) false))
+    ∷ (λ w n. AboutToAnswer (Migrate Clean first_block) w × FirstHas [] [] w × ReadGives w.devices.origin 0 content × StandsCached first_block w × NoOrderLives w × IsSealedClean w)
     ∷ []
 
 abbrev pub CanWriteBack : (P A : Type 0) → Type 0
 CanWriteBack P A = (content : Bytes) → CanPass P A (IsSmall 2 128) (λ shape. to_write_back content)
+
+-- a target of this mode stands
+abbrev pub StandsIn : {P A : Type 0} → Mode → State P A → Type 0
+StandsIn mode w = TargetHas w (λ target. target.desk.mode ≡ mode)
+
+-- a write to the first block, where it stands cached, has reached the origin, and comes to the cache next
+abbrev pub IsHalfWritten : {P A : Type 0} → Bytes → State P A → Type 0
+IsHalfWritten content w = FirstWants (Write first_sector content) (Device (WriteExtent Cache first_sector)) w × ReadGives w.devices.origin 0 content × IsSealedClean w
+
+-- In write-through the first block comes, and is written to: on the origin, and then in the cache too, and its seal says that it is clean still.
+abbrev pub to_write_through : {P A : Type 0} → Bytes → List (State P A → Notes → Type 0)
+to_write_through content =
+    (λ w n. IsPromoted w × StandsIn Writethrough w)
+    ∷ (λ w n. IsHalfWritten content w)
+    ∷ (λ w n. IsWrittenTo content w × ReadGives w.devices.origin 0 content × IsSealedClean w)
+    ∷ []
+
+abbrev pub CanWriteThrough : (P A : Type 0) → Type 0
+CanWriteThrough P A = (content : Bytes) → CanPass P A (IsSmall 1 64) (λ shape. to_write_through content)
+
+-- Power is lost between the two writes, and a second opening, in write-back, shows what had reached the origin.
+abbrev pub to_write_half : {P A : Type 0} → Shape → Bytes → List (State P A → Notes → Type 0)
+to_write_half shape content =
+    (λ w n. IsHalfWritten content w × StandsIn Writethrough w)
+    ∷ (λ w n. w.phase ≡ Gone)
+    ∷ (λ w n. StandsIn Writeback w × (slice_get (shown shape w) 0 ≡ Some content))
+    ∷ []
+
+abbrev pub CanWriteHalf : (P A : Type 0) → Type 0
+CanWriteHalf P A = (content : Bytes) → CanPass P A (IsSmall 1 64) (λ shape. to_write_half shape content)
 
 -- the first block has left, its cache block is claimed, and its order lives on and waits for a flush
 abbrev pub IsHalfReplaced : {P A : Type 0} → State P A → Type 0

@@ -1,7 +1,7 @@
 //! Runs that there are, and answers that the promise refuses.
 
 ghost use Rattle.wb_examples.specs.Excluded.{ExcludesWrongAnswers};
-ghost use Rattle.wb_examples.specs.Possible.{CanDemote, CanFlush, CanGiveUp, CanOpen, CanPromote, CanReplace, CanStartAgain, CanSurvive, CanWriteBack};
+ghost use Rattle.wb_examples.specs.Possible.{CanDemote, CanFlush, CanGiveUp, CanOpen, CanPromote, CanReplace, CanStartAgain, CanSurvive, CanWriteBack, CanWriteHalf, CanWriteThrough};
 
 /// From any formatted metadata there is a run, over any policy, in which an opening is answered done and its target stands.
 pub fn a_target_can_be_opened<P, A>()
@@ -29,6 +29,18 @@ pub fn a_block_can_be_promoted<P, A>()
 /// its order is over, and its cache block is in quarantine.
 pub fn a_block_can_be_demoted<P, A>()
     ensures { CanDemote P A }
+{}
+
+/// And over the smallest origin one in write-through in which the block that was promoted is written to: the origin has it, then the cache too,
+/// and the block stays clean.
+pub fn a_block_can_be_written_through<P, A>()
+    ensures { CanWriteThrough P A }
+{}
+
+/// And one in which power is lost between those two writes, and a second opening, in write-back, is answered done and shows what had reached the
+/// origin.
+pub fn a_write_can_be_cut_off<P, A>()
+    ensures { CanWriteHalf P A }
 {}
 
 /// And over an origin of two blocks one in which the first block, which was promoted and written to, is written back: its content goes home, and

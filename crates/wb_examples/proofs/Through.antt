@@ -1,0 +1,201 @@
+-- Runs in write-through: a cached block is written to on the origin and then in the cache; or power is lost between the two, and an opening in
+-- write-back shows what the origin has.
+use Rattle.std.proofs.Common.{sym, ◌≡◌, ◌∙◌, ◌≤◌, ℕ, true, List, [], ◌∷◌, Some, None, refl, ap, arith, drop, length, map, slice_get, inl, inr}
+use Rattle.std.proofs.lemmas.List.Elements.{All-nil}
+use Rattle.wb_types.specs.declared.mode.Mode.TheVariants.{Writeback, Writethrough}
+use Rattle.wb_types.specs.declared.mode.Dev.{Dev}
+use Rattle.wb_types.specs.declared.mode.Dev.TheVariants.{Metadata, Cache, Origin}
+use Rattle.wb_disk.specs.Device.{Content as Bytes, History, Crashed, newest, synced, written}
+use Rattle.wb_disk.specs.Crash.{Choice, Applies, crashed}
+use Rattle.wb_disk.specs.declared.crash_choice.Base.TheVariants.{Newest}
+use Rattle.wb_disk.proofs.Leaving.{read-left}
+use Rattle.wb_disk.proofs.Crashes.{Crashed-crashed_from}
+use Rattle.wb_format.specs.declared.root.Root.{Root}
+use Rattle.wb_meta.specs.Openings.{reopened}
+use Rattle.wb_words.specs.Cards.{blank_card}
+use Rattle.wb_words.specs.declared.card.Card.{Card}
+use Rattle.wb_words.specs.declared.word.Access.TheVariants.{Owned}
+use Rattle.wb_words.specs.declared.word.Kind.TheVariants.{WriteHit}
+use Rattle.wb_words.specs.declared.step.CellStep.TheVariants.{Finish, Count, Release}
+use Rattle.wb_words.specs.SharedWords.{Words}
+use Rattle.wb_tasks.specs.Tables.{TaskJob}
+use Rattle.wb_tasks.specs.declared.step.Answer.TheVariants.{Done as Finished}
+use Rattle.wb_tasks.specs.declared.step.DeviceStep.TheVariants.{Write as WriteExtent}
+use Rattle.wb_tasks.specs.declared.step.Want.TheVariants.{Cell, Device}
+use Rattle.wb_devices.specs.declared.devices.Devices.{Devices}
+use Rattle.wb_promise.specs.declared.job.Job.{Job}
+use Rattle.wb_promise.specs.declared.job.Job.TheVariants.{Write}
+use Rattle.wb_promise.specs.States.{Shape, State}
+use Rattle.wb_promise.specs.Happenings.{Cut, task_job}
+use Rattle.wb_promise.specs.Effects.{contents_at, all_resting}
+use Rattle.wb_promise.specs.Clerk.{Notes}
+use Rattle.wb_promise.specs.Headline.{shown}
+use Rattle.wb_disk.proofs.Lengths.{length_written_where}
+use Rattle.wb_runs.proofs.Metadata.{Quiet}
+use Rattle.wb_runs.proofs.MetadataRuns.{IsKnown}
+use Rattle.wb_examples.specs.Possible.{PassesThrough, first_sector, first_block, to_write_through, to_write_half, CanWriteThrough, CanWriteHalf}
+use Rattle.wb_examples.proofs.Shown.{origin_shown}
+use Rattle.wb_examples.proofs.Playing.{Move, Gets, Moves, Stops, goes, goes_on, played, ends, ◌⨟◌}
+use Rattle.wb_examples.proofs.Opening.{write_back_starts, Down, down, opening, opening_may, opened_is, none_then, target, bare}
+use Rattle.wb_examples.proofs.Desks.{Setting, shape, stood}
+use Rattle.wb_examples.proofs.Scenes.{Scene, Formatted, at, over, Leads, goes_to, done, stretch, on, opened_scene, down_at, setting, devices, devices_size, cache_size, origin_size, shape_at, known_at, Whole, from_opened, small_can, uncut, whole}
+use Rattle.wb_examples.proofs.Surviving.{root_there, none_after}
+use Rattle.wb_examples.proofs.Blocks.{first_written, filled, came, promoting, promoting_leads}
+
+module _ (P A : Type 0) (s : Setting P 0 Writethrough) (content : Bytes) (d : Devices (List History)) (cache_some : 64 ≤ length d.cache) (origin_some : 64 ≤ length d.origin) where
+  abbrev shape0 : Shape
+  shape0 = shape P 0 Writethrough s
+
+  abbrev job : Job
+  job = Write first_sector content
+
+  abbrev task : TaskJob
+  task = task_job shape0 Writethrough [] job (first_sector ∷ [])
+
+  abbrev words : (cell number hits : ℕ) → Words
+  words cell number hits = record { cells = cell ∷ []; seals = 2 ∷ []; numbers = number ∷ []; read_hits = 0; read_misses = 0; write_hits = hits; write_misses = 0; fail = 0 }
+
+  -- the origin has it
+  abbrev once : Devices (List History)
+  once = record (filled d) { origin = written d.origin 0 content }
+
+  abbrev half : Scene P
+  half = record {
+    devices = once;
+    words = words 1 0 0;
+    desk = stood P 0 Writethrough s;
+    task = Some (job, record { job = task; steps = Device (WriteExtent Cache first_sector) ∷ Cell (Finish first_block) ∷ Cell (Count WriteHit) ∷ Cell (Release Owned first_block) ∷ []; answer = Finished });
+    orders = [];
+    awaiting = [];
+    buffer = contents_at d.origin whole;
+  }
+
+  -- both have it
+  abbrev wrote : Scene P
+  wrote = record {
+    devices = record once { cache = written (filled d).cache 0 content };
+    words = words 0 1 1;
+    desk = stood P 0 Writethrough s;
+    task = over job task;
+    orders = [];
+    awaiting = [];
+    buffer = contents_at d.origin whole;
+  }
+
+  abbrev starting : List (Move P A)
+  starting = goes 1 (Gets job (Cut (first_sector ∷ [])) ∷ goes 5 (Moves ∷ []))
+
+  abbrev finishing : List (Move P A)
+  finishing = Moves ∷ goes 3 []
+
+  cache_then : 64 ≤ length (filled d).cache
+  cache_then = omega (arith, length_written_where (λ at. true) d.cache 0 (contents_at d.origin whole), cache_some)
+
+  starting_leads : (card : Card) → Leads P A 0 Writethrough s (at P A 0 Writethrough s (came P A 0 Writethrough s d) card) starting half
+  starting_leads card = goes_to P A 0 Writethrough s _ _ _ ((refl, uncut first_sector (omega arith)) ⨟ (tt, omega (arith, origin_some)) ⨟ tt) refl
+
+  finishing_leads : (card : Card) → Leads P A 0 Writethrough s (at P A 0 Writethrough s half card) finishing wrote
+  finishing_leads card = goes_to P A 0 Writethrough s _ _ _ ((tt, omega (arith, cache_then)) ⨟ tt) refl
+
+pub can_write_through : (P A : Type 0) → CanWriteThrough P A
+can_write_through P A content = small_can P A 0 64 Writethrough (λ e. cc) (λ shape. to_write_through content) (λ f room.
+    let s = setting P A 0 Writethrough f in
+    let d = devices P A 0 Writethrough f in
+    let cache_some = cache_size P A 0 Writethrough f in
+    let origin_some : 64 ≤ length d.origin = omega (arith, origin_size P A 0 Writethrough f) in
+    from_opened P A 0 Writethrough f (to_write_through content) (λ n e.
+    stretch P A 0 Writethrough s (opened_scene P A 0 Writethrough s d) (came P A 0 Writethrough s d) (promoting P A 0 Writethrough s) (to_write_through content) (λ card known. promoting_leads P A 0 Writethrough s d cache_some origin_some room card)
+    (λ card n. (((refl, refl), refl, refl), refl))
+    (stretch P A 0 Writethrough s (came P A 0 Writethrough s d) (half P A s content d cache_some origin_some) (starting P A s content d cache_some origin_some) (drop 1 (to_write_through content)) (λ card known. starting_leads P A s content d cache_some origin_some card)
+    (λ card n. ((refl, refl), first_written d.origin content (omega (arith, origin_some)), refl))
+    (stretch P A 0 Writethrough s (half P A s content d cache_some origin_some) (wrote P A s content d cache_some origin_some) (finishing P A s content d cache_some origin_some) (drop 2 (to_write_through content)) (λ card known. finishing_leads P A s content d cache_some origin_some card)
+    (λ card n. (((refl, refl), first_written (filled d).cache content (omega (arith, cache_then P A s content d cache_some origin_some))), first_written d.origin content (omega (arith, origin_some)), refl))
+    (done P A 0 Writethrough s (wrote P A s content d cache_some origin_some)))) blank_card (known_at P A 0 Writethrough f) n))
+
+-- ---- power is lost between the two writes
+
+-- what is newest is kept of each sector
+abbrev all_lands : Choice
+all_lands = record { base = Newest; named = [] }
+
+lands : (device : Dev) (sectors : List History) → Applies device all_lands sectors
+lands device sectors = record { inside = All-nil _; there = λ at h e. omega arith }
+
+module _ (P A : Type 0) (f : Formatted P A 0 Writethrough) (content : Bytes) where
+  abbrev s : Setting P 0 Writethrough
+  s = setting P A 0 Writethrough f
+
+  abbrev d : Devices (List History)
+  d = devices P A 0 Writethrough f
+
+  cache_some : 64 ≤ length d.cache
+  cache_some = cache_size P A 0 Writethrough f
+
+  origin_some : 64 ≤ length d.origin
+  origin_some = omega (arith, origin_size P A 0 Writethrough f)
+
+  abbrev shape_here : Shape
+  shape_here = shape_at P A 0 Writethrough f
+
+  abbrev there : Card → State P A
+  there card = at P A 0 Writethrough s (half P A s content d cache_some origin_some) card
+
+  abbrev crash : List (Move P A)
+  crash = Stops all_lands ∷ []
+
+  module _ (card : Card) (known : IsKnown P A shape_here (there card)) where
+    abbrev metadata : List History
+    metadata = crashed Metadata all_lands d.metadata
+
+    crash_of : Crashed d.metadata metadata
+    crash_of = Crashed-crashed_from Metadata all_lands 0 d.metadata
+
+    quiet : Quiet shape_here.geometry known.images (stood P 0 Writethrough s) d.metadata
+    quiet = elim known.known.stands [ inl q ↦ q | inr broken ↦ absurd (let busy = broken.busy in cc) ]
+
+    abbrev first_root : Root
+    first_root = reopened (none_then P A (down_at P A 0 Writethrough f)).root
+
+    root_is : quiet.stored.root ≡ first_root
+    root_is = root_there f.metadata first_root quiet.stored.root (omega (arith, f.size, f.sizes.within.meta_from)) (omega (arith, s.later, quiet.generation)) (sym quiet.generation)
+        ((quiet.stores.represents (map newest d.metadata) (read-left d.metadata)).newest)
+
+    top_is : quiet.stored.root.top ≡ None
+    top_is = ap (λ (r : Root). r.top) root_is ∙ (none_then P A (down_at P A 0 Writethrough f)).top
+
+    abbrev again : Down P A
+    again = record {
+      mode = Writeback;
+      writes = write_back_starts;
+      policy = f.policy;
+      alloc = f.alloc;
+      global = f.global;
+      shape = shape_here;
+      metadata = metadata;
+      cache = crashed Cache all_lands (once P A s content d cache_some origin_some).cache;
+      origin = crashed Origin all_lands (once P A s content d cache_some origin_some).origin;
+      none = none_after P shape_here.geometry known.images (stood P 0 Writethrough s) d.metadata metadata quiet top_is (omega (arith, quiet.generation, s.later)) crash_of;
+      size = crash_of.size ∙ devices_size P A 0 Writethrough f;
+      rest = all_resting s.rest;
+    }
+
+    shown_then : slice_get (shown shape_here (ends f.global shape_here (down P A again) (opening P A again))) 0 ≡ Some content
+    shown_then = ap (λ (w : State P A). slice_get (shown shape_here w) 0) (opened_is P A again)
+        ∙ ap (λ (ss : List Bytes). slice_get ss 0) (origin_shown shape_here (target P A again).desk.tree.entries (map newest (synced again.cache)) (map newest (synced again.origin)) shape_here.geometry.cache_blocks (bare P A again).entries refl)
+
+    last_stretches : (n : Notes) → PassesThrough shape_here (there card) n (drop 1 (to_write_half shape_here content))
+    last_stretches n = (
+      played f.global shape_here (there card) crash,
+      goes_on f.global shape_here (there card) crash (record { metadata = lands Metadata _; cache = lands Cache _; origin = lands Origin _ } ⨟ tt),
+      refl,
+      (played f.global shape_here (down P A again) (opening P A again), goes_on f.global shape_here (down P A again) (opening P A again) (opening_may P A again), (refl, shown_then), tt),
+    )
+
+  pub writes_half : 64 ≤ f.sizes.threshold → Whole P A 0 Writethrough f (to_write_half shape_here content)
+  writes_half room = from_opened P A 0 Writethrough f (to_write_half shape_here content) (λ n e.
+      on P A 0 Writethrough s (opened_scene P A 0 Writethrough s d) (came P A 0 Writethrough s d) (promoting P A 0 Writethrough s) (to_write_half shape_here content) (promoting_leads P A 0 Writethrough s d cache_some origin_some room)
+      (stretch P A 0 Writethrough s (came P A 0 Writethrough s d) (half P A s content d cache_some origin_some) (starting P A s content d cache_some origin_some) (to_write_half shape_here content) (λ card known. starting_leads P A s content d cache_some origin_some card)
+      (λ card n. (((refl, refl), first_written d.origin content (omega (arith, origin_some)), refl), refl)) (λ card known n. last_stretches card known n)) blank_card (known_at P A 0 Writethrough f) n)
+
+pub can_write_half : (P A : Type 0) → CanWriteHalf P A
+can_write_half P A content = small_can P A 0 64 Writethrough (λ e. cc) (λ shape. to_write_half shape content) (λ f room. writes_half P A f content room)
