@@ -16,8 +16,17 @@ import tempfile
 ROWS = [(call, sectors) for sectors in (8, 64) for call in ("try_read", "try_write", "read", "write")]
 
 
+def asked(bench, table, call, sectors, requests):
+    """What the program told: it takes a table, or, before it had modes, the three files of one."""
+    rest = [call, str(sectors), str(requests), "1"]
+    ran = subprocess.run([bench, table, *rest], capture_output=True, text=True)
+    if ran.returncode != 0:
+        ran = subprocess.run([bench, *table.split()[1:4], *rest], capture_output=True, text=True, check=True)
+    return ran.stdout
+
+
 def took(bench, table, call, sectors, requests):
-    told = subprocess.run([bench, table, call, str(sectors), str(requests), "1"], capture_output=True, text=True, check=True).stdout
+    told = asked(bench, table, call, sectors, requests)
     for line in told.splitlines():
         words = line.split()
         if words[0] == "requests":
