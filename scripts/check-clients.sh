@@ -1,6 +1,6 @@
 #!/bin/sh
 # Scripts that ask clients beside the first: many lines of eight on one target, too few threads or descriptors, more than may wait for a join,
-# and a writer that fails. It prints what failed, and at the end 'N passed, N failed'; its status is 0 where nothing failed.
+# a writer that fails, and a reader that does. It prints what failed, and at the end 'N passed, N failed'; its status is 0 where nothing failed.
 #
 #     sh scripts/check-clients.sh WBCACHE
 set -u
@@ -75,5 +75,20 @@ fresh
 printf '@1 w 0 1 11\n@2 w 64 1 22\nr 128 1\n@1 r 0 1\n' >script.txt
 timeout 60 "$cache" -v run "$table" <script.txt >/dev/full 2>reason.txt
 check 'a writer that fails beside clients' "$? $(tail -n 1 reason.txt)" '4 wbcache: an answer cannot be written'
+
+# --- A reader that fails beside them: a terminal that is gone once its lines are read. What they answered is printed.
+if command -v python3 >/dev/null; then
+  fresh
+  timeout 60 python3 -c 'import os, pty, subprocess, sys, tty
+reader, writer = pty.openpty()
+tty.setraw(writer)
+os.write(writer, b"@1 w 0 1 11\n@2 w 64 1 22\nr 128 1\n@1 r 0 1\n")
+os.close(writer)
+sys.exit(subprocess.run(sys.argv[1:], stdin=reader).returncode)' "$cache" -v run "$table" >told.txt 2>reason.txt
+  check 'a reader that fails beside clients' "$? $(tr '\n' '/' <told.txt) $(tail -n 1 reason.txt)" \
+    '4 128 00/@1 ok/@1 0 11/@2 ok/ wbcache: the script cannot be read further'
+else
+  echo 'not tried: there is no python3, by which a reader fails'
+fi
 
 tell

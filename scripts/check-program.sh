@@ -345,9 +345,12 @@ open_dialogue() { # what the program runs with: the program begins, its input is
   (trap '' PIPE; "$cache" "$@" <to >from 2>told; echo $? >>told) &
   exec 3>to 4<from
 }
-ask() { # line, number of answer lines: the answers, or nothing after 10 seconds
+ask() { # line, number of answer lines: the answers
   printf '%s\n' "$1" >&3
-  lines=$2
+  hear "$2"
+}
+hear() { # number of answer lines: these, or nothing after 10 seconds
+  lines=$1
   while test "$lines" -gt 0; do
     timeout 10 sh -c 'IFS= read -r line && printf "%s\n" "$line"' <&4
     lines=$((lines - 1))
@@ -370,6 +373,14 @@ refused 1 Range
 check 'a dialogue that ends' "$(cat told)" "$opened
 wbcache: 1 line was refused, the first at line 3: 1 Range
 1"
+fresh
+open_dialogue run "$table"
+printf 'w 60 8 ab\nr 63 1\nr 6' >&3
+said=$(hear 2; printf '7 1\n' >&3; hear 1)
+close_dialogue
+check 'answers are out while a line is not whole' "$said $(cat told)" 'ok
+63 ab
+67 ab 0'
 fresh
 open_dialogue -v run "$table"
 said=$(ask 'w 60 8 ab' 1; ask 'r 640 1' 1)
@@ -401,16 +412,17 @@ wbcache: origin file: a read failed: unexpected end of file
 wbcache: 3 lines were refused, the first at line 2: 5 Io origin
 3"
 
-# Past the limit of the file size: the kit cannot ignore the signal, a shell can (docs/DECISIONS.md).
+# Past the limit of the file size: the kit cannot ignore the signal, a shell can (docs/DECISIONS.md). What is answered is read apart from what
+# is said of the device, since answers may come after that.
 fresh
-said=$( (trap '' XFSZ; ulimit -f 100; printf 'w 0 1 11\nw 390 20 22\nr 0 1\nw 0 1 33\nr 640 1\n' | "$cache" -v run "$table") 2>&1)
-check 'a write that fails leaves the target failed' "$? $said" "3 $opened
-ok
-wbcache: origin file: a write failed: File too large (os error 27)
+said=$( (trap '' XFSZ; ulimit -f 100; printf 'w 0 1 11\nw 390 20 22\nr 0 1\nw 0 1 33\nr 640 1\n' | "$cache" -v run "$table") 2>reason.txt)
+check 'a write that fails leaves the target failed' "$? $said" '3 ok
 refused 5 Io origin
 refused 6 Failed
 refused 6 Failed
-refused 1 Range
+refused 1 Range'
+check 'and is told' "$(cat reason.txt)" "$opened
+wbcache: origin file: a write failed: File too large (os error 27)
 wbcache: 4 lines were refused, the first at line 2: 5 Io origin"
 
 fresh

@@ -1,3 +1,4 @@
-pub mod Fills
 pub mod Pieces
 pub mod Ranges
+pub mod Showing
+pub mod Laid

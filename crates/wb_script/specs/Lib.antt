@@ -5,3 +5,4 @@ pub mod Exit
 pub mod Leading
 pub mod Joining
 pub mod Queues
+pub mod Shown

@@ -1,6 +1,6 @@
 //! What a client answers to what it is asked.
 
-ghost use Rattle.std.specs.Prelude.{◌≡◌, ◌<◌, ◌≤◌, ◌+◌, ◌*◌, ◌⊎◌, IfOk, IfErr, OnOk, OnErr, IsErrOf, length, replicate};
+ghost use Rattle.std.specs.Prelude.{◌≡◌, ◌<◌, ◌≤◌, ◌+◌, ◌*◌, ◌^◌, ◌⊎◌, IfOk, IfErr, OnOk, OnErr, IsErrOf};
 ghost use Rattle.wb_table.specs.Messages.{IsMessage};
 ghost use Rattle.wb_table.specs.Words.{words_of};
 ghost use Rattle.wb_types.specs.declared.message.Message.{Message};
@@ -8,17 +8,18 @@ ghost use Rattle.wb_opened.specs.Deeds.{Messaged};
 ghost use Rattle.wb_opened.specs.Inside.{IsInside};
 ghost use Rattle.wb_script.specs.Request.{AsksForSectors, AsksInside};
 
-use crate::fill::Fill;
 use crate::line::Call;
 use crate::part::first_part;
 use crate::progress::Paced;
+use crate::room::Room;
+use crate::shown::show;
 use std::alloc::Global;
 use std::fmt::Write;
 use std::sync::Wait;
 use wb_opened::Served;
 use wb_policy::Order;
 use wb_table::read_message;
-use wb_types::{CBlock, Content, Geometry, OBlock, Refusal, SECTOR_BYTES, Sector};
+use wb_types::{CBlock, Geometry, OBlock, Refusal, Sector};
 
 /// Does what a client is asked, and adds what is answered to the text. After a refusal the text may have what was read so far;
 /// finished blocks of a write stay.
@@ -28,9 +29,9 @@ use wb_types::{CBlock, Content, Geometry, OBlock, Refusal, SECTOR_BYTES, Sector}
 /// write or sync that failed so, `Memory` where there is none, and `GenerationEnd` where no further commit can be.
 pub fn answer<R: Wait, C: Served, P: Paced>(
     rt: &R,
-    alloc: Global,
     client: &mut C,
     asked: Call,
+    room: &mut Room,
     text: &mut String,
     progress: &mut P,
 ) -> Result<(), Refusal>
@@ -38,15 +39,15 @@ pub fn answer<R: Wait, C: Served, P: Paced>(
     ensures inside { AsksForSectors asked → IsErrOf result Refusal.Range → ¬ AsksInside asked ((C.sizes client.old).block * (C.sizes client.old).origin_blocks) }
 {
     match asked {
-        Call::Read { at, count } => return read(rt, alloc, client, at, count, text, progress),
-        Call::TryRead { at, count } => return try_read(alloc, client, at, count, text),
+        Call::Read { at, count } => return read(rt, client, at, count, room, text, progress),
+        Call::TryRead { at, count } => return try_read(client, at, count, room, text),
         Call::Write { at, count, fill } => {
-            write(rt, alloc, client, at, count, fill, false, progress)?
+            write(rt, client, at, count, fill, false, room, progress)?
         }
         Call::WriteDurably { at, count, fill } => {
-            write(rt, alloc, client, at, count, fill, true, progress)?
+            write(rt, client, at, count, fill, true, room, progress)?
         }
-        Call::TryWrite { at, count, fill } => try_write(alloc, client, at, count, fill)?,
+        Call::TryWrite { at, count, fill } => try_write(client, at, count, fill, room)?,
         Call::Settle => client.settle(rt),
         Call::Flush => client.flush(rt)?,
     }
@@ -84,10 +85,10 @@ pub fn done(text: &mut String) -> Result<(), Refusal>
 #[tactic(auto, using(crate::proofs::Ranges::not_refused))]
 fn read<R: Wait, C: Served, P: Paced>(
     rt: &R,
-    alloc: Global,
     client: &mut C,
     at: Sector,
     count: u64,
+    room: &mut Room,
     text: &mut String,
     progress: &mut P,
 ) -> Result<(), Refusal>
@@ -100,9 +101,9 @@ fn read<R: Wait, C: Served, P: Paced>(
     let Sector(mut first) = at;
     while first < end {
         let part = first_part(geometry.block, first, end);
-        let mut contents = filled(alloc, part.count, 0)?;
-        client.read(rt, Sector(first), contents.as_mut_slice())?;
-        show(first, contents.as_slice(), text)?;
+        room.make(part.count)?;
+        client.read(rt, Sector(first), room.contents.as_mut_slice())?;
+        show(first, room.contents.as_slice(), text)?;
         first += part.count;
         progress.reach(count.saturating_sub(end - first), count);
     }
@@ -113,12 +114,12 @@ fn read<R: Wait, C: Served, P: Paced>(
 #[tactic(auto, using(crate::proofs::Ranges::not_refused))]
 fn write<R: Wait, C: Served, P: Paced>(
     rt: &R,
-    alloc: Global,
     client: &mut C,
     at: Sector,
     count: u64,
     fill: u8,
     is_durable: bool,
+    room: &mut Room,
     progress: &mut P,
 ) -> Result<(), Refusal>
     ensures outside { ¬ IsInside at.0 count ((C.sizes client.old).block * (C.sizes client.old).origin_blocks) → IsErrOf result Refusal.Range }
@@ -130,11 +131,12 @@ fn write<R: Wait, C: Served, P: Paced>(
     let Sector(mut first) = at;
     while first < end {
         let part = first_part(geometry.block, first, end);
-        let contents = filled(alloc, part.count, fill)?;
+        room.fill(part.count, fill)?;
+        let contents = room.contents.as_slice();
         if is_durable && first + part.count == end {
-            client.write_fua(rt, Sector(first), contents.as_slice())?;
+            client.write_fua(rt, Sector(first), contents)?;
         } else {
-            client.write(rt, Sector(first), contents.as_slice())?;
+            client.write(rt, Sector(first), contents)?;
         }
         first += part.count;
         progress.reach(count.saturating_sub(end - first), count);
@@ -145,37 +147,38 @@ fn write<R: Wait, C: Served, P: Paced>(
 /// Reads sectors of one block, if that can be had without waiting.
 #[tactic(auto, using(crate::proofs::Ranges::not_refused))]
 fn try_read<C: Served>(
-    alloc: Global,
     client: &mut C,
     at: Sector,
     count: u64,
+    room: &mut Room,
     text: &mut String,
 ) -> Result<(), Refusal>
     ensures outside { ¬ IsInside at.0 count ((C.sizes client.old).block * (C.sizes client.old).origin_blocks) → IsErrOf result Refusal.Range }
     ensures inside { IsErrOf result Refusal.Range → ¬ IsInside at.0 count ((C.sizes client.old).block * (C.sizes client.old).origin_blocks) }
 {
     in_one_block(&client.geometry(), at, count)?;
-    let mut contents = filled(alloc, count, 0)?;
-    client.try_read(at, contents.as_mut_slice())?;
+    room.make(count)?;
+    client.try_read(at, room.contents.as_mut_slice())?;
     let Sector(first) = at;
-    show(first, contents.as_slice(), text)
+    show(first, room.contents.as_slice(), text)?;
+    Ok(())
 }
 
 /// Writes sectors of one block, if that can be done without waiting.
 #[tactic(auto, using(crate::proofs::Ranges::not_refused))]
 fn try_write<C: Served>(
-    alloc: Global,
     client: &mut C,
     at: Sector,
     count: u64,
     fill: u8,
+    room: &mut Room,
 ) -> Result<(), Refusal>
     ensures outside { ¬ IsInside at.0 count ((C.sizes client.old).block * (C.sizes client.old).origin_blocks) → IsErrOf result Refusal.Range }
     ensures inside { IsErrOf result Refusal.Range → ¬ IsInside at.0 count ((C.sizes client.old).block * (C.sizes client.old).origin_blocks) }
 {
     in_one_block(&client.geometry(), at, count)?;
-    let contents = filled(alloc, count, fill)?;
-    client.try_write(at, contents.as_slice())
+    room.fill(count, fill)?;
+    client.try_write(at, room.contents.as_slice())
 }
 
 /// Tells how the cache is, on a line.
@@ -202,30 +205,6 @@ pub fn work<R: Wait, C: Served>(rt: &R, client: &mut C, text: &mut String) -> Re
     Ok(())
 }
 
-/// So many sectors that are filled with this byte.
-fn filled(alloc: Global, count: u64, fill: u8) -> Result<Vec<Content>, Refusal>
-    ensures filled { IfOk result (λ contents. contents.items ≡ replicate count (replicate 512 fill)) }
-    ensures many { IfOk result (λ contents. length contents.items ≡ count) }
-    ensures refused { IfErr result (λ refusal. refusal ≡ Refusal.Memory) }
-{
-    let mut contents = Vec::new(alloc);
-    contents.resize(count as usize, [fill; SECTOR_BYTES])?;
-    Ok(contents)
-}
-
-/// Adds a line `<sector> <fill>` for each of these sectors, from `first` on.
-fn show(first: u64, contents: &[Content], text: &mut String) -> Result<(), Refusal>
-    ensures refused { IfErr result (λ refusal. refusal ≡ Refusal.Memory) }
-{
-    let mut sector = first;
-    for content in contents {
-        let fill = Fill::of(content);
-        writeln!(text, "{sector} {fill}")?;
-        sector = sector.saturating_add(1);
-    }
-    Ok(())
-}
-
 /// The sector after the last of a request; `Range` for no sector, or one outside the origin.
 fn end_of(geometry: &Geometry, at: Sector, count: u64) -> Result<u64, Refusal>
     ensures end { IfOk result (λ end. end ≡ at.0 + count) }
@@ -244,6 +223,7 @@ fn end_of(geometry: &Geometry, at: Sector, count: u64) -> Result<u64, Refusal>
 
 /// `Range` as `end_of`, and `Crosses` for sectors of more than one block: before there is a buffer for them.
 fn in_one_block(geometry: &Geometry, at: Sector, count: u64) -> Result<(), Refusal>
+    ensures numbered { OnOk result (at.0 + count < 2 ^ 64) }
     ensures outside { ¬ IsInside at.0 count (geometry.now.block * geometry.now.origin_blocks) → IsErrOf result Refusal.Range }
     ensures inside { IsErrOf result Refusal.Range → ¬ IsInside at.0 count (geometry.now.block * geometry.now.origin_blocks) }
 {

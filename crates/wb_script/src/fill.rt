@@ -1,9 +1,8 @@
-//! What a user is shown of a sector.
+//! What fills a sector.
 
-use std::fmt;
-use wb_types::{Content, SECTOR_BYTES};
+use wb_types::Content;
 
-/// What fills a sector. Shown, it is two hexadecimal digits, or `mixed`.
+/// What fills a sector.
 #[derive(Clone, Copy)]
 pub enum Fill {
     /// Each byte is this one.
@@ -19,20 +18,16 @@ impl Fill {
     pub fn of(content: &Content) -> Fill
         ensures { Shows result content.now }
     {
-        // Each byte is the one before it: one comparison of memory.
-        if content[1..] == content[..SECTOR_BYTES - 1] {
-            Fill::Uniform(content[0])
+        let first = content[0];
+        let mut is_same = true;
+        // No early exit, so that it compares many bytes at once.
+        for byte in content {
+            is_same &= *byte == first;
+        }
+        if is_same {
+            Fill::Uniform(first)
         } else {
             Fill::Mixed
-        }
-    }
-}
-
-impl fmt::Display for Fill {
-    fn fmt<W: fmt::Write>(&self, f: &mut fmt::Formatter<W>) -> fmt::Result {
-        match self {
-            Fill::Uniform(byte) => write!(f, "{byte:02x}"),
-            Fill::Mixed => f.write_str("mixed"),
         }
     }
 }

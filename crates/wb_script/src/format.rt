@@ -2,7 +2,7 @@
 
 use crate::ended::{Ended, refused};
 use crate::given_up::{Consent, find_given_up};
-use crate::output::{StreamFailed, print, print_refusal};
+use crate::output::{StreamFailed, print, refuse, see_out};
 use crate::status::Status;
 use std::alloc::Global;
 use std::fmt::Write as _;
@@ -66,7 +66,9 @@ fn report<W: Write>(
     let mut text = String::new(alloc);
     let (cache, origin) = (geometry.cache_blocks, geometry.origin_blocks);
     if writeln!(text, "formatted {cache} {origin}").is_err() {
-        return print_refusal(Refusal::Memory, &mut text, writer);
+        return refuse(alloc, Refusal::Memory, writer);
     }
-    print(&text, writer)
+    let status = print(&text, writer)?;
+    see_out(writer)?;
+    Ok(status)
 }

@@ -6,6 +6,7 @@ use crate::answers::answer;
 use crate::output::{out_of_memory, spell};
 use crate::progress::Unseen;
 use crate::queue::{Answer, Asked, Queue};
+use crate::room::Room;
 use crate::status::Status;
 use crate::told::Told;
 use std::alloc::{AllocError, Global};
@@ -63,6 +64,7 @@ impl Lane {
     /// Does what waits, and what comes until nothing more does.
     fn serve<R: Wait, C: Served>(&self, rt: &R, client: &mut C) {
         let mut text = String::new(self.alloc);
+        let mut room = Room::new(self.alloc);
         for _ in rt.forever() {
             let mut queue = self.bell.wait_while(rt, self.queue.lock(rt), |queue| {
                 queue.waiting.is_empty() && !queue.is_closed
@@ -70,7 +72,7 @@ impl Lane {
             let (asked, is_closed) = (queue.take(), queue.is_closed);
             drop(queue);
             match asked {
-                Some(asked) => self.answer(rt, client, asked, &mut text),
+                Some(asked) => self.answer(rt, client, asked, &mut room, &mut text),
                 None if is_closed => return,
                 None => self.bell.notify_all(),
             }
@@ -80,11 +82,12 @@ impl Lane {
     /// Does what waits.
     fn catch_up<R: Wait, C: Served>(&self, rt: &R, client: &mut C) {
         let mut text = String::new(self.alloc);
+        let mut room = Room::new(self.alloc);
         for _ in rt.forever() {
             let Some(asked) = self.take(rt) else {
                 return;
             };
-            self.answer(rt, client, asked, &mut text);
+            self.answer(rt, client, asked, &mut room, &mut text);
         }
     }
 
@@ -100,9 +103,17 @@ impl Lane {
     }
 
     /// Does what a line asks for, and tells the answer.
-    fn answer<R: Wait, C: Served>(&self, rt: &R, client: &mut C, asked: Asked, text: &mut String) {
+    fn answer<R: Wait, C: Served>(
+        &self,
+        rt: &R,
+        client: &mut C,
+        asked: Asked,
+        room: &mut Room,
+        text: &mut String,
+    ) {
         text.clear();
-        let done = answer(rt, self.alloc, client, asked.call, text, &mut Unseen);
+        let done = answer(rt, client, asked.call, room, text, &mut Unseen);
+        room.trim();
         self.tell(rt, asked, done, text);
     }
 

@@ -1,6 +1,7 @@
 //! Scripts over a reader and a writer, played on a target of files, and the formatting of its metadata.
 #![tactic(auto)]
 
+mod ahead;
 mod answers;
 mod ended;
 mod fill;
@@ -15,11 +16,14 @@ mod progress;
 mod queue;
 mod queueing;
 mod reason;
+mod room;
 mod script;
+mod shown;
 mod status;
 mod tally;
 mod told;
 
+pub use ahead::Ahead;
 pub use ended::{Ended, refused};
 pub use format::format_files;
 pub use given_up::{Consent, GivenUp};

@@ -1,4 +1,4 @@
-//! Answers, each out in one write.
+//! Answers, and what else is printed: the writer holds them until it is told to see them out.
 
 ghost use Rattle.std.specs.Prelude.{◌≡◌, IfOk, OnErr, OnOk};
 ghost use Rattle.std.specs.Io.KnownBytes.{Appends};
@@ -38,13 +38,15 @@ pub fn exit_code(ended: Result<Status, StreamFailed>) -> u8
     }
 }
 
-/// Prints a refusal after which nothing else is printed.
+/// Prints a refusal after which nothing else is printed, and sees that it is out.
 pub fn refuse<W: Write>(
     alloc: Global,
     refusal: Refusal,
     writer: &mut W,
 ) -> Result<Status, StreamFailed> {
-    print_refusal(refusal, &mut String::new(alloc), writer)
+    let status = print_refusal(refusal, &mut String::new(alloc), writer)?;
+    see_out(writer)?;
+    Ok(status)
 }
 
 /// Prints an answer.
@@ -93,10 +95,14 @@ pub fn print_bad_line<W: Write>(
     Ok(Status::Refused)
 }
 
-/// Writes all of it at once, and sees that it is out.
+/// Writes all of it.
 pub fn send<W: Write>(bytes: &[u8], writer: &mut W) -> Result<(), StreamFailed>
     ensures sent { OnOk result (Appends (W.contents writer.old) (W.contents writer.new) bytes.now) }
 {
-    writer.write_all(bytes).map_err(|_| StreamFailed::Writer)?;
+    writer.write_all(bytes).map_err(|_| StreamFailed::Writer)
+}
+
+/// Sees that all that was written is out.
+pub fn see_out<W: Write>(writer: &mut W) -> Result<(), StreamFailed> {
     writer.flush().map_err(|_| StreamFailed::Writer)
 }

@@ -2,15 +2,17 @@
 
 ghost use Rattle.std.specs.Prelude.{◌<◌};
 
+use crate::ahead::Ahead;
 use crate::answers::{answer, done, follow, most_lines, status, work};
 use crate::ended::{Ended, refused};
 use crate::lane::Beside;
 use crate::line::{Call, Line, read_line};
-use crate::output::{StreamFailed, print, print_bad_line, print_refusal};
+use crate::output::{StreamFailed, print, print_bad_line, print_refusal, see_out};
 use crate::printing::print_all;
 use crate::progress::Progress;
 use crate::queue::Asked;
 use crate::reason::Reason;
+use crate::room::Room;
 use crate::status::Status;
 use crate::tally::{Said, Tally};
 use crate::told::Told;
@@ -35,8 +37,9 @@ const MOST_OF_A_LINE: u64 = 1_048_576;
 
 /// Runs a script over the files of a table, and gives the exit status with the reason of what was refused: the cache is opened,
 /// in the table's mode and with its policy, and a first client plays the script. A line that another client is asked is done on a thread of
-/// that client, which has files of its own, and what it answered is printed at a join. Each other line's answer is out, in one write,
-/// before the next line is read, and what was opened and how far a long request of the first client has come is told where that was asked for. All three
+/// that client, which has files of its own, and what it answered is printed at a join. Each other line's answer is written before the next
+/// line is read, and all answers are out before the reader is asked for a line that it has not read ahead, before a join waits, and at
+/// the end. What was opened and how far a long request of the first client has come is told where that was asked for. All three
 /// files are locked until the script ends, which leaves the cache without the clean flag.
 ///
 /// 0 where each line was answered, 1 where the opening or a line was refused or one was no line of a script, 3 where a device
@@ -46,7 +49,7 @@ pub fn run<
     R: Files<File = File>,
     T: Threads + Wait + Sync,
     N: Watch + Sync,
-    I: BufRead,
+    I: Ahead,
     W: Write,
     E: Clock + Eprint,
 >(
@@ -82,6 +85,7 @@ struct Script<'s, I, W, E> {
     /// The line that was read last, and its answer.
     line: Vec<u8>,
     text: String,
+    room: Room,
     /// What clients have told at a join.
     told: Vec<Told>,
     /// Of each client beside the first whether it has begun.
@@ -123,7 +127,7 @@ impl Played {
     }
 }
 
-impl<'s, I: BufRead, W: Write, E: Clock + Eprint> Script<'s, I, W, E> {
+impl<'s, I: Ahead, W: Write, E: Clock + Eprint> Script<'s, I, W, E> {
     /// None of its lines is read.
     fn new(
         alloc: Global,
@@ -142,6 +146,7 @@ impl<'s, I: BufRead, W: Write, E: Clock + Eprint> Script<'s, I, W, E> {
             progress,
             line: Vec::new(alloc),
             text,
+            room: Room::new(alloc),
             told,
             has_begun: [false; LANES],
             behind_join: None,
@@ -158,6 +163,14 @@ impl<'s, I: BufRead, W: Write, E: Clock + Eprint> Script<'s, I, W, E> {
         Next::CatchUp
     }
 
+    /// Sees that what was answered is out, where the writer has not failed.
+    fn see_out(&mut self) -> Result<(), StreamFailed> {
+        match self.failed {
+            Some(StreamFailed::Writer) => Ok(()),
+            _ => see_out(self.writer),
+        }
+    }
+
     /// The reader or the writer failed: only the others are to be joined.
     fn fail(&mut self, failed: StreamFailed) -> Next {
         self.failed = Some(failed);
@@ -165,7 +178,7 @@ impl<'s, I: BufRead, W: Write, E: Clock + Eprint> Script<'s, I, W, E> {
     }
 }
 
-impl<'s, I: BufRead, W: Write, E: Clock + Eprint> Play for Script<'s, I, W, E> {
+impl<'s, I: Ahead, W: Write, E: Clock + Eprint> Play for Script<'s, I, W, E> {
     type Told = Played;
 
     fn serve<R: Wait, C: Served>(&mut self, rt: &R, client: &mut C) -> Next {
@@ -229,7 +242,7 @@ fn tell_opened<R: Wait, C: Served, E: Clock + Eprint>(
 }
 
 /// Plays lines with the first client, up to one that wants more than a client, or the end.
-fn play<R: Wait, C: Served, I: BufRead, W: Write, E: Clock + Eprint>(
+fn play<R: Wait, C: Served, I: Ahead, W: Write, E: Clock + Eprint>(
     rt: &R,
     client: &mut C,
     script: &mut Script<'_, I, W, E>,
@@ -260,7 +273,7 @@ fn play<R: Wait, C: Served, I: BufRead, W: Write, E: Clock + Eprint>(
 }
 
 /// Does what a line asks the first client or the target for, and adds what is answered to the text.
-fn answer_line<R: Wait, C: Served, I: BufRead, W: Write, E: Clock + Eprint>(
+fn answer_line<R: Wait, C: Served, I: Ahead, W: Write, E: Clock + Eprint>(
     rt: &R,
     client: &mut C,
     script: &mut Script<'_, I, W, E>,
@@ -268,16 +281,19 @@ fn answer_line<R: Wait, C: Served, I: BufRead, W: Write, E: Clock + Eprint>(
 ) -> Result<(), Refusal> {
     match line {
         Line::Asks(call) => {
-            answer(
+            let answered = answer(
                 rt,
-                script.alloc,
                 client,
                 call,
+                &mut script.room,
                 &mut script.text,
                 &mut script.progress,
-            )?;
-            script.tally.done(call);
-            Ok(())
+            );
+            script.room.trim();
+            if answered.is_ok() {
+                script.tally.done(call);
+            }
+            answered
         }
         Line::Tick => {
             client.tick(rt)?;
@@ -301,7 +317,7 @@ fn answer_line<R: Wait, C: Served, I: BufRead, W: Write, E: Clock + Eprint>(
 
 /// Asks a client beside the first for what a line says, whose answer may have so many lines: the lane that has to begin for it, if it has
 /// not.
-fn ask_beside<R: Wait, I: BufRead, W: Write, E: Clock + Eprint>(
+fn ask_beside<R: Wait, I: Ahead, W: Write, E: Clock + Eprint>(
     rt: &R,
     script: &mut Script<'_, I, W, E>,
     client: u8,
@@ -324,11 +340,13 @@ fn ask_beside<R: Wait, I: BufRead, W: Write, E: Clock + Eprint>(
     Some(lane)
 }
 
-/// Waits for all clients beside the first, and prints what they answered, where the writer has not failed.
-fn join<R: Wait, I: BufRead, W: Write, E: Clock + Eprint>(
+/// Waits for all clients beside the first, once what was answered before is out, and prints what they answered, where the writer has not
+/// failed.
+fn join<R: Wait, I: Ahead, W: Write, E: Clock + Eprint>(
     rt: &R,
     script: &mut Script<'_, I, W, E>,
 ) -> Result<(), StreamFailed> {
+    let before = script.see_out();
     script.told.clear();
     if script.beside.join(rt, &mut script.told).is_err() {
         let printed = print_refusal(Refusal::Memory, &mut script.text, script.writer)?;
@@ -341,17 +359,24 @@ fn join<R: Wait, I: BufRead, W: Write, E: Clock + Eprint>(
     if let Some(StreamFailed::Writer) = script.failed {
         return Ok(());
     }
-    match print_all(script.told.as_slice(), script.writer) {
-        Ok(()) => Ok(()),
-        Err(failed) => {
-            script.failed = Some(failed);
-            Err(failed)
-        }
+    let printed = match before {
+        Ok(()) => print_told(script),
+        Err(failed) => Err(failed),
+    };
+    if let Err(failed) = printed {
+        script.failed = Some(failed);
     }
+    printed
+}
+
+/// Prints what was told at a join, and sees that it is out.
+fn print_told<I, W: Write, E>(script: &mut Script<'_, I, W, E>) -> Result<(), StreamFailed> {
+    print_all(script.told.as_slice(), script.writer)?;
+    see_out(script.writer)
 }
 
 /// Prints what a suspend was answered, and goes on with the lines behind it: the target tells how it is, and refuses all else.
-fn play_behind<R: Wait, T: Shown, I: BufRead, W: Write, E: Clock + Eprint>(
+fn play_behind<R: Wait, T: Shown, I: Ahead, W: Write, E: Clock + Eprint>(
     rt: &R,
     target: &T,
     script: &mut Script<'_, I, W, E>,
@@ -421,10 +446,13 @@ fn tell<I, W: Write, E>(
     Ok(())
 }
 
-/// Reads the next line. None at the end of the script, and behind a line that is none of a script's, which is told.
-fn next_line<I: BufRead, W: Write, E>(
+/// Reads the next line, once all answers are out where it may have to wait for it. None at the end of the script, and behind a line that is none of a script's, which is told.
+fn next_line<I: Ahead, W: Write, E>(
     script: &mut Script<'_, I, W, E>,
 ) -> Result<Option<Line>, StreamFailed> {
+    if !script.reader.has_line() {
+        see_out(script.writer)?;
+    }
     script.number = script.number.saturating_add(1);
     script.text.clear();
     match next_input(script.reader, &mut script.line)? {
@@ -453,7 +481,7 @@ enum Input {
     End,
 }
 
-fn next_input<I: BufRead>(reader: &mut I, line: &mut Vec<u8>) -> Result<Input, StreamFailed> {
+fn next_input<I: Ahead>(reader: &mut I, line: &mut Vec<u8>) -> Result<Input, StreamFailed> {
     line.clear();
     match reader.take(MOST_OF_A_LINE).read_until(b'\n', line) {
         Ok(0) => Ok(Input::End),

@@ -7,7 +7,7 @@ mod help;
 use crate::arguments::{Asked, read_arguments};
 use clap::Error;
 use clap::error::ErrorKind;
-use std::io::{BufReader, IsTerminal, Read};
+use std::io::{BufReader, BufWriter, IsTerminal, Read};
 use std::process::ExitCode;
 use std::sync::Wait;
 use std::thread::Threads;
@@ -19,6 +19,9 @@ use wb_types::Refusal;
 
 /// What is asked of who calls the program otherwise.
 const USAGE: &str = "usage: wbcache format TABLE | run TABLE | replay";
+
+/// So many bytes of answers are held at most while further lines of a script are at hand: 64 KiB.
+const MOST_HELD: usize = 65_536;
 
 /// The exit status of a reader or a writer that failed.
 const STREAM_FAILED: u8 = 4;
@@ -57,21 +60,25 @@ fn serve<T: Threads + Wait + Sync>(rt: &HostRuntime, waits: &T) -> u8 {
                 &mut io::writer(rt),
             )
         }
-        Asked::Run(table) => match BufReader::new(alloc, awaited(rt, rt.reader())) {
-            Ok(mut reader) => {
-                run(
-                    rt,
-                    waits,
-                    alloc,
-                    table,
-                    &alarm,
-                    &mut reader,
-                    &mut awaited(rt, rt.stdout()),
-                    Progress::new(rt, verbose),
-                )
+        Asked::Run(table) => {
+            let reader = BufReader::new(alloc, awaited(rt, rt.reader()));
+            let writer = BufWriter::with_capacity(alloc, MOST_HELD, awaited(rt, rt.stdout()));
+            match (reader, writer) {
+                (Ok(mut reader), Ok(mut writer)) => {
+                    run(
+                        rt,
+                        waits,
+                        alloc,
+                        table,
+                        &alarm,
+                        &mut reader,
+                        &mut writer,
+                        Progress::new(rt, verbose),
+                    )
+                }
+                _ => return no_memory(rt),
             }
-            Err(_) => return no_memory(rt),
-        },
+        }
         Asked::Replay => return replay(rt),
     };
     tell(rt, &ended, verbose)
