@@ -4,7 +4,7 @@ use Rattle.std.specs.Prelude.{Option, None, Some}
 use Rattle.std.specs.Io.KnownBytes.{Appends}
 use Rattle.wb_script.specs.declared.told.Told.{Told}
 use Rattle.wb_script.specs.Leading.{repeated, led_by, lead_of, want_of_memory}
-use Rattle.wb_script.specs.Joining.{printed, joined}
+use Rattle.wb_script.specs.Joining.{printed, all_printed}
 
 -- one piece behind another
 pub appends_both : (a b c : Option (List ℕ)) (x y : List ℕ) → Appends a b x → Appends b c y → Appends a c (x ++ y)
@@ -26,8 +26,8 @@ once_more a b c d n client p q r =
     subst (λ (l : List ℕ). Appends a d l) (repeated_behind n line ∙ ap (λ m. repeated m line) more) (appends_both a b d (repeated n line) line p (appends_both b c d (lead_of client) want_of_memory q r))
 
 -- what one client has told, behind that of others
-pub one_of_all : (a b c : Option (List ℕ)) (sent : List ℕ) (told : Told) (rest : List Told) (all : List ℕ) → Appends a b sent → Appends b c (printed told) → sent ++ joined (told ∷ rest) ≡ all → (more : List ℕ) × Appends a c more × (more ++ joined rest ≡ all)
-one_of_all a b c sent told rest all p q e = (sent ++ printed told, appends_both a b c sent (printed told) p q, append_assoc sent (printed told) (joined rest) ∙ e)
+pub one_of_all : (a b c : Option (List ℕ)) (sent : List ℕ) (told : Told) (rest : List Told) (all : List ℕ) → Appends a b sent → Appends b c (printed told) → sent ++ all_printed (told ∷ rest) ≡ all → (more : List ℕ) × Appends a c more × (more ++ all_printed rest ≡ all)
+one_of_all a b c sent told rest all p q e = (sent ++ printed told, appends_both a b c sent (printed told) p q, append_assoc sent (printed told) (all_printed rest) ∙ e)
 
 -- an answer that is added at the second try
 pub told_behind : (old first second noted : List ℕ) (named client : ℕ) → first ≡ old → second ≡ first ++ led_by named want_of_memory → named ≡ client → noted ≡ second → noted ≡ old ++ led_by client want_of_memory

@@ -9,5 +9,5 @@ abbrev pub printed : Told → List ℕ
 printed told = told.text.items ++ repeated told.past (led_by told.client want_of_memory)
 
 -- client by client
-abbrev pub joined : List Told → List ℕ
-joined all = flat_map printed all
+abbrev pub all_printed : List Told → List ℕ
+all_printed all = flat_map printed all

@@ -6,14 +6,14 @@ abbrev pub lead_of : ℕ → List ℕ
 lead_of client = 64 ∷ (client + 48) ∷ 32 ∷ []
 
 -- A text, each line of it led so; whether its first byte begins a line.
-abbrev pub led : List ℕ → Bool → List ℕ → List ℕ
-led lead begins [] = []
-led lead true (b ∷ bs) = lead ++ b ∷ led lead (b == 10) bs
-led lead false (b ∷ bs) = b ∷ led lead (b == 10) bs
+abbrev pub lines_led : List ℕ → Bool → List ℕ → List ℕ
+lines_led lead begins [] = []
+lines_led lead true (b ∷ bs) = lead ++ b ∷ lines_led lead (b == 10) bs
+lines_led lead false (b ∷ bs) = b ∷ lines_led lead (b == 10) bs
 
 -- a text of a client, each line of it led by its name
 abbrev pub led_by : ℕ → List ℕ → List ℕ
-led_by client text = led (lead_of client) true text
+led_by client text = lines_led (lead_of client) true text
 
 -- a text, so often
 abbrev pub repeated : ℕ → List ℕ → List ℕ
@@ -25,5 +25,5 @@ abbrev pub want_of_memory : List ℕ
 want_of_memory = codes "refused 7 Memory" ++ 10 ∷ []
 
 -- so many more, as far as a word counts
-abbrev pub counted : ℕ → ℕ → ℕ
-counted many more = min (many + more) (2 ^ 64 - 1)
+abbrev pub capped_sum : ℕ → ℕ → ℕ
+capped_sum many more = min (many + more) (2 ^ 64 - 1)

@@ -2,7 +2,7 @@
 use Rattle.std.specs.Prelude.{◌≡◌, ◌+◌, ◌++◌, ℕ, List, [], ◌∷◌, length}
 use Rattle.wb_script.specs.declared.queue.Asked.{Asked}
 use Rattle.wb_script.specs.declared.queue.Queue.{Queue}
-use Rattle.wb_script.specs.Leading.{led_by, counted}
+use Rattle.wb_script.specs.Leading.{led_by, capped_sum}
 
 -- a line waits behind the others; none was refused before it
 abbrev pub IsTakenIn : Queue → Asked → Queue → Type 0
@@ -10,12 +10,12 @@ IsTakenIn old asked new = (new.waiting.items ≡ old.waiting.items ++ asked ∷ 
 
 -- a line was refused, behind all that wait
 abbrev pub IsTurnedAway : Queue → Queue → Type 0
-IsTurnedAway old new = (new.waiting.items ≡ old.waiting.items) × (new.told.text.items ≡ old.told.text.items) × (new.told.past ≡ counted old.told.past 1)
+IsTurnedAway old new = (new.waiting.items ≡ old.waiting.items) × (new.told.text.items ≡ old.told.text.items) × (new.told.past ≡ capped_sum old.told.past 1)
 
 -- the line at hand is answered so
-abbrev pub IsAnswered : Queue → List ℕ → Queue → Type 0
-IsAnswered old answer new = (new.waiting.items ≡ old.waiting.items) × (new.told.text.items ≡ old.told.text.items ++ led_by old.told.client answer) × (new.told.past ≡ old.told.past)
+abbrev pub IsLineAnswered : Queue → List ℕ → Queue → Type 0
+IsLineAnswered old answer new = (new.waiting.items ≡ old.waiting.items) × (new.told.text.items ≡ old.told.text.items ++ led_by old.told.client answer) × (new.told.past ≡ old.told.past)
 
 -- the line at hand, and all that wait, are refused
-abbrev pub IsGivenUp : Queue → Queue → Type 0
-IsGivenUp old new = (new.waiting.items ≡ []) × (new.told.text.items ≡ old.told.text.items) × (new.told.past ≡ counted old.told.past (length old.waiting.items + 1))
+abbrev pub AreLinesGivenUp : Queue → Queue → Type 0
+AreLinesGivenUp old new = (new.waiting.items ≡ []) × (new.told.text.items ≡ old.told.text.items) × (new.told.past ≡ capped_sum old.told.past (length old.waiting.items + 1))

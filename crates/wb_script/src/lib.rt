@@ -27,5 +27,6 @@ pub use ahead::Ahead;
 pub use ended::{Ended, refused};
 pub use format::format_files;
 pub use given_up::{Consent, GivenUp};
+pub use line::{Call, Line, message_text, read_line};
 pub use progress::Progress;
 pub use script::run;

@@ -1,6 +1,7 @@
 //! The lines of a script.
 
 ghost use Rattle.std.specs.Prelude.{◌≡◌, ◌≢◌, ◌∷◌, ℕ, IfSome, IfNone, codes};
+ghost use Rattle.std.specs.Str.{IsUtf8};
 ghost use Rattle.wb_script.specs.Line.{WordsAsk, NamesClient, WordsSay, IsLine};
 ghost use Rattle.wb_table.specs.Words.{words_of};
 ghost use Rattle.wb_script.specs.declared.line.Call.{Call as Asked};
@@ -63,6 +64,15 @@ pub fn read_line(line: &[u8]) -> Option<Line>
     read_words(SplitSpaces(str::from_utf8(line).ok()?))
 }
 
+/// The text of the message that a line gives, without its line break: what stands behind its first word. None is a line that gives none.
+pub fn message_text(line: &[u8]) -> Option<&str>
+    ensures found { IfSome result (λ text. IsUtf8 line.now × (words_of line.now ≡ codes "message" ∷ words_of text.now)) }
+{
+    let mut words = SplitSpaces(str::from_utf8(line).ok()?);
+    words.expect("message")?;
+    Some(words.0)
+}
+
 fn read_words(mut words: SplitSpaces<'_>) -> Option<Line>
     ensures found { IfSome result (WordsSay (words_of words.entry.0.now)) }
     ensures none { IfNone result ((said : Said) → ¬ WordsSay (words_of words.entry.0.now) said) }
@@ -123,46 +133,40 @@ fn read_word(name: &str, mut words: SplitSpaces<'_>) -> Option<Line>
 }
 
 /// Reads what a client is asked, from the word that names it on.
-fn read_call(name: &str, words: SplitSpaces<'_>) -> Option<Call>
+fn read_call(name: &str, mut words: SplitSpaces<'_>) -> Option<Call>
     ensures found { IfSome result (WordsAsk (name.now ∷ words_of words.entry.0.now)) }
     ensures none { IfNone result ((asked : Asked) → ¬ WordsAsk (name.now ∷ words_of words.entry.0.now) asked) }
 {
-    match name {
+    let call = match name {
         "r" => {
             let (at, count) = read_sectors(words)?;
-            Some(Call::Read { at, count })
+            Call::Read { at, count }
         }
         "tr" => {
             let (at, count) = read_sectors(words)?;
-            Some(Call::TryRead { at, count })
+            Call::TryRead { at, count }
         }
         "w" => {
             let (at, count, fill) = read_fill(words)?;
-            Some(Call::Write { at, count, fill })
+            Call::Write { at, count, fill }
         }
         "wf" => {
             let (at, count, fill) = read_fill(words)?;
-            Some(Call::WriteDurably { at, count, fill })
+            Call::WriteDurably { at, count, fill }
         }
         "tw" => {
             let (at, count, fill) = read_fill(words)?;
-            Some(Call::TryWrite { at, count, fill })
+            Call::TryWrite { at, count, fill }
         }
-        _ => read_short(name, words),
-    }
-}
-
-/// Reads what a client is asked in one word.
-fn read_short(name: &str, mut words: SplitSpaces<'_>) -> Option<Call>
-    requires reads { (name.now ≢ codes "r") × (name.now ≢ codes "tr") }
-    requires writes { (name.now ≢ codes "w") × (name.now ≢ codes "wf") × (name.now ≢ codes "tw") }
-    ensures found { IfSome result (WordsAsk (name.now ∷ words_of words.entry.0.now)) }
-    ensures none { IfNone result ((asked : Asked) → ¬ WordsAsk (name.now ∷ words_of words.entry.0.now) asked) }
-{
-    words.expect_end()?;
-    match name {
-        "flush" => Some(Call::Flush),
-        "settle" => Some(Call::Settle),
-        _ => None,
-    }
+        "flush" => {
+            words.expect_end()?;
+            Call::Flush
+        }
+        "settle" => {
+            words.expect_end()?;
+            Call::Settle
+        }
+        _ => return None,
+    };
+    Some(call)
 }

@@ -3,7 +3,7 @@
 ghost use Rattle.std.specs.Prelude.{◌≡◌, ◌≤◌, OnOk};
 ghost use Rattle.std.specs.Io.KnownBytes.{Appends};
 ghost use Rattle.wb_script.specs.Leading.{led_by, repeated, want_of_memory};
-ghost use Rattle.wb_script.specs.Joining.{printed, joined};
+ghost use Rattle.wb_script.specs.Joining.{printed, all_printed};
 
 use crate::output::{StreamFailed, out_of_memory, send};
 use crate::told::{Told, lead_bytes};
@@ -11,7 +11,7 @@ use std::io::Write;
 
 /// Prints what clients have told since the last join, one after the other.
 pub fn print_all<W: Write>(all: &[Told], writer: &mut W) -> Result<(), StreamFailed>
-    ensures printed { OnOk result (Appends (W.contents writer.old) (W.contents writer.new) (joined all.now)) }
+    ensures printed { OnOk result (Appends (W.contents writer.old) (W.contents writer.new) (all_printed all.now)) }
 {
     let mut rest = all;
     while let Some((told, after)) = rest.split_first() {

@@ -2,8 +2,8 @@
 
 ghost use Rattle.std.specs.Prelude.{◌≡◌, ◌<◌, ◌+◌, ◌∷◌, ◌⊎◌, [], length, false, IfSome, IfNone};
 ghost use Rattle.std.specs.Bool.{OnTrue, OnFalse};
-ghost use Rattle.wb_script.specs.Leading.{counted, want_of_memory};
-ghost use Rattle.wb_script.specs.Queues.{IsTakenIn, IsTurnedAway, IsAnswered, IsGivenUp};
+ghost use Rattle.wb_script.specs.Leading.{capped_sum, want_of_memory};
+ghost use Rattle.wb_script.specs.Queues.{IsTakenIn, IsTurnedAway, IsLineAnswered, AreLinesGivenUp};
 
 use crate::output::out_of_memory;
 use crate::queue::{Answer, Asked, Queue};
@@ -43,7 +43,7 @@ impl Queue {
     /// that wait are refused for it, and not done.
     pub fn take(&mut self) -> Option<Asked>
         ensures first { IfSome result (λ asked. (self.old.waiting.items ≡ asked ∷ self.new.waiting.items) × (self.new.told.past ≡ self.old.told.past)) }
-        ensures none { IfNone result ((self.new.waiting.items ≡ []) × (((self.old.waiting.items ≡ []) × (self.new.told.past ≡ self.old.told.past)) ⊎ (self.new.told.past ≡ counted self.old.told.past (length self.old.waiting.items)))) }
+        ensures none { IfNone result ((self.new.waiting.items ≡ []) × (((self.old.waiting.items ≡ []) × (self.new.told.past ≡ self.old.told.past)) ⊎ (self.new.told.past ≡ capped_sum self.old.told.past (length self.old.waiting.items)))) }
         ensures text { self.new.told.text.items ≡ self.old.told.text.items }
         ensures client { self.new.told.client ≡ self.old.told.client }
     {
@@ -59,7 +59,7 @@ impl Queue {
     /// Adds the answer of the line that was taken. Where there is no memory for it, it counts as refused for that; and if not even that can be
     /// told, so do all that wait, which are not done.
     pub fn tell(&mut self, asked: Asked, answer: Answer<'_>)
-        ensures told { IsAnswered self.old answer.entry.text.now self.new ⊎ IsAnswered self.old want_of_memory self.new ⊎ IsGivenUp self.old self.new }
+        ensures told { IsLineAnswered self.old answer.entry.text.now self.new ⊎ IsLineAnswered self.old want_of_memory self.new ⊎ AreLinesGivenUp self.old self.new }
         ensures client { self.new.told.client ≡ self.old.told.client }
     {
         self.is_busy = false;
@@ -80,7 +80,7 @@ impl Queue {
 
     /// Refuses the line at hand, and all that wait, for want of memory.
     fn give_up(&mut self, number: u64)
-        ensures refused { IsGivenUp self.old self.new }
+        ensures refused { AreLinesGivenUp self.old self.new }
         ensures client { self.new.told.client ≡ self.old.told.client }
     {
         self.told

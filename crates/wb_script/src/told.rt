@@ -1,7 +1,7 @@
 //! What a client beside the first has answered since the last join.
 
 ghost use Rattle.std.specs.Prelude.{◌≡◌, ◌++◌, ◌≤◌, ℕ, List, [], length, OnOk, OnErr};
-ghost use Rattle.wb_script.specs.Leading.{lead_of, led_by, counted};
+ghost use Rattle.wb_script.specs.Leading.{lead_of, led_by, capped_sum};
 
 use crate::line::Call;
 use crate::status::Status;
@@ -77,7 +77,7 @@ impl Told {
     pub fn turn_away(&mut self, number: u64, count: u64)
         ensures client { self.new.client ≡ self.old.client }
         ensures text { self.new.text ≡ self.old.text }
-        ensures past { self.new.past ≡ counted self.old.past count }
+        ensures past { self.new.past ≡ capped_sum self.old.past count }
     {
         self.past = self.past.saturating_add(count);
         self.status = self.status.max(Status::of(Refusal::Memory));

@@ -1,11 +1,11 @@
 use Rattle.std.proofs.Common.{◌≡◌, ◌++◌, ◌≤◌, ℕ, List, length}
-use Rattle.wb_script.specs.Leading.{lead_of, led, led_by}
+use Rattle.wb_script.specs.Leading.{lead_of, lines_led, led_by}
 use Rattle.wb_script.proofs.told.push_led.Given as goal
 
 -- what was added, and what is left
 abbrev pub invariant-loop-byte : goal.invariant-loop-byte
 invariant-loop-byte l = record {
-  added : l.lines.items ++ led (lead_of l.client) l.begins l.rest ≡ l.fn.lines.items ++ led_by l.client l.text;
+  added : l.lines.items ++ lines_led (lead_of l.client) l.begins l.rest ≡ l.fn.lines.items ++ led_by l.client l.text;
   kept : (part : List ℕ) × (l.lines.items ≡ l.fn.lines.items ++ part);
   bounded : length l.lines.items ≤ 67108864;
 }
