@@ -3,18 +3,17 @@
 
     python3 bench/kill.py PROGRAM [ROUNDS [SEED]]      200 rounds by default, run by hand: bin/wbcache is a PROGRAM
 
-Each round plays random lines (writes, reads, work, settle, tick, flush) over the files of the round before, and kills the program with
-SIGKILL within 30 milliseconds. The next run must show of each sector the last write that was answered before the last answered
+Each round plays random lines (writes, reads, work, settle, tick, flush) over the files of the round before, each once the one before is
+answered, and kills the program with SIGKILL within 30 milliseconds. The next run must show of each sector the last write that was answered before the last answered
 flush or tick was sent, or a later one; the line that was running at the kill may have written. It prints how often it was killed where
 and 'N passed, N failed', and ends with 1 where a sector showed anything else.
 """
 import os
 import random
-import signal
 import subprocess
 import sys
 import tempfile
-import time
+import threading
 
 BLOCK, CACHE, ORIGIN = 64, 4, 10
 SECTORS = BLOCK * ORIGIN
@@ -76,13 +75,22 @@ def play(program, chance, histories):
     """One round: how many lines were answered."""
     script = list(lines(chance))
     running = subprocess.Popen([program, "run", TABLE], stdin=subprocess.PIPE, stdout=subprocess.PIPE, text=True)
-    running.stdin.write("".join(line + "\n" for line, _, _ in script))
-    running.stdin.flush()
-    time.sleep(chance.random() * 0.03)
-    running.send_signal(signal.SIGKILL)
-    told = running.stdout.read().splitlines(keepends=True)
+    killer = threading.Timer(chance.random() * 0.03, running.kill)
+    killer.start()
+    answers = []
+    try:
+        # A line at a time, once the one before is answered: answers are held while whole lines are at hand.
+        for line, _, _ in script:
+            running.stdin.write(line + "\n")
+            running.stdin.flush()
+            answer = running.stdout.readline()
+            if not answer.endswith("\n"):
+                break
+            answers.append(answer)
+    except BrokenPipeError:
+        pass
+    killer.join()
     running.wait()
-    answers = [line for line in told if line.endswith("\n")]
     for at, (line, sectors, byte) in enumerate(script):
         answered = at < len(answers)
         if sectors is not None and (not answered or answers[at] == "ok\n"):
