@@ -39,40 +39,126 @@ impl<'f, 'a, 'w, R: Files<File = File>, N: Watch> Again<'f, 'a, 'w, R, N> {
 /// Where the client of a lane is, once it has begun: lent to its thread.
 type Slot<'t, D, P> = Mutex<Option<Client<'t, D, P>>>;
 
-/// Has a client of a target play, and others in lanes beside it; where a suspend is to come, all are taken back and the target is suspended.
-pub(crate) fn played<
+/// What all clients of a target play by: the first, and those of the lanes.
+#[derive(Drop)]
+pub(crate) struct Hall<'t, 'f, 'a, 'w, T, P: Policy, R, N, L> {
+    pub waits: &'t T,
+    pub target: &'t Target<P>,
+    pub again: &'t Again<'f, 'a, 'w, R, N>,
+    pub lanes: &'t L,
+}
+
+impl<
+    't,
+    'f,
+    'a,
     'w,
     T: Threads + Wait + Sync,
     P: Policy + Send,
     R: Files<File = File>,
     N: Watch + Sync,
     L: Lanes + Sync,
-    V: Play,
->(
-    waits: &T,
-    alloc: Global,
-    target: &Target<P>,
-    devices: Devices<WatchedDisk<'w, N>>,
-    again: &Again<'_, '_, 'w, R, N>,
-    lanes: &L,
-    play: &mut V,
-) -> Result<(), Refusal> {
-    match target.client(waits, devices) {
-        Ok(mut client) => {
-            let slots = slots_of(alloc).map_err(|_| Refusal::Memory)?;
-            let lent = slots.as_slice();
-            if play_in_scope(waits, target, &mut client, lent, again, lanes, play) {
-                let devices = target.retire(waits, client);
-                retire_all(waits, target, slots);
-                let (devices, suspended) = target.suspend(waits, devices);
-                play.go_on(waits, suspended, target);
-                drop(devices);
-            } else {
-                let_go(slots);
+> Hall<'t, 'f, 'a, 'w, T, P, R, N, L>
+{
+    /// Has a client play, and others in lanes beside it; where a suspend is to come, all are taken back and the target is suspended.
+    pub(crate) fn play<V: Play>(
+        &self,
+        alloc: Global,
+        devices: Devices<WatchedDisk<'w, N>>,
+        play: &mut V,
+    ) -> Result<(), Refusal> {
+        let (waits, target) = (self.waits, self.target);
+        match target.client(waits, devices) {
+            Ok(mut client) => {
+                let slots = slots_of(alloc).map_err(|_| Refusal::Memory)?;
+                if self.play_in_scope(&mut client, slots.as_slice(), play) {
+                    let devices = target.retire(waits, client);
+                    retire_all(waits, target, slots);
+                    let (devices, suspended) = target.suspend(waits, devices);
+                    play.go_on(waits, suspended, target);
+                    drop(devices);
+                } else {
+                    let_go(slots);
+                }
+                Ok(())
             }
-            Ok(())
+            Err((_, refusal)) => Err(refusal),
         }
-        Err((_, refusal)) => Err(refusal),
+    }
+
+    /// Plays; all threads of lanes have ended then. Whether a suspend is to come.
+    fn play_in_scope<V: Play>(
+        &self,
+        client: &mut Client<'t, WatchedDisk<'w, N>, P>,
+        slots: &[Slot<'t, WatchedDisk<'w, N>, P>],
+        play: &mut V,
+    ) -> bool {
+        thread::scope(
+            thread::scope_env(),
+            self.waits,
+            |scope| -> bool
+                requires { IsSend P.row × IsSync T.row × IsSync N.row × IsSync L.row }
+            {
+                let is_suspend = self.play_beside(scope, client, slots, play);
+                self.lanes.close(self.waits);
+                is_suspend
+            },
+        )
+    }
+
+    /// Plays, and begins lanes as they are asked for. Whether a suspend is to come.
+    fn play_beside<'s, E, V: Play>(
+        &self,
+        scope: &Scope<'s, E>,
+        client: &mut Client<'t, WatchedDisk<'w, N>, P>,
+        slots: &'s [Slot<'t, WatchedDisk<'w, N>, P>],
+        play: &mut V,
+    ) -> bool
+    where
+        't: 's,
+    {
+        let waits = self.waits;
+        let mut has_thread = [true; LANES];
+        for _ in waits.forever() {
+            match play.serve(waits, client) {
+                Next::Begin(lane) => match self.begin(scope, slots, lane) {
+                    Ok(began) => {
+                        if let Some(has) = has_thread.get_mut(lane) {
+                            *has = began;
+                        }
+                    }
+                    Err(refusal) => play.refused(waits, lane, refusal),
+                },
+                Next::CatchUp => catch_up(waits, &has_thread, slots, self.lanes),
+                Next::Suspend => return true,
+                Next::End => return false,
+            }
+        }
+        false
+    }
+
+    /// Makes the client of a lane, with devices of its own, and has it serve on a thread of its own: whether one could be made.
+    fn begin<'s, E>(
+        &self,
+        scope: &Scope<'s, E>,
+        slots: &'s [Slot<'t, WatchedDisk<'w, N>, P>],
+        lane: usize,
+    ) -> Result<bool, Refusal>
+    where
+        't: 's,
+    {
+        let Some(slot) = slots.get(lane) else {
+            return Err(Refusal::Busy);
+        };
+        let (waits, target) = (self.waits, self.target);
+        let devices = self.again.open()?;
+        match target.client(waits, devices) {
+            Ok(client) => {
+                *slot.lock(waits) = Some(client);
+                Ok(start(scope, waits, slot, self.lanes, lane))
+            }
+            Err((_, refusal)) => Err(refusal),
+        }
     }
 }
 
@@ -103,114 +189,6 @@ fn retire_all<'t, T: Wait, D: Disk + Drop, P: Policy>(
 /// Lets the clients of all lanes go, whose accesses are not settled then.
 fn let_go<'t, D: Disk + Drop, P: Policy>(slots: Vec<Slot<'t, D, P>>) {
     drop(slots);
-}
-
-/// Plays; all threads of lanes have ended then. Whether a suspend is to come.
-fn play_in_scope<
-    't,
-    'w,
-    T: Threads + Wait + Sync,
-    P: Policy + Send,
-    R: Files<File = File>,
-    N: Watch + Sync,
-    L: Lanes + Sync,
-    V: Play,
->(
-    waits: &T,
-    target: &'t Target<P>,
-    client: &mut Client<'t, WatchedDisk<'w, N>, P>,
-    slots: &[Slot<'t, WatchedDisk<'w, N>, P>],
-    again: &Again<'_, '_, 'w, R, N>,
-    lanes: &L,
-    play: &mut V,
-) -> bool {
-    thread::scope(
-        thread::scope_env(),
-        waits,
-        |scope| -> bool
-            requires { IsSend P.row × IsSync T.row × IsSync N.row × IsSync L.row }
-        {
-            let is_suspend = play_beside(scope, waits, target, client, slots, again, lanes, play);
-            lanes.close(waits);
-            is_suspend
-        },
-    )
-}
-
-/// Plays, and begins lanes as they are asked for. Whether a suspend is to come.
-fn play_beside<
-    's,
-    't,
-    'w,
-    E,
-    T: Threads + Wait + Sync,
-    P: Policy + Send,
-    R: Files<File = File>,
-    N: Watch + Sync,
-    L: Lanes + Sync,
-    V: Play,
->(
-    scope: &Scope<'s, E>,
-    waits: &'s T,
-    target: &'t Target<P>,
-    client: &mut Client<'t, WatchedDisk<'w, N>, P>,
-    slots: &'s [Slot<'t, WatchedDisk<'w, N>, P>],
-    again: &Again<'_, '_, 'w, R, N>,
-    lanes: &'s L,
-    play: &mut V,
-) -> bool {
-    let mut has_thread = [true; LANES];
-    for _ in waits.forever() {
-        match play.serve(waits, client) {
-            Next::Begin(lane) => {
-                match begin(scope, waits, target, slots, again, lanes, lane) {
-                    Ok(began) => {
-                        if let Some(has) = has_thread.get_mut(lane) {
-                            *has = began;
-                        }
-                    }
-                    Err(refusal) => play.refused(waits, lane, refusal),
-                }
-            }
-            Next::CatchUp => catch_up(waits, &has_thread, slots, lanes),
-            Next::Suspend => return true,
-            Next::End => return false,
-        }
-    }
-    false
-}
-
-/// Makes the client of a lane, with devices of its own, and has it serve on a thread of its own: whether one could be made.
-fn begin<
-    's,
-    't,
-    'w,
-    E,
-    T: Threads + Wait + Sync,
-    P: Policy + Send,
-    R: Files<File = File>,
-    N: Watch + Sync,
-    L: Lanes + Sync,
->(
-    scope: &Scope<'s, E>,
-    waits: &'s T,
-    target: &'t Target<P>,
-    slots: &'s [Slot<'t, WatchedDisk<'w, N>, P>],
-    again: &Again<'_, '_, 'w, R, N>,
-    lanes: &'s L,
-    lane: usize,
-) -> Result<bool, Refusal> {
-    let Some(slot) = slots.get(lane) else {
-        return Err(Refusal::Busy);
-    };
-    let devices = again.open()?;
-    match target.client(waits, devices) {
-        Ok(client) => {
-            *slot.lock(waits) = Some(client);
-            Ok(start(scope, waits, slot, lanes, lane))
-        }
-        Err((_, refusal)) => Err(refusal),
-    }
 }
 
 /// Starts the thread of a lane: whether it could be made.

@@ -3,7 +3,7 @@
 ghost use Rattle.std.specs.Prelude.{◌≡◌, ◌≢◌};
 ghost use Rattle.wb_opened.specs.Tables.{policy_name};
 
-use crate::lanes::{Again, played};
+use crate::lanes::{Again, Hall};
 use crate::opening::{open_devices, open_named, open_target, open_unlocked};
 use crate::play::{Lanes, Play};
 use crate::policies::by_policy;
@@ -122,7 +122,13 @@ fn serve_played<
 {
     let (devices, target) = open_target::<P, _>(alloc, devices, again.table)?;
     let mut play = play;
-    match played(waits, alloc, &target, devices, again, lanes, &mut play) {
+    let hall = Hall {
+        waits,
+        target: &target,
+        again,
+        lanes,
+    };
+    match hall.play(alloc, devices, &mut play) {
         Ok(()) => Ok(play.told()),
         Err(refusal) => Err(Unserved::Refused(refusal)),
     }

@@ -64,6 +64,22 @@ pub fn client_of<'t>(
     }
 }
 
+/// What a question about a target goes by.
+#[derive(Clone, Copy)]
+pub struct Asked<'a, R> {
+    pub rt: &'a R,
+    pub alloc: Global,
+    pub target: &'a Target<TinyLfu>,
+}
+
+impl<'a, R: Wait> Asked<'a, R> {
+    /// Whether this is the target's status line.
+    pub fn tells(&self, wanted: &str) -> bool {
+        let mut text = String::new(self.alloc);
+        self.target.status(self.rt, &mut text).is_ok() && text.as_str() == wanted
+    }
+}
+
 /// A sector that begins with this byte.
 pub fn begun_with(byte: u8) -> Content {
     let mut content = [0; SECTOR_BYTES];

@@ -1,14 +1,12 @@
 //! Messages: settings, and invalidations.
 
-use crate::fixture::{Lent, open_passing, shows, worked, write_and_read};
-use crate::opening::tells;
+use crate::fixture::{Asked, Lent, open_passing, shows, worked, write_and_read};
 use crate::questions::{Question, answered, answered_of};
 use crate::unclean::stored_as;
 use std::alloc::{AllocError, Global};
 use std::sync::Wait;
 use std::test::Fail;
-use wb_policy::{Order, TinyLfu};
-use wb_target::Target;
+use wb_policy::Order;
 use wb_types::{CBlock, CBlockRange, CBlockRanges, Key, Message, OBlock, Refusal};
 
 /// Values of settings, each with its answer.
@@ -27,21 +25,13 @@ const SETTINGS: [(Key, u64, Result<(), Refusal>); 7] = [
 ];
 
 /// Whether those are answered so, and the last ones that were taken are shown.
-pub fn takes_settings(
-    rt: &impl Wait,
-    alloc: Global,
-    target: &Target<TinyLfu>,
-    client: &mut Lent<'_>,
-) -> bool {
+pub fn takes_settings(asked: &Asked<'_, impl Wait>, client: &mut Lent<'_>) -> bool {
     for (key, value, answer) in SETTINGS {
-        if client.message(rt, &Message::Set(key, value)) != answer {
+        if client.message(asked.rt, &Message::Set(key, value)) != answer {
             return false;
         }
     }
-    tells(
-        rt,
-        alloc,
-        target,
+    asked.tells(
         "1 2/4 64 0/4 0 0 0 0 0 0 0 1 writeback 2 migration_threshold 4294967295 tinylfu 2 promote_min 17 rw -",
     )
 }
@@ -101,21 +91,13 @@ const INVALIDATIONS: [(&[(u32, u32)], Result<(), Refusal>); 6] = [
 ];
 
 /// Whether three of four mapped blocks leave the cache by those, and are counted.
-pub fn invalidates(
-    rt: &impl Wait,
-    alloc: Global,
-    target: &Target<TinyLfu>,
-    client: &mut Lent<'_>,
-) -> bool {
+pub fn invalidates(asked: &Asked<'_, impl Wait>, client: &mut Lent<'_>) -> bool {
     for (pairs, answer) in INVALIDATIONS {
-        if invalidated(rt, alloc, client, pairs) != answer {
+        if invalidated(asked.rt, asked.alloc, client, pairs) != answer {
             return false;
         }
     }
-    tells(
-        rt,
-        alloc,
-        target,
+    asked.tells(
         "1 3/4 64 1/4 0 0 0 0 3 0 0 1 passthrough 2 migration_threshold 2048 tinylfu 2 promote_min 2 rw -",
     )
 }

@@ -2,33 +2,25 @@
 
 use crate::faults::crashed;
 use crate::fixture::{
-    Lent, Memory, begun_with, formatted, open_passing, open_through, worked, write_and_read,
+    Asked, Lent, Memory, begun_with, formatted, open_passing, open_through, worked, write_and_read,
 };
-use crate::opening::tells;
 use crate::questions::{Question, answered_over, done_by};
 use crate::unclean::stored_as;
 use std::alloc::Global;
 use std::sync::Wait;
 use std::test::Fail;
 use wb_disk::{Base, CrashChoice, Disk, MemDisk};
-use wb_policy::{Order, TinyLfu};
-use wb_target::{Flushed, Target};
+use wb_policy::Order;
+use wb_target::Flushed;
 use wb_types::{CBlock, OBlock, Refusal, SECTOR_BYTES, Sector};
 
 /// Whether the first block, once it is cached, is written and counted as the status line of write-through says, with nothing dirty.
-pub fn writes_through(
-    rt: &impl Wait,
-    alloc: Global,
-    target: &Target<TinyLfu>,
-    client: &mut Lent<'_>,
-) -> bool {
+pub fn writes_through(asked: &Asked<'_, impl Wait>, client: &mut Lent<'_>) -> bool {
+    let rt = asked.rt;
     write_and_read(rt, client, 0, 0x11)
         && worked(rt, client) == Some(Order::Promote(OBlock(0), CBlock(0)))
         && client.write(rt, Sector(0), &[begun_with(0x22)]).is_ok()
-        && tells(
-            rt,
-            alloc,
-            target,
+        && asked.tells(
             "1 2/4 64 1/4 0 1 1 1 0 1 0 1 writethrough 2 migration_threshold 2048 tinylfu 2 promote_min 2 rw -",
         )
 }
@@ -53,19 +45,12 @@ fn write_through_writes_a_cached_block_on_both_devices(rt: HostRuntime) -> Resul
 }
 
 /// Whether the first block, which is mapped, is written without a wait only once it has left the cache, and counted as a hit and a demotion.
-pub fn displaces(
-    rt: &impl Wait,
-    alloc: Global,
-    target: &Target<TinyLfu>,
-    client: &mut Lent<'_>,
-) -> bool {
+pub fn displaces(asked: &Asked<'_, impl Wait>, client: &mut Lent<'_>) -> bool {
+    let rt = asked.rt;
     client.port.try_write(Sector(0), &[begun_with(0x55)]) == Err(Refusal::Defer)
         && write_and_read(rt, client, 0, 0x66)
         && client.port.try_write(Sector(1), &[begun_with(0x77)]) == Ok(())
-        && tells(
-            rt,
-            alloc,
-            target,
+        && asked.tells(
             "1 3/4 64 3/4 0 1 1 1 1 0 0 1 passthrough 2 migration_threshold 2048 tinylfu 2 promote_min 2 rw -",
         )
 }

@@ -1,6 +1,6 @@
 //! Openings that are refused, and what they leave.
 
-use crate::fixture::{Lent, Memory, formatted, shows, worked, write_and_read};
+use crate::fixture::{Asked, Lent, Memory, formatted, shows, worked, write_and_read};
 use crate::questions::{Question, answered, answered_over, answered_under};
 use std::alloc::Global;
 use std::sync::Wait;
@@ -35,18 +35,9 @@ fn a_value_out_of_range_is_refused_before_the_root_is_written(rt: HostRuntime) -
     Ok(())
 }
 
-/// Whether this is a target's status line.
-pub fn tells(rt: &impl Wait, alloc: Global, target: &Target<TinyLfu>, wanted: &str) -> bool {
-    let mut text = String::new(alloc);
-    target.status(rt, &mut text).is_ok() && text.as_str() == wanted
-}
-
-/// Whether it has that of a new target.
-pub fn tells_status(rt: &impl Wait, alloc: Global, target: &Target<TinyLfu>) -> bool {
-    tells(
-        rt,
-        alloc,
-        target,
+/// Whether it has the status line of a new target.
+pub fn tells_status(asked: &Asked<'_, impl Wait>) -> bool {
+    asked.tells(
         "1 2/4 64 0/4 0 0 0 0 0 0 0 1 writeback 2 migration_threshold 2048 tinylfu 2 promote_min 2 rw -",
     )
 }

@@ -2,7 +2,7 @@
 
 use crate::caching::{caches, caches_and_flushes, replaces, replaces_another};
 use crate::faults::{Rounds, shows_allowed};
-use crate::fixture::{Lent, Memory, client_of, formatted, open_with, shows, worked};
+use crate::fixture::{Asked, Lent, Memory, client_of, formatted, open_with, shows, worked};
 use crate::messages::{goes_by_threshold, invalidates, is_in_another_mode, takes_settings};
 use crate::modes::{displaces, writes_durably, writes_through};
 use crate::opening::{caches_at_the_third, tells_status, was_opened};
@@ -124,6 +124,7 @@ fn answer(
     client: &mut Lent<'_>,
     question: Question,
 ) -> bool {
+    let asked = Asked { rt, alloc, target };
     match question {
         Question::Caches => caches(rt, target, client),
         Question::CachesAndFlushes => caches_and_flushes(rt, client),
@@ -139,14 +140,14 @@ fn answer(
         Question::CarriesOutAll => carries_out_all(rt, target, client),
         Question::Shows(at, byte) => shows(rt, client, at, byte),
         Question::ShowsAllowed(rounds) => shows_allowed(rt, client, rounds),
-        Question::TellsStatus => tells_status(rt, alloc, target),
+        Question::TellsStatus => tells_status(&asked),
         Question::WasOpened => was_opened(rt, target),
         Question::WritesTwice => writes_twice(client),
-        Question::WritesThrough => writes_through(rt, alloc, target, client),
-        Question::Displaces => displaces(rt, alloc, target, client),
-        Question::TakesSettings => takes_settings(rt, alloc, target, client),
+        Question::WritesThrough => writes_through(&asked, client),
+        Question::Displaces => displaces(&asked, client),
+        Question::TakesSettings => takes_settings(&asked, client),
         Question::GoesByThreshold => goes_by_threshold(rt, client),
-        Question::Invalidates => invalidates(rt, alloc, target, client),
+        Question::Invalidates => invalidates(&asked, client),
         Question::IsInAnotherMode => is_in_another_mode(rt, alloc, client),
         Question::WritesDurably => writes_durably(rt, client),
         Question::Finds(order) => worked(rt, client) == Some(order),

@@ -1,6 +1,6 @@
 //! Suspends, and what the next opening finds.
 
-use crate::fixture::{Lent, Memory, client_of, formatted, open, shows};
+use crate::fixture::{Asked, Lent, Memory, client_of, formatted, open, shows};
 use crate::opening::tells_status;
 use crate::questions::{Question, answered_over, done_by};
 use std::alloc::Global;
@@ -63,7 +63,12 @@ fn is_over(rt: &impl Wait, alloc: Global) -> Result<bool, Refusal> {
     let (devices, target) = open(alloc, formatted(alloc)?)?;
     let (devices, first) = target.suspend(rt, devices);
     let (devices, again) = target.suspend(rt, devices);
-    let told = tells_status(rt, alloc, &target);
+    let asked = Asked {
+        rt,
+        alloc,
+        target: &target,
+    };
+    let told = tells_status(&asked);
     let refused = matches!(target.client(rt, devices), Err((_, Refusal::Failed)));
     Ok(first.is_ok() && again == Err(Refusal::Failed) && told && refused)
 }

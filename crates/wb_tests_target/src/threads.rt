@@ -1,8 +1,7 @@
 //! Errands by clients on threads of their own, over files.
 
 use crate::files::{Images, Names, client_over, images, target_over};
-use crate::fixture::{begun_with, shows};
-use crate::opening::tells;
+use crate::fixture::{Asked, begun_with, shows};
 use std::alloc::AllocError;
 use std::sync::Wait;
 use std::test::Fail;
@@ -70,7 +69,12 @@ fn all_read<R: Threads + Wait + Sync>(
 fn four_clients_read_one_sector(rt: HostRuntime) -> Result<(), Fail> {
     let target = target_over(&rt, &READ)?;
     let read = all_read(&rt, &target, readers(&rt, &READ)?);
-    let told = tells(&rt, rt.alloc(), &target, READ_LINE);
+    let asked = Asked {
+        rt: &rt,
+        alloc: rt.alloc(),
+        target: &target,
+    };
+    let told = asked.tells(READ_LINE);
     drop(target);
     assert!(rt; told && read?);
     Ok(())
