@@ -58,8 +58,7 @@ impl<
     R: Files<File = File>,
     N: Watch + Sync,
     L: Lanes + Sync,
-> Hall<'t, 'f, 'a, 'w, T, P, R, N, L>
-{
+> Hall<'t, 'f, 'a, 'w, T, P, R, N, L> {
     /// Has a client play, and others in lanes beside it; where a suspend is to come, all are taken back and the target is suspended.
     pub(crate) fn play<V: Play>(
         &self,

@@ -22,9 +22,6 @@ use wb_types::Refusal;
 /// How long it is waited before the file is asked again, in milliseconds.
 const REST: u64 = 50;
 
-/// Bytes of a line, at most: 64 KiB.
-const MOST_OF_A_LINE: usize = 65_536;
-
 /// A file to which lines are added, and how far they were read. It is asked again and again, since a file tells nobody that it has grown: a FIFO, whose
 /// end would have to be waited for, is none.
 #[derive(Drop)]
@@ -113,6 +110,9 @@ pub fn answer_lines<R: Wait, S: Served, T: Clock + Eprint>(
 fn rest<T: Clock>(clock: &T) {
     thread::sleep(clock, Duration::from_millis(REST));
 }
+
+/// Bytes of a line, at most: 64 KiB.
+const MOST_OF_A_LINE: usize = 65_536;
 
 /// A line as it comes, byte by byte.
 #[derive(Drop)]
