@@ -6,16 +6,16 @@ use Rattle.wb_script.specs.declared.fill.Fill.{Fill}
 use Rattle.wb_script.specs.declared.fill.Fill.TheVariants.{Uniform, Mixed}
 
 -- what fills a sector, in a word: the one by which a write would fill it so, or `mixed`
-abbrev pub Names : List ℕ → Fill → Type 0
-Names word (Uniform byte) = SpellsByte word byte
-Names word Mixed = word ≡ codes "mixed"
+abbrev pub NamesFill : List ℕ → Fill → Type 0
+NamesFill word (Uniform byte) = SpellsByte word byte
+NamesFill word Mixed = word ≡ codes "mixed"
 
 -- a line `<sector> <fill>` of this content
 pub record IsLineOf (line : List ℕ) (sector : ℕ) (content : List ℕ) : Type 0 where
   pub fill : Fill
   pub word : List ℕ
   pub shows : Shows fill content
-  pub names : Names word fill
+  pub names : NamesFill word fill
   pub spelled : line ≡ decimal sector ++ 32 ∷ word ++ 10 ∷ []
 
 -- a line for each content, the first of this sector

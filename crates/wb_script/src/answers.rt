@@ -1,6 +1,6 @@
 //! What a client answers to what it is asked.
 
-ghost use Rattle.std.specs.Prelude.{◌≡◌, ◌<◌, ◌≤◌, ◌+◌, ◌*◌, ◌^◌, ◌⊎◌, IfOk, IfErr, OnOk, OnErr, IsErrOf};
+ghost use Rattle.std.specs.Prelude.{◌≡◌, ◌≢◌, ◌<◌, ◌≤◌, ◌+◌, ◌*◌, ◌^◌, ◌⊎◌, IfOk, IfErr, OnOk, OnErr, IsErrOf};
 ghost use Rattle.wb_table.specs.Messages.{IsMessage};
 ghost use Rattle.wb_table.specs.Words.{words_of};
 ghost use Rattle.wb_types.specs.declared.message.Message.{Message};
@@ -9,7 +9,7 @@ ghost use Rattle.wb_opened.specs.Inside.{IsInside};
 ghost use Rattle.wb_script.specs.Request.{AsksForSectors, AsksInside};
 
 use crate::line::Call;
-use crate::part::first_part;
+use crate::part::{Part, first_part};
 use crate::progress::Paced;
 use crate::room::Room;
 use crate::shown::show;
@@ -39,13 +39,33 @@ pub fn answer<R: Wait, C: Served, P: Paced>(
     ensures inside { AsksForSectors asked → IsErrOf result Refusal.Range → ¬ AsksInside asked ((C.sizes client.old).block * (C.sizes client.old).origin_blocks) }
 {
     match asked {
-        Call::Read { at, count } => return read(rt, client, at, count, room, text, progress),
+        Call::Read { at, count } => {
+            return go_through(rt, client, at, count, Deed::Show, room, text, progress);
+        }
         Call::TryRead { at, count } => return try_read(client, at, count, room, text),
         Call::Write { at, count, fill } => {
-            write(rt, client, at, count, fill, false, room, progress)?
+            go_through(
+                rt,
+                client,
+                at,
+                count,
+                Deed::Fill(fill),
+                room,
+                text,
+                progress,
+            )?
         }
         Call::WriteDurably { at, count, fill } => {
-            write(rt, client, at, count, fill, true, room, progress)?
+            go_through(
+                rt,
+                client,
+                at,
+                count,
+                Deed::FillDurably(fill),
+                room,
+                text,
+                progress,
+            )?
         }
         Call::TryWrite { at, count, fill } => try_write(client, at, count, fill, room)?,
         Call::Settle => client.settle(rt),
@@ -81,13 +101,24 @@ pub fn done(text: &mut String) -> Result<(), Refusal>
     Ok(())
 }
 
-/// Reads block by block.
-#[tactic(auto, using(crate::proofs::Ranges::not_refused))]
-fn read<R: Wait, C: Served, P: Paced>(
+/// What is done of the sectors of one block after the other.
+#[derive(Clone, Copy)]
+enum Deed {
+    /// They are read and shown.
+    Show,
+    /// They are filled with a byte.
+    Fill(u8),
+    /// The same, and behind the last what was finished is made durable.
+    FillDurably(u8),
+}
+
+/// Reads or writes block by block.
+fn go_through<R: Wait, C: Served, P: Paced>(
     rt: &R,
     client: &mut C,
     at: Sector,
     count: u64,
+    deed: Deed,
     room: &mut Room,
     text: &mut String,
     progress: &mut P,
@@ -101,45 +132,45 @@ fn read<R: Wait, C: Served, P: Paced>(
     let Sector(mut first) = at;
     while first < end {
         let part = first_part(geometry.block, first, end);
-        room.make(part.count)?;
-        client.read(rt, Sector(first), room.contents.as_mut_slice())?;
-        show(first, room.contents.as_slice(), text)?;
         first += part.count;
+        do_part(rt, client, part, deed, first == end, room, text)?;
         progress.reach(count.saturating_sub(end - first), count);
     }
     Ok(())
 }
 
-/// Writes block by block; where it is to be durable, the last block is followed by a flush.
+/// Does so in one block, which is the last or not.
 #[tactic(auto, using(crate::proofs::Ranges::not_refused))]
-fn write<R: Wait, C: Served, P: Paced>(
+fn do_part<R: Wait, C: Served>(
     rt: &R,
     client: &mut C,
-    at: Sector,
-    count: u64,
-    fill: u8,
-    is_durable: bool,
+    part: Part,
+    deed: Deed,
+    is_last: bool,
     room: &mut Room,
-    progress: &mut P,
+    text: &mut String,
 ) -> Result<(), Refusal>
-    ensures outside { ¬ IsInside at.0 count ((C.sizes client.old).block * (C.sizes client.old).origin_blocks) → IsErrOf result Refusal.Range }
-    ensures inside { IsErrOf result Refusal.Range → ¬ IsInside at.0 count ((C.sizes client.old).block * (C.sizes client.old).origin_blocks) }
+    requires some { 0 < part.count }
+    requires numbered { part.first + part.count < 2 ^ 64 }
+    requires inside { part.first + part.count ≤ (C.sizes client.old).block * (C.sizes client.old).origin_blocks }
+    ensures sizes { C.sizes client.new ≡ C.sizes client.old }
+    ensures in_range { IfErr result (λ refusal. refusal ≢ Refusal.Range) }
 {
-    let geometry = client.geometry();
-    let end = end_of(&geometry, at, count)?;
-    progress.begin();
-    let Sector(mut first) = at;
-    while first < end {
-        let part = first_part(geometry.block, first, end);
-        room.fill(part.count, fill)?;
-        let contents = room.contents.as_slice();
-        if is_durable && first + part.count == end {
-            client.write_fua(rt, Sector(first), contents)?;
-        } else {
-            client.write(rt, Sector(first), contents)?;
+    let at = Sector(part.first);
+    match deed {
+        Deed::Show => {
+            room.make(part.count)?;
+            client.read(rt, at, room.contents.as_mut_slice())?;
+            show(part.first, room.contents.as_slice(), text)?;
         }
-        first += part.count;
-        progress.reach(count.saturating_sub(end - first), count);
+        Deed::FillDurably(fill) if is_last => {
+            room.fill(part.count, fill)?;
+            client.write_fua(rt, at, room.contents.as_slice())?;
+        }
+        Deed::Fill(fill) | Deed::FillDurably(fill) => {
+            room.fill(part.count, fill)?;
+            client.write(rt, at, room.contents.as_slice())?;
+        }
     }
     Ok(())
 }

@@ -6,7 +6,7 @@ use crate::ahead::Ahead;
 use crate::answers::{answer, done, follow, most_lines, status, work};
 use crate::ended::{Ended, refused};
 use crate::lane::Beside;
-use crate::line::{Call, Line, read_line};
+use crate::line::{Call, Line, message_text, read_line};
 use crate::output::{StreamFailed, print, print_bad_line, print_refusal, see_out};
 use crate::printing::print_all;
 use crate::progress::Progress;
@@ -20,13 +20,11 @@ use std::alloc::{AllocError, Global};
 use std::fs::File;
 use std::io::{BufRead, ErrorKind, Read, Write};
 use std::rt::Files;
-use std::str;
 use std::sync::Wait;
 use std::thread::Threads;
 use std::time::Clock;
 use wb_files::Watch;
 use wb_opened::{LANES, Next, Play, Served, Shown, Unserved, serve_lanes};
-use wb_table::SplitSpaces;
 use wb_types::Refusal;
 
 /// Room for an answer of one line, made before the first line is read.
@@ -301,12 +299,7 @@ fn answer_line<R: Wait, C: Served, I: Ahead, W: Write, E: Clock + Eprint>(
             done(&mut script.text)
         }
         Line::Message => {
-            follow(
-                rt,
-                script.alloc,
-                client,
-                behind_first_word(script.line.as_slice()),
-            )?;
+            follow(rt, script.alloc, client, message_in(script.line.as_slice()))?;
             done(&mut script.text)
         }
         Line::Work => work(rt, client, &mut script.text),
@@ -505,11 +498,12 @@ fn read_input(line: &[u8]) -> Input {
     }
 }
 
-/// What stands behind the first word of a line.
-fn behind_first_word(line: &[u8]) -> &str {
-    let mut words = SplitSpaces(str::from_utf8(without_break(line)).unwrap_or(""));
-    let _ = words.next();
-    words.0
+/// The text of the message that a line gives.
+fn message_in(line: &[u8]) -> &str {
+    match message_text(without_break(line)) {
+        Some(text) => text,
+        None => "",
+    }
 }
 
 /// A line without its line break, which the last line of a script may lack.

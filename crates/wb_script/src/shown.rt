@@ -3,7 +3,7 @@
 ghost use Rattle.std.specs.Prelude.{◌≡◌, ◌<◌, ◌≤◌, ◌+◌, ◌*◌, ◌^◌, ◌++◌, ℕ, List, ◌∷◌, [], length, drop, codes, decimal, string_bytes, OnOk};
 ghost use Rattle.std.specs.Char.{digit_char};
 ghost use Rattle.std.specs.Str.{IsAscii};
-ghost use Rattle.wb_script.specs.Shown.{AreLinesOf, IsLineOf, Names};
+ghost use Rattle.wb_script.specs.Shown.{AreLinesOf, IsLineOf, NamesFill};
 
 use crate::fill::Fill;
 use itoa::write_digits;
@@ -87,7 +87,7 @@ fn lay_name(fill: Fill, lines: &mut [u8], end: usize) -> usize
     requires within { end ≤ length lines.old }
     ensures start { end ≤ result + 5 }
     ensures before { result ≤ end }
-    ensures laid { (word : List ℕ) × Names word fill × IsAscii word × (drop result lines.new ≡ word ++ drop end lines.old) }
+    ensures laid { (word : List ℕ) × NamesFill word fill × IsAscii word × (drop result lines.new ≡ word ++ drop end lines.old) }
 {
     match fill {
         Fill::Uniform(byte) => {

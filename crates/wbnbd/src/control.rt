@@ -1,9 +1,9 @@
 //! Lines that ask something of the target while it is served.
 
 ghost use Rattle.std.specs.Prelude.{◌≡◌, IfSome, IfNone, OnOk};
-ghost use Rattle.std.specs.Bool.{OnTrue, OnFalse};
-ghost use Rattle.wb_script.specs.declared.line.Line.{Line as Said};
-ghost use Rattle.wbnbd.specs.Controls.{DidSay, IsAskedHere, IsControl};
+ghost use Rattle.wb_table.specs.Words.{words_of};
+ghost use Rattle.wbnbd.specs.Controls.{DidSay, IsLine, WordsSay};
+ghost use Rattle.wbnbd.specs.declared.control.Line.{Line as Said};
 
 use crate::pace::Pace;
 use crate::teller::Teller;
@@ -13,10 +13,9 @@ use std::os::unix::fs::FileExt;
 use std::rt::Files;
 use std::sync::Wait;
 use std::time::{Clock, Duration};
-use std::{fs, io, thread};
+use std::{fs, io, str, thread};
 use wb_opened::Served;
-use wb_script::{Call, Line, message_text, read_line};
-use wb_table::read_message;
+use wb_table::{SplitSpaces, is_comment, read_message};
 use wb_types::Refusal;
 
 /// How long it is waited before the file is asked again, in milliseconds.
@@ -70,6 +69,18 @@ pub struct Control<'a, T> {
     pub lines: Lines,
     pub pace: &'a Pace,
     pub teller: &'a Teller<'a, T>,
+}
+
+/// A line.
+#[derive(Clone, Copy)]
+enum Line<'a> {
+    /// An empty one, or a comment.
+    Nothing,
+    Status,
+    Flush,
+    Tick,
+    /// What stands behind the word.
+    Message(&'a str),
 }
 
 /// Answers lines as they come, on standard error, until the connection is over or the file cannot be read.
@@ -141,39 +152,40 @@ impl Coming {
         }
     }
 
-    /// What it asks; None where it is no line that can be asked here.
-    fn read(&self) -> Option<Line> {
+    /// What it asks; None where it is no line of a control file.
+    fn read(&self) -> Option<Line<'_>> {
         if self.cut {
             return None;
         }
-        read_control(self.bytes.as_slice())
+        read_line(self.bytes.as_slice())
     }
 }
 
-/// Reads a line, without its line break. None is a line that says nothing that a script can say, or nothing that can be asked here.
-#[tactic(auto, using(crate::proofs::Apart::apart))]
-fn read_control(bytes: &[u8]) -> Option<Line>
-    ensures found { IfSome result (IsControl bytes.now) }
-    ensures none { IfNone result ((said : Said) → ¬ IsControl bytes.now said) }
+/// Reads a line, without its line break. None is a line that says nothing that can be asked here.
+fn read_line(line: &[u8]) -> Option<Line<'_>>
+    ensures found { IfSome result (IsLine line.now) }
+    ensures none { IfNone result ((said : Said) → ¬ IsLine line.now said) }
 {
-    let line = read_line(bytes)?;
-    if is_asked_here(line) {
-        Some(line)
-    } else {
-        None
+    if is_comment(line) {
+        return Some(Line::Nothing);
     }
+    read_words(SplitSpaces(str::from_utf8(line).ok()?))
 }
 
-/// Whether a line of a script can be asked here.
-fn is_asked_here(line: Line) -> bool
-    ensures here { OnTrue result (IsAskedHere line) }
-    ensures elsewhere { OnFalse result (¬ IsAskedHere line) }
+fn read_words(mut words: SplitSpaces<'_>) -> Option<Line<'_>>
+    ensures found { IfSome result (WordsSay (words_of words.entry.0.now)) }
+    ensures none { IfNone result ((said : Said) → ¬ WordsSay (words_of words.entry.0.now) said) }
 {
-    match line {
-        Line::Nothing | Line::Status | Line::Tick | Line::Message => true,
-        Line::Asks(Call::Flush) => true,
-        _ => false,
-    }
+    let line = match words.next() {
+        None => return Some(Line::Nothing),
+        Some("message") => return Some(Line::Message(words.0)),
+        Some("status") => Line::Status,
+        Some("flush") => Line::Flush,
+        Some("tick") => Line::Tick,
+        Some(_) => return None,
+    };
+    words.expect_end()?;
+    Some(line)
 }
 
 /// Does what a line asks, and tells its answer.
@@ -189,33 +201,29 @@ fn tell_answer<R: Wait, S: Served, T: Eprint>(
         return;
     };
     let mut text = String::new(alloc);
-    let words = message_text(coming.bytes.as_slice()).unwrap_or("");
-    match answer(rt, client, alloc, line, words, &mut text) {
+    match answer(rt, client, alloc, line, &mut text) {
         Ok(()) if text.is_empty() => {}
         Ok(()) => teller.say(text.as_str()),
         Err(refusal) => teller.refused(refusal),
     }
 }
 
-/// Does what a line asks, of which these words are the text of a message, and adds its answer to the text. Refused as the call that it is,
-/// `BadMessage` where the words are no message or the line can not be asked here, and `Memory`.
+/// Does what a line asks, and adds its answer to the text. Refused as the call that it is, `BadMessage` where a text is no message, and `Memory`.
 fn answer<R: Wait, S: Served>(
     rt: &R,
     client: &mut S,
     alloc: Global,
-    line: Line,
-    words: &str,
+    line: Line<'_>,
     text: &mut String,
 ) -> Result<(), Refusal>
-    ensures did { OnOk result (DidSay S.did client.old line words.now client.new) }
+    ensures did { OnOk result (DidSay S.did client.old line.entry client.new) }
 {
     match line {
         Line::Nothing => return Ok(()),
         Line::Status => return client.status(rt, text),
-        Line::Asks(Call::Flush) => client.flush(rt)?,
+        Line::Flush => client.flush(rt)?,
         Line::Tick => client.tick(rt)?,
-        Line::Message => client.message(rt, &read_message(alloc, words)?)?,
-        _ => return Err(Refusal::BadMessage),
+        Line::Message(words) => client.message(rt, &read_message(alloc, words)?)?,
     }
     text.push_str("ok")?;
     Ok(())
