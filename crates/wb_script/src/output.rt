@@ -1,6 +1,6 @@
 //! Answers, and what else is printed: the writer holds them until it is told to see them out.
 
-ghost use Rattle.std.specs.Prelude.{◌≡◌, IfOk, OnErr, OnOk};
+ghost use Rattle.std.specs.Prelude.{◌≡◌, IfOk, IfErr, OnErr, OnOk};
 ghost use Rattle.std.specs.Io.KnownBytes.{Appends};
 ghost use Rattle.wb_script.specs.Exit.{code_of};
 ghost use Rattle.wb_script.specs.Leading.{want_of_memory};
@@ -98,11 +98,14 @@ pub fn print_bad_line<W: Write>(
 /// Writes all of it.
 pub fn send<W: Write>(bytes: &[u8], writer: &mut W) -> Result<(), StreamFailed>
     ensures sent { OnOk result (Appends (W.contents writer.old) (W.contents writer.new) bytes.now) }
+    ensures writer { IfErr result (λ failed. failed ≡ StreamFailed.Writer) }
 {
     writer.write_all(bytes).map_err(|_| StreamFailed::Writer)
 }
 
 /// Sees that all that was written is out.
-pub fn see_out<W: Write>(writer: &mut W) -> Result<(), StreamFailed> {
+pub fn see_out<W: Write>(writer: &mut W) -> Result<(), StreamFailed>
+    ensures { IfErr result (λ failed. failed ≡ StreamFailed.Writer) }
+{
     writer.flush().map_err(|_| StreamFailed::Writer)
 }

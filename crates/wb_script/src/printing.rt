@@ -1,6 +1,6 @@
 //! What is printed at a join.
 
-ghost use Rattle.std.specs.Prelude.{◌≡◌, ◌≤◌, OnOk};
+ghost use Rattle.std.specs.Prelude.{◌≡◌, ◌≤◌, IfErr, OnOk};
 ghost use Rattle.std.specs.Io.KnownBytes.{Appends};
 ghost use Rattle.wb_script.specs.Leading.{led_by, repeated, want_of_memory};
 ghost use Rattle.wb_script.specs.Joining.{printed, all_printed};
@@ -12,6 +12,7 @@ use std::io::Write;
 /// Prints what clients have told since the last join, one after the other.
 pub fn print_all<W: Write>(all: &[Told], writer: &mut W) -> Result<(), StreamFailed>
     ensures printed { OnOk result (Appends (W.contents writer.old) (W.contents writer.new) (all_printed all.now)) }
+    ensures writer { IfErr result (λ failed. failed ≡ StreamFailed.Writer) }
 {
     let mut rest = all;
     while let Some((told, after)) = rest.split_first() {
@@ -25,6 +26,7 @@ pub fn print_all<W: Write>(all: &[Told], writer: &mut W) -> Result<(), StreamFai
 #[tactic(auto, using(crate::proofs::Pieces::appends_both))]
 fn print_told<W: Write>(told: &Told, writer: &mut W) -> Result<(), StreamFailed>
     ensures printed { OnOk result (Appends (W.contents writer.old) (W.contents writer.new) (printed told.now)) }
+    ensures writer { IfErr result (λ failed. failed ≡ StreamFailed.Writer) }
 {
     if !told.text.is_empty() {
         send(told.text.as_slice(), writer)?;
@@ -36,6 +38,7 @@ fn print_told<W: Write>(told: &Told, writer: &mut W) -> Result<(), StreamFailed>
 fn print_past<W: Write>(client: u8, count: u64, writer: &mut W) -> Result<(), StreamFailed>
     requires numbered { client ≤ 8 }
     ensures printed { OnOk result (Appends (W.contents writer.old) (W.contents writer.new) (repeated count (led_by client want_of_memory))) }
+    ensures writer { IfErr result (λ failed. failed ≡ StreamFailed.Writer) }
 {
     let name = lead_bytes(client);
     for _ in 0..count {
