@@ -19,7 +19,7 @@ use Rattle.wb_tasks.specs.declared.step.Want.TheVariants.{Device, End}
 use Rattle.wb_tasks.specs.declared.step.Got.{Got}
 use Rattle.wb_tasks.specs.declared.step.Got.TheVariants.{Done, Fault}
 use Rattle.wb_promise.specs.declared.job.Job.{Job}
-use Rattle.wb_promise.specs.declared.job.Job.TheVariants.{Read, Write, Flush, Open}
+use Rattle.wb_promise.specs.declared.job.Job.TheVariants.{Read, Write, Flush, Suspend, Open}
 use Rattle.wb_promise.specs.declared.event.Event.{Event}
 use Rattle.wb_promise.specs.declared.event.Event.TheVariants.{Start, Step, FaultStep, Stop}
 use Rattle.wb_promise.specs.declared.event.What.{What}
@@ -159,11 +159,16 @@ abbrev pub failing : Doing → DeviceStep → Got → Doing
 failing doing step Fault = record doing { failed = device_of step ∷ doing.failed }
 failing doing step got = doing
 
--- What a write entered is finished when it is answered done. A flush that is answered done has made durable what was finished
+-- what was finished when it started is durable
+abbrev pub made_durable : Notes → ℕ → Doing → Notes
+made_durable n a doing = record n { floors = greater_of n.floors doing.then_finished; doings = slice_set n.doings a None }
+
+-- What a write entered is finished when it is answered done. A flush or a suspend that is answered done has made durable what was finished
 -- when it started. After an opening that is answered done, histories begin with what it shows.
 abbrev pub finished_note : Notes → ℕ → Doing → Job → List Bytes → Notes
 finished_note n a doing (Write extent content) shown = record n { finished = all_raised n.finished doing.entered; doings = slice_set n.doings a None }
-finished_note n a doing Flush shown = record n { floors = greater_of n.floors doing.then_finished; doings = slice_set n.doings a None }
+finished_note n a doing Flush shown = made_durable n a doing
+finished_note n a doing Suspend shown = made_durable n a doing
 finished_note n a doing (Open mode) shown = begins (length n.doings) shown
 finished_note n a doing job shown = put n a None
 

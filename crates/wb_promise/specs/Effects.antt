@@ -41,15 +41,16 @@ use Rattle.wb_devices.specs.declared.running.RunningCommit.{RunningCommit}
 use Rattle.wb_devices.specs.declared.devices.Devices.{Devices}
 use Rattle.wb_devices.specs.Moving.{device_in}
 use Rattle.wb_stage.specs.Asking.{ended, is_of}
+use Rattle.wb_stage.specs.Seen.{seen_after}
 use Rattle.wb_promise.specs.declared.job.Job.{Job}
-use Rattle.wb_promise.specs.declared.job.Job.TheVariants.{Write, Flush, Open, Migrate, Replace}
+use Rattle.wb_promise.specs.declared.job.Job.TheVariants.{Write, Flush, Suspend, Open, Migrate, Replace}
 use Rattle.wb_promise.specs.declared.event.Event.{Event}
 use Rattle.wb_promise.specs.declared.event.Event.TheVariants.{Start, Step, FaultStep, Stop}
 use Rattle.wb_promise.specs.declared.event.What.{What}
 use Rattle.wb_promise.specs.declared.event.What.TheVariants.{Started, Stepped, Stopped}
 use Rattle.wb_promise.specs.declared.event.Record.{Record}
 use Rattle.wb_promise.specs.States.{Shape, State, Actor, Target, Phase, Stands, Gone, Opens, mode_of, resting, with_device}
-use Rattle.wb_promise.specs.Happenings.{Chosen, Cut, Orders, Begins, Reaches, Puts, Commits, Asks, Opened, Happening, begun_as, order_for, task_job, May}
+use Rattle.wb_promise.specs.Happenings.{Chosen, Cut, Orders, Looks, Begins, Reaches, Puts, Commits, Asks, Opened, Happening, begun_as, order_for, task_job, May}
 
 -- ---- devices
 
@@ -268,6 +269,11 @@ abbrev pub buffer_then : Devices (List History) → List Bytes → Want → Got 
 buffer_then devices buffer (Device (ReadExtent device e)) Done (Migrate migration block) = contents_at (device_in device devices) e
 buffer_then devices buffer next got job = buffer
 
+-- what a suspend has seen of the copies in the cache
+abbrev pub seen_then : List Bool → Want → Got → Job → List Bool
+seen_then seen next got Suspend = seen_after next got seen
+seen_then seen next got job = seen
+
 abbrev pub actor_then : {P A : Type 0} → Shape → Phase P A → Devices (List History) → Actor → Want → Got → Actor
 actor_then shape phase devices x next got = record {
   task = task_then x.task next got;
@@ -275,6 +281,7 @@ actor_then shape phase devices x next got = record {
   orders = orders_then x.orders x.awaiting (job_of x.task) next got;
   awaiting = awaiting_then x.orders x.awaiting (job_of x.task) next got;
   buffer = buffer_then devices x.buffer next got (job_of x.task);
+  seen = seen_then x.seen next got (job_of x.task);
 }
 
 -- nobody has a task
@@ -305,6 +312,15 @@ cut_of (Cut extents) = extents
 cut_of (Orders extents cache) = extents
 cut_of chosen = []
 
+abbrev pub looks_of : {P A : Type 0} → Chosen P A → List OBlock
+looks_of (Looks blocks) = blocks
+looks_of chosen = []
+
+-- a suspend has seen nothing when it starts
+abbrev pub unseen : Shape → Job → List Bool → List Bool
+unseen shape Suspend seen = replicate shape.geometry.cache_blocks false
+unseen shape job seen = seen
+
 -- the orders of an actor, and what the desk is, once an order was given with a job
 abbrev pub orders_given : {P A : Type 0} → List Order → Job → Chosen P A → List Order
 orders_given orders (Migrate migration block) (Orders cut cache) = order_for migration block ∷ orders
@@ -318,7 +334,11 @@ phase_given phase job chosen = phase
 
 -- an actor that has been given a job, over a target of this mode
 abbrev pub given : {P A : Type 0} → Shape → Mode → Actor → Job → Chosen P A → Actor
-given shape mode x job chosen = record x { task = Some (begun_as job, table (task_job shape mode x.awaiting job (cut_of chosen))); orders = orders_given x.orders job chosen }
+given shape mode x job chosen = record x {
+  task = Some (begun_as job, table (task_job shape mode x.awaiting job (cut_of chosen) (looks_of chosen)));
+  orders = orders_given x.orders job chosen;
+  seen = unseen shape job x.seen;
+}
 
 -- An opening drops the target that has failed, and whatever anybody was at.
 abbrev pub cleared : {P A : Type 0} → State P A → Job → State P A

@@ -35,7 +35,7 @@ use Rattle.wb_tree.specs.Edits.{IsChangedAt}
 use Rattle.wb_desk.specs.Desks.{DeskState, MayReserve, holdings}
 use Rattle.wb_desk.specs.Entries.{MayMap, entry_of, mapped}
 use Rattle.wb_desk.specs.Commits.{IsBeginRefused, commit_begun}
-use Rattle.wb_tasks.specs.Tables.{TaskJob, Reading, Writing, Migrating, OnBlock, Flushing, Opening, BlockRange, whole_block}
+use Rattle.wb_tasks.specs.Tables.{TaskJob, Reading, Writing, Migrating, OnBlock, Flushing, Suspending, Opening, BlockRange, whole_block}
 use Rattle.wb_tasks.specs.declared.step.Migration.{Migration}
 use Rattle.wb_tasks.specs.declared.step.Migration.TheVariants.{Promote, Demote, Clean}
 use Rattle.wb_tasks.specs.Plan.{Plan, want, got_of, device_of}
@@ -52,12 +52,12 @@ use Rattle.wb_tasks.specs.declared.step.Got.TheVariants.{Done, Fault, Refused as
 use Rattle.wb_devices.specs.declared.running.RunningCommit.{RunningCommit}
 use Rattle.wb_devices.specs.declared.devices.Devices.{Devices}
 use Rattle.wb_devices.specs.Moving.{device_in}
-use Rattle.wb_stage.specs.Asking.{DidRelease, DidUnmap, HasBegun}
+use Rattle.wb_stage.specs.Asking.{DidRelease, DidUnmap, HasBegunWith}
 use Rattle.wb_devices.specs.Committing.{goes_on}
 use Rattle.wb_stage.specs.Stages.{is_all_done}
 use Rattle.wb_devices.specs.Opened.{HasCome, got_of_refusal}
 use Rattle.wb_promise.specs.declared.job.Job.{Job}
-use Rattle.wb_promise.specs.declared.job.Job.TheVariants.{Read, Write, Flush, Open, Migrate, Replace}
+use Rattle.wb_promise.specs.declared.job.Job.TheVariants.{Read, Write, Flush, Suspend, Open, Migrate, Replace}
 use Rattle.wb_promise.specs.declared.event.Event.{Event}
 use Rattle.wb_promise.specs.declared.event.Event.TheVariants.{Start, Step, FaultStep, Stop}
 use Rattle.wb_promise.specs.declared.event.What.{What}
@@ -66,13 +66,14 @@ use Rattle.wb_promise.specs.declared.event.Record.{Record}
 use Rattle.wb_promise.specs.States.{Shape, State, Actor, Phase, Opens, OfTarget, OfReading, sector_count, block_size}
 
 -- What no record holds of what was free at it: into which extents a job's sectors are cut, in the order in which they are
--- taken, and the cache block of an order that is given; a reading that has read nothing; how far it has come after a step, and the commit of the opening's root once all was
+-- taken, and the cache block of an order that is given; at the seals of which blocks a suspend looks, one after another; a reading that has read nothing; how far it has come after a step, and the commit of the opening's root once all was
 -- read; what the metadata device is once a node or root was written; the commit that begins, and the tree to which its image
 -- leads; the desk after it was asked to map a block, to unmap it or to give up an order; the policy of a desk that is opened.
 pub data Chosen (P A : Type 0) : Type 0 where
   Plain : Chosen P A
   Cut : List Extent → Chosen P A
   Orders : List Extent → CBlock → Chosen P A
+  Looks : List OBlock → Chosen P A
   Begins : ReadSteps A → Chosen P A
   Reaches : Option (ReadSteps A) → Option RunningCommit → Chosen P A
   Puts : List History → Chosen P A
@@ -92,6 +93,7 @@ abbrev pub extent_of : Job → Extent
 extent_of (Read extent) = extent
 extent_of (Write extent content) = extent
 extent_of Flush = record { first = 0; count = 0 }
+extent_of Suspend = record { first = 0; count = 0 }
 extent_of (Open mode) = record { first = 0; count = 0 }
 extent_of (Migrate migration block) = record { first = 0; count = 0 }
 extent_of (Replace old new) = record { first = 0; count = 0 }
@@ -119,15 +121,16 @@ order_for Clean block = CleanOrder block
 abbrev pub blocks_left : List Order → List OBlock
 blocks_left orders = map first_of orders
 
--- The task of a job, whose sectors are cut so, over a target of this mode. A flush serves the replacements that wait for it; a replacement begins with
--- the demotion of the block that leaves.
-abbrev pub task_job : Shape → Mode → List Order → Job → List Extent → TaskJob
-task_job shape mode awaiting (Read extent) cut = OnBlock (Reading (block_range shape mode extent cut))
-task_job shape mode awaiting (Write extent content) cut = OnBlock (Writing (block_range shape mode extent cut))
-task_job shape mode awaiting Flush cut = Flushing (blocks_left awaiting) (node_count shape.geometry.cache_blocks)
-task_job shape mode awaiting (Open opened_in) cut = Opening shape.geometry.meta_sectors
-task_job shape mode awaiting (Migrate migration block) cut = OnBlock (Migrating migration (migrated_range shape block cut))
-task_job shape mode awaiting (Replace old new) cut = OnBlock (Migrating Demote (migrated_range shape old cut))
+-- The task of a job, whose sectors are cut so, or which looks at the seals of these blocks, over a target of this mode. A flush serves the
+-- replacements that wait for it; a replacement begins with the demotion of the block that leaves.
+abbrev pub task_job : Shape → Mode → List Order → Job → List Extent → List OBlock → TaskJob
+task_job shape mode awaiting (Read extent) cut looks = OnBlock (Reading (block_range shape mode extent cut))
+task_job shape mode awaiting (Write extent content) cut looks = OnBlock (Writing (block_range shape mode extent cut))
+task_job shape mode awaiting Flush cut looks = Flushing (blocks_left awaiting) (node_count shape.geometry.cache_blocks)
+task_job shape mode awaiting Suspend cut looks = Suspending looks (node_count shape.geometry.cache_blocks)
+task_job shape mode awaiting (Open opened_in) cut looks = Opening shape.geometry.meta_sectors
+task_job shape mode awaiting (Migrate migration block) cut looks = OnBlock (Migrating migration (migrated_range shape block cut))
+task_job shape mode awaiting (Replace old new) cut looks = OnBlock (Migrating Demote (migrated_range shape old cut))
 
 -- what an actor is at once this job was started
 abbrev pub begun_as : Job → Job
@@ -150,6 +153,7 @@ abbrev pub job_refusal : Shape → Job → Option Refusal
 job_refusal shape (Read extent) = extent_refusal shape extent
 job_refusal shape (Write extent content) = extent_refusal shape extent
 job_refusal shape Flush = None
+job_refusal shape Suspend = None
 job_refusal shape (Open mode) = None
 job_refusal shape (Migrate migration block) = None
 job_refusal shape (Replace old new) = None
@@ -176,6 +180,14 @@ abbrev pub IsOutOfPlace : {P A : Type 0} → Phase P A → Job → Type 0
 IsOutOfPlace phase (Open mode) = OfTarget phase (λ t. t.words.fail ≡ 0) ⊎ (mode ≡ Passthrough)
 IsOutOfPlace phase job = ¬ OfTarget phase (λ t. Unit {0})
 
+-- somebody suspends the target
+abbrev pub IsSuspending : {P A : Type 0} → State P A → Type 0
+IsSuspending w = (a : ℕ) × AtWork w a (λ job s. job ≡ Suspend)
+
+-- nobody has a task
+abbrev pub IsIdle : {P A : Type 0} → State P A → Type 0
+IsIdle w = (a : ℕ) → ¬ HasTask w a
+
 -- the device of a step may fail so
 abbrev pub MayFailAt : Devices (List History) → Choice → Want → Type 0
 MayFailAt devices choice (Device step) = MayFail (device_of step) choice (length (device_in (device_of step) devices))
@@ -187,9 +199,9 @@ pub record MayStop (choice : Choice) (devices : Devices (List History)) : Type 0
   pub cache : Applies Cache choice devices.cache
   pub origin : Applies Origin choice devices.origin
 
--- An event that doesn't apply. It is skipped, and no other is.
+-- An event that doesn't apply. It is skipped, and no other is. Before a suspend has answered nothing starts.
 abbrev pub DoesNotApply : {P A : Type 0} → State P A → Event → Type 0
-DoesNotApply w (Start a job) = (slice_get w.actors a ≡ None) ⊎ HasTask w a ⊎ IsOutOfPlace w.phase job
+DoesNotApply w (Start a job) = (slice_get w.actors a ≡ None) ⊎ HasTask w a ⊎ IsSuspending w ⊎ IsOutOfPlace w.phase job
 DoesNotApply w (Step a) = ¬ HasTask w a
 DoesNotApply w (FaultStep a choice) = ¬ AtWork w a (λ job s. MayFailAt w.devices choice (want s))
 DoesNotApply w (Stop choice) = ¬ MayStop choice w.devices
@@ -241,12 +253,13 @@ DoesRead geometry left was device commit got chosen = ⊥
 abbrev pub AreWhole : Image → Type 0
 AreWhole image = All (λ (node : Place × Node). length node.1.words ≡ 32) image.nodes.items
 
--- A commit begins, of an image of the desk's tree, with at most so many nodes; or the desk refuses it.
-abbrev pub DoesBegin : {P A : Type 0} → ℕ → DeskState P → Got → Chosen P A → Type 0
-DoesBegin most desk (Began nodes) (Commits commit tree) = (nodes ≤ most) × (nodes ≡ length commit.image.nodes.items) × (commit.steps ≡ NodesWritten 0)
-    × HasBegun desk commit.image (commit_begun desk tree) × AreWhole commit.image
-DoesBegin most desk (GotRefused refusal) Plain = IsBeginRefused desk refusal
-DoesBegin most desk got chosen = ⊥
+-- A commit begins, of an image of the desk's tree, with at most so many nodes; or the desk refuses it. Where dirty bits were seen its root
+-- is marked clean, and the entries have them, and hints, whatever these are.
+abbrev pub DoesBegin : {P A : Type 0} → Option (List Bool) → ℕ → DeskState P → Got → Chosen P A → Type 0
+DoesBegin {P} seen most desk (Began nodes) (Commits commit tree) = (nodes ≤ most) × (nodes ≡ length commit.image.nodes.items) × (commit.steps ≡ NodesWritten 0)
+    × ((hint_of : P → ℕ → ℕ) × HasBegunWith hint_of seen desk commit.image (commit_begun desk tree)) × AreWhole commit.image
+DoesBegin seen most desk (GotRefused refusal) Plain = IsBeginRefused desk refusal
+DoesBegin seen most desk got chosen = ⊥
 
 -- A block that an order brings gets its entry; or the desk has no memory for that, and stays.
 abbrev pub DoesMap : {P A : Type 0} → OBlock → CBlock → DeskState P → Got → Chosen P A → Type 0
@@ -287,7 +300,8 @@ Gives shape w x job (Device (Sync device)) got read chosen = IsPlain read chosen
 Gives shape w x job (Device (WriteNode number)) got read chosen = (read ≡ []) × (got ≡ Done) × DoesPut w.commit (WriteNode number) w.devices.metadata chosen
 Gives shape w x job (Device WriteRoot) got read chosen = (read ≡ []) × (got ≡ Done) × DoesPut w.commit WriteRoot w.devices.metadata chosen
 Gives shape w x job (Device (ReadMetadata left)) got read chosen = (read ≡ []) × (w.commit ≡ None) × OfReading w.phase (λ mode was. DoesRead shape.geometry left was w.devices.metadata w.commit got chosen)
-Gives shape w x job (Desk (BeginCommit clean most)) got read chosen = (read ≡ []) × (clean ≡ false) × OfTarget w.phase (λ t. DoesBegin most t.desk got chosen)
+Gives shape w x Suspend (Desk (BeginCommit clean most)) got read chosen = (read ≡ []) × (clean ≡ true) × OfTarget w.phase (λ t. DoesBegin (Some x.seen) most t.desk got chosen)
+Gives shape w x job (Desk (BeginCommit clean most)) got read chosen = (read ≡ []) × (clean ≡ false) × OfTarget w.phase (λ t. DoesBegin None most t.desk got chosen)
 Gives shape w x job (Desk EndCommit) got read chosen = IsPlain read chosen × (got ≡ Done) × OfTarget w.phase (λ t. is_all_done w.commit ≡ true)
 Gives shape w x (Open mode) (End Finished) got read chosen = (read ≡ []) × (got ≡ Done) × DoesOpen w.phase w.commit chosen
 Gives shape w x job (End answer) got read chosen = IsPlain read chosen × (got ≡ Done)
@@ -351,7 +365,18 @@ MigrationStarts whole phase Keeps order Started (Cut cut) = IsCutInto whole cut 
 MigrationStarts whole phase Keeps order Started (Orders cut cache) = IsCutInto whole cut × OfTarget phase (λ t. MayReserve t.desk cache (order cache))
 MigrationStarts whole phase Keeps order what chosen = ⊥
 
--- what a start by an actor comes to
+-- these are the blocks that the desk maps
+pub record AreMapped {P : Type 0} (desk : DeskState P) (blocks : List OBlock) : Type 0 where
+  pub each : (block : OBlock) → Contains blocks block → (cache : ℕ) × IsMappedAt (holdings desk) block.0 cache
+  pub all : (block : OBlock) (cache : ℕ) → IsMappedAt (holdings desk) block.0 cache → Contains blocks block
+
+-- a suspend starts where nobody is at anything
+abbrev pub SuspendStarts : {P A : Type 0} → State P A → What → Chosen P A → Type 0
+SuspendStarts w (Refused Busy) Plain = ¬ IsIdle w
+SuspendStarts w Started (Looks blocks) = IsIdle w × OfTarget w.phase (λ t. AreMapped t.desk blocks)
+SuspendStarts w what chosen = ⊥
+
+-- what a start by an actor comes to, whatever the others are at
 abbrev pub StartGives : {P A : Type 0} → Shape → Phase P A → Option Actor → Job → What → Chosen P A → Type 0
 StartGives shape phase actor (Migrate migration block) what chosen =
     MigrationStarts (whole_block (block_size shape) block) phase (λ desk. KeepsMigration desk (orders_in actor) migration block) (λ cache. order_for migration block) what chosen
@@ -364,10 +389,15 @@ StartGives shape phase actor (Read extent) Started (Cut cut) = (extent_refusal s
 StartGives shape phase actor (Write extent content) Started (Cut cut) = (extent_refusal shape extent ≡ None) × IsCutInto extent cut
 StartGives shape phase actor job what chosen = ⊥
 
+-- what a start comes to: a suspend's goes by what the others are at
+abbrev pub StartsAs : {P A : Type 0} → Shape → State P A → ℕ → Job → What → Chosen P A → Type 0
+StartsAs shape w a Suspend what chosen = SuspendStarts w what chosen
+StartsAs shape w a job what chosen = StartGives shape w.phase (slice_get w.actors a) job what chosen
+
 -- This is what the event does here.
 abbrev pub MayBe : {P A : Type 0} → Shape → State P A → Event → What → List Bytes → Chosen P A → Type 0
 MayBe shape w event Skipped read chosen = IsPlain read chosen × DoesNotApply w event
-MayBe shape w (Start a job) what read chosen = (read ≡ []) × (¬ DoesNotApply w (Start a job)) × StartGives shape w.phase (slice_get w.actors a) job what chosen
+MayBe shape w (Start a job) what read chosen = (read ≡ []) × (¬ DoesNotApply w (Start a job)) × StartsAs shape w a job what chosen
 MayBe shape w (Step a) (Stepped next got) read chosen = OnTask w a (λ x job s. (next ≡ want s) × Gives shape w x job next got read chosen)
 MayBe shape w (FaultStep a choice) (Stepped next got) read chosen = (read ≡ []) × (got ≡ Fault)
     × AtWork w a (λ job s. (next ≡ want s) × MayFailAt w.devices choice next × Falters w choice next chosen)

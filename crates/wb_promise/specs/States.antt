@@ -1,5 +1,5 @@
 -- A cache target over three devices as a pure machine: its states.
-use Rattle.std.specs.Prelude.{◌*◌, ℕ, List, [], Option, Some, None, replicate}
+use Rattle.std.specs.Prelude.{◌*◌, ℕ, Bool, List, [], Option, Some, None, replicate}
 use Rattle.wb_types.specs.declared.geometry.Geometry.{Geometry}
 use Rattle.wb_types.specs.declared.mode.Mode.{Mode}
 use Rattle.wb_types.specs.declared.mode.Mode.TheVariants.{Writeback}
@@ -26,13 +26,15 @@ pub record Shape : Type 0 where
 
 -- What an actor is at, and what is left of it, if it is at anything; what it knows of the shared words; the orders that it has:
 -- that of the migration that it is at, and those of migrations that it may start or start again; those of replacements whose block has left,
--- and which wait for a flush of this actor; and the contents that a migration has read last, which it writes next.
+-- and which wait for a flush of this actor; the contents that a migration has read last, which it writes next; and for each cache block
+-- whether a suspend has seen its copy dirty.
 pub record Actor : Type 0 where
   pub task : Option (Job × Plan)
   pub card : Card
   pub orders : List Order
   pub awaiting : List Order
   pub buffer : List Bytes
+  pub seen : List Bool
 
 -- what stands from an opening's answer to a crash or the next opening's start
 pub record Target (P : Type 0) : Type 0 where
@@ -55,7 +57,7 @@ pub record State (P A : Type 0) : Type 0 where
 
 -- an actor with nothing to do, and with no order
 abbrev pub resting : Actor
-resting = record { task = None; card = blank_card; orders = []; awaiting = []; buffer = [] }
+resting = record { task = None; card = blank_card; orders = []; awaiting = []; buffer = []; seen = [] }
 
 abbrev pub block_size : Shape → ℕ
 block_size shape = shape.geometry.block

@@ -11,6 +11,9 @@ pub enum Job {
     Write(Extent, Content),
     /// Makes durable all that was finished when it started.
     Flush,
+    /// Makes durable what a flush does, with a root that is marked clean and the dirty bits and hints of what is mapped, and leaves the target
+    /// suspended. It is alone: its start is refused `Busy` where anybody has a task, and none starts before its answer.
+    Suspend,
     /// Opens a target in this mode over what the devices hold.
     Open(Mode),
     /// Moves this block between the origin and the cache, under an order of the desk. Its start gives the order, and is refused

@@ -31,7 +31,7 @@ use Rattle.wb_tasks.specs.declared.step.Want.TheVariants.{Cell, Device, Desk, En
 use Rattle.wb_devices.specs.declared.devices.Devices.{Devices}
 use Rattle.wb_devices.specs.Moving.{device_in}
 use Rattle.wb_promise.specs.declared.job.Job.{Job}
-use Rattle.wb_promise.specs.declared.job.Job.TheVariants.{Read, Write, Flush, Open, Migrate, Replace}
+use Rattle.wb_promise.specs.declared.job.Job.TheVariants.{Read, Write, Flush, Suspend, Open, Migrate, Replace}
 use Rattle.wb_promise.specs.States.{Phase, Stands, Gone, Opens}
 use Rattle.wb_promise.specs.Happenings.{MayFailAt, MayStop, MayOrder, MayFollow, KeepsMigration, KeepsReplacement, IsOutOfPlace, order_for}
 use Rattle.wb_runs.proofs.Spelling.{Decided, two_of, at_most}
@@ -144,6 +144,7 @@ out_of_place (Opens m r) (Open mode) = elim (is_passthrough mode) [
 out_of_place (Stands t) (Read extent) = inr (λ o. o tt)
 out_of_place (Stands t) (Write extent content) = inr (λ o. o tt)
 out_of_place (Stands t) Flush = inr (λ o. o tt)
+out_of_place (Stands t) Suspend = inr (λ o. o tt)
 out_of_place (Stands t) (Migrate migration block) = inr (λ o. o tt)
 out_of_place (Stands t) (Replace old new) = inr (λ o. o tt)
 out_of_place Gone (Migrate migration block) = inl (λ f. f)
@@ -153,9 +154,11 @@ out_of_place (Opens m r) (Replace old new) = inl (λ f. f)
 out_of_place Gone (Read extent) = inl (λ f. f)
 out_of_place Gone (Write extent content) = inl (λ f. f)
 out_of_place Gone Flush = inl (λ f. f)
+out_of_place Gone Suspend = inl (λ f. f)
 out_of_place (Opens m r) (Read extent) = inl (λ f. f)
 out_of_place (Opens m r) (Write extent content) = inl (λ f. f)
 out_of_place (Opens m r) Flush = inl (λ f. f)
+out_of_place (Opens m r) Suspend = inl (λ f. f)
 
 -- ---- orders
 

@@ -21,7 +21,7 @@ use Rattle.wb_tasks.specs.declared.step.Migration.{Migration}
 use Rattle.wb_tasks.specs.declared.step.Migration.TheVariants.{Promote, Demote, Clean}
 use Rattle.wb_tasks.specs.Tables.{BlockRange, BlockJob, Reading, Writing, Displacing, Invalidating, Migrating, TaskJob, OnBlock, Flushing, Suspending, Opening, cache_extent, place_read, read_step, write_step, read_count, write_count, copies, ending, work}
 use Rattle.wb_tasks.proofs.Working.{work_has}
-use Rattle.wb_tasks.specs.Plan.{Plan, want, after, after_look, after_fault, after_refusal, after_more, node_writes, root_steps, begun_steps, steps_seeing, release_orders, lets_go, gives_up, may_take, exchange, is_worn, gives_back, work_of}
+use Rattle.wb_tasks.specs.Plan.{Plan, want, after, after_look, after_fault, after_refusal, after_more, node_writes, root_steps, begun_steps, steps_seeing, release_orders, lets_go, gives_up, may_take, exchange, is_worn, gives_back, work_of, seal_looks}
 use Rattle.wb_tasks.specs.declared.step.Answer.{Answer}
 use Rattle.wb_tasks.specs.declared.step.DeviceStep.{DeviceStep}
 use Rattle.wb_tasks.specs.declared.step.DeviceStep.TheVariants.{Read as ReadExtent, Write as WriteExtent, Sync, ReadMetadata, WriteNode, WriteRoot}
@@ -228,6 +228,11 @@ module _ (shape : Shape) where
   work_inside (Flushing serves most) seal j s = tt
   work_inside (Suspending blocks most) seal j s = tt
   work_inside (Opening left) seal j s = tt
+
+  -- what a suspend has to look at
+  pub looks_inside : (blocks : List OBlock) (most : ℕ) → AllInside shape (seal_looks blocks ++ Desk (BeginCommit true most) ∷ [])
+  looks_inside [] most = (tt, tt)
+  looks_inside (b ∷ bs) most = (tt, looks_inside bs most)
 
   -- what is left once the seal was looked at
   seeing_inside : (job : TaskJob) (b : OBlock) (seal : ℕ) (ws : List Want) → JobInside shape job → SealInside shape.geometry.cache_blocks seal → AllInside shape ws → AllInside shape (steps_seeing job b seal ws)

@@ -181,7 +181,6 @@ module _ (P : Type 0) (g : Geometry) (images : Images) (desk : DeskState P) (com
         places = ap (λ (p : Rattle.wb_space.specs.Places.PlacesInUse). p.committed) places ∙ q.places;
         generation = generation ∙ q.generation;
         same = q.same;
-        fit = q.fit;
         idle = committing ∙ q.idle;
       })
       by_commit None (inr b) = inr (record { readable = b.readable; busy = committing ∙ b.busy })
@@ -208,7 +207,6 @@ module _ (P : Type 0) (g : Geometry) (images : Images) (desk : DeskState P) (com
         places = ap (λ (p : Rattle.wb_space.specs.Places.PlacesInUse). p.committed) places ∙ q.places;
         generation = generation ∙ q.generation;
         same = q.same;
-        fit = q.fit;
         idle = committing ∙ q.idle;
       })
       by_commit None (inr b) = inr (record { readable = b.readable; busy = committing ∙ b.busy })

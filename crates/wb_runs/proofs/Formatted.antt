@@ -1,7 +1,5 @@
 -- Metadata whose root names no tree, as that of formatted ones does.
-use Rattle.std.proofs.Common.{◌≡◌, ◌<◌, ◌+◌, ◌^◌, ℕ, zero, suc, List, Option, None, refl, sym, subst, arith, length, map, replicate, is_some}
-use Rattle.std.specs.List.{count_by}
-use Rattle.wb_types.specs.declared.entry.Entry.{Entry}
+use Rattle.std.proofs.Common.{◌≡◌, ◌<◌, ◌+◌, ◌^◌, List, None, sym, subst, arith, length, map}
 use Rattle.wb_types.specs.declared.geometry.Geometry.{Geometry}
 use Rattle.wb_disk.specs.Device.{Content as Bytes, History, newest, synced}
 use Rattle.wb_disk.specs.Crashes.{AfterEveryCrash}
@@ -39,14 +37,8 @@ synced_none g device b = record {
 abbrev pub none_images : (g : Geometry) (device : List History) → HasNoTree g device → Images
 none_images g device b = one_image (record { root = b.root; found = nothing_found b.root })
 
-none_counted : (n : ℕ) → count_by is_some (let es : List (Option Entry) = replicate n None in es) ≡ 0
-none_counted zero = refl
-none_counted (suc n) = none_counted n
-
 -- what is known of them where no target stands
 pub none_readable : (g : Geometry) (device : List History) (b : HasNoTree g device) → length device ≡ g.meta_sectors → Readable g (none_images g device b) device
 none_readable g device b size = record {
   read = record { size = size; same_geometry = b.geometry_is; later_geometry = tt; represents = b.represents };
-  fit = λ c. none_counted b.root.geometry.cache_blocks;
-  fit_later = tt;
 }

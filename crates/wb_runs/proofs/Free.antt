@@ -1,5 +1,5 @@
 -- After every run every event has a happening, and whoever has a task may do its next step.
-use Rattle.std.proofs.Common.{Global, ◌≡◌, ◌∙◌, ◌⊎◌, inl, inr, ℕ, List, [], Option, Some, None, refl, sym, subst, arith, length, slice_get}
+use Rattle.std.proofs.Common.{Global, ◌≡◌, ◌∙◌, ◌⊎◌, inl, inr, ℕ, List, [], Option, Some, None, refl, sym, subst, arith, length, slice_get, ◌∷◌, zero, suc, ap, Contains}
 use Rattle.wb_types.specs.declared.mode.Mode.{Mode}
 use Rattle.wb_types.specs.declared.mode.Dev.{Dev}
 use Rattle.wb_types.specs.declared.mode.Dev.TheVariants.{Metadata, Cache, Origin}
@@ -24,13 +24,13 @@ use Rattle.wb_tasks.specs.Tables.{BlockJob, Reading, Writing, Migrating, OnBlock
 use Rattle.wb_tasks.specs.declared.step.Got.TheVariants.{Fault}
 use Rattle.wb_devices.specs.Moving.{device_in}
 use Rattle.wb_promise.specs.declared.job.Job.{Job}
-use Rattle.wb_promise.specs.declared.job.Job.TheVariants.{Read, Write, Flush, Open, Migrate, Replace}
+use Rattle.wb_promise.specs.declared.job.Job.TheVariants.{Read, Write, Flush, Open, Migrate, Replace, Suspend}
 use Rattle.wb_promise.specs.declared.event.Event.{Event}
 use Rattle.wb_promise.specs.declared.event.Event.TheVariants.{Start, Step, FaultStep, Stop}
 use Rattle.wb_promise.specs.declared.event.What.{What}
 use Rattle.wb_promise.specs.declared.event.What.TheVariants.{Skipped, Refused, Started, Stepped, Stopped}
 use Rattle.wb_promise.specs.States.{Shape, State, Actor, Target, Phase, Stands, Gone, Opens, OfTarget, mode_of, block_size, start}
-use Rattle.wb_promise.specs.Happenings.{Chosen, Plain, Cut, Orders, Happening, OfSome, OnTask, MayFailAt, DoesNotApply, Gives, Falters, KeepsMigration, KeepsReplacement, MayOrder, MigrationStarts, StartGives, extent_refusal, block_range, orders_in, order_for}
+use Rattle.wb_promise.specs.Happenings.{Chosen, Plain, Cut, Orders, Happening, OfSome, OnTask, MayFailAt, DoesNotApply, Gives, Falters, KeepsMigration, KeepsReplacement, MayOrder, MigrationStarts, extent_refusal, block_range, orders_in, order_for, StartsAs, Looks, AreMapped, IsIdle}
 use Rattle.wb_promise.specs.Effects.{after_all, IsRun}
 use Rattle.wb_runs.specs.Progress.{GivesSomething}
 use Rattle.wb_runs.specs.Holding.{TaskSuits}
@@ -43,9 +43,14 @@ use Rattle.wb_runs.proofs.InsideRuns.{run_inside}
 use Rattle.wb_runs.proofs.Making.{desk_begins}
 use Rattle.wb_runs.proofs.Applying.{may_stop, may_fail_at, out_of_place, may_order, may_replace, keeps_migration, keeps_replacement}
 use Rattle.wb_runs.proofs.Spelling.{Decided}
-use Rattle.wb_runs.proofs.Points.{FlushJob, FlushTask, OpenJob, OpenTask, Going}
+use Rattle.wb_runs.proofs.Points.{FlushJob, FlushTask, OpenJob, OpenTask, Going, Flushes, Suspends}
 use Rattle.wb_runs.proofs.Giving.{CanGive, CanFalter, read_gives, write_gives, migration_gives, block_falters, flush_gives, flush_falters, open_gives, open_falters}
 use Rattle.wb_runs.proofs.Progressing.{Kept, run_kept, own_step}
+use Rattle.wb_types.specs.declared.entry.Entry.{Entry}
+use Rattle.wb_types.specs.declared.number.OBlock.{OBlock}
+use Rattle.wb_policy.specs.Law.{IsMappedAt, origins}
+use Rattle.wb_runs.proofs.Lists.{first_or}
+use Rattle.wb_types.proofs.Lists.{Contains-first, Contains-behind}
 
 -- ---- who has a task
 
@@ -81,6 +86,62 @@ module _ (P A : Type 0) (w : State P A) (a : ℕ) where
 
   was_at : (k : Tasked w a) (on : Actor → Job → Plan → Type 0) → OnTask w a on → on k.actor k.job k.plan
   was_at k on h = subst (λ (t : Option (Job × Plan)). OfSome t (λ doing. on k.actor doing.0 doing.1)) k.task (subst (λ (o : Option Actor). IsAt o on) k.there h)
+
+-- ---- who is at what, and what is mapped
+
+abbrev SomeTask : (Job → Plan → Type 0) → List Actor → Type 0
+SomeTask Holds actors = (a : ℕ) × OfSome (slice_get actors a) (λ x. OfSome x.task (λ doing. Holds doing.0 doing.1))
+
+-- one more actor before these
+first_or_later : (Holds : Job → Plan → Type 0) → ((job : Job) (plan : Plan) → Decided (Holds job plan)) → (x : Actor) (xs : List Actor) → Decided (SomeTask Holds xs) → Decided (SomeTask Holds (x ∷ xs))
+first_or_later Holds holds x xs later = by_task x.task refl
+  where
+    behind : (¬ OfSome x.task (λ doing. Holds doing.0 doing.1)) → Decided (SomeTask Holds (x ∷ xs))
+    behind none = elim later [
+      | inl s ↦ inl (suc s.0, s.1)
+      | inr n ↦ inr (λ s. by_index n s.0 s.1)
+    ]
+      where
+        by_index : (¬ SomeTask Holds xs) → (a : ℕ) → OfSome (slice_get (x ∷ xs) a) (λ y. OfSome y.task (λ doing. Holds doing.0 doing.1)) → ⊥
+        by_index n zero h = none h
+        by_index n (suc a) h = n (a, h)
+
+    by_task : (t : Option (Job × Plan)) → x.task ≡ t → Decided (SomeTask Holds (x ∷ xs))
+    by_task None e = behind (λ h. subst (λ (t : Option (Job × Plan)). OfSome t (λ doing. Holds doing.0 doing.1)) e h)
+    by_task (Some doing) e = elim (holds doing.0 doing.1) [
+      | inl h ↦ inl (0, subst (λ (t : Option (Job × Plan)). OfSome t (λ doing. Holds doing.0 doing.1)) (sym e) h)
+      | inr n ↦ behind (λ h. n (subst (λ (t : Option (Job × Plan)). OfSome t (λ doing. Holds doing.0 doing.1)) e h))
+    ]
+
+some_task : (Holds : Job → Plan → Type 0) → ((job : Job) (plan : Plan) → Decided (Holds job plan)) → (actors : List Actor) → Decided (SomeTask Holds actors)
+some_task Holds holds [] = inr (λ s. s.1)
+some_task Holds holds (x ∷ xs) = first_or_later Holds holds x xs (some_task Holds holds xs)
+
+is_suspend : (job : Job) → Decided (job ≡ Suspend)
+is_suspend Suspend = inl refl
+is_suspend (Read extent) = inr (λ e. absurd (cc))
+is_suspend (Write extent content) = inr (λ e. absurd (cc))
+is_suspend Flush = inr (λ e. absurd (cc))
+is_suspend (Open mode) = inr (λ e. absurd (cc))
+is_suspend (Migrate migration block) = inr (λ e. absurd (cc))
+is_suspend (Replace old new) = inr (λ e. absurd (cc))
+
+abbrev mapped_in : List (Option Entry) → List OBlock
+mapped_in [] = []
+mapped_in (None ∷ es) = mapped_in es
+mapped_in (Some e ∷ es) = e.origin ∷ mapped_in es
+
+mapped_each : (es : List (Option Entry)) (b : OBlock) → Contains (mapped_in es) b → (c : ℕ) × IsMappedAt (origins es) b.0 c
+mapped_each [] b h = absurd (omega (arith, h.1))
+mapped_each (None ∷ es) b h = let r = mapped_each es b h in (suc r.0, r.1)
+mapped_each (Some e ∷ es) b h = first_or e.origin b (mapped_in es) ((c : ℕ) × IsMappedAt (origins (Some e ∷ es)) b.0 c) h (λ s. (0, ap (λ (x : OBlock). Some (Some x.0)) (sym s))) (λ l. let r = mapped_each es b l in (suc r.0, r.1))
+
+mapped_all : (es : List (Option Entry)) (b : OBlock) (c : ℕ) → IsMappedAt (origins es) b.0 c → Contains (mapped_in es) b
+mapped_all [] b c m = absurd (cc)
+mapped_all (None ∷ es) b zero m = absurd (cc)
+mapped_all (None ∷ es) b (suc c) m = mapped_all es b c m
+mapped_all (Some e ∷ es) b zero m = let s : e.origin.0 ≡ b.0 = cc in subst (λ (x : OBlock). Contains (e.origin ∷ mapped_in es) x) (ap (λ (n : ℕ). record { 0 = n }) s) (Contains-first e.origin (mapped_in es))
+mapped_all (Some e ∷ es) b (suc c) m = Contains-behind e.origin (mapped_in es) b (mapped_all es b c m)
 
 module _ (P A : Type 0) (shape : Shape) (policy : P) (first : ReadSteps A) (begins : sectors_read first ≡ 0) where
   -- ---- what is left of a task can go on
@@ -127,7 +188,9 @@ module _ (P A : Type 0) (shape : Shape) (policy : P) (first : ReadSteps A) (begi
         stands t known leader (Write extent content) s f c = write_gives P A shape w.devices w.commit w.actors k.actor t known.is.kept sizes extent content (block_range shape (mode_of w.phase) extent c.cut) (want k.plan) (own (Writing (block_range shape (mode_of w.phase) extent c.cut)) c.is_job) inside
         stands t known leader (Migrate migration block) s f c = migration_gives P A shape w.devices w.commit w.actors k.actor t known.is.kept sizes known.is.sound migration block f.0 (want k.plan) (own (Migrating migration f.0) f.1) inside
         stands t known leader Flush s f c = subst (λ (p : Plan). CanGive {P = P} {A = A} shape (At (Stands t)) k.actor Flush (want p)) (sym f.is)
-            (flush_gives P A shape w.devices w.commit w.actors k.actor t kept.base.known.images known f.serves f.most f.answer f.point f.at)
+            (flush_gives P A shape w.devices w.commit w.actors k.actor t kept.base.known.images known f.answer (Flushes f.blocks f.most) f.point f.of f.at)
+        stands t known leader Suspend s f c = subst (λ (p : Plan). CanGive {P = P} {A = A} shape (At (Stands t)) k.actor Suspend (want p)) (sym f.is)
+            (flush_gives P A shape w.devices w.commit w.actors k.actor t kept.base.known.images known f.answer (Suspends f.blocks f.most) f.point f.of f.at)
         stands t known leader (Open mode) s f c = absurd s
         stands t known leader (Replace old new) s f c = absurd f
 
@@ -137,6 +200,7 @@ module _ (P A : Type 0) (shape : Shape) (policy : P) (first : ReadSteps A) (begi
         opens mode reading known (Read extent) o f = absurd o
         opens mode reading known (Write extent content) o f = absurd o
         opens mode reading known Flush o f = absurd o
+        opens mode reading known Suspend o f = absurd o
         opens mode reading known (Migrate migration block) o f = absurd o
         opens mode reading known (Replace old new) o f = absurd o
 
@@ -148,7 +212,9 @@ module _ (P A : Type 0) (shape : Shape) (policy : P) (first : ReadSteps A) (begi
         stands t known leader (Write extent content) s f c = block_falters P A shape w.devices w.commit w.actors k.actor t (Writing (block_range shape (mode_of w.phase) extent c.cut)) choice (want k.plan) (own (Writing (block_range shape (mode_of w.phase) extent c.cut)) c.is_job) m
         stands t known leader (Migrate migration block) s f c = block_falters P A shape w.devices w.commit w.actors k.actor t (Migrating migration f.0) choice (want k.plan) (own (Migrating migration f.0) f.1) m
         stands t known leader Flush s f c = subst (λ (p : Plan). CanFalter {P = P} {A = A} (At (Stands t)) choice (want p)) (sym f.is)
-            (flush_falters P A shape w.devices w.commit w.actors k.actor t kept.base.known.images known f.serves f.most f.answer choice f.point f.at (subst (λ (p : Plan). MayFailAt w.devices choice (want p)) f.is m))
+            (flush_falters P A shape w.devices w.commit w.actors k.actor t kept.base.known.images known f.answer (Flushes f.blocks f.most) choice f.point f.at (subst (λ (p : Plan). MayFailAt w.devices choice (want p)) f.is m))
+        stands t known leader Suspend s f c = subst (λ (p : Plan). CanFalter {P = P} {A = A} (At (Stands t)) choice (want p)) (sym f.is)
+            (flush_falters P A shape w.devices w.commit w.actors k.actor t kept.base.known.images known f.answer (Suspends f.blocks f.most) choice f.point f.at (subst (λ (p : Plan). MayFailAt w.devices choice (want p)) f.is m))
         stands t known leader (Open mode) s f c = absurd s
         stands t known leader (Replace old new) s f c = absurd f
 
@@ -158,6 +224,7 @@ module _ (P A : Type 0) (shape : Shape) (policy : P) (first : ReadSteps A) (begi
         opens mode reading known (Read extent) o f = absurd o
         opens mode reading known (Write extent content) o f = absurd o
         opens mode reading known Flush o f = absurd o
+        opens mode reading known Suspend o f = absurd o
         opens mode reading known (Migrate migration block) o f = absurd o
         opens mode reading known (Replace old new) o f = absurd o
 
@@ -184,7 +251,7 @@ module _ (P A : Type 0) (shape : Shape) (policy : P) (first : ReadSteps A) (begi
 
   -- A job on a whole block starts or is refused, where it is decided whether its actor keeps an order for it, and whether one may be given.
   block_starts : (w : State P A) (a : ℕ) (job : Job) → (¬ DoesNotApply w (Start a job)) → (¬ ¬ OfTarget w.phase (λ t. Unit {0})) → (whole : Extent) (Keeps : DeskState P → Type 0) → ((desk : DeskState P) → Decided (Keeps desk)) →
-      (order : CBlock → Order) → ((desk : DeskState P) → Decided (MayOrder desk order)) → ((what : What) (chosen : Chosen P A) → MigrationStarts whole w.phase Keeps order what chosen → StartGives shape w.phase (slice_get w.actors a) job what chosen) →
+      (order : CBlock → Order) → ((desk : DeskState P) → Decided (MayOrder desk order)) → ((what : What) (chosen : Chosen P A) → MigrationStarts whole w.phase Keeps order what chosen → StartsAs shape w a job what chosen) →
       HasHappening shape w (Start a job)
   block_starts w a job applies place whole Keeps keeps order may gives = by_phase w.phase refl
     where
@@ -220,12 +287,21 @@ module _ (P A : Type 0) (shape : Shape) (policy : P) (first : ReadSteps A) (begi
       by_refusal (Some r) e = record { what = Refused r; read = []; chosen = Plain; may = (refl, applies, e) }
       by_refusal None e = record { what = Started; read = []; chosen = Cut (pieces 1 extent); may = (refl, applies, (e, pieces_cut 1 extent (omega arith))) }
   starts w a Flush applies = record { what = Started; read = []; chosen = Plain; may = (refl, applies, tt) }
+  starts w a Suspend applies = elim (some_task (λ job plan. Unit {0}) (λ job plan. inl tt) w.actors) [
+    | inl s ↦ record { what = Refused Busy; read = []; chosen = Plain; may = (refl, applies, λ idle. idle s.0 s.1) }
+    | inr none ↦ by_phase (λ b h. none (b, h)) w.phase refl
+  ]
+    where
+      by_phase : IsIdle w → (phase : Phase P A) → w.phase ≡ phase → HasHappening shape w (Start a Suspend)
+      by_phase idle (Stands t) e = record { what = Started; read = []; chosen = Looks (mapped_in t.desk.tree.entries); may = (refl, applies, (idle, subst (λ (p : Phase P A). OfTarget p (λ u. AreMapped u.desk (mapped_in t.desk.tree.entries))) (sym e) (record { each = mapped_each t.desk.tree.entries; all = mapped_all t.desk.tree.entries }))) }
+      by_phase idle Gone e = absurd (applies (inr (inr (inr (λ o. subst (λ (p : Phase P A). OfTarget p (λ t. Unit {0})) e o)))))
+      by_phase idle (Opens mode reading) e = absurd (applies (inr (inr (inr (λ o. subst (λ (p : Phase P A). OfTarget p (λ t. Unit {0})) e o)))))
   starts w a (Open mode) applies = record { what = Started; read = []; chosen = Plain; may = (refl, applies, tt) }
   starts w a (Migrate migration block) applies = let kept = orders_in (slice_get w.actors a) in
-      block_starts w a (Migrate migration block) applies (λ p. applies (inr (inr p))) (whole_block (block_size shape) block) (λ desk. KeepsMigration desk kept migration block) (λ desk. keeps_migration desk kept migration block)
+      block_starts w a (Migrate migration block) applies (λ p. applies (inr (inr (inr p)))) (whole_block (block_size shape) block) (λ desk. KeepsMigration desk kept migration block) (λ desk. keeps_migration desk kept migration block)
       (λ cache. order_for migration block) (λ desk. may_order desk migration block) (λ what chosen s. s)
   starts w a (Replace old new) applies = let kept = orders_in (slice_get w.actors a) in
-      block_starts w a (Replace old new) applies (λ p. applies (inr (inr p))) (whole_block (block_size shape) old) (λ desk. KeepsReplacement desk kept old new) (λ desk. keeps_replacement desk kept old new)
+      block_starts w a (Replace old new) applies (λ p. applies (inr (inr (inr p)))) (whole_block (block_size shape) old) (λ desk. KeepsReplacement desk kept old new) (λ desk. keeps_replacement desk kept old new)
       (λ cache. ReplaceOrder old new cache) (λ desk. may_replace desk old new) (λ what chosen s. s)
 
   start_happens : (w : State P A) (a : ℕ) (job : Job) → HasHappening shape w (Start a job)
@@ -235,12 +311,15 @@ module _ (P A : Type 0) (shape : Shape) (policy : P) (first : ReadSteps A) (begi
       by_actor None e = skipped w (Start a job) (inl e)
       by_actor (Some x) e = elim (tasked P A w a) [
         | inl k ↦ skipped w (Start a job) (inr (inl (is_at P A w a k (λ x job s. Unit {0}) tt)))
-        | inr none ↦ elim (out_of_place w.phase job) [
-          | inl out ↦ skipped w (Start a job) (inr (inr out))
-          | inr place ↦ starts w a job (λ d. elim d [
-            | inl gone ↦ absurd (let bad : Some x ≡ None = sym e ∙ gone in cc)
-            | inr more ↦ elim more [ inl task ↦ none (λ x job s. Unit {0}) task | inr out ↦ place out ]
-          ])
+        | inr none ↦ elim (some_task (λ job plan. job ≡ Suspend) (λ job plan. is_suspend job) w.actors) [
+          | inl s ↦ skipped w (Start a job) (inr (inr (inl s)))
+          | inr calm ↦ elim (out_of_place w.phase job) [
+            | inl out ↦ skipped w (Start a job) (inr (inr (inr out)))
+            | inr place ↦ starts w a job (λ d. elim d [
+              | inl gone ↦ absurd (let bad : Some x ≡ None = sym e ∙ gone in cc)
+              | inr more ↦ elim more [ inl task ↦ none (λ x job s. Unit {0}) task | inr rest ↦ elim rest [ inl suspends ↦ calm suspends | inr out ↦ place out ] ]
+            ])
+          ]
         ]
       ]
 

@@ -8,7 +8,7 @@ use Rattle.wb_types.specs.declared.extent.Extent.{Extent}
 use Rattle.wb_types.specs.declared.geometry.Geometry.{Geometry}
 use Rattle.wb_types.specs.declared.mode.Mode.{Mode}
 use Rattle.wb_types.specs.declared.mode.Dev.{Dev}
-use Rattle.wb_types.specs.declared.mode.Dev.TheVariants.{Metadata}
+use Rattle.wb_types.specs.declared.mode.Dev.TheVariants.{Metadata, Cache, Origin}
 use Rattle.wb_types.specs.declared.number.OBlock.{OBlock}
 use Rattle.wb_types.specs.declared.number.Place.{Place}
 use Rattle.wb_types.specs.declared.refusal.Refusal.TheVariants.{Busy, Memory, GenerationEnd}
@@ -33,7 +33,7 @@ use Rattle.wb_desk.proofs.Kept.{found_at, takes_there}
 use Rattle.wb_stage.specs.Asking.{IsGivenUp, DidRelease, order_of}
 use Rattle.wb_words.specs.Effects.{result_of}
 use Rattle.wb_tasks.specs.Ready.{HoldsBlocks, IsOwnStep, source_of, target_of}
-use Rattle.wb_tasks.specs.Tables.{BlockRange, BlockJob, Reading, Writing, Displacing, Invalidating, Migrating, OnBlock, Flushing, Opening}
+use Rattle.wb_tasks.specs.Tables.{BlockRange, BlockJob, Reading, Writing, Displacing, Invalidating, Migrating, OnBlock, Opening}
 use Rattle.wb_tasks.specs.Plan.{Plan, want, got_of}
 use Rattle.wb_tasks.specs.declared.step.Answer.{Answer}
 use Rattle.wb_tasks.specs.declared.step.DeskStep.TheVariants.{Map, Unmap, ReleaseOrder, BeginCommit, EndCommit}
@@ -50,7 +50,7 @@ use Rattle.wb_devices.specs.declared.running.RunningCommit.{RunningCommit}
 use Rattle.wb_devices.specs.Committing.{goes_on, is_coming}
 use Rattle.wb_devices.specs.Moving.{device_in}
 use Rattle.wb_promise.specs.declared.job.Job.{Job}
-use Rattle.wb_promise.specs.declared.job.Job.TheVariants.{Read, Write, Flush, Open, Migrate}
+use Rattle.wb_promise.specs.declared.job.Job.TheVariants.{Read, Write, Open, Migrate}
 use Rattle.wb_promise.specs.States.{Shape, State, Actor, Target, Stands, Opens, OfReading}
 use Rattle.wb_promise.specs.Happenings.{Chosen, Plain, Begins, Puts, Asks, Opened, OfSome, LandedOr, sector_put, DoesBegin, DoesPut, FailsPut, Gives, Falters}
 use Rattle.wb_runs.specs.Inside.{StepInside, size_on}
@@ -63,7 +63,7 @@ use Rattle.wb_runs.proofs.Desks.{is_live, can_unmap}
 use Rattle.wb_runs.proofs.Plans.{plan_of}
 use Rattle.wb_runs.proofs.Readings.{generation_fits, can_read}
 use Rattle.wb_tasks.specs.Points.{OpenPoint, AtFirst, AtCache, AtOrigin, AtRead, AtRoot, AtRootSync, AtEnd, AtRefusal, open_left, open_answer}
-use Rattle.wb_runs.proofs.Points.{Runs, FlushPoint, ToLook, ToBegin, ToSyncCache, ToSyncOrigin, ToWriteNodes, ToWriteRoot, ToSyncRoot, ToEnd, ToSetFailed, ToRelease, flush_left, AtFlush, AtOpen}
+use Rattle.wb_runs.proofs.Points.{Runs, FlushPoint, ToLook, ToBegin, ToSyncCache, ToSyncOrigin, ToWriteNodes, ToWriteRoot, ToSyncRoot, ToEnd, ToSetFailed, ToRelease, AtFlush, AtOpen, CommitJob, Flushes, Suspends, task_of, doing_of, begin_of, commit_left, IsOf, ToSetSuspended}
 
 -- ---- reads
 
@@ -176,8 +176,8 @@ module _ (P A : Type 0) where
   opening_fits g images (Some reading) (Some d) device k = same_size g images d k.of device k.under
 
   -- the desk begins a commit or refuses it
-  begins_or : (g : Geometry) (images : Images) (desk : DeskState P) (commit : Option RunningCommit) (device : List History) (most : ℕ) → AtDesk g images desk commit device → (got : Got) × ((chosen : Chosen P A) × DoesBegin most desk got chosen)
-  begins_or g images desk commit device most k = elim (cases_Bool desk.space.committing) [
+  begins_or : (seen : Option (List Bool)) (g : Geometry) (images : Images) (desk : DeskState P) (commit : Option RunningCommit) (device : List History) (most : ℕ) → AtDesk g images desk commit device → (got : Got) × ((chosen : Chosen P A) × DoesBegin seen most desk got chosen)
+  begins_or seen g images desk commit device most k = elim (cases_Bool desk.space.committing) [
     | inl busy ↦ (GotRefused Busy, (Plain, busy))
     | inr idle ↦ elim (cases_lt (desk.generation + 1) (2 ^ 64)) [
       | inl more ↦ (GotRefused Memory, (Plain, record { idle = idle; next = more }))
@@ -312,52 +312,87 @@ module _ (P A : Type 0) (shape : Shape) (devices : Devices (List History)) (comm
     block_falters job choice (Desk step) i m = absurd m
     block_falters job choice (End answer) i m = absurd m
 
-    module _ (images : Images) (known : AtDesk shape.geometry images t.desk commit devices.metadata) (serves : List OBlock) (most : ℕ) (answer : Answer) where
-      abbrev F : FlushPoint → Plan
-      F point = plan_of (Flushing serves most) (flush_left serves most point) answer
+    module _ (images : Images) (known : AtDesk shape.geometry images t.desk commit devices.metadata) (answer : Answer) where
+      abbrev F : CommitJob → FlushPoint → Plan
+      F job point = plan_of (task_of job) (commit_left job point) answer
 
       fits : AllFit commit devices.metadata
       fits = desk_fits P A shape.geometry images t.desk commit devices.metadata known
 
-      sync_gives : (nodes : ℕ) (steps : CommitSteps) → Runs nodes steps commit → ((image : Image) → length image.nodes.items ≡ nodes → is_coming image steps (Sync Metadata) ≡ true) → CanGive shape w x Flush (Device (Sync Metadata))
-      sync_gives nodes steps r coming = let s = syncs_next P A nodes commit devices.metadata steps r fits coming in
-          record { got = Done; read = []; chosen = Plain; gives = (refl, refl, subst (λ (c : Option RunningCommit). Rattle.wb_promise.specs.Happenings.DoesSync {P = P} {A = A} (Stands t) c devices.metadata Plain) (sym s.1) (s.2, refl)) }
+      -- what a commit asks of a device, it can be given
+      sync_can : (job : CommitJob) → Rattle.wb_promise.specs.Happenings.DoesSync {P = P} {A = A} (Stands t) commit devices.metadata Plain → CanGive shape w x (doing_of job) (Device (Sync Metadata))
+      sync_can (Flushes serves most) d = record { got = Done; read = []; chosen = Plain; gives = (refl, refl, d) }
+      sync_can (Suspends looks most) d = record { got = Done; read = []; chosen = Plain; gives = (refl, refl, d) }
+
+      data_can : (job : CommitJob) → CanGive shape w x (doing_of job) (Device (Sync Cache)) × CanGive shape w x (doing_of job) (Device (Sync Origin))
+      data_can (Flushes serves most) = (record { got = Done; read = []; chosen = Plain; gives = ((refl, refl), refl) }, record { got = Done; read = []; chosen = Plain; gives = ((refl, refl), refl) })
+      data_can (Suspends looks most) = (record { got = Done; read = []; chosen = Plain; gives = ((refl, refl), refl) }, record { got = Done; read = []; chosen = Plain; gives = ((refl, refl), refl) })
+
+      node_can : (job : CommitJob) (number : ℕ) (chosen : Chosen P A) → Rattle.wb_promise.specs.Happenings.DoesPut commit (WriteNode number) devices.metadata chosen → CanGive shape w x (doing_of job) (Device (WriteNode number))
+      node_can (Flushes serves most) number chosen d = record { got = Done; read = []; chosen = chosen; gives = (refl, refl, d) }
+      node_can (Suspends looks most) number chosen d = record { got = Done; read = []; chosen = chosen; gives = (refl, refl, d) }
+
+      root_can : (job : CommitJob) (chosen : Chosen P A) → Rattle.wb_promise.specs.Happenings.DoesPut commit WriteRoot devices.metadata chosen → CanGive shape w x (doing_of job) (Device WriteRoot)
+      root_can (Flushes serves most) chosen d = record { got = Done; read = []; chosen = chosen; gives = (refl, refl, d) }
+      root_can (Suspends looks most) chosen d = record { got = Done; read = []; chosen = chosen; gives = (refl, refl, d) }
+
+      begin_can : (job : CommitJob) → CanGive shape w x (doing_of job) (begin_of job)
+      begin_can (Flushes serves most) = let b = begins_or P A None shape.geometry images t.desk commit devices.metadata most known in record { got = b.0; read = []; chosen = b.1.0; gives = (refl, refl, b.1.1) }
+      begin_can (Suspends looks most) = let b = begins_or P A (Some x.seen) shape.geometry images t.desk commit devices.metadata most known in record { got = b.0; read = []; chosen = b.1.0; gives = (refl, refl, b.1.1) }
+
+      end_can : (job : CommitJob) → Rattle.wb_stage.specs.Stages.is_all_done commit ≡ true → CanGive shape w x (doing_of job) (Desk EndCommit)
+      end_can (Flushes serves most) d = record { got = Done; read = []; chosen = Plain; gives = ((refl, refl), refl, d) }
+      end_can (Suspends looks most) d = record { got = Done; read = []; chosen = Plain; gives = ((refl, refl), refl, d) }
+
+      answer_can : (job : CommitJob) → CanGive shape w x (doing_of job) (End answer)
+      answer_can (Flushes serves most) = record { got = Done; read = []; chosen = Plain; gives = ((refl, refl), refl) }
+      answer_can (Suspends looks most) = record { got = Done; read = []; chosen = Plain; gives = ((refl, refl), refl) }
+
+      sync_gives : (job : CommitJob) (nodes : ℕ) (steps : CommitSteps) → Runs nodes steps commit → ((image : Image) → length image.nodes.items ≡ nodes → is_coming image steps (Sync Metadata) ≡ true) → CanGive shape w x (doing_of job) (Device (Sync Metadata))
+      sync_gives job nodes steps r coming = let s = syncs_next P A nodes commit devices.metadata steps r fits coming in
+          sync_can job (subst (λ (c : Option RunningCommit). Rattle.wb_promise.specs.Happenings.DoesSync {P = P} {A = A} (Stands t) c devices.metadata Plain) (sym s.1) (s.2, refl))
 
       sync_falters : (choice : Choice) (nodes : ℕ) (steps : CommitSteps) → Runs nodes steps commit → ((image : Image) → length image.nodes.items ≡ nodes → is_coming image steps (Sync Metadata) ≡ true) → CanFalter w choice (Device (Sync Metadata))
       sync_falters choice nodes steps r coming = let s = syncs_next P A nodes commit devices.metadata steps r fits coming in
           record { chosen = Plain; falters = (refl, subst (λ (c : Option RunningCommit). Rattle.wb_promise.specs.Happenings.FailsSync {P = P} {A = A} (Stands t) c devices.metadata) (sym s.1) (s.2, tt)) }
 
-      pub flush_gives : (point : FlushPoint) → AtFlush point commit → CanGive shape w x Flush (want (F point))
-      flush_gives ToLook at = cell_gives Flush _
-      flush_gives ToBegin at = let b = begins_or P A shape.geometry images t.desk commit devices.metadata most known in record { got = b.0; read = []; chosen = b.1.0; gives = (refl, refl, b.1.1) }
-      flush_gives (ToSyncCache nodes) at = record { got = Done; read = []; chosen = Plain; gives = ((refl, refl), refl) }
-      flush_gives (ToSyncOrigin nodes) at = record { got = Done; read = []; chosen = Plain; gives = ((refl, refl), refl) }
-      flush_gives (ToWriteNodes zero from) at = sync_gives (from + 0) (NodesWritten from) at (λ i e. none_coming from i (let all : from + 0 ≡ from = omega arith in e ∙ all))
-      flush_gives (ToWriteNodes (suc left) from) at = let p = puts_node P A left from commit devices.metadata at fits in record { got = Done; read = []; chosen = p.0; gives = (refl, refl, p.1) }
-      flush_gives (ToWriteRoot nodes) at = let p = puts_root P A nodes commit devices.metadata at fits in record { got = Done; read = []; chosen = p.0; gives = (refl, refl, p.1) }
-      flush_gives (ToSyncRoot nodes) at = sync_gives nodes RootWritten at (λ i e. refl)
-      flush_gives (ToEnd nodes) at = record { got = Done; read = []; chosen = Plain; gives = ((refl, refl), refl, done commit at) }
+      pub flush_gives : (job : CommitJob) (point : FlushPoint) → IsOf point job → AtFlush point commit → CanGive shape w x (doing_of job) (want (F job point))
+      flush_gives job ToLook of at = cell_gives (doing_of job) _
+      flush_gives job (ToBegin []) of at = begin_can job
+      flush_gives job (ToBegin (block ∷ rest)) of at = cell_gives (doing_of job) _
+      flush_gives job (ToSyncCache nodes) of at = (data_can job).0
+      flush_gives job (ToSyncOrigin nodes) of at = (data_can job).1
+      flush_gives job (ToWriteNodes zero from) of at = sync_gives job (from + 0) (NodesWritten from) at (λ i e. none_coming from i (let all : from + 0 ≡ from = omega arith in e ∙ all))
+      flush_gives job (ToWriteNodes (suc left) from) of at = let p = puts_node P A left from commit devices.metadata at fits in node_can job from p.0 p.1
+      flush_gives job (ToWriteRoot nodes) of at = let p = puts_root P A nodes commit devices.metadata at fits in root_can job p.0 p.1
+      flush_gives job (ToSyncRoot nodes) of at = sync_gives job nodes RootWritten at (λ i e. refl)
+      flush_gives job (ToEnd nodes) of at = end_can job (done commit at)
         where
           done : (commit : Option RunningCommit) → Runs nodes Committed commit → Rattle.wb_stage.specs.Stages.is_all_done commit ≡ true
           done None r = absurd r
           done (Some c) r = ap (λ (s : CommitSteps). Rattle.wb_devices.specs.Committing.is_committed s) r.2
-      flush_gives ToSetFailed at = cell_gives Flush _
-      flush_gives (ToRelease []) at = record { got = Done; read = []; chosen = Plain; gives = ((refl, refl), refl) }
-      flush_gives (ToRelease (block ∷ blocks)) at = let r = releases t.desk x.awaiting block known.is.kept in record { got = Done; read = []; chosen = Asks r.0; gives = (refl, refl, r.1) }
+      flush_gives job ToSetSuspended of at = cell_gives (doing_of job) _
+      flush_gives job ToSetFailed of at = cell_gives (doing_of job) _
+      flush_gives job (ToRelease []) of at = answer_can job
+      flush_gives (Flushes serves most) (ToRelease (block ∷ blocks)) of at = let r = releases t.desk x.awaiting block known.is.kept in record { got = Done; read = []; chosen = Asks r.0; gives = (refl, refl, r.1) }
+      flush_gives (Suspends looks most) (ToRelease (block ∷ blocks)) of at = absurd of
 
-      pub flush_falters : (choice : Choice) (point : FlushPoint) → AtFlush point commit → Rattle.wb_promise.specs.Happenings.MayFailAt devices choice (want (F point)) → CanFalter w choice (want (F point))
-      flush_falters choice ToLook at m = absurd m
-      flush_falters choice ToBegin at m = absurd m
-      flush_falters choice (ToSyncCache nodes) at m = record { chosen = Plain; falters = refl }
-      flush_falters choice (ToSyncOrigin nodes) at m = record { chosen = Plain; falters = refl }
-      flush_falters choice (ToWriteNodes zero from) at m = sync_falters choice (from + 0) (NodesWritten from) at (λ i e. none_coming from i (let all : from + 0 ≡ from = omega arith in e ∙ all))
-      flush_falters choice (ToWriteNodes (suc left) from) at m = let p = fails_node P A left from commit choice devices.metadata at fits in record { chosen = p.0; falters = p.1 }
-      flush_falters choice (ToWriteRoot nodes) at m = let p = fails_root P A nodes commit choice devices.metadata at fits in record { chosen = p.0; falters = p.1 }
-      flush_falters choice (ToSyncRoot nodes) at m = sync_falters choice nodes RootWritten at (λ i e. refl)
-      flush_falters choice (ToEnd nodes) at m = absurd m
-      flush_falters choice ToSetFailed at m = absurd m
-      flush_falters choice (ToRelease []) at m = absurd m
-      flush_falters choice (ToRelease (block ∷ blocks)) at m = absurd m
+      pub flush_falters : (job : CommitJob) (choice : Choice) (point : FlushPoint) → AtFlush point commit → Rattle.wb_promise.specs.Happenings.MayFailAt devices choice (want (F job point)) → CanFalter w choice (want (F job point))
+      flush_falters job choice ToLook at m = absurd m
+      flush_falters (Flushes serves most) choice (ToBegin []) at m = absurd m
+      flush_falters (Suspends looks most) choice (ToBegin []) at m = absurd m
+      flush_falters job choice (ToBegin (block ∷ rest)) at m = absurd m
+      flush_falters job choice (ToSyncCache nodes) at m = record { chosen = Plain; falters = refl }
+      flush_falters job choice (ToSyncOrigin nodes) at m = record { chosen = Plain; falters = refl }
+      flush_falters job choice (ToWriteNodes zero from) at m = sync_falters choice (from + 0) (NodesWritten from) at (λ i e. none_coming from i (let all : from + 0 ≡ from = omega arith in e ∙ all))
+      flush_falters job choice (ToWriteNodes (suc left) from) at m = let p = fails_node P A left from commit choice devices.metadata at fits in record { chosen = p.0; falters = p.1 }
+      flush_falters job choice (ToWriteRoot nodes) at m = let p = fails_root P A nodes commit choice devices.metadata at fits in record { chosen = p.0; falters = p.1 }
+      flush_falters job choice (ToSyncRoot nodes) at m = sync_falters choice nodes RootWritten at (λ i e. refl)
+      flush_falters job choice (ToEnd nodes) at m = absurd m
+      flush_falters job choice ToSetSuspended at m = absurd m
+      flush_falters job choice ToSetFailed at m = absurd m
+      flush_falters job choice (ToRelease []) at m = absurd m
+      flush_falters job choice (ToRelease (block ∷ blocks)) at m = absurd m
 
   -- ---- an opening
 

@@ -16,28 +16,35 @@ use Rattle.wb_meta.specs.Reads.{sectors_read}
 use Rattle.wb_meta.specs.declared.read_steps.ReadSteps.{ReadSteps}
 use Rattle.wb_meta.specs.declared.commit_steps.CommitSteps.{CommitSteps}
 use Rattle.wb_meta.specs.declared.commit_steps.CommitSteps.TheVariants.{NodesWritten, NodesSynced, RootWritten, Done as Committed}
-use Rattle.wb_tasks.specs.Tables.{Flushing, Opening}
-use Rattle.wb_tasks.specs.Plan.{Plan, want, after, release_orders}
+use Rattle.wb_tasks.specs.Tables.{Opening}
+use Rattle.wb_tasks.specs.Plan.{Plan, want, after, release_orders, begun_steps, root_steps, node_writes, after_fault_of}
 use Rattle.wb_tasks.specs.declared.step.Answer.{Answer}
 use Rattle.wb_tasks.specs.declared.step.Answer.TheVariants.{Refused as Refuses}
 use Rattle.wb_tasks.specs.declared.step.Want.{Want}
-use Rattle.wb_tasks.specs.declared.step.Want.TheVariants.{Desk}
-use Rattle.wb_tasks.specs.declared.step.DeskStep.TheVariants.{BeginCommit}
+use Rattle.wb_tasks.specs.declared.step.Want.TheVariants.{Cell, Device}
 use Rattle.wb_tasks.specs.declared.step.Got.{Got}
 use Rattle.wb_tasks.specs.declared.step.Got.TheVariants.{Done, Word, Fault, Refused as GotRefused, Began, More}
 use Rattle.wb_devices.specs.declared.running.RunningCommit.{RunningCommit}
 use Rattle.wb_devices.specs.Opened.{HasCome, got_of_refusal}
 use Rattle.wb_promise.specs.declared.job.Job.{Job}
-use Rattle.wb_promise.specs.declared.job.Job.TheVariants.{Flush, Open}
+use Rattle.wb_promise.specs.declared.job.Job.TheVariants.{Open}
 use Rattle.wb_promise.specs.States.{Shape, State, Actor, Target, Stands, Opens}
 use Rattle.wb_promise.specs.Happenings.{Chosen, Plain, Begins, Reaches, Commits, OfSome, HasGeneration, DoesSync, DoesRead, DoesBegin, Gives, Falters}
 use Rattle.wb_promise.specs.Effects.{commit_then, reading_then, task_then}
 use Rattle.wb_runs.proofs.Plans.{plan_of}
-use Rattle.wb_runs.proofs.Metadata.{AtDesk}
+use Rattle.wb_runs.proofs.Metadata.{AtDesk, begin_may}
 use Rattle.wb_runs.proofs.Images.{Images}
 use Rattle.wb_runs.proofs.Making.{image_small, small_opening}
 use Rattle.wb_tasks.specs.Points.{OpenPoint, AtFirst, AtCache, AtOrigin, AtRead, AtRoot, AtRootSync, AtEnd, AtRefusal, open_left, open_answer}
-use Rattle.wb_runs.proofs.Points.{Runs, FlushPoint, ToLook, ToBegin, ToSyncCache, ToSyncOrigin, ToWriteNodes, ToWriteRoot, ToSyncRoot, ToEnd, ToSetFailed, ToRelease, flush_left, AtFlush, IsLeading, FlushAt, FlushTask, AtOpen, OpenAt}
+use Rattle.wb_runs.proofs.Points.{Runs, CommitJob, Flushes, Suspends, task_of, doing_of, begin_of, first_looks, following, FlushPoint, ToLook, ToBegin, ToSyncCache, ToSyncOrigin, ToWriteNodes, ToWriteRoot, ToSyncRoot, ToEnd, ToSetSuspended, ToSetFailed, ToRelease, commit_left, IsOf, AtFlush, IsLeading, FlushAt, FlushTask, AtOpen, OpenAt}
+use Rattle.std.proofs.lemmas.List.{append_assoc}
+use Rattle.wb_words.specs.declared.step.CellStep.TheVariants.{SetFailed, SetSuspended, Look}
+use Rattle.wb_tasks.specs.declared.step.DeviceStep.{DeviceStep}
+use Rattle.wb_tasks.specs.declared.step.DeviceStep.TheVariants.{Sync, WriteNode, WriteRoot}
+use Rattle.wb_runs.proofs.Stepping.{node_fact, root_fact}
+use Rattle.wb_runs.proofs.Suiting.{word_given, data_sync, end_given, released_done}
+use Rattle.wb_words.specs.declared.word.Word.TheVariants.{Fail, Seal as SealWord}
+use Rattle.wb_words.specs.SharedWords.{word_at}
 
 -- ---- a commit goes on
 
@@ -57,21 +64,22 @@ node_over left from image e = by_case (slice_get_cases image.nodes.items from).1
 nodes_over : (from : ℕ) (image : Image) → length image.nodes.items ≡ from → steps_after image (NodesWritten from) ≡ NodesSynced
 nodes_over from image e = ap (λ (o : Option (Place × Node)). Rattle.wb_meta.specs.Steps.after_node o from) (slice_get_past image.nodes.items from (omega (arith, e)))
 
--- ---- a flush
+-- ---- a flush, or a suspend
 
 -- who does not lead is where it was, whatever becomes of the commit
-pub stays : (commit commit' : Option RunningCommit) (L L' : Type 0) (plan : Plan) (k : FlushAt commit L plan) → (IsLeading k.point → ⊥) → FlushAt commit' L' plan
-stays commit commit' L L' plan k none = record { serves = k.serves; most = k.most; answer = k.answer; point = k.point; is = k.is; at = by_point k.point none; leads = λ i. absurd (none i) }
+pub stays : (Makes : List OBlock → ℕ → CommitJob) (commit commit' : Option RunningCommit) (L L' : Type 0) (plan : Plan) (k : FlushAt Makes commit L plan) → (IsLeading k.point → ⊥) → FlushAt Makes commit' L' plan
+stays Makes commit commit' L L' plan k none = record { blocks = k.blocks; most = k.most; answer = k.answer; point = k.point; of = k.of; is = k.is; at = by_point k.point none; leads = λ i. absurd (none i) }
   where
     by_point : (p : FlushPoint) → (IsLeading p → ⊥) → AtFlush p commit'
     by_point ToLook n = tt
-    by_point ToBegin n = tt
+    by_point (ToBegin looks) n = tt
     by_point (ToSyncCache nodes) n = absurd (n tt)
     by_point (ToSyncOrigin nodes) n = absurd (n tt)
     by_point (ToWriteNodes left from) n = absurd (n tt)
     by_point (ToWriteRoot nodes) n = absurd (n tt)
     by_point (ToSyncRoot nodes) n = absurd (n tt)
     by_point (ToEnd nodes) n = absurd (n tt)
+    by_point ToSetSuspended n = tt
     by_point ToSetFailed n = tt
     by_point (ToRelease blocks) n = tt
 
@@ -79,43 +87,69 @@ stays commit commit' L L' plan k none = record { serves = k.serves; most = k.mos
 pub record Moved (commit commit' : Option RunningCommit) (a leader : ℕ) (task : Option (Job × Plan)) : Type 0 where
   pub leader' : ℕ
   pub here : FlushTask commit' (a ≡ leader') task
-  pub others : (b : ℕ) (plan : Plan) → b ≢ a → FlushAt commit (b ≡ leader) plan → FlushAt commit' (b ≡ leader') plan
+  pub others : (Makes : List OBlock → ℕ → CommitJob) (b : ℕ) (plan : Plan) → b ≢ a → FlushAt Makes commit (b ≡ leader) plan → FlushAt Makes commit' (b ≡ leader') plan
 
-module _ (P A : Type 0) (shape : Shape) (t : Target P) (commit : Option RunningCommit) (m : List History) (images : Images) (known : AtDesk shape.geometry images t.desk commit m) (a leader : ℕ) (serves : List OBlock) (most : ℕ) (answer : Answer) where
+-- a commit's steps, once it began
+begun_left : (job : CommitJob) (nodes : ℕ) → begun_steps (task_of job) nodes ≡ commit_left job (ToSyncCache nodes)
+begun_left (Flushes serves most) nodes = refl
+begun_left (Suspends looks most) nodes = ap (λ ws. Device (Sync Cache) ∷ Device (Sync Origin) ∷ ws) (append_assoc (node_writes nodes 0) root_steps (Cell SetSuspended ∷ []))
+
+fault_left : (job : CommitJob) (step : DeviceStep) → after_fault_of (task_of job) step ≡ Cell SetFailed ∷ []
+fault_left (Flushes serves most) step = refl
+fault_left (Suspends looks most) step = refl
+
+module _ (P A : Type 0) (shape : Shape) (t : Target P) (commit : Option RunningCommit) (m : List History) (images : Images) (known : AtDesk shape.geometry images t.desk commit m) (a leader : ℕ) (job : CommitJob) (answer : Answer) where
   abbrev F : List Want → Plan
-  F ws = plan_of (Flushing serves most) ws answer
+  F ws = plan_of (task_of job) ws answer
 
   abbrev Then : Option RunningCommit → Plan → Type 0
-  Then commit' plan = Moved commit commit' a leader (Some (Flush, plan))
+  Then commit' plan = Moved commit commit' a leader (Some (doing_of job, plan))
+
+  -- its task stands there
+  stands_at : (job : CommitJob) (commit' : Option RunningCommit) (L : Type 0) (answer' : Answer) (point : FlushPoint) (plan : Plan) → IsOf point job → plan ≡ plan_of (task_of job) (commit_left job point) answer' → AtFlush point commit' → (IsLeading point → L) → FlushTask commit' L (Some (doing_of job, plan))
+  stands_at (Flushes serves most) commit' L answer' point plan of is at leads = record { blocks = serves; most = most; answer = answer'; point = point; of = of; is = is; at = at; leads = leads }
+  stands_at (Suspends looks most) commit' L answer' point plan of is at leads = record { blocks = looks; most = most; answer = answer'; point = point; of = of; is = is; at = at; leads = leads }
 
   -- it is at this point, and nobody else is concerned
-  quietly : (answer' : Answer) (point : FlushPoint) (plan : Plan) → plan ≡ plan_of (Flushing serves most) (flush_left serves most point) answer' → AtFlush point commit → (IsLeading point → a ≡ leader) → Then commit plan
-  quietly answer' point plan is at leads = record { leader' = leader; here = record { serves = serves; most = most; answer = answer'; point = point; is = is; at = at; leads = leads }; others = λ b p o k. k }
+  quietly : (answer' : Answer) (point : FlushPoint) (plan : Plan) → IsOf point job → plan ≡ plan_of (task_of job) (commit_left job point) answer' → AtFlush point commit → (IsLeading point → a ≡ leader) → Then commit plan
+  quietly answer' point plan of is at leads = record { leader' = leader; here = stands_at job commit (a ≡ leader) answer' point plan of is at leads; others = λ Makes b p o k. k }
 
   -- the leader went on, and no other leads
-  leading : (commit' : Option RunningCommit) (answer' : Answer) (point : FlushPoint) (plan : Plan) → plan ≡ plan_of (Flushing serves most) (flush_left serves most point) answer' → AtFlush point commit' → a ≡ leader → Then commit' plan
-  leading commit' answer' point plan is at l = record {
+  leading : (commit' : Option RunningCommit) (answer' : Answer) (point : FlushPoint) (plan : Plan) → IsOf point job → plan ≡ plan_of (task_of job) (commit_left job point) answer' → AtFlush point commit' → a ≡ leader → Then commit' plan
+  leading commit' answer' point plan of is at l = record {
     leader' = leader;
-    here = record { serves = serves; most = most; answer = answer'; point = point; is = is; at = at; leads = λ i. l };
-    others = λ b p o k. stays commit commit' (b ≡ leader) (b ≡ leader) p k (λ i. o (k.leads i ∙ sym l));
+    here = stands_at job commit' (a ≡ leader) answer' point plan of is at (λ i. l);
+    others = λ Makes b p o k. stays Makes commit commit' (b ≡ leader) (b ≡ leader) p k (λ i. o (k.leads i ∙ sym l));
   }
 
-  looks : (got : Got) → got ≡ Word t.words.fail → Then commit (after (F (flush_left serves most ToLook)) got)
-  looks got e = subst (λ (g : Got). Then commit (after (F (flush_left serves most ToLook)) g)) (sym e) (by_test (t.words.fail == 0))
+  looks : (got : Got) → got ≡ Word t.words.fail → Then commit (after (F (commit_left job ToLook)) got)
+  looks got e = subst (λ (g : Got). Then commit (after (F (commit_left job ToLook)) g)) (sym e) (by_test (t.words.fail == 0))
     where
-      by_test : (b : Bool) → Then commit (if b then F (flush_left serves most ToBegin) else plan_of (Flushing serves most) [] (Refuses Failed))
-      by_test true = quietly answer ToBegin _ refl tt (λ i. absurd i)
-      by_test false = quietly (Refuses Failed) (ToRelease []) _ refl tt (λ i. absurd i)
+      by_test : (b : Bool) → Then commit (if b then F (commit_left job (ToBegin (first_looks job))) else plan_of (task_of job) [] (Refuses Failed))
+      by_test true = quietly answer (ToBegin (first_looks job)) _ tt refl tt (λ i. absurd i)
+      by_test false = quietly (Refuses Failed) (ToRelease []) _ tt refl tt (λ i. absurd i)
 
-  begins : (got : Got) (chosen : Chosen P A) → DoesBegin most t.desk got chosen → Then (Rattle.wb_promise.specs.Effects.begun_commit chosen commit) (after (F (flush_left serves most ToBegin)) got)
-  begins (Began nodes) (Commits c tree) s = record {
+  seals : (block : OBlock) (rest : List OBlock) (got : Got) (seal : ℕ) → got ≡ Word seal → Then commit (after (F (commit_left job (ToBegin (block ∷ rest)))) got)
+  seals block rest got seal e = subst (λ (g : Got). Then commit (after (F (commit_left job (ToBegin (block ∷ rest)))) g)) (sym e) (quietly answer (ToBegin rest) _ tt (same job) tt (λ i. absurd i))
+    where
+      same : (job : CommitJob) → after (plan_of (task_of job) (commit_left job (ToBegin (block ∷ rest))) answer) (Word seal) ≡ plan_of (task_of job) (commit_left job (ToBegin rest)) answer
+      same (Flushes serves most) = refl
+      same (Suspends looks most) = refl
+
+  abbrev let_go : CommitJob → Refusal → List OBlock
+  let_go (Flushes serves most) Busy = []
+  let_go (Flushes serves most) r = serves
+  let_go (Suspends looks most) r = []
+
+  begins : (seen : Option (List Bool)) (most : ℕ) (got : Got) (chosen : Chosen P A) → DoesBegin seen most t.desk got chosen → Then (Rattle.wb_promise.specs.Effects.begun_commit chosen commit) (after (F (commit_left job (ToBegin []))) got)
+  begins seen most (Began nodes) (Commits c tree) s = record {
     leader' = a;
-    here = record { serves = serves; most = most; answer = answer; point = ToSyncCache nodes; is = refl; at = (sym s.1, image_small shape.geometry t.desk tree c known.is.geometry known.is.kept.mapping s.3 s.4, s.2); leads = λ i. refl };
-    others = λ b p o k. stays commit (Some c) (b ≡ leader) (b ≡ a) p k (λ i. no_leader commit known k.point i k.at);
+    here = stands_at job (Some c) (a ≡ a) answer (ToSyncCache nodes) _ tt (ap (λ ws. plan_of (task_of job) ws answer) (begun_left job nodes)) (sym s.1, image_small shape.geometry t.desk tree c known.is.geometry known.is.kept.mapping s.3.0 seen s.3.1 s.4, s.2) (λ i. refl);
+    others = λ Makes b p o k. stays Makes commit (Some c) (b ≡ leader) (b ≡ a) p k (λ i. no_leader commit known k.point i k.at);
   }
     where
       no_leader : (commit : Option RunningCommit) → AtDesk shape.geometry images t.desk commit m → (p : FlushPoint) → IsLeading p → AtFlush p commit → ⊥
-      no_leader (Some d) k p i at = absurd (let busy = k.stands.busy in let idle = s.3.may.idle in cc)
+      no_leader (Some d) k p i at = absurd (let busy = k.stands.busy in let idle = (begin_may P s.3.0 seen t.desk c.image _ s.3.1).idle in cc)
       no_leader None k (ToSyncCache nodes) i at = at
       no_leader None k (ToSyncOrigin nodes) i at = at
       no_leader None k (ToWriteNodes left from) i at = at
@@ -123,23 +157,32 @@ module _ (P A : Type 0) (shape : Shape) (t : Target P) (commit : Option RunningC
       no_leader None k (ToSyncRoot nodes) i at = at
       no_leader None k (ToEnd nodes) i at = at
       no_leader None k ToLook i at = i
-      no_leader None k ToBegin i at = i
+      no_leader None k (ToBegin looks) i at = i
+      no_leader None k ToSetSuspended i at = i
       no_leader None k ToSetFailed i at = i
       no_leader None k (ToRelease blocks) i at = i
-  begins (GotRefused refusal) Plain s = quietly (Refuses refusal) (ToRelease (let_go refusal)) _ (same refusal) tt (λ i. absurd i)
+  begins seen most (GotRefused refusal) Plain s = quietly (Refuses refusal) (ToRelease (let_go job refusal)) _ (of_it job refusal) (same job refusal) tt (λ i. absurd i)
     where
-      let_go : Refusal → List OBlock
-      let_go Busy = []
-      let_go r = serves
+      of_it : (job : CommitJob) (r : Refusal) → IsOf (ToRelease (let_go job r)) job
+      of_it (Suspends looks most) r = tt
+      of_it (Flushes [] most) Busy = tt
+      of_it (Flushes [] most) r = tt
+      of_it (Flushes (b ∷ bs) most) Busy = tt
+      of_it (Flushes (b ∷ bs) most) r = tt
 
-      same : (r : Refusal) → after (F (Desk (BeginCommit false most) ∷ [])) (GotRefused r) ≡ plan_of (Flushing serves most) (release_orders (let_go r)) (Refuses r)
-      same Busy = refl
-      same r = refl
-  begins got chosen s = absurd s
+      same : (job : CommitJob) (r : Refusal) → after (plan_of (task_of job) (commit_left job (ToBegin [])) answer) (GotRefused r) ≡ plan_of (task_of job) (release_orders (let_go job r)) (Refuses r)
+      same (Flushes serves most) Busy = refl
+      same (Flushes serves most) r = refl
+      same (Suspends looks most) Busy = refl
+      same (Suspends looks most) r = refl
+  begins seen most got chosen s = absurd s
 
   module _ (w : State P A) (x : Actor) (stands : w.phase ≡ Stands t) (runs : w.commit ≡ commit) (got : Got) (read : List Bytes) (chosen : Chosen P A) where
+    abbrev v : State P A
+    v = record { devices = w.devices; commit = commit; phase = Stands t; actors = w.actors }
+
     abbrev After : Want → Plan → Type 0
-    After next plan = Moved commit (commit_then {P = P} {A = A} (Stands t) commit next got chosen) a leader (task_then (Some (Flush, plan)) next got)
+    After next plan = Moved commit (commit_then {P = P} {A = A} (Stands t) commit next got chosen) a leader (task_then (Some (doing_of job, plan)) next got)
 
     done : (next : Want) (ws : List Want) → got ≡ Done → (commit' : Option RunningCommit) → Then commit' (F ws) → Then commit' (after (F (next ∷ ws)) got)
     done next ws e commit' k = subst (λ (g : Got). Then commit' (after (F (next ∷ ws)) g)) (sym e) k
@@ -147,37 +190,64 @@ module _ (P A : Type 0) (shape : Shape) (t : Target P) (commit : Option RunningC
     led_done : (nodes : ℕ) → got ≡ Done → (steps steps' : CommitSteps) → Runs nodes steps commit → ((image : Image) → length image.nodes.items ≡ nodes → steps_after image steps ≡ steps') → Runs nodes steps' (Rattle.wb_promise.specs.Effects.led commit got)
     led_done nodes e steps steps' r f = subst (λ (g : Got). Runs nodes steps' (Rattle.wb_promise.specs.Effects.led commit g)) (sym e) (leads_on nodes commit steps r steps' f)
 
-    pub flush_moves : (point : FlushPoint) → AtFlush point commit → (IsLeading point → a ≡ leader) → Gives shape (record { devices = w.devices; commit = commit; phase = Stands t; actors = w.actors }) x Flush (want (F (flush_left serves most point))) got read chosen → After (want (F (flush_left serves most point))) (F (flush_left serves most point))
-    flush_moves ToLook at l g = looks got g.1
-    flush_moves ToBegin at l g = begins got chosen g.2
-    flush_moves (ToSyncCache nodes) at l g = done _ _ g.1 commit (leading commit answer (ToSyncOrigin nodes) _ refl at (l tt))
-    flush_moves (ToSyncOrigin nodes) at l g = done _ _ g.1 commit (leading commit answer (ToWriteNodes nodes 0) _ refl (let none : nodes ≡ 0 + nodes = omega arith in subst (λ (n : ℕ). Runs n (NodesWritten 0) commit) none at) (l tt))
-    flush_moves (ToWriteNodes zero from) at l g =
+    begin_moves : (job' : CommitJob) → job ≡ job' → Gives shape v x (doing_of job') (begin_of job') got read chosen → After (begin_of job') (F (commit_left job (ToBegin [])))
+    begin_moves (Flushes serves most) e g = begins None most got chosen g.2
+    begin_moves (Suspends looks most) e g = begins (Some x.seen) most got chosen g.2
+
+    -- behind the end of a commit
+    followed : (job' : CommitJob) → job ≡ job' → a ≡ leader → Then None (F (following job))
+    followed (Flushes serves most) e l = leading None answer (ToRelease []) _ (subst (λ j. IsOf (ToRelease []) j) (sym e) tt) (ap (λ j. F (following j)) e) tt l
+    followed (Suspends looks most) e l = leading None answer ToSetSuspended _ tt (ap (λ j. F (following j)) e) tt l
+
+    pub flush_moves : (point : FlushPoint) → IsOf point job → AtFlush point commit → (IsLeading point → a ≡ leader) → Gives shape v x (doing_of job) (want (F (commit_left job point))) got read chosen → After (want (F (commit_left job point))) (F (commit_left job point))
+    flush_moves ToLook of at l g = looks got (word_given P A shape v x got read chosen (doing_of job) (Look Fail) g)
+    flush_moves (ToBegin []) of at l g = begin_moves job refl g
+    flush_moves (ToBegin (block ∷ rest)) of at l g = seals block rest got (word_at t.words.seals block) (word_given P A shape v x got read chosen (doing_of job) (Look (SealWord block)) g)
+    flush_moves (ToSyncCache nodes) of at l g = done _ _ (data_sync P A shape v x got read chosen (doing_of job) Cache g) commit (leading commit answer (ToSyncOrigin nodes) _ tt refl at (l tt))
+    flush_moves (ToSyncOrigin nodes) of at l g = done _ _ (data_sync P A shape v x got read chosen (doing_of job) Origin g) commit (leading commit answer (ToWriteNodes nodes 0) _ tt refl (let none : nodes ≡ 0 + nodes = omega arith in subst (λ (n : ℕ). Runs n (NodesWritten 0) commit) none at) (l tt))
+    flush_moves (ToWriteNodes zero from) of at l g =
         let all : from + 0 ≡ from = omega arith in
-        done _ _ g.1 _ (leading _ answer (ToWriteRoot (from + 0)) _ refl (led_done (from + 0) g.1 (NodesWritten from) NodesSynced at (λ i e. nodes_over from i (e ∙ all))) (l tt))
-    flush_moves (ToWriteNodes (suc left) from) at l g =
+        let d = data_sync P A shape v x got read chosen (doing_of job) Metadata g in
+        done _ _ d _ (leading _ answer (ToWriteRoot (from + 0)) _ tt refl (led_done (from + 0) d (NodesWritten from) NodesSynced at (λ i e. nodes_over from i (e ∙ all))) (l tt))
+    flush_moves (ToWriteNodes (suc left) from) of at l g =
         let more : from + suc left ≡ from + 1 + left = omega arith in
-        done _ _ g.1 _ (leading _ answer (ToWriteNodes left (from + 1)) _ refl
-        (subst (λ (n : ℕ). Runs n (NodesWritten (from + 1)) (Rattle.wb_promise.specs.Effects.led commit got)) more (led_done (from + suc left) g.1 (NodesWritten from) (NodesWritten (from + 1)) at (node_over left from))) (l tt))
-    flush_moves (ToWriteRoot nodes) at l g = done _ _ g.1 _ (leading _ answer (ToSyncRoot nodes) _ refl (led_done nodes g.1 NodesSynced RootWritten at (λ i e. refl)) (l tt))
-    flush_moves (ToSyncRoot nodes) at l g = done _ _ g.1 _ (leading _ answer (ToEnd nodes) _ refl (led_done nodes g.1 RootWritten Committed at (λ i e. refl)) (l tt))
-    flush_moves (ToEnd nodes) at l g = done _ _ g.1 _ (leading None answer (ToRelease []) _ refl tt (l tt))
-    flush_moves ToSetFailed at l g = done _ _ g.1 commit (quietly answer (ToRelease []) _ refl tt (λ i. absurd i))
-    flush_moves (ToRelease []) at l g = record { leader' = leader; here = tt; others = λ b p o k. k }
-    flush_moves (ToRelease (block ∷ blocks)) at l g = done _ _ g.1 commit (quietly answer (ToRelease blocks) _ refl tt (λ i. absurd i))
+        let d = (node_fact P A shape v x got read chosen (doing_of job) from g).0 in
+        done _ _ d _ (leading _ answer (ToWriteNodes left (from + 1)) _ tt refl
+        (subst (λ (n : ℕ). Runs n (NodesWritten (from + 1)) (Rattle.wb_promise.specs.Effects.led commit got)) more (led_done (from + suc left) d (NodesWritten from) (NodesWritten (from + 1)) at (node_over left from))) (l tt))
+    flush_moves (ToWriteRoot nodes) of at l g = let d = (root_fact P A shape v x got read chosen (doing_of job) g).0 in done _ _ d _ (leading _ answer (ToSyncRoot nodes) _ tt refl (led_done nodes d NodesSynced RootWritten at (λ i e. refl)) (l tt))
+    flush_moves (ToSyncRoot nodes) of at l g = let d = data_sync P A shape v x got read chosen (doing_of job) Metadata g in done _ _ d _ (leading _ answer (ToEnd nodes) _ tt refl (led_done nodes d RootWritten Committed at (λ i e. refl)) (l tt))
+    flush_moves (ToEnd nodes) of at l g = done _ _ (end_given P A shape v x got read chosen (doing_of job) g) _ (followed job refl (l tt))
+    flush_moves ToSetSuspended of at l g = done _ _ (word_given P A shape v x got read chosen (doing_of job) SetSuspended g) commit (quietly answer (ToRelease []) _ tt refl tt (λ i. absurd i))
+    flush_moves ToSetFailed of at l g = done _ _ (word_given P A shape v x got read chosen (doing_of job) SetFailed g) commit (quietly answer (ToRelease []) _ tt refl tt (λ i. absurd i))
+    flush_moves (ToRelease []) of at l g = record { leader' = leader; here = tt; others = λ Makes b p o k. k }
+    flush_moves (ToRelease (block ∷ blocks)) of at l g = done _ _ (released_done P A shape v x got read chosen (doing_of job) block g) commit (quietly answer (ToRelease blocks) _ (fewer job blocks of) refl tt (λ i. absurd i))
+      where
+        fewer : (job : CommitJob) (bs : List OBlock) → IsOf (ToRelease (block ∷ blocks)) job → IsOf (ToRelease bs) job
+        fewer (Flushes serves most) [] of = tt
+        fewer (Flushes serves most) (b ∷ bs) of = tt
+        fewer (Suspends looks most) bs of = absurd of
 
   -- a step that fails
-  pub flush_fails : (w : State P A) (choice : Choice) (chosen : Chosen P A) (point : FlushPoint) → AtFlush point commit → (IsLeading point → a ≡ leader) → Falters w choice (want (F (flush_left serves most point))) chosen →
-      Moved commit (commit_then {P = P} {A = A} (Stands t) commit (want (F (flush_left serves most point))) Fault chosen) a leader (task_then (Some (Flush, F (flush_left serves most point))) (want (F (flush_left serves most point))) Fault)
+  fails_at : (commit' : Option RunningCommit) (step : DeviceStep) (d : _) → a ≡ leader → (ws : List Want) → Then commit' (plan_of (task_of job) (after_fault_of (task_of job) step) (Refuses (Io d)))
+  fails_at commit' step d l ws = leading commit' (Refuses (Io d)) ToSetFailed _ tt (ap (λ xs. plan_of (task_of job) xs (Refuses (Io d))) (fault_left job step)) tt l
+
+  pub flush_fails : (w : State P A) (choice : Choice) (chosen : Chosen P A) (point : FlushPoint) → AtFlush point commit → (IsLeading point → a ≡ leader) → Falters w choice (want (F (commit_left job point))) chosen →
+      Moved commit (commit_then {P = P} {A = A} (Stands t) commit (want (F (commit_left job point))) Fault chosen) a leader (task_then (Some (doing_of job, F (commit_left job point))) (want (F (commit_left job point))) Fault)
   flush_fails w choice chosen ToLook at l g = absurd g
-  flush_fails w choice chosen ToBegin at l g = absurd g
-  flush_fails w choice chosen (ToSyncCache nodes) at l g = leading commit (Refuses (Io Cache)) ToSetFailed _ refl tt (l tt)
-  flush_fails w choice chosen (ToSyncOrigin nodes) at l g = leading commit (Refuses (Io Origin)) ToSetFailed _ refl tt (l tt)
-  flush_fails w choice chosen (ToWriteNodes zero from) at l g = leading _ (Refuses (Io Metadata)) ToSetFailed _ refl tt (l tt)
-  flush_fails w choice chosen (ToWriteNodes (suc left) from) at l g = leading _ (Refuses (Io Metadata)) ToSetFailed _ refl tt (l tt)
-  flush_fails w choice chosen (ToWriteRoot nodes) at l g = leading _ (Refuses (Io Metadata)) ToSetFailed _ refl tt (l tt)
-  flush_fails w choice chosen (ToSyncRoot nodes) at l g = leading _ (Refuses (Io Metadata)) ToSetFailed _ refl tt (l tt)
+  flush_fails w choice chosen (ToBegin []) at l g = absurd (no_begin job g)
+    where
+      no_begin : (job : CommitJob) → Falters w choice (begin_of job) chosen → ⊥
+      no_begin (Flushes serves most) g = g
+      no_begin (Suspends looks most) g = g
+  flush_fails w choice chosen (ToBegin (block ∷ rest)) at l g = absurd g
+  flush_fails w choice chosen (ToSyncCache nodes) at l g = fails_at commit (Sync Cache) Cache (l tt) []
+  flush_fails w choice chosen (ToSyncOrigin nodes) at l g = fails_at commit (Sync Origin) Origin (l tt) []
+  flush_fails w choice chosen (ToWriteNodes zero from) at l g = fails_at _ (Sync Metadata) Metadata (l tt) []
+  flush_fails w choice chosen (ToWriteNodes (suc left) from) at l g = fails_at _ (WriteNode from) Metadata (l tt) []
+  flush_fails w choice chosen (ToWriteRoot nodes) at l g = fails_at _ WriteRoot Metadata (l tt) []
+  flush_fails w choice chosen (ToSyncRoot nodes) at l g = fails_at _ (Sync Metadata) Metadata (l tt) []
   flush_fails w choice chosen (ToEnd nodes) at l g = absurd g
+  flush_fails w choice chosen ToSetSuspended at l g = absurd g
   flush_fails w choice chosen ToSetFailed at l g = absurd g
   flush_fails w choice chosen (ToRelease []) at l g = absurd g
   flush_fails w choice chosen (ToRelease (block ∷ blocks)) at l g = absurd g

@@ -1,6 +1,5 @@
 -- Which states the metadata of a run are read as, and what becomes of them.
-use Rattle.std.proofs.Common.{◌≡◌, Bool, true, false, if◌then◌else◌, Option, Some, None, is_some, refl}
-use Rattle.std.specs.List.{count_by}
+use Rattle.std.proofs.Common.{◌≡◌, Bool, true, false, if◌then◌else◌, Option, Some, None, refl}
 use Rattle.wb_meta.specs.Representing.{Stored}
 
 -- The committed state; that of the commit that runs, or was stopped by a fault; and whether the root of that may have been written.
@@ -44,11 +43,3 @@ pub record Turns (Kept : Images → Type 0) (old : Images) : Type 0 where
 -- they stay
 abbrev pub stays : (Kept : Images → Type 0) (images : Images) → Kept images → Turns Kept images
 stays Kept images kept = record { now = images; turn = Stays; turned = refl; kept = kept }
-
--- a root that is marked clean is one of a tree without entries
-abbrev pub IsFit : Stored → Type 0
-IsFit state = state.root.clean ≡ true → count_by is_some state.found.entries ≡ 0
-
-abbrev pub IsFitToo : Option Stored → Type 0
-IsFitToo None = Unit {0}
-IsFitToo (Some state) = IsFit state

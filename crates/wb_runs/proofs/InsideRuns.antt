@@ -40,14 +40,14 @@ use Rattle.wb_devices.specs.declared.devices.Devices.{Devices}
 use Rattle.wb_devices.specs.declared.running.RunningCommit.{RunningCommit}
 use Rattle.wb_devices.specs.Moving.{device_in}
 use Rattle.wb_promise.specs.declared.job.Job.{Job}
-use Rattle.wb_promise.specs.declared.job.Job.TheVariants.{Read, Write, Flush, Open, Migrate, Replace}
+use Rattle.wb_promise.specs.declared.job.Job.TheVariants.{Read, Write, Flush, Suspend, Open, Migrate, Replace}
 use Rattle.wb_promise.specs.declared.event.Event.{Event}
 use Rattle.wb_promise.specs.declared.event.Event.TheVariants.{Start, Step, FaultStep, Stop}
 use Rattle.wb_promise.specs.declared.event.What.{What}
 use Rattle.wb_promise.specs.declared.event.What.TheVariants.{Skipped, Refused, Started, Stepped, Stopped}
 use Rattle.wb_promise.specs.States.{Shape, State, Actor, Phase, Stands, Gone, Opens, OfTarget, mode_of, resting, with_device, block_size, sector_count, cache_sector_count, start}
-use Rattle.wb_promise.specs.Happenings.{Chosen, Plain, Cut, Orders, Opened, Happening, OfSome, Gives, Falters, MayFailAt, StartGives, MayBe, orders_in, order_for, task_job, begun_as}
-use Rattle.wb_promise.specs.Effects.{put_by, contents_for, device_done, device_failed, devices_then, commit_then, phase_then, phase_opened, phase_given, task_then, actor_then, cut_of, stepped, with_actor, cleared, given, started, job_of, all_resting, after_what, after_happening, after_all, IsRun}
+use Rattle.wb_promise.specs.Happenings.{Chosen, Plain, Cut, Orders, Opened, Happening, OfSome, Gives, Falters, MayFailAt, StartGives, MayBe, orders_in, order_for, task_job, begun_as, StartsAs, Looks}
+use Rattle.wb_promise.specs.Effects.{put_by, contents_for, device_done, device_failed, devices_then, commit_then, phase_then, phase_opened, phase_given, task_then, actor_then, cut_of, stepped, with_actor, cleared, given, started, job_of, all_resting, after_what, after_happening, after_all, IsRun, looks_of}
 use Rattle.wb_promise.specs.Clerk.{Notes, formatted}
 use Rattle.wb_promise.specs.Headline.{note_happening}
 use Rattle.wb_runs.specs.Inside.{StepInside, TaskInside, StaysInside}
@@ -60,7 +60,7 @@ use Rattle.wb_runs.proofs.Stepping.{done_kept}
 use Rattle.wb_runs.proofs.Ordering.{OrderInside, OrdersInside, in_orders}
 use Rattle.wb_runs.proofs.Ruling.{each_set, all_rest}
 use Rattle.wb_runs.proofs.Using.{order_inside, replacement_inside}
-use Rattle.wb_runs.proofs.Bounds.{SealInside, SealsInside, seals_after, fresh_inside, sealed_inside, AllInside, PartInside, JobInside, MigrationInside, inside_after}
+use Rattle.wb_runs.proofs.Bounds.{SealInside, SealsInside, seals_after, fresh_inside, sealed_inside, AllInside, PartInside, JobInside, MigrationInside, inside_after, looks_inside}
 use Rattle.wb_runs.proofs.LinkedRuns.{Base, base_after, base_start}
 use Rattle.wb_policy.specs.declared.order.Order.{Order}
 use Rattle.wb_disk.proofs.Lengths.{length_written_where}
@@ -155,6 +155,7 @@ module _ (P A : Type 0) (shape : Shape) where
   plain_read w actor got read chosen (Read x) d e g = g.1
   plain_read w actor got read chosen (Write x c) d e g = absurd g
   plain_read w actor got read chosen Flush d e g = absurd g
+  plain_read w actor got read chosen Suspend d e g = absurd g
   plain_read w actor got read chosen (Open mode) d e g = absurd g
   plain_read w actor got read chosen (Migrate migration block) d e g = g.1.1
   plain_read w actor got read chosen (Replace old new) d e g = absurd g
@@ -194,6 +195,7 @@ module _ (P A : Type 0) (shape : Shape) where
   cell_given w actor got read chosen (Read x) step g = g.1
   cell_given w actor got read chosen (Write x c) step g = g.1
   cell_given w actor got read chosen Flush step g = g.1
+  cell_given w actor got read chosen Suspend step g = g.1
   cell_given w actor got read chosen (Open mode) step g = g.1
   cell_given w actor got read chosen (Migrate migration block) step g = g.1
   cell_given w actor got read chosen (Replace old new) step g = g.1
@@ -223,6 +225,7 @@ module _ (P A : Type 0) (shape : Shape) where
   opened_seals mode reading commit got Plain m i k = tt
   opened_seals mode reading commit got (Cut es) m i k = tt
   opened_seals mode reading commit got (Orders es c) m i k = tt
+  opened_seals mode reading commit got (Rattle.wb_promise.specs.Happenings.Looks bs) m i k = tt
   opened_seals mode reading commit got (Rattle.wb_promise.specs.Happenings.Begins now) m i k = tt
   opened_seals mode reading commit got (Rattle.wb_promise.specs.Happenings.Reaches now c) m i k = tt
   opened_seals mode reading commit got (Rattle.wb_promise.specs.Happenings.Puts new) m i k = tt
@@ -294,6 +297,7 @@ module _ (P A : Type 0) (shape : Shape) where
   same_seals (Stands t) (Migrate migration block) (Orders cut cache) s = s
   same_seals (Stands t) (Migrate migration block) Plain s = s
   same_seals (Stands t) (Migrate migration block) (Cut cut) s = s
+  same_seals (Stands t) (Migrate migration block) (Rattle.wb_promise.specs.Happenings.Looks looks) s = s
   same_seals (Stands t) (Migrate migration block) (Rattle.wb_promise.specs.Happenings.Begins now) s = s
   same_seals (Stands t) (Migrate migration block) (Rattle.wb_promise.specs.Happenings.Reaches now commit) s = s
   same_seals (Stands t) (Migrate migration block) (Rattle.wb_promise.specs.Happenings.Puts new) s = s
@@ -303,6 +307,7 @@ module _ (P A : Type 0) (shape : Shape) where
   same_seals (Stands t) (Replace old new) (Orders cut cache) s = s
   same_seals (Stands t) (Replace old new) Plain s = s
   same_seals (Stands t) (Replace old new) (Cut cut) s = s
+  same_seals (Stands t) (Replace old new) (Rattle.wb_promise.specs.Happenings.Looks looks) s = s
   same_seals (Stands t) (Replace old new) (Rattle.wb_promise.specs.Happenings.Begins now) s = s
   same_seals (Stands t) (Replace old new) (Rattle.wb_promise.specs.Happenings.Reaches now commit) s = s
   same_seals (Stands t) (Replace old other) (Rattle.wb_promise.specs.Happenings.Puts new) s = s
@@ -312,6 +317,7 @@ module _ (P A : Type 0) (shape : Shape) where
   same_seals (Stands t) (Read extent) chosen s = s
   same_seals (Stands t) (Write extent content) chosen s = s
   same_seals (Stands t) Flush chosen s = s
+  same_seals (Stands t) Suspend chosen s = s
   same_seals (Stands t) (Open mode) chosen s = s
   same_seals Gone job chosen s = s
   same_seals (Opens mode reading) job chosen s = s
@@ -335,11 +341,13 @@ module _ (P A : Type 0) (shape : Shape) where
   cut_replacing phase actor old new (Orders cut cache) g = g.0
   cut_replacing phase actor old new chosen g = absurd g
 
-  table_inside : (w : State P A) (n : Notes) (a : ℕ) (job : Job) (chosen : Chosen P A) → Base P A shape w n → StartGives shape w.phase (slice_get w.actors a) job Started chosen →
-      (mode : Mode) (awaiting : List Order) → PlanInside shape (Some (begun_as job, table (task_job shape mode awaiting job (cut_of chosen))))
+  table_inside : (w : State P A) (n : Notes) (a : ℕ) (job : Job) (chosen : Chosen P A) → Base P A shape w n → StartsAs shape w a job Started chosen →
+      (mode : Mode) (awaiting : List Order) → PlanInside shape (Some (begun_as job, table (task_job shape mode awaiting job (cut_of chosen) (looks_of chosen))))
   table_inside w n a (Read extent) (Cut cut) b g mode awaiting = (part_inside shape mode extent (record { 0 = extent.first / block_size shape }) cut (may_start shape extent g.0) g.1, (tt, (tt, tt)))
   table_inside w n a (Write extent content) (Cut cut) b g mode awaiting = (part_inside shape mode extent (record { 0 = extent.first / block_size shape }) cut (may_start shape extent g.0) g.1, (tt, (tt, tt)))
   table_inside w n a Flush chosen b g mode awaiting = (tt, (tt, (tt, tt)))
+  table_inside w n a Suspend (Looks looks) b g mode awaiting = (tt, (tt, looks_inside shape looks (Rattle.wb_types.specs.Limits.node_count shape.geometry.cache_blocks)))
+  table_inside w n a Suspend chosen b g mode awaiting = absurd g
   table_inside w n a (Open opened_in) chosen b g mode awaiting = (tt, (tt, (tt, (tt, (tt, (tt, (tt, tt)))))))
   table_inside w n a (Migrate migration block) chosen b g mode awaiting =
       let kept = orders_of_actor w a (slice_get w.actors a) (λ x e order m. b.used.orders a x e order (in_orders x order m)) in
@@ -360,10 +368,11 @@ module _ (P A : Type 0) (shape : Shape) where
   clear w (Read extent) i = i
   clear w (Write extent content) i = i
   clear w Flush i = i
+  clear w Suspend i = i
   clear w (Migrate migration block) i = i
   clear w (Replace old new) i = i
 
-  starts : (w : State P A) (n : Notes) (a : ℕ) (job : Job) (chosen : Chosen P A) → Base P A shape w n → Inside shape (cleared w job) → ((mode : Mode) (awaiting : List Order) → PlanInside shape (Some (begun_as job, table (task_job shape mode awaiting job (cut_of chosen))))) → Inside shape (started shape w a job chosen)
+  starts : (w : State P A) (n : Notes) (a : ℕ) (job : Job) (chosen : Chosen P A) → Base P A shape w n → Inside shape (cleared w job) → ((mode : Mode) (awaiting : List Order) → PlanInside shape (Some (begun_as job, table (task_job shape mode awaiting job (cut_of chosen) (looks_of chosen))))) → Inside shape (started shape w a job chosen)
   starts w n a job chosen b i p = by_actor (slice_get (cleared w job).actors a) refl
     where
       by_actor : (o : Option Actor) → slice_get (cleared w job).actors a ≡ o → Inside shape (with_actor (cleared w job) o (λ x. record (cleared w job) { phase = phase_given (cleared w job).phase job chosen; actors = slice_set (cleared w job).actors a (given shape (mode_of (cleared w job).phase) x job chosen) }))

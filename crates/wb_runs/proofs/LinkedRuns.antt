@@ -21,14 +21,14 @@ use Rattle.wb_tasks.specs.declared.step.Want.TheVariants.{Cell, Device, Desk, En
 use Rattle.wb_tasks.specs.declared.step.Got.{Got}
 use Rattle.wb_tasks.specs.declared.step.Got.TheVariants.{Fault}
 use Rattle.wb_promise.specs.declared.job.Job.{Job}
-use Rattle.wb_promise.specs.declared.job.Job.TheVariants.{Read, Write, Flush, Open, Migrate, Replace}
+use Rattle.wb_promise.specs.declared.job.Job.TheVariants.{Read, Write, Flush, Suspend, Open, Migrate, Replace}
 use Rattle.wb_promise.specs.declared.event.Event.{Event}
 use Rattle.wb_promise.specs.declared.event.Event.TheVariants.{Start, Step, FaultStep, Stop}
 use Rattle.wb_promise.specs.declared.event.What.{What}
 use Rattle.wb_promise.specs.declared.event.What.TheVariants.{Skipped, Refused, Started, Stepped, Stopped}
 use Rattle.wb_promise.specs.States.{Shape, State, Actor, Phase, Stands, Gone, Opens, OfTarget, mode_of, resting, start}
-use Rattle.wb_promise.specs.Happenings.{Chosen, Plain, Cut, Orders, Begins, Reaches, Puts, Commits, Asks, Opened, Happening, OfSome, Gives, MayFailAt, Falters, DoesNotApply, StartGives, MayBe, task_job, begun_as}
-use Rattle.wb_promise.specs.Effects.{phase_then, phase_opened, phase_given, task_then, actor_then, stepped, with_actor, cleared, given, job_of, cut_of, device_done, device_failed, all_resting, after_what, after_happening, after_all, IsRun}
+use Rattle.wb_promise.specs.Happenings.{Chosen, Plain, Cut, Orders, Begins, Reaches, Puts, Commits, Asks, Opened, Happening, OfSome, Gives, MayFailAt, Falters, DoesNotApply, MayBe, task_job, begun_as, StartsAs, Looks}
+use Rattle.wb_promise.specs.Effects.{phase_then, phase_opened, phase_given, task_then, actor_then, stepped, with_actor, cleared, given, job_of, cut_of, device_done, device_failed, all_resting, after_what, after_happening, after_all, IsRun, looks_of}
 use Rattle.wb_promise.specs.Clerk.{Notes, Doing, noted_step, noted_what, finished_note, begun, nobody, put, formatted}
 use Rattle.wb_promise.specs.Headline.{SkipsRightly, AllSkipRightly, note_happening, noted}
 use Rattle.wb_runs.specs.Laws.{RefusedBy, RefusedRightly, AllAlong, RefusesByCause, IsCovered, DoingCovers, AnswerCovers}
@@ -133,6 +133,7 @@ module _ (P A : Type 0) (shape : Shape) where
   opened_alone mode reading Plain actors = tt
   opened_alone mode reading (Cut es) actors = tt
   opened_alone mode reading (Orders es c) actors = tt
+  opened_alone mode reading (Looks bs) actors = tt
   opened_alone mode reading (Begins now) actors = tt
   opened_alone mode reading (Reaches now commit) actors = tt
   opened_alone mode reading (Puts new) actors = tt
@@ -148,6 +149,7 @@ module _ (P A : Type 0) (shape : Shape) where
       by_job (Read extent) s = set_other n.doings a b None o
       by_job (Write extent content) s = set_other n.doings a b None o
       by_job Flush s = set_other n.doings a b None o
+      by_job Suspend s = set_other n.doings a b None o
       by_job (Migrate migration block) s = set_other n.doings a b None o
       by_job (Replace old new) s = set_other n.doings a b None o
       by_job (Open opened_in) s = absurd s
@@ -160,6 +162,7 @@ module _ (P A : Type 0) (shape : Shape) where
       by_job (Read extent) s = set_there n.doings a (Some doing) None e
       by_job (Write extent content) s = set_there n.doings a (Some doing) None e
       by_job Flush s = set_there n.doings a (Some doing) None e
+      by_job Suspend s = set_there n.doings a (Some doing) None e
       by_job (Migrate migration block) s = set_there n.doings a (Some doing) None e
       by_job (Replace old new) s = set_there n.doings a (Some doing) None e
       by_job (Open opened_in) s = absurd s
@@ -239,6 +242,7 @@ module _ (P A : Type 0) (shape : Shape) where
         opening (Read extent) i = absurd i
         opening (Write extent content) i = absurd i
         opening Flush i = absurd i
+        opening Suspend i = absurd i
         opening (Migrate migration block) i = absurd i
         opening (Replace old new) i = absurd i
 
@@ -311,6 +315,7 @@ module _ (P A : Type 0) (shape : Shape) where
   same_here (Stands t) (Migrate migration block) (Orders cut cache) (Some task) h = h
   same_here (Stands t) (Migrate migration block) Plain (Some task) h = h
   same_here (Stands t) (Migrate migration block) (Cut cut) (Some task) h = h
+  same_here (Stands t) (Migrate migration block) (Looks looks) (Some task) h = h
   same_here (Stands t) (Migrate migration block) (Begins now) (Some task) h = h
   same_here (Stands t) (Migrate migration block) (Reaches now commit) (Some task) h = h
   same_here (Stands t) (Migrate migration block) (Puts new) (Some task) h = h
@@ -320,6 +325,7 @@ module _ (P A : Type 0) (shape : Shape) where
   same_here (Stands t) (Replace old new) (Orders cut cache) (Some task) h = h
   same_here (Stands t) (Replace old new) Plain (Some task) h = h
   same_here (Stands t) (Replace old new) (Cut cut) (Some task) h = h
+  same_here (Stands t) (Replace old new) (Looks looks) (Some task) h = h
   same_here (Stands t) (Replace old new) (Begins now) (Some task) h = h
   same_here (Stands t) (Replace old new) (Reaches now commit) (Some task) h = h
   same_here (Stands t) (Replace old other) (Puts new) (Some task) h = h
@@ -329,6 +335,7 @@ module _ (P A : Type 0) (shape : Shape) where
   same_here (Stands t) (Read extent) chosen (Some task) h = h
   same_here (Stands t) (Write extent content) chosen (Some task) h = h
   same_here (Stands t) Flush chosen (Some task) h = h
+  same_here (Stands t) Suspend chosen (Some task) h = h
   same_here (Stands t) (Open mode) chosen (Some task) h = h
   same_here Gone job chosen (Some task) h = h
   same_here (Opens mode reading) job chosen (Some task) h = h
@@ -337,6 +344,7 @@ module _ (P A : Type 0) (shape : Shape) where
   same_alone t (Migrate migration block) (Orders cut cache) actors = tt
   same_alone t (Migrate migration block) Plain actors = tt
   same_alone t (Migrate migration block) (Cut cut) actors = tt
+  same_alone t (Migrate migration block) (Looks looks) actors = tt
   same_alone t (Migrate migration block) (Begins now) actors = tt
   same_alone t (Migrate migration block) (Reaches now commit) actors = tt
   same_alone t (Migrate migration block) (Puts new) actors = tt
@@ -346,6 +354,7 @@ module _ (P A : Type 0) (shape : Shape) where
   same_alone t (Replace old new) (Orders cut cache) actors = tt
   same_alone t (Replace old new) Plain actors = tt
   same_alone t (Replace old new) (Cut cut) actors = tt
+  same_alone t (Replace old new) (Looks looks) actors = tt
   same_alone t (Replace old new) (Begins now) actors = tt
   same_alone t (Replace old new) (Reaches now commit) actors = tt
   same_alone t (Replace old other) (Puts new) actors = tt
@@ -355,6 +364,7 @@ module _ (P A : Type 0) (shape : Shape) where
   same_alone t (Read extent) chosen actors = tt
   same_alone t (Write extent content) chosen actors = tt
   same_alone t Flush chosen actors = tt
+  same_alone t Suspend chosen actors = tt
   same_alone t (Open mode) chosen actors = tt
 
   abbrev Started_so : List Bytes → State P A → Notes → ℕ → Job → Chosen P A → Option Actor → Type 0
@@ -374,7 +384,7 @@ module _ (P A : Type 0) (shape : Shape) where
   served_starts Gone actors n a x y job plan chosen l e xt yt s c there = absurd (there (λ z. z))
   served_starts (Opens mode reading) actors n a x y job plan chosen l e xt yt s c there = absurd (there (λ z. z))
 
-  starts : (shown : List Bytes) (w : State P A) (n : Notes) (a : ℕ) (job : Job) (chosen : Chosen P A) → LinkedTo w n → (¬ DoesNotApply w (Start a job)) → StartGives shape w.phase (slice_get w.actors a) job Started chosen → Started_so shown w n a job chosen (slice_get (cleared w job).actors a)
+  starts : (shown : List Bytes) (w : State P A) (n : Notes) (a : ℕ) (job : Job) (chosen : Chosen P A) → LinkedTo w n → (¬ DoesNotApply w (Start a job)) → StartsAs shape w a job Started chosen → Started_so shown w n a job chosen (slice_get (cleared w job).actors a)
   starts shown w n a (Open mode) chosen l applies gives = by_actor (slice_get (all_resting w.actors) a) refl
     where
       by_actor : (o : Option Actor) → slice_get (all_resting w.actors) a ≡ o → Started_so shown w n a (Open mode) chosen o
@@ -389,13 +399,13 @@ module _ (P A : Type 0) (shape : Shape) where
           let y : Actor = given shape Writeback x (Open mode) chosen in
           let old = all_idle (mode_of w.phase) w.actors n l.claims in
           let mine = set_there (nobody n.doings) a None (Some m) (old a x f).1 in
-          let yt : y.task ≡ Some (Open mode, table (task_job shape Writeback [] (Open mode) (cut_of chosen))) = refl in
+          let yt : y.task ≡ Some (Open mode, table (task_job shape Writeback [] (Open mode) (cut_of chosen) (looks_of chosen))) = refl in
           record {
             claims = λ b z g. elim (cases_eq b a) [
               | inl s ↦ let is : Some y ≡ Some z = sym (set_there (all_resting w.actors) a x y f) ∙ ap (slice_get (slice_set (all_resting w.actors) a y)) (sym s) ∙ g in
                   let same : y ≡ z = cc in
                   subst (λ (k : ℕ). TaskClaim shape Writeback z.task (slice_get (slice_set (nobody n.doings) a (Some m)) k)) (sym s) (subst (λ (v : Actor). TaskClaim shape Writeback v.task (slice_get (slice_set (nobody n.doings) a (Some m)) a)) same
-                  (subst (λ (o : Option (Option Doing)). NotedClaim shape Writeback (Open mode) (table (task_job shape Writeback [] (Open mode) (cut_of chosen))) o) (sym mine) (refl, record { left = shape.geometry.meta_sectors; job_is = refl; fine = tt; cause = λ q h. absurd (cc) })))
+                  (subst (λ (o : Option (Option Doing)). NotedClaim shape Writeback (Open mode) (table (task_job shape Writeback [] (Open mode) (cut_of chosen) (looks_of chosen))) o) (sym mine) (refl, record { left = shape.geometry.meta_sectors; job_is = refl; fine = tt; cause = λ q h. absurd (cc) })))
               | inr o ↦ let was = old b z (sym (set_other (all_resting w.actors) a b y o) ∙ g) in
                   subst (λ (t : Option (Job × Plan)). TaskClaim shape Writeback t (slice_get (slice_set (nobody n.doings) a (Some m)) b)) (sym was.0) (set_other (nobody n.doings) a b (Some m) o ∙ was.1)
             ];
@@ -411,23 +421,28 @@ module _ (P A : Type 0) (shape : Shape) where
   starts shown w n a (Read extent) (Cut cut) l applies gives =
       let f = free P A w a (Read extent) applies in
       subst (λ (o : Option Actor). Started_so shown w n a (Read extent) (Cut cut) o) (sym f.1)
-      (served_starts w.phase w.actors n a f.0 (given {P = P} {A = A} shape (mode_of w.phase) f.0 (Read extent) (Cut cut)) (Read extent) (table (task_job shape (mode_of w.phase) [] (Read extent) cut)) (Cut cut) l f.1 f.2 refl tt (record { cut = cut; is_job = refl; cuts = gives.1; inside = gives.0; covers = λ d. refl }) (λ p. applies (inr (inr p))))
+      (served_starts w.phase w.actors n a f.0 (given {P = P} {A = A} shape (mode_of w.phase) f.0 (Read extent) (Cut cut)) (Read extent) (table (task_job shape (mode_of w.phase) [] (Read extent) cut [])) (Cut cut) l f.1 f.2 refl tt (record { cut = cut; is_job = refl; cuts = gives.1; inside = gives.0; covers = λ d. refl }) (λ p. applies (inr (inr (inr p)))))
   starts shown w n a (Write extent content) (Cut cut) l applies gives =
       let f = free P A w a (Write extent content) applies in
       subst (λ (o : Option Actor). Started_so shown w n a (Write extent content) (Cut cut) o) (sym f.1)
-      (served_starts w.phase w.actors n a f.0 (given {P = P} {A = A} shape (mode_of w.phase) f.0 (Write extent content) (Cut cut)) (Write extent content) (table (task_job shape (mode_of w.phase) [] (Write extent content) cut)) (Cut cut) l f.1 f.2 refl tt (record { cut = cut; is_job = refl; cuts = gives.1; inside = gives.0; covers = λ d. refl }) (λ p. applies (inr (inr p))))
+      (served_starts w.phase w.actors n a f.0 (given {P = P} {A = A} shape (mode_of w.phase) f.0 (Write extent content) (Cut cut)) (Write extent content) (table (task_job shape (mode_of w.phase) [] (Write extent content) cut [])) (Cut cut) l f.1 f.2 refl tt (record { cut = cut; is_job = refl; cuts = gives.1; inside = gives.0; covers = λ d. refl }) (λ p. applies (inr (inr (inr p)))))
   starts shown w n a Flush chosen l applies gives =
       let f = free P A w a Flush applies in
       subst (λ (o : Option Actor). Started_so shown w n a Flush chosen o) (sym f.1)
-      (served_starts w.phase w.actors n a f.0 (given shape (mode_of w.phase) f.0 Flush chosen) Flush _ chosen l f.1 f.2 refl tt tt (λ p. applies (inr (inr p))))
+      (served_starts w.phase w.actors n a f.0 (given shape (mode_of w.phase) f.0 Flush chosen) Flush _ chosen l f.1 f.2 refl tt tt (λ p. applies (inr (inr (inr p)))))
+  starts shown w n a Suspend (Looks looks) l applies gives =
+      let f = free P A w a Suspend applies in
+      subst (λ (o : Option Actor). Started_so shown w n a Suspend (Looks looks) o) (sym f.1)
+      (served_starts w.phase w.actors n a f.0 (given {P = P} {A = A} shape (mode_of w.phase) f.0 Suspend (Looks looks)) Suspend _ (Looks looks) l f.1 f.2 refl tt tt (λ p. applies (inr (inr (inr p)))))
+  starts shown w n a Suspend chosen l applies gives = absurd gives
   starts shown w n a (Migrate migration block) chosen l applies gives =
       let f = free P A w a (Migrate migration block) applies in
       subst (λ (o : Option Actor). Started_so shown w n a (Migrate migration block) chosen o) (sym f.1)
-      (served_starts w.phase w.actors n a f.0 (given shape (mode_of w.phase) f.0 (Migrate migration block) chosen) (Migrate migration block) _ chosen l f.1 f.2 refl tt tt (λ p. applies (inr (inr p))))
+      (served_starts w.phase w.actors n a f.0 (given shape (mode_of w.phase) f.0 (Migrate migration block) chosen) (Migrate migration block) _ chosen l f.1 f.2 refl tt tt (λ p. applies (inr (inr (inr p)))))
   starts shown w n a (Replace old new) chosen l applies gives =
       let f = free P A w a (Replace old new) applies in
       subst (λ (o : Option Actor). Started_so shown w n a (Replace old new) chosen o) (sym f.1)
-      (served_starts w.phase w.actors n a f.0 (given shape (mode_of w.phase) f.0 (Replace old new) chosen) (Replace old new) _ chosen l f.1 f.2 refl tt tt (λ p. applies (inr (inr p))))
+      (served_starts w.phase w.actors n a f.0 (given shape (mode_of w.phase) f.0 (Replace old new) chosen) (Replace old new) _ chosen l f.1 f.2 refl tt tt (λ p. applies (inr (inr (inr p)))))
   starts shown w n a (Read extent) chosen l applies gives = absurd gives
   starts shown w n a (Write extent content) chosen l applies gives = absurd gives
 
@@ -493,6 +508,7 @@ module _ (P A : Type 0) (shape : Shape) where
   refused_by mode (Read extent) plan doing refusal c e = tt
   refused_by mode (Write extent content) plan doing refusal c e = tt
   refused_by mode Flush plan doing refusal c e = tt
+  refused_by mode Suspend plan doing refusal c e = tt
   refused_by mode (Migrate migration block) plan doing refusal c e = tt
   refused_by mode (Replace old new) plan doing refusal c e = tt
 

@@ -22,7 +22,7 @@ use Rattle.wb_tasks.specs.declared.step.Want.TheVariants.{Cell, Device, Desk, En
 use Rattle.wb_tasks.specs.declared.step.Got.{Got}
 use Rattle.wb_tasks.specs.declared.step.Got.TheVariants.{Done, Fault}
 use Rattle.wb_promise.specs.declared.job.Job.{Job}
-use Rattle.wb_promise.specs.declared.job.Job.TheVariants.{Read, Write, Flush, Open, Migrate, Replace}
+use Rattle.wb_promise.specs.declared.job.Job.TheVariants.{Read, Write, Flush, Suspend, Open, Migrate, Replace}
 use Rattle.wb_promise.specs.States.{Shape, State, Actor, Phase, Stands, Gone, Opens, OfTarget, mode_of}
 use Rattle.wb_promise.specs.Happenings.{Chosen, Gives, block_range}
 use Rattle.wb_promise.specs.Effects.{task_then}
@@ -107,6 +107,7 @@ module _ (shape : Shape) (mode : Mode) (shown : List Bytes) (n : Notes) (a : ℕ
       nothing (Read extent) z m mid = absurd z
       nothing (Write extent content) z m mid = absurd z
       nothing Flush z m mid = refl
+      nothing Suspend z m mid = refl
       nothing (Open opened_in) z m mid = refl
       nothing (Migrate migration block) z m mid = refl
       nothing (Replace old new) z m mid = refl
@@ -212,6 +213,7 @@ module _ (P A : Type 0) (shape : Shape) where
     -- of a flush and a migration nothing is claimed
     abbrev IsUnclaimed : Job → Type 0
     IsUnclaimed Flush = Unit {0}
+    IsUnclaimed Suspend = Unit {0}
     IsUnclaimed (Migrate migration block) = Unit {0}
     IsUnclaimed (Replace old new) = Unit {0}
     IsUnclaimed job = ⊥
@@ -220,6 +222,9 @@ module _ (P A : Type 0) (shape : Shape) where
     unclaimed Flush (Cell step) got read u z j = plain_words shape mode shown n a x doing noted Flush plan j step got read tt
     unclaimed Flush (Device step) got read u z j = plain_device shape mode shown n a x doing noted Flush plan j step got read tt tt
     unclaimed Flush (Desk step) got read u z j = plain_desk shape mode shown n a x doing noted Flush plan j step got read tt
+    unclaimed Suspend (Cell step) got read u z j = plain_words shape mode shown n a x doing noted Suspend plan j step got read tt
+    unclaimed Suspend (Device step) got read u z j = plain_device shape mode shown n a x doing noted Suspend plan j step got read tt tt
+    unclaimed Suspend (Desk step) got read u z j = plain_desk shape mode shown n a x doing noted Suspend plan j step got read tt
     unclaimed (Migrate migration block) (Cell step) got read u z j = plain_words shape mode shown n a x doing noted (Migrate migration block) plan j step got read tt
     unclaimed (Migrate migration block) (Device step) got read u z j = plain_device shape mode shown n a x doing noted (Migrate migration block) plan j step got read tt tt
     unclaimed (Migrate migration block) (Desk step) got read u z j = plain_desk shape mode shown n a x doing noted (Migrate migration block) plan j step got read tt
@@ -258,6 +263,7 @@ module _ (P A : Type 0) (shape : Shape) where
     claims_on (Read extent) next got read chosen z j c h g = read_goes extent next got read chosen z j c h g
     claims_on (Write extent content) next got read chosen z j c h g = write_goes extent content next got read chosen z j c h g
     claims_on Flush next got read chosen z j c h g = unclaimed Flush next got read tt z j
+    claims_on Suspend next got read chosen z j c h g = unclaimed Suspend next got read tt z j
     claims_on (Open opened_in) next got read chosen z j c h g = open_goes opened_in next got read chosen z j c h g
     claims_on (Migrate migration block) next got read chosen z j c h g = unclaimed (Migrate migration block) next got read tt z j
     claims_on (Replace old new) next got read chosen z j c h g = unclaimed (Replace old new) next got read tt z j
@@ -283,6 +289,7 @@ module _ (P A : Type 0) (shape : Shape) where
         by_step (WriteNode k) h o = absurd o
         by_step WriteRoot h o = absurd o
     claims_failed Flush step read j c h = unclaimed Flush (Device step) Fault read tt tt j
+    claims_failed Suspend step read j c h = unclaimed Suspend (Device step) Fault read tt tt j
     claims_failed (Migrate migration block) step read j c h = unclaimed (Migrate migration block) (Device step) Fault read tt tt j
     claims_failed (Replace old new) step read j c h = unclaimed (Replace old new) (Device step) Fault read tt tt j
     claims_failed (Open opened_in) step read j c h = plain_device shape mode shown n a x doing noted (Open opened_in) plan j step Fault read tt (open_on plan doing (failing doing step Fault) step Fault c h tt (still_refuses doing step Fault) (fault_why doing step))

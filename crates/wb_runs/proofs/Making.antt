@@ -34,7 +34,7 @@ use Rattle.wb_desk.specs.Desks.{DeskState}
 use Rattle.wb_desk.specs.Commits.{MayBegin, next_plan, commit_begun}
 use Rattle.wb_desk.proofs.Committing.{free_for, on_unused}
 use Rattle.wb_devices.specs.declared.running.RunningCommit.{RunningCommit}
-use Rattle.wb_stage.specs.Asking.{HasBegun}
+use Rattle.wb_stage.specs.Asking.{HasBegunWith}
 use denote.RawPtr.{null_ptr}
 use Rattle.wb_promise.specs.Happenings.{Commits, AreWhole}
 use Rattle.wb_runs.specs.Progress.{CanBegin}
@@ -103,15 +103,28 @@ changes_new m = both_of (IsBelow (levels m) 0 1) (λ (n : NodeName). place_of m 
 
 -- ---- each image can be spelled
 
-pub image_small : {P : Type 0} (g : Geometry) (desk : DeskState P) (tree : Mapping) (c : RunningCommit) → desk.geometry ≡ g → IsMapping desk.geometry.cache_blocks desk.geometry.origin_blocks desk.tree.entries → HasBegun desk c.image (commit_begun desk tree) → AreWhole c.image → IsSmall c.image
-image_small g desk tree c same mapping begun whole = record {
-  root = omega (arith, begun.image_is.root_generation, begun.may.next);
+-- that of a tree with so many cache blocks, of the next generation
+small_of : {P : Type 0} (desk : DeskState P) (imaged tree : Mapping) (flag : Bool) (c : RunningCommit) → MayBegin desk → length imaged.entries ≡ desk.geometry.cache_blocks → IsImage imaged tree (next_plan desk imaged flag) c.image → AreWhole c.image → IsSmall c.image
+small_of desk imaged tree flag c may size is whole = record {
+  root = omega (arith, is.root_generation, may.next);
   nodes = λ k node e.
-      let new = named_at (IsNew desk.tree) c.image.nodes.items k node (subst (AllByRecursion (IsNew desk.tree)) (ap (λ (n : ℕ). changed desk.tree (depth_of n)) mapping.size ∙ sym begun.image_is.nodes_are) (changes_new desk.tree)) e in
-      let written = all_at (λ (n : Place × Node). n.1.generation ≡ desk.generation + 1) c.image.nodes.items k node (recursion_from_All (λ (n : Place × Node). n.1.generation ≡ desk.generation + 1) c.image.nodes.items begun.image_is.generations) e in
+      let new = named_at (IsNew imaged) c.image.nodes.items k node (subst (AllByRecursion (IsNew imaged)) (ap (λ (n : ℕ). changed imaged (depth_of n)) size ∙ sym is.nodes_are) (changes_new imaged)) e in
+      let written = all_at (λ (n : Place × Node). n.1.generation ≡ desk.generation + 1) c.image.nodes.items k node (recursion_from_All (λ (n : Place × Node). n.1.generation ≡ desk.generation + 1) c.image.nodes.items is.generations) e in
       let words = all_at (λ (n : Place × Node). length n.1.words ≡ 32) c.image.nodes.items k node (recursion_from_All (λ (n : Place × Node). length n.1.words ≡ 32) c.image.nodes.items whole) e in
-      record { words = words; generation = omega (arith, written, begun.may.next); index = new.few };
+      record { words = words; generation = omega (arith, written, may.next); index = new.few };
 }
+
+pub image_small : {P : Type 0} (g : Geometry) (desk : DeskState P) (tree : Mapping) (c : RunningCommit) → desk.geometry ≡ g → IsMapping desk.geometry.cache_blocks desk.geometry.origin_blocks desk.tree.entries
+    → (hint_of : P → ℕ → ℕ) (seen : Option (List Bool)) → HasBegunWith hint_of seen desk c.image (commit_begun desk tree) → AreWhole c.image → IsSmall c.image
+image_small g desk tree c same mapping hint_of None begun whole = small_of desk desk.tree tree false c begun.may mapping.size begun.image_is whole
+image_small g desk tree c same mapping hint_of (Some seen) begun whole =
+    let i = begun.image_is in
+    small_of desk i.0 tree true c begun.may (ap (λ (es : List (Option Entry)). length es) i.1.entries ∙ length_marked (hint_of desk.policy) seen desk.tree.entries ∙ mapping.size) i.2 whole
+  where
+    length_marked : (hint : ℕ → ℕ) (dirty : List Bool) (es : List (Option Entry)) → length (Rattle.wb_desk.specs.Marks.marked_entries hint dirty es) ≡ length es
+    length_marked hint dirty [] = refl
+    length_marked hint [] (e ∷ es) = ap suc (length_marked hint [] es)
+    length_marked hint (bit ∷ dirty) (e ∷ es) = ap suc (length_marked hint dirty es)
 
 -- so can that of an opening, which has no node
 pub small_opening : (image : Image) → image.nodes.items ≡ [] → image.root.generation < 2 ^ 64 → IsSmall image
@@ -248,14 +261,17 @@ desk_begins heap P A g images desk commit device known once most enough may =
           omega (arith, few, enough, sized),
           refl,
           refl,
-          record {
-            may = may;
-            state = refl;
-            image_is = is;
-            unused = on_unused unknowing desk (λ (b : ℕ). 0) None false tree im kept may.idle is
-                (subst (λ (es : List (Option Entry)). IsMapping desk.geometry.cache_blocks desk.geometry.origin_blocks es) (sym is.same_entries) kept.mapping)
-                (planned-sound desk.tree desk.geometry plan.free can) (planned-inside desk.tree desk.geometry plan.free can);
-          },
+          (
+            (λ policy block. 0),
+            record {
+              may = may;
+              state = refl;
+              image_is = is;
+              unused = on_unused unknowing desk (λ (b : ℕ). 0) None false tree im kept may.idle is
+                  (subst (λ (es : List (Option Entry)). IsMapping desk.geometry.cache_blocks desk.geometry.origin_blocks es) (sym is.same_entries) kept.mapping)
+                  (planned-sound desk.tree desk.geometry plan.free can) (planned-inside desk.tree desk.geometry plan.free can);
+            },
+          ),
           (made heap desk.tree desk.geometry plan.free plan.generation can kept.mapping).whole,
         ),
       ),

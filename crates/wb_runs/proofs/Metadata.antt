@@ -10,6 +10,7 @@ use Rattle.std.specs.List.{count_by}
 use Rattle.std.specs.Prelude.{is_some}
 use Rattle.wb_tree.specs.Mapping.{Mapping, IsMapping, IsSound, AreInside, used_places}
 use Rattle.wb_tree.specs.Edits.{IsEdited}
+use Rattle.wb_tree.specs.declared.image.Image.{Image}
 use Rattle.wb_tree.proofs.Stored.Edited.{edited-none}
 use Rattle.wb_space.specs.Places.{noted, unused, place_count}
 use Rattle.wb_format.specs.declared.root.Root.{Root}
@@ -25,22 +26,23 @@ use Rattle.wb_meta.proofs.Round.{stored_edited}
 use Rattle.wb_orders.specs.Orders.{AreOrders}
 use Rattle.wb_orders.proofs.Kept.{none_kept}
 use Rattle.wb_meta.specs.Openings.{IsOpening}
-use Rattle.wb_meta.specs.Imaging.{DeviceStores}
-use Rattle.wb_policy.specs.Law.{Holdings}
+use Rattle.wb_meta.specs.Imaging.{DeviceStores, IsPlanned}
+use Rattle.wb_policy.specs.Law.{Holdings, origins}
 use Rattle.wb_desk.specs.Desks.{DeskState, DeskInvariant}
 use Rattle.wb_desk.proofs.Committing.{begun_kept, ended_kept}
 use Rattle.wb_desk.proofs.Opened.{opened_kept}
-use Rattle.wb_desk.specs.Commits.{commit_begun, next_plan}
+use Rattle.wb_desk.specs.Commits.{MayBegin, commit_begun, next_plan}
+use Rattle.wb_desk.proofs.Marking.{origins-marked}
 use Rattle.wb_desk.specs.Opening.{opened}
 use Rattle.wb_devices.specs.declared.running.RunningCommit.{RunningCommit}
-use Rattle.wb_stage.specs.Asking.{HasBegun, ended}
+use Rattle.wb_stage.specs.Asking.{HasBegunWith, ended}
 use Rattle.wb_devices.specs.Committing.{is_committed}
 use Rattle.wb_devices.specs.Opened.{HasNextRoot}
 use Rattle.wb_meta.specs.Roots.{MayBeReadAs, Commit, commit_of, opening_of}
 use Rattle.wb_meta.proofs.Leading.{commit_begins, opening_begins}
 use Rattle.wb_meta.proofs.Deciding.{stored_is_read, read_is_committed}
 use Rattle.wb_promise.specs.States.{Phase, Stands, Gone, Opens}
-use Rattle.wb_runs.proofs.Images.{Images, one_image, IsFit, Begins, Ends, Turns}
+use Rattle.wb_runs.proofs.Images.{Images, one_image, Begins, Ends, Turns}
 use Rattle.wb_runs.proofs.Underway.{Readable, Underway, Found, underway_readable, found_readable, all_done}
 
 -- of the mapping a policy need know nothing here
@@ -56,7 +58,6 @@ pub record Quiet {P : Type 0} (g : Geometry) (images : Images) (desk : DeskState
   pub places : desk.space.places.committed ≡ noted used (unused (place_count g.cache_blocks))
   pub generation : desk.generation ≡ stored.root.generation
   pub same : stored.root.geometry ≡ g
-  pub fit : IsFit stored
   pub idle : desk.space.committing ≡ false
 
 -- One runs, that leads to a tree of which edits have made the desk's.
@@ -130,8 +131,6 @@ module _ (g : Geometry) (images : Images) (device : List History) where
   quiet_readable : (P : Type 0) (desk : DeskState P) → Quiet g images desk device → Readable g images device
   quiet_readable P desk q = subst (λ (i : Images). Readable g i device) (sym q.are) (record {
     read = subst (λ (x : Geometry). MayBeReadAs x q.stored None device) q.same (stored_is_read desk.tree device q.stored q.used q.stores);
-    fit = q.fit;
-    fit_later = tt;
   })
 
   standing_readable : (P : Type 0) (desk : DeskState P) (commit : Option RunningCommit) → Standing g images desk commit device → Readable g images device
@@ -153,15 +152,26 @@ module _ (g : Geometry) (images : Images) (device : List History) where
 
 -- ---- a commit begins and ends
 
+-- one that began could
+pub begin_may : (P : Type 0) (hint_of : P → ℕ → ℕ) (seen : Option (List Bool)) (desk : DeskState P) (image : Image) (desk' : DeskState P) → HasBegunWith hint_of seen desk image desk' → MayBegin desk
+begin_may P hint_of None desk image desk' b = b.may
+begin_may P hint_of (Some seen) desk image desk' b = b.may
+
 module _ (P : Type 0) (g : Geometry) (images : Images) (desk : DeskState P) (device : List History) where
-  -- One begins over a device that stores the desk's tree, and leads to a state of its entries.
-  pub begins_over : (commit : RunningCommit) (tree : Mapping) → IsDesk g desk → Quiet g images desk device → commit.steps ≡ NodesWritten 0
-      → HasBegun desk commit.image (commit_begun desk tree) → Turns (λ now. AtDesk g now (commit_begun desk tree) (Some commit) device × ((state : Stored) × (now.running ≡ Some state) × (state.found.entries ≡ desk.tree.entries))) images
-  begins_over commit tree k q steps begun =
+  abbrev places_used : IsDesk g desk → (q : Quiet g images desk device) → desk.space.places.committed ≡ noted q.used (unused (place_count desk.geometry.cache_blocks))
+  places_used k q = subst (λ (x : Geometry). desk.space.places.committed ≡ noted q.used (unused (place_count x.cache_blocks))) (sym k.geometry) q.places
+
+  -- the images, with a commit of this tree's entries
+  abbrev LeadsTo : RunningCommit → Mapping → Images → Type 0
+  LeadsTo commit tree now = AtDesk g now (commit_begun desk tree) (Some commit) device × ((state : Stored) × (now.running ≡ Some state) × (state.found.entries ≡ tree.entries))
+
+  -- One begins whose image is made of this tree, which the device stores too, with the same blocks.
+  begins_on : (imaged : Mapping) (flag : Bool) (commit : RunningCommit) (tree : Mapping) → IsDesk g desk → (q : Quiet g images desk device) → commit.steps ≡ NodesWritten 0 → MayBegin desk
+      → DeviceStores imaged device q.stored q.used → IsPlanned imaged tree (next_plan desk imaged flag) commit.image q.used → origins imaged.entries ≡ origins desk.tree.entries → Turns (LeadsTo commit tree) images
+  begins_on imaged flag commit tree k q steps may stores planned same =
       let image = commit.image in
-      let places = subst (λ (x : Geometry). desk.space.places.committed ≡ noted q.used (unused (place_count x.cache_blocks))) (sym k.geometry) q.places in
-      let planned = begun.unused q.used places in
-      let both = commit_begins desk.tree tree (next_plan desk desk.tree false) image device q.stored q.used q.stores planned
+      let is = planned.image_is in
+      let both = commit_begins imaged tree (next_plan desk imaged flag) image device q.stored q.used stores planned
       (record { same_geometry = q.same ∙ sym k.geometry; next = ap (λ n. n + 1) q.generation }) in
       let of = commit_of image tree q.stored device in
       record {
@@ -172,9 +182,9 @@ module _ (P : Type 0) (g : Geometry) (images : Images) (desk : DeskState P) (dev
           record {
             is = record {
               geometry = k.geometry;
-              kept = begun_kept unknowing desk tree image k.kept begun.may
-                  (record { origins = ap (λ (es : List (Option Entry)). Rattle.wb_policy.specs.Law.origins es) begun.image_is.same_entries; used = begun.image_is.used })
-                  (subst (λ (es : List (Option Entry)). IsMapping desk.geometry.cache_blocks desk.geometry.origin_blocks es) (sym begun.image_is.same_entries) k.kept.mapping) planned.inside;
+              kept = begun_kept unknowing desk tree image k.kept may
+                  (record { origins = ap (λ (es : List (Option Entry)). origins es) is.same_entries ∙ same; used = is.used })
+                  (subst (λ (es : List (Option Entry)). IsMapping desk.geometry.cache_blocks desk.geometry.origin_blocks es) (sym is.same_entries) planned.mapping) planned.inside;
               orders = k.orders;
               sound = planned.sound;
             };
@@ -186,19 +196,26 @@ module _ (P : Type 0) (g : Geometry) (images : Images) (desk : DeskState P) (dev
                 image = refl;
                 come = subst (λ (s : CommitSteps). CommitHasCome image device s device) (sym steps) both.1;
                 same = q.same;
-                fit = q.fit;
-                fit_new = λ c. absurd (let unclean = begun.image_is.root_clean in cc);
               };
               edited = edited-none tree;
               entries = refl;
               places = ap (λ (x : Geometry). noted (used_places tree) (unused (place_count x.cache_blocks))) k.geometry;
-              generation = begun.image_is.root_generation;
+              generation = is.root_generation;
               busy = refl;
             };
           },
-          (of.new, refl, begun.image_is.same_entries),
+          (of.new, refl, refl),
         );
       }
+
+  -- One begins over a device that stores the desk's tree: of its entries, marked where it is clean.
+  pub begins_over : (hint_of : P → ℕ → ℕ) (seen : Option (List Bool)) (commit : RunningCommit) (tree : Mapping) → IsDesk g desk → Quiet g images desk device → commit.steps ≡ NodesWritten 0
+      → HasBegunWith hint_of seen desk commit.image (commit_begun desk tree) → Turns (LeadsTo commit tree) images
+  begins_over hint_of None commit tree k q steps begun = begins_on desk.tree false commit tree k q steps begun.may q.stores (begun.unused q.used (places_used k q)) refl
+  begins_over hint_of (Some seen) commit tree k q steps begun =
+      let u = begun.unused in
+      begins_on u.0 true commit tree k q steps begun.may (stored_edited desk.tree u.0 device q.stored q.used q.stores u.1.edited u.1.sound) (u.2 q.used (places_used k q))
+      (ap (λ (es : List (Option Entry)). origins es) u.1.entries ∙ origins-marked (hint_of desk.policy) seen desk.tree.entries)
 
   -- one that was done ends, and its state is the one image
   pub ends_over : (commit : RunningCommit) → AtDesk g images desk (Some commit) device → is_committed commit.steps ≡ true →
@@ -223,7 +240,6 @@ module _ (P : Type 0) (g : Geometry) (images : Images) (desk : DeskState P) (dev
               places = l.places;
               generation = sym l.generation;
               same = l.under.can.same_geometry ∙ l.under.same;
-              fit = l.under.fit_new;
               idle = refl;
             });
           }),
@@ -259,8 +275,6 @@ module _ (A : Type 0) (g : Geometry) (images : Images) (device : List History) w
                 image = refl;
                 come = subst (λ (s : CommitSteps). CommitHasCome image device s device) (sym next.steps) both.1;
                 same = k.found.read.same_geometry;
-                fit = k.found.fit;
-                fit_new = λ c. absurd (let unclean = ap (λ (r : Root). r.clean) opens.root_is in cc);
               };
               tree = refl;
               used = refl;
@@ -311,7 +325,6 @@ module _ (A : Type 0) (g : Geometry) (images : Images) (device : List History) w
               places = refl;
               generation = ap (λ (s : Stored_there A). s.root.generation + 1) (sym same) ∙ sym k.generation;
               same = new_root;
-              fit = k.under.fit_new;
               idle = refl;
             });
           },

@@ -14,7 +14,7 @@ use Rattle.wb_tasks.specs.declared.step.Got.{Got}
 use Rattle.wb_tasks.specs.declared.step.Got.TheVariants.{Fault}
 use Rattle.wb_meta.specs.Roots.{AreOneOf}
 use Rattle.wb_promise.specs.declared.job.Job.{Job}
-use Rattle.wb_promise.specs.declared.job.Job.TheVariants.{Read, Write, Flush, Open, Migrate, Replace}
+use Rattle.wb_promise.specs.declared.job.Job.TheVariants.{Read, Write, Flush, Suspend, Open, Migrate, Replace}
 use Rattle.wb_promise.specs.declared.event.Event.{Event}
 use Rattle.wb_promise.specs.declared.event.Event.TheVariants.{Start, Step, FaultStep, Stop}
 use Rattle.wb_promise.specs.declared.event.What.{What}
@@ -22,10 +22,10 @@ use Rattle.wb_promise.specs.declared.event.What.TheVariants.{Skipped, Refused, S
 use Rattle.wb_devices.specs.declared.running.RunningCommit.{RunningCommit}
 use Rattle.wb_promise.specs.States.{Shape, State, Actor, Phase, Stands, Gone, Opens, mode_of, start}
 use Rattle.wb_policy.specs.declared.order.Order.TheVariants.{Replace as ReplaceOrder}
-use Rattle.wb_promise.specs.Happenings.{Chosen, Cut, Orders, Happening, OfSome, Gives, Falters, MayFailAt, StartGives, MayBe, order_for}
+use Rattle.wb_promise.specs.Happenings.{Chosen, Cut, Orders, Happening, OfSome, Gives, Falters, MayFailAt, StartGives, MayBe, order_for, StartsAs}
 use Rattle.wb_promise.specs.Effects.{device_done, device_failed, devices_then, commit_then, phase_then, stepped, with_actor, job_of, cleared, given, phase_given, started, after_what, after_happening, after_all, IsRun}
 use Rattle.wb_runs.specs.Laws.{CanBeRead}
-use Rattle.wb_runs.proofs.Images.{Images, Turns, stays, IsFitToo}
+use Rattle.wb_runs.proofs.Images.{Images, Turns, stays}
 use Rattle.wb_runs.proofs.Desks.{reserved_stands}
 use Rattle.wb_runs.proofs.Formatted.{formatted_none, none_images, none_readable}
 use Rattle.wb_runs.proofs.Underway.{Readable, crash_readable}
@@ -79,11 +79,17 @@ module _ (P A : Type 0) (shape : Shape) where
   ordered i (Stands t) commit m actor (Read extent) chosen k g = k
   ordered i (Stands t) commit m actor (Write extent content) chosen k g = k
   ordered i (Stands t) commit m actor Flush chosen k g = k
+  ordered i (Stands t) commit m actor Suspend chosen k g = k
   ordered i (Stands t) commit m actor (Open mode) chosen k g = k
   ordered i Gone commit m actor job chosen k g = k
   ordered i (Opens mode reading) commit m actor job chosen k g = k
 
-  by_start : (i : Images) (w : State P A) (a : ℕ) (job : Job) (chosen : Chosen P A) → Known i w → StartGives shape w.phase (slice_get w.actors a) job Started chosen → Knows i (started shape w a job chosen)
+  suspend_ordered : (i : Images) (phase : Phase P A) (commit : Option RunningCommit) (m : List History) (chosen : Chosen P A) → MetadataKept shape.geometry i phase commit m → MetadataKept shape.geometry i (phase_given phase Suspend chosen) commit m
+  suspend_ordered i (Stands t) commit m chosen k = k
+  suspend_ordered i Gone commit m chosen k = k
+  suspend_ordered i (Opens mode reading) commit m chosen k = k
+
+  by_start : (i : Images) (w : State P A) (a : ℕ) (job : Job) (chosen : Chosen P A) → Known i w → StartsAs shape w a job Started chosen → Knows i (started shape w a job chosen)
   by_start i w a (Open mode) chosen k g = by_actor (slice_get (cleared w (Open mode)).actors a)
     where
       by_actor : (o : Option Actor) → Knows i (with_actor (cleared w (Open mode)) o (λ x. record (cleared w (Open mode)) { phase = phase_given (cleared w (Open mode)).phase (Open mode) chosen; actors = slice_set (cleared w (Open mode)).actors a (given shape (mode_of (cleared w (Open mode)).phase) x (Open mode) chosen) }))
@@ -104,6 +110,11 @@ module _ (P A : Type 0) (shape : Shape) where
       by_start_over : (o : Option Actor) → Knows i (with_actor w o (λ x. record w { phase = phase_given w.phase Flush chosen; actors = slice_set w.actors a (given shape (mode_of w.phase) x Flush chosen) }))
       by_start_over None = same i w k
       by_start_over (Some x) = stays (λ now. MetadataKept shape.geometry now (phase_given w.phase Flush chosen) w.commit w.devices.metadata) i (ordered i w.phase w.commit w.devices.metadata (slice_get w.actors a) Flush chosen k g)
+  by_start i w a Suspend chosen k g = by_start_over (slice_get w.actors a)
+    where
+      by_start_over : (o : Option Actor) → Knows i (with_actor w o (λ x. record w { phase = phase_given w.phase Suspend chosen; actors = slice_set w.actors a (given shape (mode_of w.phase) x Suspend chosen) }))
+      by_start_over None = same i w k
+      by_start_over (Some x) = stays (λ now. MetadataKept shape.geometry now (phase_given w.phase Suspend chosen) w.commit w.devices.metadata) i (suspend_ordered i w.phase w.commit w.devices.metadata chosen k)
   by_start i w a (Migrate migration block) chosen k g = by_start_over (slice_get w.actors a)
     where
       by_start_over : (o : Option Actor) → Knows i (with_actor w o (λ x. record w { phase = phase_given w.phase (Migrate migration block) chosen; actors = slice_set w.actors a (given shape (mode_of w.phase) x (Migrate migration block) chosen) }))
@@ -160,15 +171,15 @@ module _ (P A : Type 0) (shape : Shape) where
 
   -- what a crash leaves of readable metadata
   pub read_then : (i : Images) (device : List History) (sectors : List Bytes) → Readable shape.geometry i device → MayLeave device sectors → CanBeRead shape sectors
-  read_then i device sectors r left = by_written i.written i.running r.fit_later r.read.later_geometry (r.read.represents sectors left)
+  read_then i device sectors r left = by_written i.written i.running r.read.later_geometry (r.read.represents sectors left)
     where
       old : Represents sectors i.committed.root i.committed.found → CanBeRead shape sectors
-      old represents = record { stored = i.committed; represents = represents; geometry = r.read.same_geometry; clean = r.fit }
+      old represents = record { stored = i.committed; represents = represents; geometry = r.read.same_geometry }
 
-      by_written : (written : Bool) (running : Option Stored) → IsFitToo running → Rattle.wb_meta.specs.Roots.StoredIsOf shape.geometry (if written then running else None) → AreOneOf i.committed (if written then running else None) sectors → CanBeRead shape sectors
-      by_written false running f g are = old are
-      by_written true None f g are = old are
-      by_written true (Some s) f g are = elim are [ inl o ↦ old o | inr n ↦ record { stored = s; represents = n; geometry = g; clean = f } ]
+      by_written : (written : Bool) (running : Option Stored) → Rattle.wb_meta.specs.Roots.StoredIsOf shape.geometry (if written then running else None) → AreOneOf i.committed (if written then running else None) sectors → CanBeRead shape sectors
+      by_written false running g are = old are
+      by_written true None g are = old are
+      by_written true (Some s) g are = elim are [ inl o ↦ old o | inr n ↦ record { stored = s; represents = n; geometry = g } ]
 
   pub run_read : (metadata : List History) (hs : List (Happening P A)) → IsFormatted shape.geometry metadata → length metadata ≡ shape.geometry.meta_sectors → IsRun shape (start shape metadata) hs →
       (sectors : List Bytes) → MayLeave (after_all shape (start shape metadata) hs).devices.metadata sectors → CanBeRead shape sectors

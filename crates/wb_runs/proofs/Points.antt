@@ -1,14 +1,15 @@
 -- Where a flush or an opening stands in its table, and how far the commit and the reading have come there.
-use Rattle.std.proofs.Common.{◌≡◌, ◌≤◌, ◌+◌, ◌++◌, ℕ, false, List, [], ◌∷◌, Option, Some, None, length, slice_get}
-use Rattle.wb_types.specs.declared.mode.Dev.TheVariants.{Metadata, Origin}
+use Rattle.std.proofs.Common.{◌≡◌, ◌≤◌, ◌+◌, ◌++◌, ℕ, true, false, List, [], ◌∷◌, Option, Some, None, length, slice_get}
+use Rattle.wb_types.specs.declared.mode.Dev.TheVariants.{Metadata, Cache, Origin}
 use Rattle.wb_types.specs.declared.number.OBlock.{OBlock}
-use Rattle.wb_words.specs.declared.step.CellStep.TheVariants.{SetFailed}
+use Rattle.wb_words.specs.declared.word.Word.TheVariants.{Fail}
+use Rattle.wb_words.specs.declared.step.CellStep.TheVariants.{Look, SetFailed, SetSuspended}
 use Rattle.wb_meta.specs.Reads.{sectors_read}
 use Rattle.wb_meta.specs.declared.read_steps.ReadSteps.{ReadSteps}
 use Rattle.wb_meta.specs.declared.commit_steps.CommitSteps.{CommitSteps}
 use Rattle.wb_meta.specs.declared.commit_steps.CommitSteps.TheVariants.{NodesWritten, NodesSynced, RootWritten, Done as Committed}
-use Rattle.wb_tasks.specs.Tables.{BlockRange, Migrating, OnBlock, Flushing, Opening}
-use Rattle.wb_tasks.specs.Plan.{Plan, node_writes, commit_steps, root_steps, first_steps, release_orders}
+use Rattle.wb_tasks.specs.Tables.{BlockRange, Migrating, OnBlock, TaskJob, Flushing, Suspending, Opening}
+use Rattle.wb_tasks.specs.Plan.{Plan, node_writes, release_orders, seal_looks}
 use Rattle.wb_tasks.specs.Points.{OpenPoint, AtFirst, AtCache, AtOrigin, AtRead, AtRoot, AtRootSync, AtEnd, AtRefusal, open_left, open_answer}
 use Rattle.wb_tasks.specs.declared.step.Migration.{Migration}
 use Rattle.wb_tasks.specs.declared.step.Answer.{Answer}
@@ -18,7 +19,7 @@ use Rattle.wb_tasks.specs.declared.step.Want.{Want}
 use Rattle.wb_tasks.specs.declared.step.Want.TheVariants.{Cell, Device, Desk}
 use Rattle.wb_devices.specs.declared.running.RunningCommit.{RunningCommit}
 use Rattle.wb_promise.specs.declared.job.Job.{Job}
-use Rattle.wb_promise.specs.declared.job.Job.TheVariants.{Flush, Open, Migrate, Replace}
+use Rattle.wb_promise.specs.declared.job.Job.TheVariants.{Flush, Suspend, Open, Migrate, Replace}
 use Rattle.wb_promise.specs.States.{Actor, Phase, Stands, Gone, Opens}
 use Rattle.wb_promise.specs.Happenings.{OfSome}
 use Rattle.wb_runs.proofs.Plans.{plan_of}
@@ -29,33 +30,65 @@ abbrev pub Runs : ℕ → CommitSteps → Option RunningCommit → Type 0
 Runs nodes steps None = ⊥
 Runs nodes steps (Some c) = (length c.image.nodes.items ≡ nodes) × IsSmall c.image × (c.steps ≡ steps)
 
--- ---- flushes
+-- ---- flushes and suspends
 
--- With each point of a commit go the nodes of its image; where they are written, those that are left and which one comes next. Before its answer a
--- flush may have to give up the orders of some blocks.
+-- what a commit is for: a flush, which serves the replacements of these blocks, or a suspend, which looks at the seals of these; of so many nodes at
+-- most
+pub data CommitJob : Type 0 where
+  Flushes : (serves : List OBlock) → (most : ℕ) → CommitJob
+  Suspends : (looks : List OBlock) → (most : ℕ) → CommitJob
+
+abbrev pub task_of : CommitJob → TaskJob
+task_of (Flushes serves most) = Flushing serves most
+task_of (Suspends looks most) = Suspending looks most
+
+abbrev pub doing_of : CommitJob → Job
+doing_of (Flushes serves most) = Flush
+doing_of (Suspends looks most) = Suspend
+
+abbrev pub begin_of : CommitJob → Want
+begin_of (Flushes serves most) = Desk (BeginCommit false most)
+begin_of (Suspends looks most) = Desk (BeginCommit true most)
+
+abbrev pub first_looks : CommitJob → List OBlock
+first_looks (Flushes serves most) = []
+first_looks (Suspends looks most) = looks
+
+-- what its commit is followed by
+abbrev pub following : CommitJob → List Want
+following (Flushes serves most) = []
+following (Suspends looks most) = Cell SetSuspended ∷ []
+
+-- With each point of a commit go the nodes of its image; where they are written, those that are left and which one comes next. Before it begins a
+-- suspend has seals to look at, and before its answer a flush may have to give up the orders of some blocks.
 pub data FlushPoint : Type 0 where
   ToLook : FlushPoint
-  ToBegin : FlushPoint
+  ToBegin : (looks : List OBlock) → FlushPoint
   ToSyncCache : (nodes : ℕ) → FlushPoint
   ToSyncOrigin : (nodes : ℕ) → FlushPoint
   ToWriteNodes : (left from : ℕ) → FlushPoint
   ToWriteRoot : (nodes : ℕ) → FlushPoint
   ToSyncRoot : (nodes : ℕ) → FlushPoint
   ToEnd : (nodes : ℕ) → FlushPoint
+  ToSetSuspended : FlushPoint
   ToSetFailed : FlushPoint
   ToRelease : (blocks : List OBlock) → FlushPoint
 
-abbrev pub flush_left : List OBlock → ℕ → FlushPoint → List Want
-flush_left serves most ToLook = first_steps (Flushing serves most)
-flush_left serves most ToBegin = Desk (BeginCommit false most) ∷ []
-flush_left serves most (ToSyncCache nodes) = commit_steps nodes
-flush_left serves most (ToSyncOrigin nodes) = Device (Sync Origin) ∷ (node_writes nodes 0 ++ root_steps)
-flush_left serves most (ToWriteNodes left from) = node_writes left from ++ root_steps
-flush_left serves most (ToWriteRoot nodes) = Device WriteRoot ∷ Device (Sync Metadata) ∷ Desk EndCommit ∷ []
-flush_left serves most (ToSyncRoot nodes) = Device (Sync Metadata) ∷ Desk EndCommit ∷ []
-flush_left serves most (ToEnd nodes) = Desk EndCommit ∷ []
-flush_left serves most ToSetFailed = Cell SetFailed ∷ []
-flush_left serves most (ToRelease blocks) = release_orders blocks
+abbrev pub root_left : CommitJob → List Want
+root_left job = Device (Sync Metadata) ∷ Device WriteRoot ∷ Device (Sync Metadata) ∷ Desk EndCommit ∷ following job
+
+abbrev pub commit_left : CommitJob → FlushPoint → List Want
+commit_left job ToLook = Cell (Look Fail) ∷ (seal_looks (first_looks job) ++ begin_of job ∷ [])
+commit_left job (ToBegin looks) = seal_looks looks ++ begin_of job ∷ []
+commit_left job (ToSyncCache nodes) = Device (Sync Cache) ∷ Device (Sync Origin) ∷ (node_writes nodes 0 ++ root_left job)
+commit_left job (ToSyncOrigin nodes) = Device (Sync Origin) ∷ (node_writes nodes 0 ++ root_left job)
+commit_left job (ToWriteNodes left from) = node_writes left from ++ root_left job
+commit_left job (ToWriteRoot nodes) = Device WriteRoot ∷ Device (Sync Metadata) ∷ Desk EndCommit ∷ following job
+commit_left job (ToSyncRoot nodes) = Device (Sync Metadata) ∷ Desk EndCommit ∷ following job
+commit_left job (ToEnd nodes) = Desk EndCommit ∷ following job
+commit_left job ToSetSuspended = Cell SetSuspended ∷ []
+commit_left job ToSetFailed = Cell SetFailed ∷ []
+commit_left job (ToRelease blocks) = release_orders blocks
 
 abbrev pub AtFlush : FlushPoint → Option RunningCommit → Type 0
 AtFlush (ToSyncCache nodes) commit = Runs nodes (NodesWritten 0) commit
@@ -66,7 +99,7 @@ AtFlush (ToSyncRoot nodes) commit = Runs nodes RootWritten commit
 AtFlush (ToEnd nodes) commit = Runs nodes Committed commit
 AtFlush point commit = Unit {0}
 
--- the flush leads the commit
+-- who is there leads the commit
 abbrev pub IsLeading : FlushPoint → Type 0
 IsLeading (ToSyncCache nodes) = Unit {0}
 IsLeading (ToSyncOrigin nodes) = Unit {0}
@@ -76,13 +109,19 @@ IsLeading (ToSyncRoot nodes) = Unit {0}
 IsLeading (ToEnd nodes) = Unit {0}
 IsLeading point = ⊥
 
--- A flush that leads is the leader's.
-pub record FlushAt (commit : Option RunningCommit) (IsLeader : Type 0) (plan : Plan) : Type 0 where
-  pub serves : List OBlock
+-- a flush alone gives up orders
+abbrev pub IsOf : FlushPoint → CommitJob → Type 0
+IsOf (ToRelease (block ∷ blocks)) (Suspends looks most) = ⊥
+IsOf point job = Unit {0}
+
+-- One that leads is the leader's.
+pub record FlushAt (Makes : List OBlock → ℕ → CommitJob) (commit : Option RunningCommit) (IsLeader : Type 0) (plan : Plan) : Type 0 where
+  pub blocks : List OBlock
   pub most : ℕ
   pub answer : Answer
   pub point : FlushPoint
-  pub is : plan ≡ plan_of (Flushing serves most) (flush_left serves most point) answer
+  pub of : IsOf point (Makes blocks most)
+  pub is : plan ≡ plan_of (task_of (Makes blocks most)) (commit_left (Makes blocks most) point) answer
   pub at : AtFlush point commit
   pub leads : IsLeading point → IsLeader
 
@@ -92,7 +131,8 @@ Migrates migration plan = (part : BlockRange) × (plan.job ≡ OnBlock (Migratin
 
 -- nobody is at a replacement: it begins with the demotion of the block that leaves
 abbrev pub FlushJob : Option RunningCommit → Type 0 → Job → Plan → Type 0
-FlushJob commit IsLeader Flush plan = FlushAt commit IsLeader plan
+FlushJob commit IsLeader Flush plan = FlushAt Flushes commit IsLeader plan
+FlushJob commit IsLeader Suspend plan = FlushAt Suspends commit IsLeader plan
 FlushJob commit IsLeader (Migrate migration block) plan = Migrates migration plan
 FlushJob commit IsLeader (Replace old new) plan = ⊥
 FlushJob commit IsLeader job plan = Unit {0}

@@ -23,14 +23,14 @@ use Rattle.wb_tasks.specs.declared.step.Got.TheVariants.{Fault}
 use Rattle.wb_devices.specs.declared.devices.Devices.{Devices}
 use Rattle.wb_devices.specs.declared.running.RunningCommit.{RunningCommit}
 use Rattle.wb_promise.specs.declared.job.Job.{Job}
-use Rattle.wb_promise.specs.declared.job.Job.TheVariants.{Read, Write, Flush, Open, Migrate, Replace}
+use Rattle.wb_promise.specs.declared.job.Job.TheVariants.{Read, Write, Flush, Open, Migrate, Replace, Suspend}
 use Rattle.wb_promise.specs.declared.event.Event.{Event}
 use Rattle.wb_promise.specs.declared.event.Event.TheVariants.{Start, Step, FaultStep, Stop}
 use Rattle.wb_promise.specs.declared.event.What.{What}
 use Rattle.wb_promise.specs.declared.event.What.TheVariants.{Skipped, Refused, Started, Stepped, Stopped}
 use Rattle.wb_promise.specs.States.{Shape, State, Actor, Target, Phase, Stands, Gone, Opens, OfTarget, mode_of, resting, start}
-use Rattle.wb_promise.specs.Happenings.{Chosen, Plain, Cut, Orders, Begins, Reaches, Puts, Commits, Asks, Opened, Happening, OfSome, Gives, Falters, MayFailAt, DoesNotApply, MayBe, block_range, migrated_range, blocks_left, task_job, begun_as}
-use Rattle.wb_promise.specs.Effects.{device_done, device_failed, commit_then, reading_then, task_then, phase_then, phase_opened, phase_given, actor_then, stepped, with_actor, cleared, given, started, job_of, cut_of, after_what, after_happening, after_all, IsRun}
+use Rattle.wb_promise.specs.Happenings.{Chosen, Plain, Cut, Orders, Begins, Reaches, Puts, Commits, Asks, Opened, Happening, OfSome, Gives, Falters, MayFailAt, DoesNotApply, MayBe, block_range, migrated_range, blocks_left, task_job, begun_as, Looks}
+use Rattle.wb_promise.specs.Effects.{device_done, device_failed, commit_then, reading_then, task_then, phase_then, phase_opened, phase_given, actor_then, stepped, with_actor, cleared, given, started, job_of, cut_of, after_what, after_happening, after_all, IsRun, looks_of}
 use Rattle.wb_promise.specs.Clerk.{Notes, formatted}
 use Rattle.wb_promise.specs.Headline.{note_happening}
 use Rattle.wb_runs.specs.Holding.{TaskSuits, AllSuited}
@@ -43,14 +43,17 @@ use Rattle.wb_runs.proofs.Linking.{IsOpeningJob, IsServed, TaskHere, IsTask, Lin
 use Rattle.wb_runs.proofs.LinkedRuns.{Base, base_after, base_start}
 use Rattle.wb_runs.proofs.Plans.{plan_of}
 use Rattle.wb_tasks.specs.Points.{AtFirst}
-use Rattle.wb_runs.proofs.Points.{ToLook, FlushAt, FlushJob, FlushTask, OpenAt, OpenTask, Going}
+use Rattle.wb_runs.proofs.Points.{ToLook, FlushAt, FlushJob, FlushTask, OpenAt, OpenTask, Going, CommitJob, Flushes, Suspends, task_of, doing_of, commit_left, FlushPoint, IsOf, AtFlush, IsLeading}
 use Rattle.wb_runs.proofs.Going.{Moved, flush_moves, flush_fails, open_moves, open_fails}
+use Rattle.wb_types.specs.declared.number.OBlock.{OBlock}
+use Rattle.wb_tasks.specs.declared.step.Answer.{Answer}
 
 -- ---- one actor of a list changed
 
-lifted : (commit commit' : Option RunningCommit) (L L' : Type 0) (task : Option (Job × Plan)) → ((plan : Plan) → FlushAt commit L plan → FlushAt commit' L' plan) → FlushTask commit L task → FlushTask commit' L' task
+lifted : (commit commit' : Option RunningCommit) (L L' : Type 0) (task : Option (Job × Plan)) → ((Makes : List OBlock → ℕ → CommitJob) (plan : Plan) → FlushAt Makes commit L plan → FlushAt Makes commit' L' plan) → FlushTask commit L task → FlushTask commit' L' task
 lifted commit commit' L L' None f k = tt
-lifted commit commit' L L' (Some (Flush, plan)) f k = f plan k
+lifted commit commit' L L' (Some (Flush, plan)) f k = f Flushes plan k
+lifted commit commit' L L' (Some (Suspend, plan)) f k = f Suspends plan k
 lifted commit commit' L L' (Some (Read extent, plan)) f k = tt
 lifted commit commit' L L' (Some (Write extent content, plan)) f k = tt
 lifted commit commit' L L' (Some (Open mode, plan)) f k = tt
@@ -58,13 +61,13 @@ lifted commit commit' L L' (Some (Migrate migration block, plan)) f k = k
 lifted commit commit' L L' (Some (Replace old new, plan)) f k = absurd k
 
 flushes_set : (actors : List Actor) (a : ℕ) (x y : Actor) (commit commit' : Option RunningCommit) (leader leader' : ℕ) → slice_get actors a ≡ Some x → ((b : ℕ) (z : Actor) → slice_get actors b ≡ Some z → FlushTask commit (b ≡ leader) z.task) →
-    FlushTask commit' (a ≡ leader') y.task → ((b : ℕ) (plan : Plan) → b ≢ a → FlushAt commit (b ≡ leader) plan → FlushAt commit' (b ≡ leader') plan) →
+    FlushTask commit' (a ≡ leader') y.task → ((Makes : List OBlock → ℕ → CommitJob) (b : ℕ) (plan : Plan) → b ≢ a → FlushAt Makes commit (b ≡ leader) plan → FlushAt Makes commit' (b ≡ leader') plan) →
     (b : ℕ) (z : Actor) → slice_get (slice_set actors a y) b ≡ Some z → FlushTask commit' (b ≡ leader') z.task
 flushes_set actors a x y commit commit' leader leader' e each here others b z f = elim (cases_eq b a) [
   | inl s ↦ let there : Some y ≡ Some z = sym (set_there actors a x y e) ∙ ap (slice_get (slice_set actors a y)) (sym s) ∙ f in
       let same : y ≡ z = cc in
       subst (λ (k : ℕ). FlushTask commit' (k ≡ leader') z.task) (sym s) (subst (λ (v : Actor). FlushTask commit' (a ≡ leader') v.task) same here)
-  | inr o ↦ lifted commit commit' (b ≡ leader) (b ≡ leader') z.task (λ plan k. others b plan o k) (each b z (sym (set_other actors a b y o) ∙ f))
+  | inr o ↦ lifted commit commit' (b ≡ leader) (b ≡ leader') z.task (λ Makes plan k. others Makes b plan o k) (each b z (sym (set_other actors a b y o) ∙ f))
 ]
 
 opens_set : {A : Type 0} (actors : List Actor) (a : ℕ) (x y : Actor) (opener : ℕ) (reading : Option (ReadSteps A)) (commit : Option RunningCommit) → slice_get actors a ≡ Some x → ((b : ℕ) (z : Actor) → slice_get actors b ≡ Some z → IsTask z.task → b ≡ opener) → a ≡ opener →
@@ -164,7 +167,7 @@ module _ (P A : Type 0) (shape : Shape) where
 
     -- a task that is no flush
     not_flush : (commit' : Option RunningCommit) (task : Option (Job × Plan)) → commit' ≡ commit → FlushTask commit (a ≡ leader) task → Moved commit commit' a leader task
-    not_flush commit' task same here = subst (λ (c : Option RunningCommit). Moved commit c a leader task) (sym same) (record { leader' = leader; here = here; others = λ b p o k. k })
+    not_flush commit' task same here = subst (λ (c : Option RunningCommit). Moved commit c a leader task) (sym same) (record { leader' = leader; here = here; others = λ Makes b p o k. k })
 
     mine : (job : Job) (plan : Plan) → x.task ≡ Some (job, plan) → FlushJob commit (a ≡ leader) job plan
     mine job plan xt = subst (λ (k : Option (Job × Plan)). FlushTask commit (a ≡ leader) k) xt (each a x e)
@@ -173,8 +176,14 @@ module _ (P A : Type 0) (shape : Shape) where
     abbrev OnSome : Plan → Type 0
     OnSome plan = (part : BlockJob) × (plan.job ≡ OnBlock part)
 
+    -- it runs no commit
+    abbrev IsOther : Job → Type 0
+    IsOther Flush = ⊥
+    IsOther Suspend = ⊥
+    IsOther job = Unit {0}
+
     -- what is left of it
-    block_task : (job : Job) (plan : Plan) (next : Want) (got : Got) → OnSome plan → FlushJob commit (a ≡ leader) job plan → (job ≢ Flush) → FlushTask commit (a ≡ leader) (task_then (Some (job, plan)) next got)
+    block_task : (job : Job) (plan : Plan) (next : Want) (got : Got) → OnSome plan → FlushJob commit (a ≡ leader) job plan → IsOther job → FlushTask commit (a ≡ leader) (task_then (Some (job, plan)) next got)
     block_task job plan (End answer) got o k f = tt
     block_task (Read extent) plan (Cell step) got o k f = tt
     block_task (Read extent) plan (Device step) got o k f = tt
@@ -189,12 +198,15 @@ module _ (P A : Type 0) (shape : Shape) where
     block_task (Migrate migration block) plan (Device step) got o k f = (k.0, job_stays plan got ∙ k.1)
     block_task (Migrate migration block) plan (Desk step) got o k f = (k.0, job_stays plan got ∙ k.1)
     block_task (Replace old new) plan next got o k f = absurd k
-    block_task Flush plan (Cell step) got o k f = absurd (f refl)
-    block_task Flush plan (Device step) got o k f = absurd (f refl)
-    block_task Flush plan (Desk step) got o k f = absurd (f refl)
+    block_task Flush plan (Cell step) got o k f = absurd f
+    block_task Suspend plan (Cell step) got o k f = absurd f
+    block_task Flush plan (Device step) got o k f = absurd f
+    block_task Suspend plan (Device step) got o k f = absurd f
+    block_task Flush plan (Desk step) got o k f = absurd f
+    block_task Suspend plan (Desk step) got o k f = absurd f
 
     -- whatever a step of a job of a block gave
-    block_goes : (job : Job) (plan : Plan) (next : Want) (got : Got) (chosen : Chosen P A) → OnSome plan → (job ≢ Flush) → x.task ≡ Some (job, plan) → next ≡ want plan → Then next got chosen
+    block_goes : (job : Job) (plan : Plan) (next : Want) (got : Got) (chosen : Chosen P A) → OnSome plan → IsOther job → x.task ≡ Some (job, plan) → next ≡ want plan → Then next got chosen
     block_goes job plan next got chosen o f xt h =
         let suits = subst (λ (k : Option (Job × Plan)). TaskSuits shape.geometry.origin_blocks x.card k) xt (suited a x e) in
         let own = subst (λ (v : Want). IsOwnStep (OnBlock o.0) v) (sym h) (own_step x.card plan o.0 o.1 suits) in
@@ -206,35 +218,39 @@ module _ (P A : Type 0) (shape : Shape) where
     served : (job : Job) (plan : Plan) → x.task ≡ Some (job, plan) → IsServed job
     served job plan xt = subst (λ (k : Option (Job × Plan)). TaskHere {P = P} {A = A} (Stands t) k) xt (l.here a x e)
 
-    flush_done : (plan : Plan) (next : Want) (got : Got) (read : List Bytes) (chosen : Chosen P A) (k : FlushAt commit (a ≡ leader) plan) → next ≡ want plan → Gives shape w x Flush next got read chosen →
-        Moved commit (commit_then {P = P} {A = A} (Stands t) commit next got chosen) a leader (task_then (Some (Flush, plan)) next got)
-    flush_done plan next got read chosen k h g =
-        let F = plan_of (Rattle.wb_tasks.specs.Tables.Flushing k.serves k.most) (Rattle.wb_runs.proofs.Points.flush_left k.serves k.most k.point) k.answer in
-        subst (λ (s : Plan). Moved commit (commit_then {P = P} {A = A} (Stands t) commit next got chosen) a leader (task_then (Some (Flush, s)) next got)) (sym k.is)
-        (subst (λ (v : Want). Gives shape w x Flush v got read chosen → Moved commit (commit_then {P = P} {A = A} (Stands t) commit v got chosen) a leader (task_then (Some (Flush, F)) v got)) (sym (h ∙ ap want k.is))
-        (λ g. flush_moves P A shape t commit devices.metadata images known a leader k.serves k.most k.answer w x refl refl got read chosen k.point k.at k.leads g) g)
+    module _ (job : CommitJob) (answer : Answer) (point : FlushPoint) (of : IsOf point job) (at : AtFlush point commit) (leads : IsLeading point → a ≡ leader) (plan : Plan) (is : plan ≡ plan_of (task_of job) (commit_left job point) answer) where
+      abbrev F : Plan
+      F = plan_of (task_of job) (commit_left job point) answer
 
-    flush_failed : (plan : Plan) (next : Want) (choice : Choice) (chosen : Chosen P A) (k : FlushAt commit (a ≡ leader) plan) → next ≡ want plan → Falters w choice next chosen →
-        Moved commit (commit_then {P = P} {A = A} (Stands t) commit next Fault chosen) a leader (task_then (Some (Flush, plan)) next Fault)
-    flush_failed plan next choice chosen k h g =
-        let F = plan_of (Rattle.wb_tasks.specs.Tables.Flushing k.serves k.most) (Rattle.wb_runs.proofs.Points.flush_left k.serves k.most k.point) k.answer in
-        subst (λ (s : Plan). Moved commit (commit_then {P = P} {A = A} (Stands t) commit next Fault chosen) a leader (task_then (Some (Flush, s)) next Fault)) (sym k.is)
-        (subst (λ (v : Want). Falters w choice v chosen → Moved commit (commit_then {P = P} {A = A} (Stands t) commit v Fault chosen) a leader (task_then (Some (Flush, F)) v Fault)) (sym (h ∙ ap want k.is))
-        (λ g. flush_fails P A shape t commit devices.metadata images known a leader k.serves k.most k.answer w choice chosen k.point k.at k.leads g) g)
+      flush_done : (next : Want) (got : Got) (read : List Bytes) (chosen : Chosen P A) → next ≡ want plan → Gives shape w x (doing_of job) next got read chosen →
+          Moved commit (commit_then {P = P} {A = A} (Stands t) commit next got chosen) a leader (task_then (Some (doing_of job, plan)) next got)
+      flush_done next got read chosen h g =
+          subst (λ (s : Plan). Moved commit (commit_then {P = P} {A = A} (Stands t) commit next got chosen) a leader (task_then (Some (doing_of job, s)) next got)) (sym is)
+          (subst (λ (v : Want). Gives shape w x (doing_of job) v got read chosen → Moved commit (commit_then {P = P} {A = A} (Stands t) commit v got chosen) a leader (task_then (Some (doing_of job, F)) v got)) (sym (h ∙ ap want is))
+          (λ g. flush_moves P A shape t commit devices.metadata images known a leader job answer w x refl refl got read chosen point of at leads g) g)
+
+      flush_failed : (next : Want) (choice : Choice) (chosen : Chosen P A) → next ≡ want plan → Falters w choice next chosen →
+          Moved commit (commit_then {P = P} {A = A} (Stands t) commit next Fault chosen) a leader (task_then (Some (doing_of job, plan)) next Fault)
+      flush_failed next choice chosen h g =
+          subst (λ (s : Plan). Moved commit (commit_then {P = P} {A = A} (Stands t) commit next Fault chosen) a leader (task_then (Some (doing_of job, s)) next Fault)) (sym is)
+          (subst (λ (v : Want). Falters w choice v chosen → Moved commit (commit_then {P = P} {A = A} (Stands t) commit v Fault chosen) a leader (task_then (Some (doing_of job, F)) v Fault)) (sym (h ∙ ap want is))
+          (λ g. flush_fails P A shape t commit devices.metadata images known a leader job answer w choice chosen point at leads g) g)
 
     stands_done : (job : Job) (plan : Plan) (next : Want) (got : Got) (read : List Bytes) (chosen : Chosen P A) → x.task ≡ Some (job, plan) → next ≡ want plan → Gives shape w x job next got read chosen → Then next got chosen
-    stands_done (Read extent) plan next got read chosen xt h g = let c = (claim (Read extent) plan xt).claim in block_goes (Read extent) plan next got chosen (Reading (block_range shape t.desk.mode extent c.cut), c.is_job) (λ f. cc) xt h
-    stands_done (Write extent content) plan next got read chosen xt h g = let c = (claim (Write extent content) plan xt).claim in block_goes (Write extent content) plan next got chosen (Writing (block_range shape t.desk.mode extent c.cut), c.is_job) (λ f. cc) xt h
-    stands_done (Migrate migration block) plan next got read chosen xt h g = let m = mine (Migrate migration block) plan xt in block_goes (Migrate migration block) plan next got chosen (Migrating migration m.0, m.1) (λ f. cc) xt h
-    stands_done Flush plan next got read chosen xt h g = from_moved next got chosen _ (ap (λ k. task_then k next got) xt) (flush_done plan next got read chosen (mine Flush plan xt) h g)
+    stands_done (Read extent) plan next got read chosen xt h g = let c = (claim (Read extent) plan xt).claim in block_goes (Read extent) plan next got chosen (Reading (block_range shape t.desk.mode extent c.cut), c.is_job) tt xt h
+    stands_done (Write extent content) plan next got read chosen xt h g = let c = (claim (Write extent content) plan xt).claim in block_goes (Write extent content) plan next got chosen (Writing (block_range shape t.desk.mode extent c.cut), c.is_job) tt xt h
+    stands_done (Migrate migration block) plan next got read chosen xt h g = let m = mine (Migrate migration block) plan xt in block_goes (Migrate migration block) plan next got chosen (Migrating migration m.0, m.1) tt xt h
+    stands_done Flush plan next got read chosen xt h g = from_moved next got chosen _ (ap (λ k. task_then k next got) xt) (let k = mine Flush plan xt in flush_done (Flushes k.blocks k.most) k.answer k.point k.of k.at k.leads plan k.is next got read chosen h g)
+    stands_done Suspend plan next got read chosen xt h g = from_moved next got chosen _ (ap (λ k. task_then k next got) xt) (let k = mine Suspend plan xt in flush_done (Suspends k.blocks k.most) k.answer k.point k.of k.at k.leads plan k.is next got read chosen h g)
     stands_done (Open mode) plan next got read chosen xt h g = absurd (served (Open mode) plan xt)
     stands_done (Replace old new) plan next got read chosen xt h g = absurd (mine (Replace old new) plan xt)
 
     stands_failed : (job : Job) (plan : Plan) (next : Want) (choice : Choice) (chosen : Chosen P A) → x.task ≡ Some (job, plan) → next ≡ want plan → Falters w choice next chosen → Then next Fault chosen
-    stands_failed (Read extent) plan next choice chosen xt h g = let c = (claim (Read extent) plan xt).claim in block_goes (Read extent) plan next Fault chosen (Reading (block_range shape t.desk.mode extent c.cut), c.is_job) (λ f. cc) xt h
-    stands_failed (Write extent content) plan next choice chosen xt h g = let c = (claim (Write extent content) plan xt).claim in block_goes (Write extent content) plan next Fault chosen (Writing (block_range shape t.desk.mode extent c.cut), c.is_job) (λ f. cc) xt h
-    stands_failed (Migrate migration block) plan next choice chosen xt h g = let m = mine (Migrate migration block) plan xt in block_goes (Migrate migration block) plan next Fault chosen (Migrating migration m.0, m.1) (λ f. cc) xt h
-    stands_failed Flush plan next choice chosen xt h g = from_moved next Fault chosen _ (ap (λ k. task_then k next Fault) xt) (flush_failed plan next choice chosen (mine Flush plan xt) h g)
+    stands_failed (Read extent) plan next choice chosen xt h g = let c = (claim (Read extent) plan xt).claim in block_goes (Read extent) plan next Fault chosen (Reading (block_range shape t.desk.mode extent c.cut), c.is_job) tt xt h
+    stands_failed (Write extent content) plan next choice chosen xt h g = let c = (claim (Write extent content) plan xt).claim in block_goes (Write extent content) plan next Fault chosen (Writing (block_range shape t.desk.mode extent c.cut), c.is_job) tt xt h
+    stands_failed (Migrate migration block) plan next choice chosen xt h g = let m = mine (Migrate migration block) plan xt in block_goes (Migrate migration block) plan next Fault chosen (Migrating migration m.0, m.1) tt xt h
+    stands_failed Flush plan next choice chosen xt h g = from_moved next Fault chosen _ (ap (λ k. task_then k next Fault) xt) (let k = mine Flush plan xt in flush_failed (Flushes k.blocks k.most) k.answer k.point k.of k.at k.leads plan k.is next choice chosen h g)
+    stands_failed Suspend plan next choice chosen xt h g = from_moved next Fault chosen _ (ap (λ k. task_then k next Fault) xt) (let k = mine Suspend plan xt in flush_failed (Suspends k.blocks k.most) k.answer k.point k.of k.at k.leads plan k.is next choice chosen h g)
     stands_failed (Open mode) plan next choice chosen xt h g = absurd (served (Open mode) plan xt)
     stands_failed (Replace old new) plan next choice chosen xt h g = absurd (mine (Replace old new) plan xt)
 
@@ -281,6 +297,7 @@ module _ (P A : Type 0) (shape : Shape) where
     opens_done (Read extent) plan next got read chosen xt h g = absurd (opening_work (Read extent) plan xt)
     opens_done (Write extent content) plan next got read chosen xt h g = absurd (opening_work (Write extent content) plan xt)
     opens_done Flush plan next got read chosen xt h g = absurd (opening_work Flush plan xt)
+    opens_done Suspend plan next got read chosen xt h g = absurd (opening_work Suspend plan xt)
     opens_done (Migrate migration block) plan next got read chosen xt h g = absurd (opening_work (Migrate migration block) plan xt)
     opens_done (Replace old new) plan next got read chosen xt h g = absurd (opening_work (Replace old new) plan xt)
 
@@ -291,6 +308,7 @@ module _ (P A : Type 0) (shape : Shape) where
     opens_failed (Read extent) plan next choice chosen xt h g = absurd (opening_work (Read extent) plan xt)
     opens_failed (Write extent content) plan next choice chosen xt h g = absurd (opening_work (Write extent content) plan xt)
     opens_failed Flush plan next choice chosen xt h g = absurd (opening_work Flush plan xt)
+    opens_failed Suspend plan next choice chosen xt h g = absurd (opening_work Suspend plan xt)
     opens_failed (Migrate migration block) plan next choice chosen xt h g = absurd (opening_work (Migrate migration block) plan xt)
     opens_failed (Replace old new) plan next choice chosen xt h g = absurd (opening_work (Replace old new) plan xt)
 
@@ -360,7 +378,7 @@ module _ (P A : Type 0) (shape : Shape) where
       y : Actor
       y = given {P = P} {A = A} shape over x (Open mode) chosen
 
-      first : OpenAt {A = A} None None (table (task_job shape over x.awaiting (Open mode) (cut_of chosen)))
+      first : OpenAt {A = A} None None (table (task_job shape over x.awaiting (Open mode) (cut_of chosen) (looks_of chosen)))
       first = record { sectors = shape.geometry.meta_sectors; point = AtFirst; is = refl; at = (refl, omega (arith, shape.geometry.within.meta_from)) }
 
   -- an order that is given leaves where everybody stands
@@ -368,6 +386,7 @@ module _ (P A : Type 0) (shape : Shape) where
   given_goes (Stands t) commit actors (Migrate migration block) (Orders cut cache) k = k
   given_goes (Stands t) commit actors (Migrate migration block) Plain k = k
   given_goes (Stands t) commit actors (Migrate migration block) (Cut cut) k = k
+  given_goes (Stands t) commit actors (Migrate migration block) (Looks looks) k = k
   given_goes (Stands t) commit actors (Migrate migration block) (Begins now) k = k
   given_goes (Stands t) commit actors (Migrate migration block) (Reaches now c) k = k
   given_goes (Stands t) commit actors (Migrate migration block) (Puts new) k = k
@@ -377,6 +396,7 @@ module _ (P A : Type 0) (shape : Shape) where
   given_goes (Stands t) commit actors (Replace old new) (Orders cut cache) k = k
   given_goes (Stands t) commit actors (Replace old new) Plain k = k
   given_goes (Stands t) commit actors (Replace old new) (Cut cut) k = k
+  given_goes (Stands t) commit actors (Replace old new) (Looks looks) k = k
   given_goes (Stands t) commit actors (Replace old new) (Begins now) k = k
   given_goes (Stands t) commit actors (Replace old new) (Reaches now c) k = k
   given_goes (Stands t) commit actors (Replace old new) (Puts now) k = k
@@ -386,6 +406,7 @@ module _ (P A : Type 0) (shape : Shape) where
   given_goes (Stands t) commit actors (Read extent) chosen k = k
   given_goes (Stands t) commit actors (Write extent content) chosen k = k
   given_goes (Stands t) commit actors Flush chosen k = k
+  given_goes (Stands t) commit actors Suspend chosen k = k
   given_goes (Stands t) commit actors (Open mode) chosen k = k
   given_goes Gone commit actors job chosen k = k
   given_goes (Opens mode reading) commit actors job chosen k = k
@@ -394,10 +415,11 @@ module _ (P A : Type 0) (shape : Shape) where
   task_by_phase : (phase : Phase P A) (commit : Option RunningCommit) (actors : List Actor) (a : ℕ) (x : Actor) (job : Job) (chosen : Chosen P A) → slice_get actors a ≡ Some x → (¬ (¬ OfTarget phase (λ t. Unit {0}))) → Going phase commit actors →
       Going (phase_given phase job chosen) commit (slice_set actors a (given {P = P} {A = A} shape (mode_of phase) x job chosen))
   task_by_phase (Stands t) commit actors a x job chosen e p k = given_goes (Stands t) commit _ job chosen
-      (k.0, flushes_set actors a x (given {P = P} {A = A} shape t.desk.mode x job chosen) commit commit k.0 k.0 e k.1 (by_job job) (λ b p o f. f))
+      (k.0, flushes_set actors a x (given {P = P} {A = A} shape t.desk.mode x job chosen) commit commit k.0 k.0 e k.1 (by_job job) (λ Makes b p o f. f))
     where
-      by_job : (job : Job) → FlushJob commit (a ≡ k.0) (begun_as job) (table (task_job shape t.desk.mode x.awaiting job (cut_of chosen)))
-      by_job Flush = record { serves = blocks_left x.awaiting; most = node_count shape.geometry.cache_blocks; answer = Finished; point = ToLook; is = refl; at = tt; leads = λ i. absurd i }
+      by_job : (job : Job) → FlushJob commit (a ≡ k.0) (begun_as job) (table (task_job shape t.desk.mode x.awaiting job (cut_of chosen) (looks_of chosen)))
+      by_job Flush = record { blocks = blocks_left x.awaiting; most = node_count shape.geometry.cache_blocks; answer = Finished; point = ToLook; of = tt; is = refl; at = tt; leads = λ i. absurd i }
+      by_job Suspend = record { blocks = looks_of chosen; most = node_count shape.geometry.cache_blocks; answer = Finished; point = ToLook; of = tt; is = refl; at = tt; leads = λ i. absurd i }
       by_job (Read extent) = tt
       by_job (Write extent content) = tt
       by_job (Open mode) = tt
@@ -414,15 +436,17 @@ module _ (P A : Type 0) (shape : Shape) where
       by_actor None e = λ b z f. subst (λ (k : Option (Job × Plan)). OpenTask {A = A} None None k) (sym (rests w.actors b z f).0) tt
       by_actor (Some x) e = opening_starts (mode_of (cleared w (Open mode)).phase) mode w.actors a chosen x e
   starts w a (Read extent) chosen k applies = let f = free P A w a (Read extent) applies in
-      subst (λ (o : Option Actor). GoesOn (with_actor w o (λ x. record w { phase = phase_given w.phase (Read extent) chosen; actors = slice_set w.actors a (given shape (mode_of w.phase) x (Read extent) chosen) }))) (sym f.1) (task_by_phase w.phase w.commit w.actors a f.0 (Read extent) chosen f.1 (λ p. applies (inr (inr p))) k)
+      subst (λ (o : Option Actor). GoesOn (with_actor w o (λ x. record w { phase = phase_given w.phase (Read extent) chosen; actors = slice_set w.actors a (given shape (mode_of w.phase) x (Read extent) chosen) }))) (sym f.1) (task_by_phase w.phase w.commit w.actors a f.0 (Read extent) chosen f.1 (λ p. applies (inr (inr (inr p)))) k)
   starts w a (Write extent content) chosen k applies = let f = free P A w a (Write extent content) applies in
-      subst (λ (o : Option Actor). GoesOn (with_actor w o (λ x. record w { phase = phase_given w.phase (Write extent content) chosen; actors = slice_set w.actors a (given shape (mode_of w.phase) x (Write extent content) chosen) }))) (sym f.1) (task_by_phase w.phase w.commit w.actors a f.0 (Write extent content) chosen f.1 (λ p. applies (inr (inr p))) k)
+      subst (λ (o : Option Actor). GoesOn (with_actor w o (λ x. record w { phase = phase_given w.phase (Write extent content) chosen; actors = slice_set w.actors a (given shape (mode_of w.phase) x (Write extent content) chosen) }))) (sym f.1) (task_by_phase w.phase w.commit w.actors a f.0 (Write extent content) chosen f.1 (λ p. applies (inr (inr (inr p)))) k)
   starts w a Flush chosen k applies = let f = free P A w a Flush applies in
-      subst (λ (o : Option Actor). GoesOn (with_actor w o (λ x. record w { phase = phase_given w.phase Flush chosen; actors = slice_set w.actors a (given shape (mode_of w.phase) x Flush chosen) }))) (sym f.1) (task_by_phase w.phase w.commit w.actors a f.0 Flush chosen f.1 (λ p. applies (inr (inr p))) k)
+      subst (λ (o : Option Actor). GoesOn (with_actor w o (λ x. record w { phase = phase_given w.phase Flush chosen; actors = slice_set w.actors a (given shape (mode_of w.phase) x Flush chosen) }))) (sym f.1) (task_by_phase w.phase w.commit w.actors a f.0 Flush chosen f.1 (λ p. applies (inr (inr (inr p)))) k)
+  starts w a Suspend chosen k applies = let f = free P A w a Suspend applies in
+      subst (λ (o : Option Actor). GoesOn (with_actor w o (λ x. record w { phase = phase_given w.phase Suspend chosen; actors = slice_set w.actors a (given shape (mode_of w.phase) x Suspend chosen) }))) (sym f.1) (task_by_phase w.phase w.commit w.actors a f.0 Suspend chosen f.1 (λ p. applies (inr (inr (inr p)))) k)
   starts w a (Migrate migration block) chosen k applies = let f = free P A w a (Migrate migration block) applies in
-      subst (λ (o : Option Actor). GoesOn (with_actor w o (λ x. record w { phase = phase_given w.phase (Migrate migration block) chosen; actors = slice_set w.actors a (given shape (mode_of w.phase) x (Migrate migration block) chosen) }))) (sym f.1) (task_by_phase w.phase w.commit w.actors a f.0 (Migrate migration block) chosen f.1 (λ p. applies (inr (inr p))) k)
+      subst (λ (o : Option Actor). GoesOn (with_actor w o (λ x. record w { phase = phase_given w.phase (Migrate migration block) chosen; actors = slice_set w.actors a (given shape (mode_of w.phase) x (Migrate migration block) chosen) }))) (sym f.1) (task_by_phase w.phase w.commit w.actors a f.0 (Migrate migration block) chosen f.1 (λ p. applies (inr (inr (inr p)))) k)
   starts w a (Replace old new) chosen k applies = let f = free P A w a (Replace old new) applies in
-      subst (λ (o : Option Actor). GoesOn (with_actor w o (λ x. record w { phase = phase_given w.phase (Replace old new) chosen; actors = slice_set w.actors a (given shape (mode_of w.phase) x (Replace old new) chosen) }))) (sym f.1) (task_by_phase w.phase w.commit w.actors a f.0 (Replace old new) chosen f.1 (λ p. applies (inr (inr p))) k)
+      subst (λ (o : Option Actor). GoesOn (with_actor w o (λ x. record w { phase = phase_given w.phase (Replace old new) chosen; actors = slice_set w.actors a (given shape (mode_of w.phase) x (Replace old new) chosen) }))) (sym f.1) (task_by_phase w.phase w.commit w.actors a f.0 (Replace old new) chosen f.1 (λ p. applies (inr (inr (inr p)))) k)
 
   by_event : (w : State P A) (n : Notes) (event : Event) (what : What) (read : List Bytes) (chosen : Chosen P A) → Base P A shape w n → GoesOn w → MayBe shape w event what read chosen → GoesOn (after_what shape w event what chosen)
   by_event w n (Start a job) Started read chosen b k h = starts w a job chosen k h.1

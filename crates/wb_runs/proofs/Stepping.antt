@@ -1,6 +1,6 @@
 -- Each step of an actor, done or failed, keeps what is known of the metadata.
 use Rattle.std.proofs.lemmas.List.{length-map}
-use Rattle.std.proofs.Common.{◌≡◌, ◌≢◌, ◌⊎◌, inl, inr, ℕ, Bool, true, List, Option, Some, None, refl, sym, subst, map, arith}
+use Rattle.std.proofs.Common.{◌≡◌, ◌≢◌, ◌⊎◌, inl, inr, ℕ, Bool, true, false, List, Option, Some, None, refl, sym, subst, map, arith}
 use Rattle.wb_types.specs.declared.mode.Dev.{Dev}
 use Rattle.wb_types.specs.declared.mode.Dev.TheVariants.{Metadata, Cache, Origin}
 use Rattle.wb_disk.specs.Device.{Content as Bytes, History, newest, synced}
@@ -26,14 +26,14 @@ use Rattle.wb_desk.specs.Desks.{DeskState}
 use Rattle.wb_stage.specs.Stages.{is_all_done}
 use Rattle.wb_devices.specs.Opened.{HasCome}
 use Rattle.wb_promise.specs.declared.job.Job.{Job}
-use Rattle.wb_promise.specs.declared.job.Job.TheVariants.{Read, Write, Flush, Open, Migrate, Replace}
+use Rattle.wb_promise.specs.declared.job.Job.TheVariants.{Read, Write, Flush, Suspend, Open, Migrate, Replace}
 use Rattle.wb_promise.specs.States.{Shape, State, Target, Phase, Stands, Gone, Opens, OfTarget, OfReading, with_device, Actor}
-use Rattle.wb_promise.specs.Happenings.{Chosen, Plain, Cut, Orders, Begins, Reaches, Puts, Commits, Asks, Opened, DoesPut, DoesSync, DoesRead, DoesBegin, DoesMap, DoesRelease, DoesOpen, Gives, DoesUnmap}
+use Rattle.wb_promise.specs.Happenings.{Chosen, Plain, Cut, Orders, Begins, Reaches, Puts, Commits, Asks, Opened, DoesPut, DoesSync, DoesRead, DoesBegin, DoesMap, DoesRelease, DoesOpen, Gives, DoesUnmap, Looks}
 use Rattle.wb_promise.specs.Effects.{device_done, devices_then, commit_then, phase_then}
 use Rattle.wb_runs.proofs.Images.{Images, Turns, stays}
 use Rattle.wb_runs.proofs.Desks.{mapped_stands, unmapped_stands, released_for}
 use Rattle.wb_runs.proofs.Underway.{Readable, Found, led_on, sync_does, sync_found, found_readable}
-use Rattle.wb_runs.proofs.Metadata.{AtDesk, HasReached, Rooting, AtOpening, MetadataKept, begins_over, ends_over, root_begins, target_stands, kept_readable}
+use Rattle.wb_runs.proofs.Metadata.{AtDesk, HasReached, Rooting, AtOpening, MetadataKept, begins_over, ends_over, root_begins, target_stands, kept_readable, begin_may}
 use Rattle.wb_types.specs.declared.number.OBlock.{OBlock}
 use Rattle.wb_stage.specs.Asking.{order_of}
 
@@ -193,20 +193,23 @@ module _ (P A : Type 0) (shape : Shape) where
       by_got got n h = absurd h
   read_metadata i (Opens mode (Some was)) m left got chosen k s = absurd s
 
-  begin_commit : (i : Images) (phase : Phase P A) (commit : Option RunningCommit) (m : List History) (clean : Bool) (most : ℕ) (got : Got) (chosen : Chosen P A) → K i phase commit m → OfTarget phase (λ t. DoesBegin most t.desk got chosen) →
+  begin_commit : (seen : Option (List Bool)) (i : Images) (phase : Phase P A) (commit : Option RunningCommit) (m : List History) (clean : Bool) (most : ℕ) (got : Got) (chosen : Chosen P A) → K i phase commit m → OfTarget phase (λ t. DoesBegin seen most t.desk got chosen) →
       T i (phase_then shape phase (Desk (BeginCommit clean most)) got chosen) (commit_then phase commit (Desk (BeginCommit clean most)) got chosen) m
-  begin_commit i (Stands t) commit m clean most (Began nodes) (Commits c tree) k s = by_commit commit k
+  begin_commit seen i (Stands t) commit m clean most (Began nodes) (Commits c tree) k s = by_commit commit k
     where
+      idle : t.desk.space.committing ≡ false
+      idle = (begin_may P s.3.0 seen t.desk c.image _ s.3.1).idle
+
       by_commit : (commit : Option RunningCommit) → AtDesk shape.geometry i t.desk commit m → Turns (λ j. AtDesk shape.geometry j (Rattle.wb_desk.specs.Commits.commit_begun t.desk tree) (Some c) m) i
-      by_commit (Some d) k = absurd (let a = k.stands.busy in let b = s.3.may.idle in cc)
+      by_commit (Some d) k = absurd (let a = k.stands.busy in let b = idle in cc)
       by_commit None k = elim k.stands [
-        | inl q ↦ let b = begins_over P shape.geometry i t.desk m c tree k.is q s.2 s.3 in record { now = b.now; turn = b.turn; turned = b.turned; kept = b.kept.0 }
-        | inr b ↦ absurd (let a = b.busy in let e = s.3.may.idle in cc)
+        | inl q ↦ let b = begins_over P shape.geometry i t.desk m s.3.0 seen c tree k.is q s.2 s.3.1 in record { now = b.now; turn = b.turn; turned = b.turned; kept = b.kept.0 }
+        | inr b ↦ absurd (let a = b.busy in let e = idle in cc)
       ]
-  begin_commit i (Stands t) commit m clean most (GotRefused refusal) Plain k s = same i (Stands t) commit m k
-  begin_commit i (Stands t) commit m clean most got chosen k s = absurd s
-  begin_commit i Gone commit m clean most got chosen k s = absurd s
-  begin_commit i (Opens mode reading) commit m clean most got chosen k s = absurd s
+  begin_commit seen i (Stands t) commit m clean most (GotRefused refusal) Plain k s = same i (Stands t) commit m k
+  begin_commit seen i (Stands t) commit m clean most got chosen k s = absurd s
+  begin_commit seen i Gone commit m clean most got chosen k s = absurd s
+  begin_commit seen i (Opens mode reading) commit m clean most got chosen k s = absurd s
 
   end_commit : (i : Images) (phase : Phase P A) (commit : Option RunningCommit) (m : List History) (got : Got) (chosen : Chosen P A) → K i phase commit m → OfTarget phase (λ t. is_all_done commit ≡ true) →
       T i (phase_then shape phase (Desk EndCommit) got chosen) (commit_then phase commit (Desk EndCommit) got chosen) m
@@ -280,6 +283,7 @@ module _ (P A : Type 0) (shape : Shape) where
     read_fact (Read x) d e g = g.0
     read_fact (Write x c) d e g = absurd g
     read_fact Flush d e g = absurd g
+    read_fact Suspend d e g = absurd g
     read_fact (Open mode) d e g = absurd g
     read_fact (Migrate migration block) d e g = g.0
     read_fact (Replace old new) d e g = absurd g
@@ -288,6 +292,7 @@ module _ (P A : Type 0) (shape : Shape) where
     write_fact (Read x) d e g = absurd g
     write_fact (Write x c) d e g = g.0
     write_fact Flush d e g = absurd g
+    write_fact Suspend d e g = absurd g
     write_fact (Open mode) d e g = absurd g
     write_fact (Migrate migration block) d e g = g.0
     write_fact (Replace old new) d e g = absurd g
@@ -296,6 +301,7 @@ module _ (P A : Type 0) (shape : Shape) where
     sync_fact (Read x) g = (g.1, g.2)
     sync_fact (Write x c) g = (g.1, g.2)
     sync_fact Flush g = (g.1, g.2)
+    sync_fact Suspend g = (g.1, g.2)
     sync_fact (Open mode) g = (g.1, g.2)
     sync_fact (Migrate migration block) g = (g.1, g.2)
     sync_fact (Replace old new) g = (g.1, g.2)
@@ -304,6 +310,7 @@ module _ (P A : Type 0) (shape : Shape) where
     node_fact (Read x) number g = (g.1, g.2)
     node_fact (Write x c) number g = (g.1, g.2)
     node_fact Flush number g = (g.1, g.2)
+    node_fact Suspend number g = (g.1, g.2)
     node_fact (Open mode) number g = (g.1, g.2)
     node_fact (Migrate migration block) number g = (g.1, g.2)
     node_fact (Replace old new) number g = (g.1, g.2)
@@ -312,6 +319,7 @@ module _ (P A : Type 0) (shape : Shape) where
     root_fact (Read x) g = (g.1, g.2)
     root_fact (Write x c) g = (g.1, g.2)
     root_fact Flush g = (g.1, g.2)
+    root_fact Suspend g = (g.1, g.2)
     root_fact (Open mode) g = (g.1, g.2)
     root_fact (Migrate migration block) g = (g.1, g.2)
     root_fact (Replace old new) g = (g.1, g.2)
@@ -320,14 +328,21 @@ module _ (P A : Type 0) (shape : Shape) where
     metadata_fact (Read x) left g = (g.1, g.2)
     metadata_fact (Write x c) left g = (g.1, g.2)
     metadata_fact Flush left g = (g.1, g.2)
+    metadata_fact Suspend left g = (g.1, g.2)
     metadata_fact (Open mode) left g = (g.1, g.2)
     metadata_fact (Migrate migration block) left g = (g.1, g.2)
     metadata_fact (Replace old new) left g = (g.1, g.2)
 
-    pub begin_fact : (job : Job) (clean : Bool) (most : ℕ) → G job (Desk (BeginCommit clean most)) → OfTarget w.phase (λ t. DoesBegin most t.desk got chosen)
+    -- of what a commit is: that of a suspend is clean
+    abbrev pub seen_by : Job → Option (List Bool)
+    seen_by Suspend = Some actor.seen
+    seen_by job = None
+
+    pub begin_fact : (job : Job) (clean : Bool) (most : ℕ) → G job (Desk (BeginCommit clean most)) → OfTarget w.phase (λ t. DoesBegin (seen_by job) most t.desk got chosen)
     begin_fact (Read x) clean most g = g.2
     begin_fact (Write x c) clean most g = g.2
     begin_fact Flush clean most g = g.2
+    begin_fact Suspend clean most g = g.2
     begin_fact (Open mode) clean most g = g.2
     begin_fact (Migrate migration block) clean most g = g.2
     begin_fact (Replace old new) clean most g = g.2
@@ -336,6 +351,7 @@ module _ (P A : Type 0) (shape : Shape) where
     end_fact (Read x) g = g.2
     end_fact (Write x c) g = g.2
     end_fact Flush g = g.2
+    end_fact Suspend g = g.2
     end_fact (Open mode) g = g.2
     end_fact (Migrate migration block) g = g.2
     end_fact (Replace old new) g = g.2
@@ -344,6 +360,7 @@ module _ (P A : Type 0) (shape : Shape) where
     map_fact (Read x) b c g = absurd g
     map_fact (Write x y) b c g = absurd g
     map_fact Flush b c g = absurd g
+    map_fact Suspend b c g = absurd g
     map_fact (Open mode) b c g = absurd g
     map_fact (Migrate migration block) b c g = g.1
     map_fact (Replace old new) b c g = absurd g
@@ -352,6 +369,7 @@ module _ (P A : Type 0) (shape : Shape) where
     unmap_fact (Read x) b g = absurd g
     unmap_fact (Write x y) b g = absurd g
     unmap_fact Flush b g = absurd g
+    unmap_fact Suspend b g = absurd g
     unmap_fact (Open mode) b g = absurd g
     unmap_fact (Migrate migration block) b g = g.2
     unmap_fact (Replace old new) b g = absurd g
@@ -360,6 +378,7 @@ module _ (P A : Type 0) (shape : Shape) where
     release_fact (Read x) b g = absurd g
     release_fact (Write x y) b g = absurd g
     release_fact Flush b g = (actor.awaiting, g.2)
+    release_fact Suspend b g = absurd g
     release_fact (Open mode) b g = absurd g
     release_fact (Migrate migration block) b g = (actor.orders, g.2)
     release_fact (Replace old new) b g = absurd g
@@ -368,6 +387,7 @@ module _ (P A : Type 0) (shape : Shape) where
     answer_fact (Read x) answer g = inl g.0.1
     answer_fact (Write x c) answer g = inl g.0.1
     answer_fact Flush answer g = inl g.0.1
+    answer_fact Suspend answer g = inl g.0.1
     answer_fact (Open mode) Finished g = inr (refl, g.2)
     answer_fact (Open mode) (Refuses refusal) g = inl g.0.1
     answer_fact (Migrate migration block) answer g = inl g.0.1
@@ -408,6 +428,7 @@ module _ (P A : Type 0) (shape : Shape) where
             by_chosen Plain h = refl
             by_chosen (Cut es) h = refl
             by_chosen (Orders es c) h = refl
+            by_chosen (Looks bs) h = refl
             by_chosen (Begins r) h = refl
             by_chosen (Reaches r c) h = refl
             by_chosen (Commits c t) h = refl
@@ -419,7 +440,7 @@ module _ (P A : Type 0) (shape : Shape) where
         by_commit None e k h = subst (λ (n : List History). T i (phase_then shape w.phase (Device (ReadMetadata left)) got chosen) (commit_then w.phase None (Device (ReadMetadata left)) got chosen) n) (sym still)
             (read_metadata i w.phase m left got chosen k h)
         by_commit (Some c) e k h = absurd (cc)
-    done_kept i buffer job (Desk (BeginCommit clean most)) k g = begin_commit i w.phase w.commit m clean most got chosen k (begin_fact job clean most g)
+    done_kept i buffer job (Desk (BeginCommit clean most)) k g = begin_commit (seen_by job) i w.phase w.commit m clean most got chosen k (begin_fact job clean most g)
     done_kept i buffer job (Desk EndCommit) k g = end_commit i w.phase w.commit m got chosen k (end_fact job g)
     done_kept i buffer job (Desk (Map b c)) k g = map_keeps i w.phase w.commit m b c got chosen k (map_fact job b c g)
     done_kept i buffer job (Desk (Unmap b)) k g = unmap_keeps i w.phase w.commit m b got chosen k (unmap_fact job b g)

@@ -24,10 +24,10 @@ use Rattle.wb_tasks.specs.declared.step.Got.TheVariants.{Done, Fault, Refused as
 use Rattle.wb_devices.specs.declared.running.RunningCommit.{RunningCommit}
 use Rattle.wb_devices.specs.Opened.{HasCome, got_of_refusal}
 use Rattle.wb_promise.specs.declared.job.Job.{Job}
-use Rattle.wb_promise.specs.declared.job.Job.TheVariants.{Read, Write, Flush, Open, Migrate, Replace}
+use Rattle.wb_promise.specs.declared.job.Job.TheVariants.{Read, Write, Flush, Suspend, Open, Migrate, Replace}
 use Rattle.wb_promise.specs.States.{Actor, Shape, State, Phase, Stands, Gone, Opens, OfTarget, OfReading}
-use Rattle.wb_promise.specs.Happenings.{Chosen, Plain, Cut, Orders, Begins, Reaches, Puts, Commits, Asks, Opened, DoesRead, DoesBegin, DoesMap, Gives}
-use Rattle.wb_runs.proofs.Stepping.{metadata_fact, begin_fact, map_fact, sync_fact, node_fact, root_fact}
+use Rattle.wb_promise.specs.Happenings.{Chosen, Plain, Cut, Orders, Begins, Reaches, Puts, Commits, Asks, Opened, DoesRead, DoesBegin, DoesMap, Gives, Looks}
+use Rattle.wb_runs.proofs.Stepping.{metadata_fact, begin_fact, map_fact, sync_fact, node_fact, root_fact, seen_by}
 
 -- ---- results
 
@@ -50,16 +50,16 @@ done_fits : (next : Want) (got : Got) → MayBeDone next → got ≡ Done → Fi
 done_fits next got m e = subst (λ (g : Got). Fits next g) (sym e) m
 
 -- of a desk that is asked for a commit
-begin_fits : {P A : Type 0} (clean : Bool) (most : ℕ) (desk : DeskState P) (got : Got) (chosen : Chosen P A) → DoesBegin most desk got chosen → Fits (Desk (BeginCommit clean most)) got
-begin_fits clean most desk (Began nodes) (Commits c tree) d = d.0
-begin_fits {P} {A} clean most desk (GotRefused refusal) Plain d = by_cause refusal d
+begin_fits : {P A : Type 0} (seen : Option (List Bool)) (clean : Bool) (most : ℕ) (desk : DeskState P) (got : Got) (chosen : Chosen P A) → DoesBegin seen most desk got chosen → Fits (Desk (BeginCommit clean most)) got
+begin_fits seen clean most desk (Began nodes) (Commits c tree) d = d.0
+begin_fits {P} {A} seen clean most desk (GotRefused refusal) Plain d = by_cause refusal d
   where
     by_cause : (r : Refusal) → IsBeginRefused desk r → Fits (Desk (BeginCommit clean most)) (GotRefused r)
     by_cause Busy d = tt
     by_cause Memory d = tt
     by_cause GenerationEnd d = tt
     by_cause r d = absurd d
-begin_fits clean most desk got chosen d = absurd d
+begin_fits seen clean most desk got chosen d = absurd d
 
 -- of a sector that an opening has read
 come_fits : {A : Type 0} (shape : Shape) (left : ℕ) (now : ReadSteps A) (commit commit' : Option RunningCommit) (got : Got) (left' : Option (ReadSteps A)) → got ≢ Fault → HasCome shape.geometry left now commit got left' commit' → Fits (Device (ReadMetadata left)) got
@@ -88,6 +88,7 @@ read_fits shape left was device commit got (Reaches left' commit') d = elim d.1 
 read_fits shape left was device commit got Plain d = absurd d
 read_fits shape left was device commit got (Cut es) d = absurd d
 read_fits shape left was device commit got (Orders es c) d = absurd d
+read_fits shape left was device commit got (Looks bs) d = absurd d
 read_fits shape left was device commit got (Asks new) d = absurd d
 read_fits shape left was device commit got (Begins now) d = absurd d
 read_fits shape left was device commit got (Puts new) d = absurd d
@@ -100,10 +101,10 @@ module _ (P A : Type 0) (shape : Shape) (w : State P A) (actor : Actor) (got : G
   on_words Gone step e = absurd e
   on_words (Opens mode reading) step e = absurd e
 
-  on_desk : (phase : Phase P A) (clean : Bool) (most : ℕ) → OfTarget phase (λ t. DoesBegin most t.desk got chosen) → Fits (Desk (BeginCommit clean most)) got
-  on_desk (Stands t) clean most d = begin_fits clean most t.desk got chosen d
-  on_desk Gone clean most d = absurd d
-  on_desk (Opens mode reading) clean most d = absurd d
+  on_desk : (seen : Option (List Bool)) (phase : Phase P A) (clean : Bool) (most : ℕ) → OfTarget phase (λ t. DoesBegin seen most t.desk got chosen) → Fits (Desk (BeginCommit clean most)) got
+  on_desk seen (Stands t) clean most d = begin_fits seen clean most t.desk got chosen d
+  on_desk seen Gone clean most d = absurd d
+  on_desk seen (Opens mode reading) clean most d = absurd d
 
   on_metadata : (phase : Phase P A) (left : ℕ) → OfReading phase (λ mode was. DoesRead shape.geometry left was w.devices.metadata w.commit got chosen) → Fits (Device (ReadMetadata left)) got
   on_metadata (Stands t) left d = absurd d
@@ -111,33 +112,37 @@ module _ (P A : Type 0) (shape : Shape) (w : State P A) (actor : Actor) (got : G
   on_metadata (Opens mode None) left d = absurd d
   on_metadata (Opens mode (Some was)) left d = read_fits shape left was w.devices.metadata w.commit got chosen d
 
-  data_sync : (job : Job) (d : Dev) → Gives shape w actor job (Device (Sync d)) got read chosen → got ≡ Done
+  pub data_sync : (job : Job) (d : Dev) → Gives shape w actor job (Device (Sync d)) got read chosen → got ≡ Done
   data_sync job Metadata g = (sync_fact P A shape w actor got read chosen job g).0
   data_sync (Read x) Cache g = g.1
   data_sync (Write x c) Cache g = g.1
   data_sync Flush Cache g = g.1
+  data_sync Suspend Cache g = g.1
   data_sync (Open mode) Cache g = g.1
   data_sync (Migrate migration block) Cache g = g.1
   data_sync (Replace old new) Cache g = g.1
   data_sync (Read x) Origin g = g.1
   data_sync (Write x c) Origin g = g.1
   data_sync Flush Origin g = g.1
+  data_sync Suspend Origin g = g.1
   data_sync (Open mode) Origin g = g.1
   data_sync (Migrate migration block) Origin g = g.1
   data_sync (Replace old new) Origin g = g.1
 
-  word_given : (job : Job) (step : CellStep) → Gives shape w actor job (Cell step) got read chosen → OfTarget w.phase (λ t. got ≡ got_of (result_of t.words step))
+  pub word_given : (job : Job) (step : CellStep) → Gives shape w actor job (Cell step) got read chosen → OfTarget w.phase (λ t. got ≡ got_of (result_of t.words step))
   word_given (Read x) step g = g.1
   word_given (Write x c) step g = g.1
   word_given Flush step g = g.1
+  word_given Suspend step g = g.1
   word_given (Open mode) step g = g.1
   word_given (Migrate migration block) step g = g.1
   word_given (Replace old new) step g = g.1
 
-  end_given : (job : Job) → Gives shape w actor job (Desk EndCommit) got read chosen → got ≡ Done
+  pub end_given : (job : Job) → Gives shape w actor job (Desk EndCommit) got read chosen → got ≡ Done
   end_given (Read x) g = g.1
   end_given (Write x c) g = g.1
   end_given Flush g = g.1
+  end_given Suspend g = g.1
   end_given (Open mode) g = g.1
   end_given (Migrate migration block) g = g.1
   end_given (Replace old new) g = g.1
@@ -152,10 +157,11 @@ module _ (P A : Type 0) (shape : Shape) (w : State P A) (actor : Actor) (got : G
   map_given Gone b c d = absurd d
   map_given (Opens mode reading) b c d = absurd d
 
-  released_done : (job : Job) (b : _) → Gives shape w actor job (Desk (ReleaseOrder b)) got read chosen → got ≡ Done
+  pub released_done : (job : Job) (b : _) → Gives shape w actor job (Desk (ReleaseOrder b)) got read chosen → got ≡ Done
   released_done (Read x) b g = absurd g
   released_done (Write x c) b g = absurd g
   released_done Flush b g = g.1
+  released_done Suspend b g = absurd g
   released_done (Open mode) b g = absurd g
   released_done (Migrate migration block) b g = g.1
   released_done (Replace old new) b g = absurd g
@@ -164,6 +170,7 @@ module _ (P A : Type 0) (shape : Shape) (w : State P A) (actor : Actor) (got : G
   unmapped_done (Read x) b g = absurd g
   unmapped_done (Write x c) b g = absurd g
   unmapped_done Flush b g = absurd g
+  unmapped_done Suspend b g = absurd g
   unmapped_done (Open mode) b g = absurd g
   unmapped_done (Migrate migration block) b g = g.1
   unmapped_done (Replace old new) b g = absurd g
@@ -174,12 +181,14 @@ module _ (P A : Type 0) (shape : Shape) (w : State P A) (actor : Actor) (got : G
   gives_fits (Read x) (Device (ReadExtent d e)) i g = done_fits (Device (ReadExtent d e)) got tt g.2
   gives_fits (Write x c) (Device (ReadExtent d e)) i g = absurd g
   gives_fits Flush (Device (ReadExtent d e)) i g = absurd g
+  gives_fits Suspend (Device (ReadExtent d e)) i g = absurd g
   gives_fits (Open mode) (Device (ReadExtent d e)) i g = absurd g
   gives_fits (Migrate migration block) (Device (ReadExtent d e)) i g = done_fits (Device (ReadExtent d e)) got tt g.2
   gives_fits (Replace old new) (Device (ReadExtent d e)) i g = absurd g
   gives_fits (Read x) (Device (WriteExtent d e)) i g = absurd g
   gives_fits (Write x c) (Device (WriteExtent d e)) i g = done_fits (Device (WriteExtent d e)) got tt g.2
   gives_fits Flush (Device (WriteExtent d e)) i g = absurd g
+  gives_fits Suspend (Device (WriteExtent d e)) i g = absurd g
   gives_fits (Open mode) (Device (WriteExtent d e)) i g = absurd g
   gives_fits (Migrate migration block) (Device (WriteExtent d e)) i g = done_fits (Device (WriteExtent d e)) got tt g.2
   gives_fits (Replace old new) (Device (WriteExtent d e)) i g = absurd g
@@ -187,7 +196,7 @@ module _ (P A : Type 0) (shape : Shape) (w : State P A) (actor : Actor) (got : G
   gives_fits job (Device (WriteNode number)) i g = done_fits (Device (WriteNode number)) got tt (node_fact P A shape w actor got read chosen job number g).0
   gives_fits job (Device WriteRoot) i g = done_fits (Device WriteRoot) got tt (root_fact P A shape w actor got read chosen job g).0
   gives_fits job (Device (ReadMetadata left)) i g = on_metadata w.phase left (metadata_fact P A shape w actor got read chosen job left g).1
-  gives_fits job (Desk (BeginCommit clean most)) i g = on_desk w.phase clean most (begin_fact P A shape w actor got read chosen job clean most g)
+  gives_fits job (Desk (BeginCommit clean most)) i g = on_desk (seen_by P A shape w actor got read chosen job) w.phase clean most (begin_fact P A shape w actor got read chosen job clean most g)
   gives_fits job (Desk EndCommit) i g = done_fits (Desk EndCommit) got tt (end_given job g)
   gives_fits job (Desk (Map b c)) i g = map_given w.phase b c (map_fact P A shape w actor got read chosen job b c g)
   gives_fits job (Desk (Unmap b)) i g = done_fits (Desk (Unmap b)) got tt (unmapped_done job b g)

@@ -23,13 +23,11 @@ use Rattle.wb_meta.specs.Roots.{MayBeReadAs, IsSettled, Commit, CanBeMade}
 use Rattle.wb_meta.specs.RootLaws.{IsDecided}
 use Rattle.wb_meta.proofs.Leading.{during, early, after_failure, after_failed_node, when_done}
 use Rattle.wb_meta.proofs.Deciding.{crash_decides, sync_decides, failed_sync_leaves}
-use Rattle.wb_runs.proofs.Images.{Images, later_of, one_image, Turn, Stays, Puts, Settles, Turned, IsFit, IsFitToo, Turns}
+use Rattle.wb_runs.proofs.Images.{Images, later_of, one_image, Turn, Stays, Puts, Settles, Turned, Turns}
 
--- A device of this geometry is read as these images. A root that is marked clean has no entry.
+-- A device of this geometry is read as these images.
 pub record Readable (g : Geometry) (images : Images) (device : List History) : Type 0 where
   pub read : MayBeReadAs g images.committed (later_of images) device
-  pub fit : IsFit images.committed
-  pub fit_later : IsFitToo images.running
 
 -- the root of a commit may have been written
 abbrev pub is_written : CommitSteps → Bool
@@ -49,21 +47,19 @@ pub record Underway (g : Geometry) (images : Images) (commit : RunningCommit) (o
   pub image : of.image ≡ commit.image
   pub come : CommitHasCome of.image of.before commit.steps device
   pub same : of.old.root.geometry ≡ g
-  pub fit : IsFit of.old
-  pub fit_new : IsFit of.new
 
 -- the device is read as the old state, or perhaps as the new one
-read_as : (g : Geometry) (of : Commit) (now : List History) (written : Bool) → of.old.root.geometry ≡ g → IsFit of.old → IsFit of.new → MayBeReadAs of.old.root.geometry of.old (later_of (images_of of written)) now → Readable g (images_of of written) now
-read_as g of now written same fit fit_new may = record { read = subst (λ (x : Geometry). MayBeReadAs x of.old (later_of (images_of of written)) now) same may; fit = fit; fit_later = fit_new }
+read_as : (g : Geometry) (of : Commit) (now : List History) (written : Bool) → of.old.root.geometry ≡ g → MayBeReadAs of.old.root.geometry of.old (later_of (images_of of written)) now → Readable g (images_of of written) now
+read_as g of now written same may = record { read = subst (λ (x : Geometry). MayBeReadAs x of.old (later_of (images_of of written)) now) same may }
 
 pub underway_readable : (g : Geometry) (images : Images) (commit : RunningCommit) (of : Commit) (device : List History) → Underway g images commit of device → Readable g images device
 underway_readable g images commit of device u = subst (λ (i : Images). Readable g i device) (sym u.are) (by_steps commit.steps u.come)
   where
     by_steps : (steps : CommitSteps) → CommitHasCome of.image of.before steps device → Readable g (images_of of (is_written steps)) device
-    by_steps (NodesWritten count) come = read_as g of device false u.same u.fit u.fit_new (early of u.can (NodesWritten count) device tt come)
-    by_steps NodesSynced come = read_as g of device false u.same u.fit u.fit_new (early of u.can NodesSynced device tt come)
-    by_steps RootWritten come = read_as g of device true u.same u.fit u.fit_new (during of u.can RootWritten device come)
-    by_steps Committed come = read_as g of device true u.same u.fit u.fit_new (during of u.can Committed device come)
+    by_steps (NodesWritten count) come = read_as g of device false u.same (early of u.can (NodesWritten count) device tt come)
+    by_steps NodesSynced come = read_as g of device false u.same (early of u.can NodesSynced device tt come)
+    by_steps RootWritten come = read_as g of device true u.same (during of u.can RootWritten device come)
+    by_steps Committed come = read_as g of device true u.same (during of u.can Committed device come)
 
 -- what a step makes of the images
 writes : (of : Commit) (steps : CommitSteps) (images : Images) → images ≡ images_of of (is_written steps) → (turn : Turn) × Turned turn images (images_of of (is_written (steps_after of.image steps)))
@@ -91,8 +87,6 @@ led_on g images commit of old new u does =
             (step_goes_on of.image of.old.root.geometry.meta_sectors of.before old new commit.steps u.can.places u.come
             (subst (λ (i : Image). DoesStep i commit.steps old new) (sym u.image) does));
         same = u.same;
-        fit = u.fit;
-        fit_new = u.fit_new;
       };
     }
 
@@ -101,9 +95,9 @@ stopped g images commit of old new u failing = by_steps commit.steps u.are
     (step_fails of.image of.old.root.geometry.meta_sectors of.before old new commit.steps u.can.places u.come (subst (λ (i : Image). FailsStep i commit.steps old new) (sym u.image) failing))
   where
     by_steps : (steps : CommitSteps) → images ≡ images_of of (is_written steps) → HasFailed of.image of.before steps new → Turns (λ now. Readable g now new) images
-    by_steps (NodesWritten count) are failed = record { now = images_of of false; turn = Stays; turned = sym are; kept = read_as g of new false u.same u.fit u.fit_new (after_failed_node of u.can count new failed) }
-    by_steps NodesSynced are failed = record { now = images_of of true; turn = Puts; turned = sym (ap (λ (i : Images). record i { written = true }) are); kept = read_as g of new true u.same u.fit u.fit_new (after_failure of u.can NodesSynced new failed) }
-    by_steps RootWritten are failed = record { now = images_of of true; turn = Stays; turned = sym are; kept = read_as g of new true u.same u.fit u.fit_new (after_failure of u.can RootWritten new failed) }
+    by_steps (NodesWritten count) are failed = record { now = images_of of false; turn = Stays; turned = sym are; kept = read_as g of new false u.same (after_failed_node of u.can count new failed) }
+    by_steps NodesSynced are failed = record { now = images_of of true; turn = Puts; turned = sym (ap (λ (i : Images). record i { written = true }) are); kept = read_as g of new true u.same (after_failure of u.can NodesSynced new failed) }
+    by_steps RootWritten are failed = record { now = images_of of true; turn = Stays; turned = sym are; kept = read_as g of new true u.same (after_failure of u.can RootWritten new failed) }
     by_steps Committed are failed = absurd failed
 
 -- all of it was done
@@ -186,7 +180,6 @@ pub record Found (g : Geometry) (images : Images) (device : List History) : Type
   pub are : images ≡ one_image committed
   pub read : MayBeReadAs g committed None device
   pub settled : IsSettled device
-  pub fit : IsFit committed
 
 -- the root that may have been written is the one that is found
 settles : (images : Images) (state : Stored) → later_of images ≡ Some state → Turned (Settles true) images (one_image state) × (images.running ≡ Some state)
@@ -201,18 +194,18 @@ found_by g images old r new (settled, inl may) = record {
   now = one_image images.committed;
   turn = Settles false;
   turned = refl;
-  kept = record { committed = images.committed; are = refl; read = may; settled = settled; fit = r.fit };
+  kept = record { committed = images.committed; are = refl; read = may; settled = settled };
 }
 found_by g images old r new (settled, inr more) =
     let s = settles images more.0 more.1 in record {
       now = one_image more.0;
       turn = Settles true;
       turned = s.0;
-      kept = record { committed = more.0; are = refl; read = more.2; settled = settled; fit = subst (λ (o : Option Stored). IsFitToo o) s.1 r.fit_later };
+      kept = record { committed = more.0; are = refl; read = more.2; settled = settled };
     }
 
 pub found_readable : (g : Geometry) (images : Images) (device : List History) → Found g images device → Readable g images device
-found_readable g images device f = subst (λ (i : Images). Readable g i device) (sym f.are) (record { read = f.read; fit = f.fit; fit_later = tt })
+found_readable g images device f = subst (λ (i : Images). Readable g i device) (sym f.are) (record { read = f.read })
 
 pub sync_found : (g : Geometry) (images : Images) (old : List History) → Readable g images old → Turns (λ now. Found g now (synced old)) images
 sync_found g images old r = found_by g images old r (synced old) (sync_decides g images.committed (later_of images) old r.read)
@@ -225,6 +218,4 @@ crash_readable g images old new r crash =
 pub partly_readable : (g : Geometry) (images : Images) (landed : ℕ → Bool) (old : List History) → Readable g images old → Readable g images (synced_where landed old)
 partly_readable g images landed old r = record {
   read = failed_sync_leaves g images.committed (later_of images) old (synced_where landed old) r.read (partly_synced landed old);
-  fit = r.fit;
-  fit_later = r.fit_later;
 }

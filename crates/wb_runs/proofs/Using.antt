@@ -20,8 +20,8 @@ use Rattle.wb_meta.specs.declared.read_steps.ReadSteps.{ReadSteps}
 use Rattle.wb_meta.specs.declared.read_steps.ReadSteps.TheVariants.{Begun, FirstSlotRead, RootFound, Done as AllRead}
 use Rattle.wb_meta.specs.declared.read_steps.State.{State as Stored}
 use Rattle.wb_tasks.specs.Plan.{Plan, want, after, Fits, got_of, device_of}
-use Rattle.wb_tasks.specs.Ready.{MayTake, MayMake, Suits}
-use Rattle.wb_tasks.proofs.Readiness.{keeps_ready, is_ready, flush_begins, opening_begins, ends_holding_nothing}
+use Rattle.wb_tasks.specs.Ready.{MayTake, MayMake, Suits, AreBelow}
+use Rattle.wb_tasks.proofs.Readiness.{keeps_ready, is_ready, flush_begins, opening_begins, ends_holding_nothing, suspend_begins}
 use Rattle.wb_tasks.specs.declared.step.Answer.{Answer}
 use Rattle.wb_tasks.specs.declared.step.Answer.TheVariants.{Done as Finished, Refused as Refuses}
 use Rattle.wb_tasks.specs.declared.step.DeviceStep.{DeviceStep}
@@ -31,13 +31,13 @@ use Rattle.wb_tasks.specs.declared.step.Want.TheVariants.{Cell, Device, Desk, En
 use Rattle.wb_tasks.specs.declared.step.Got.{Got}
 use Rattle.wb_tasks.specs.declared.step.Got.TheVariants.{Fault}
 use Rattle.wb_promise.specs.declared.job.Job.{Job}
-use Rattle.wb_promise.specs.declared.job.Job.TheVariants.{Read, Write, Flush, Open, Migrate, Replace}
+use Rattle.wb_promise.specs.declared.job.Job.TheVariants.{Read, Write, Flush, Suspend, Open, Migrate, Replace}
 use Rattle.wb_promise.specs.declared.event.Event.{Event}
 use Rattle.wb_promise.specs.declared.event.Event.TheVariants.{Start, Step, FaultStep, Stop}
 use Rattle.wb_promise.specs.declared.event.What.{What}
 use Rattle.wb_promise.specs.declared.event.What.TheVariants.{Skipped, Refused, Started, Stepped, Stopped}
 use Rattle.wb_promise.specs.States.{Shape, State, Actor, Target, Phase, Stands, Gone, Opens, OfTarget, mode_of, resting, start}
-use Rattle.wb_promise.specs.Happenings.{Chosen, Plain, Cut, Orders, order_for, Opened, Happening, OfSome, DoesNotApply, DoesOpen, MayFailAt, Falters, StartGives, Gives, MayBe, KeepsMigration, blocks_left}
+use Rattle.wb_promise.specs.Happenings.{Chosen, Plain, Cut, Orders, order_for, Opened, Happening, OfSome, DoesNotApply, DoesOpen, MayFailAt, Falters, StartGives, Gives, MayBe, KeepsMigration, blocks_left, StartsAs, Looks, AreMapped}
 use Rattle.wb_promise.specs.Effects.{task_then, actor_then, card_over, card_by, words_by, seals_of, phase_then, target_over, stepped, with_actor, cleared, given, phase_given, job_of, device_done, device_failed, all_resting, after_what, after_happening, after_all, IsRun, orders_then, awaiting_then, orders_given}
 use Rattle.wb_runs.specs.Holding.{cards_of, TaskSuits, AllSuited, AreUsedRightly}
 use Rattle.wb_runs.proofs.Extents.{MayStart, may_start, some_sectors}
@@ -57,6 +57,8 @@ use Rattle.wb_runs.proofs.Ruling.{rule_after, rule_same, AllBlank, fresh_ruled, 
 use Rattle.wb_runs.proofs.Suiting.{gives_fits}
 use Rattle.wb_policy.specs.declared.order.Order.TheVariants.{Promote as PromoteOrder, Replace as ReplaceOrder, Demote as DemoteOrder, Clean as CleanOrder}
 use Rattle.wb_types.specs.declared.number.CBlock.{CBlock}
+use Rattle.wb_desk.proofs.Leaving.{mapped_within}
+use Rattle.wb_types.specs.declared.geometry.Geometry.{Geometry}
 
 -- an actor that has a task opens
 abbrev pub OpensOrRests : Option (Job × Plan) → Type 0
@@ -228,6 +230,7 @@ module _ (P A : Type 0) (shape : Shape) where
         plain (Read extent) g = g.0.1
         plain (Write extent content) g = g.0.1
         plain Flush g = g.0.1
+        plain Suspend g = g.0.1
         plain (Open m) g = g.0.1
         plain (Migrate migration block) g = g.0.1
         plain (Replace old new) g = g.0.1
@@ -257,6 +260,7 @@ module _ (P A : Type 0) (shape : Shape) where
     given_word (Read extent) step g = g.1
     given_word (Write extent content) step g = g.1
     given_word Flush step g = g.1
+    given_word Suspend step g = g.1
     given_word (Open mode) step g = g.1
     given_word (Migrate migration block) step g = g.1
     given_word (Replace old new) step g = g.1
@@ -315,6 +319,7 @@ module _ (P A : Type 0) (shape : Shape) where
   same_here (Stands t) (Migrate migration block) (Orders cut cache) actors i = i
   same_here (Stands t) (Migrate migration block) Plain actors i = i
   same_here (Stands t) (Migrate migration block) (Cut cut) actors i = i
+  same_here (Stands t) (Migrate migration block) (Rattle.wb_promise.specs.Happenings.Looks looks) actors i = i
   same_here (Stands t) (Migrate migration block) (Rattle.wb_promise.specs.Happenings.Begins now) actors i = i
   same_here (Stands t) (Migrate migration block) (Rattle.wb_promise.specs.Happenings.Reaches now commit) actors i = i
   same_here (Stands t) (Migrate migration block) (Rattle.wb_promise.specs.Happenings.Puts new) actors i = i
@@ -324,6 +329,7 @@ module _ (P A : Type 0) (shape : Shape) where
   same_here (Stands t) (Replace old new) (Orders cut cache) actors i = i
   same_here (Stands t) (Replace old new) Plain actors i = i
   same_here (Stands t) (Replace old new) (Cut cut) actors i = i
+  same_here (Stands t) (Replace old new) (Rattle.wb_promise.specs.Happenings.Looks looks) actors i = i
   same_here (Stands t) (Replace old new) (Rattle.wb_promise.specs.Happenings.Begins now) actors i = i
   same_here (Stands t) (Replace old new) (Rattle.wb_promise.specs.Happenings.Reaches now commit) actors i = i
   same_here (Stands t) (Replace old other) (Rattle.wb_promise.specs.Happenings.Puts new) actors i = i
@@ -333,6 +339,7 @@ module _ (P A : Type 0) (shape : Shape) where
   same_here (Stands t) (Read extent) chosen actors i = i
   same_here (Stands t) (Write extent content) chosen actors i = i
   same_here (Stands t) Flush chosen actors i = i
+  same_here (Stands t) Suspend chosen actors i = i
   same_here (Stands t) (Open mode) chosen actors i = i
   same_here Gone job chosen actors i = i
   same_here (Opens mode reading) job chosen actors i = i
@@ -411,7 +418,17 @@ module _ (P A : Type 0) (shape : Shape) where
   replacement_given i (Opens mode reading) commit m old new x (Orders cut cache) k g o = absurd g.1
   replacement_given i phase commit m old new x chosen k g o = o
 
-  starts : (w : State P A) (a : ℕ) (job : Job) (chosen : Chosen P A) → IsKnown P A shape w → UsedRightly w.phase w.actors → (¬ DoesNotApply w (Start a job)) → StartGives shape w.phase (slice_get w.actors a) job Started chosen → Started_so w a job chosen (slice_get (cleared w job).actors a)
+  -- blocks that the desk maps are there
+  looks_below : (w : State P A) (looks : List OBlock) → IsKnown P A shape w → OfTarget w.phase (λ t. AreMapped t.desk looks) → AreBelow blocks looks
+  looks_below w looks k m = by_phase w.phase w.commit k.known m
+    where
+      by_phase : (phase : Phase P A) (commit : _) → Rattle.wb_runs.proofs.Metadata.MetadataKept shape.geometry k.images phase commit w.devices.metadata → OfTarget phase (λ t. AreMapped t.desk looks) → AreBelow blocks looks
+      by_phase (Stands t) commit known m = λ block c. let at = m.each block c in
+          subst (λ (g : Geometry). block.0 < g.origin_blocks) known.is.geometry (mapped_within {P = P} Rattle.wb_runs.proofs.Metadata.unknowing t.desk block.0 at.0 known.is.kept at.1).1
+      by_phase Gone commit known m = absurd m
+      by_phase (Opens mode reading) commit known m = absurd m
+
+  starts : (w : State P A) (a : ℕ) (job : Job) (chosen : Chosen P A) → IsKnown P A shape w → UsedRightly w.phase w.actors → (¬ DoesNotApply w (Start a job)) → StartsAs shape w a job Started chosen → Started_so w a job chosen (slice_get (cleared w job).actors a)
   starts w a (Open mode) chosen k u applies gives = by_actor (slice_get (all_resting w.actors) a) refl
     where
       by_actor : (o : Option Actor) → slice_get (all_resting w.actors) a ≡ o → Started_so w a (Open mode) chosen o
@@ -427,21 +444,29 @@ module _ (P A : Type 0) (shape : Shape) where
   starts w a Flush chosen k u applies gives =
       let f = free P A w a Flush applies in
       subst (λ (o : Option Actor). Started_so w a Flush chosen o) (sym f.1)
-      (over Flush chosen w.phase w.actors (given shape (mode_of w.phase) f.0 Flush chosen) a (starts_task w.phase w.actors a f.0 (given shape (mode_of w.phase) f.0 Flush chosen) f.1 refl (flush_begins blocks (blocks_left f.0.awaiting) (Rattle.wb_types.specs.Limits.node_count shape.geometry.cache_blocks) f.0.card (holds_nothing w f.0 a u f.1 f.2)) (u.orders a f.0 f.1) (λ m. applies (inr (inr m))) u))
+      (over Flush chosen w.phase w.actors (given shape (mode_of w.phase) f.0 Flush chosen) a (starts_task w.phase w.actors a f.0 (given shape (mode_of w.phase) f.0 Flush chosen) f.1 refl (flush_begins blocks (blocks_left f.0.awaiting) (Rattle.wb_types.specs.Limits.node_count shape.geometry.cache_blocks) f.0.card (holds_nothing w f.0 a u f.1 f.2)) (u.orders a f.0 f.1) (λ m. applies (inr (inr (inr m)))) u))
     where
       over : (job : Job) (chosen : Chosen P A) (phase : Phase P A) (actors : List Actor) (y : Actor) (a : ℕ) → UsedRightly phase (slice_set actors a y) → UsedRightly (phase_given phase job chosen) (slice_set actors a y)
       over job chosen phase actors y a u = record { suited = u.suited; here = same_here phase job chosen (slice_set actors a y) u.here; orders = u.orders }
+  starts w a Suspend (Looks looks) k u applies gives =
+      let f = free P A w a Suspend applies in
+      subst (λ (o : Option Actor). Started_so w a Suspend (Looks looks) o) (sym f.1)
+      (over Suspend (Looks looks) w.phase w.actors (given {P = P} {A = A} shape (mode_of w.phase) f.0 Suspend (Looks looks)) a (starts_task w.phase w.actors a f.0 (given {P = P} {A = A} shape (mode_of w.phase) f.0 Suspend (Looks looks)) f.1 refl (suspend_begins blocks looks (Rattle.wb_types.specs.Limits.node_count shape.geometry.cache_blocks) f.0.card (looks_below w looks k gives.1) (holds_nothing w f.0 a u f.1 f.2)) (u.orders a f.0 f.1) (λ m. applies (inr (inr (inr m)))) u))
+    where
+      over : (job : Job) (chosen : Chosen P A) (phase : Phase P A) (actors : List Actor) (y : Actor) (a : ℕ) → UsedRightly phase (slice_set actors a y) → UsedRightly (phase_given phase job chosen) (slice_set actors a y)
+      over job chosen phase actors y a u = record { suited = u.suited; here = same_here phase job chosen (slice_set actors a y) u.here; orders = u.orders }
+  starts w a Suspend chosen k u applies gives = absurd gives
   starts w a (Read extent) (Cut cut) k u applies gives =
       let f = free P A w a (Read extent) applies in
       subst (λ (o : Option Actor). Started_so w a (Read extent) (Cut cut) o) (sym f.1)
-      (over (starts_task w.phase w.actors a f.0 (given {P = P} {A = A} shape (mode_of w.phase) f.0 (Read extent) (Cut cut)) f.1 refl (starts_inside shape extent (may_start shape extent gives.0), (holds_nothing w f.0 a u f.1 f.2, refl)) (u.orders a f.0 f.1) (λ m. applies (inr (inr m))) u))
+      (over (starts_task w.phase w.actors a f.0 (given {P = P} {A = A} shape (mode_of w.phase) f.0 (Read extent) (Cut cut)) f.1 refl (starts_inside shape extent (may_start shape extent gives.0), (holds_nothing w f.0 a u f.1 f.2, refl)) (u.orders a f.0 f.1) (λ m. applies (inr (inr (inr m)))) u))
     where
       over : {actors : List Actor} → UsedRightly w.phase actors → UsedRightly (phase_given w.phase (Read extent) (Cut cut)) actors
       over {actors} u = record { suited = u.suited; here = same_here w.phase (Read extent) (Cut cut) actors u.here; orders = u.orders }
   starts w a (Write extent content) (Cut cut) k u applies gives =
       let f = free P A w a (Write extent content) applies in
       subst (λ (o : Option Actor). Started_so w a (Write extent content) (Cut cut) o) (sym f.1)
-      (over (starts_task w.phase w.actors a f.0 (given {P = P} {A = A} shape (mode_of w.phase) f.0 (Write extent content) (Cut cut)) f.1 refl (starts_inside shape extent (may_start shape extent gives.0), (holds_nothing w f.0 a u f.1 f.2, refl)) (u.orders a f.0 f.1) (λ m. applies (inr (inr m))) u))
+      (over (starts_task w.phase w.actors a f.0 (given {P = P} {A = A} shape (mode_of w.phase) f.0 (Write extent content) (Cut cut)) f.1 refl (starts_inside shape extent (may_start shape extent gives.0), (holds_nothing w f.0 a u f.1 f.2, refl)) (u.orders a f.0 f.1) (λ m. applies (inr (inr (inr m)))) u))
     where
       over : {actors : List Actor} → UsedRightly w.phase actors → UsedRightly (phase_given w.phase (Write extent content) (Cut cut)) actors
       over {actors} u = record { suited = u.suited; here = same_here w.phase (Write extent content) (Cut cut) actors u.here; orders = u.orders }
@@ -451,7 +476,7 @@ module _ (P A : Type 0) (shape : Shape) where
       let inside = order_inside k.images w.phase w.commit w.devices.metadata (slice_get w.actors a) migration block chosen k.known kept gives in
       subst (λ (o : Option Actor). Started_so w a (Migrate migration block) chosen o) (sym f.1)
       (over (starts_task w.phase w.actors a f.0 (given {P = P} {A = A} shape (mode_of w.phase) f.0 (Migrate migration block) chosen) f.1 refl (block_inside migration block inside, (holds_nothing w f.0 a u f.1 f.2, refl))
-      (given_orders migration block f.0 chosen inside (u.orders a f.0 f.1)) (λ m. applies (inr (inr m))) u))
+      (given_orders migration block f.0 chosen inside (u.orders a f.0 f.1)) (λ m. applies (inr (inr (inr m)))) u))
     where
       over : {actors : List Actor} → UsedRightly w.phase actors → UsedRightly (phase_given w.phase (Migrate migration block) chosen) actors
       over {actors} u = record { suited = u.suited; here = same_here w.phase (Migrate migration block) chosen actors u.here; orders = u.orders }
@@ -461,7 +486,7 @@ module _ (P A : Type 0) (shape : Shape) where
       let inside = replacement_inside k.images w.phase w.commit w.devices.metadata (slice_get w.actors a) old new chosen k.known kept gives in
       subst (λ (o : Option Actor). Started_so w a (Replace old new) chosen o) (sym f.1)
       (over (starts_task w.phase w.actors a f.0 (given {P = P} {A = A} shape (mode_of w.phase) f.0 (Replace old new) chosen) f.1 refl (inside.1.0, (holds_nothing w f.0 a u f.1 f.2, refl))
-      (replacement_given k.images w.phase w.commit w.devices.metadata old new f.0 chosen k.known (subst (λ (o : Option Actor). StartGives shape w.phase o (Replace old new) Started chosen) f.1 gives) (u.orders a f.0 f.1)) (λ m. applies (inr (inr m))) u))
+      (replacement_given k.images w.phase w.commit w.devices.metadata old new f.0 chosen k.known (subst (λ (o : Option Actor). StartGives shape w.phase o (Replace old new) Started chosen) f.1 gives) (u.orders a f.0 f.1)) (λ m. applies (inr (inr (inr m)))) u))
     where
       over : {actors : List Actor} → UsedRightly w.phase actors → UsedRightly (phase_given w.phase (Replace old new) chosen) actors
       over {actors} u = record { suited = u.suited; here = same_here w.phase (Replace old new) chosen actors u.here; orders = u.orders }

@@ -1,7 +1,6 @@
 -- What is proved of every run without what the sectors hold: what metadata are read as after a crash, why an opening is refused, which sectors
 -- an answer covers, and which events are skipped.
-use Rattle.std.specs.List.{count_by}
-use Rattle.std.specs.Prelude.{true, is_some, ◌≡◌, List, [], ◌∷◌, Option, Some, IsPermutation, map, slice_get}
+use Rattle.std.specs.Prelude.{◌≡◌, List, [], ◌∷◌, Option, Some, IsPermutation, map, slice_get}
 use Rattle.wb_types.specs.Extents.{sectors_in}
 use Rattle.wb_types.specs.declared.refusal.Refusal.{Refusal}
 use Rattle.wb_disk.specs.Device.{Content as Bytes}
@@ -22,12 +21,11 @@ use Rattle.wb_promise.specs.Effects.{after_happening, after_all}
 use Rattle.wb_promise.specs.Clerk.{Notes, Doing, Reading, Position, formatted}
 use Rattle.wb_promise.specs.Headline.{note_happening, MayRefuse, InEveryRun, AllSkipRightly}
 
--- Metadata represent a root of this geometry, and a tree, of which a root that is marked clean says nothing but that it is empty.
+-- Metadata represent a root of this geometry, and a tree.
 pub record CanBeRead (shape : Shape) (metadata : List Bytes) : Type 0 where
   pub stored : Stored
   pub represents : Represents metadata stored.root stored.found
   pub geometry : stored.root.geometry ≡ shape.geometry
-  pub clean : stored.root.clean ≡ true → count_by is_some stored.found.entries ≡ 0
 
 -- whatever a crash leaves of the metadata represents a root and a tree
 abbrev pub MetadataAreRead : (P A : Type 0) → Type 0

@@ -1,5 +1,5 @@
 -- That no run is ever stuck.
-use Rattle.std.specs.Prelude.{◌≡◌, ◌≤◌, ℕ, List}
+use Rattle.std.specs.Prelude.{◌≡◌, ◌≤◌, ℕ, List, None}
 use Rattle.wb_types.specs.Limits.{node_count}
 use Rattle.wb_disk.specs.Device.{Content as Bytes}
 use Rattle.wb_tree.specs.Fields.{AreApart}
@@ -28,7 +28,7 @@ pub record HasHappening {P A : Type 0} (shape : Shape) (w : State P A) (event : 
 
 -- a commit begins, whose image has at most so many nodes
 abbrev pub CanBegin : (P A : Type 0) → ℕ → DeskState P → Type 0
-CanBegin P A most desk = (nodes : ℕ) × ((chosen : Chosen P A) × DoesBegin most desk (Began nodes) chosen)
+CanBegin P A most desk = (nodes : ℕ) × ((chosen : Chosen P A) × DoesBegin None most desk (Began nodes) chosen)
 
 -- an actor may do a step, and it is not skipped
 pub record GivesSomething {P A : Type 0} (shape : Shape) (w : State P A) (a : ℕ) : Type 0 where
