@@ -9,8 +9,8 @@ pub mod Starting
 pub mod Ending
 mod Releasing
 mod Leading
-mod Flushing
-pub mod Flushes
+mod Committing
+pub mod Commits
 mod Counts
 mod Told
 mod Carrying

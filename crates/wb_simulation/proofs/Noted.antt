@@ -19,6 +19,7 @@ use Rattle.wb_contents.proofs.Lists.{set_there, set_other, replicated, set_twice
 use Rattle.wb_link.proofs.Steps.{in_set}
 use Rattle.wb_refines.specs.Going.{records, shared_after, gone}
 use Rattle.wb_refines.specs.Translation.{writing_in}
+use Rattle.wb_refines.specs.Commits.{commit_there}
 use Rattle.wb_refines.proofs.Going.{own_steps, with_own}
 use Rattle.wb_promise.specs.declared.job.Job.{Job}
 use Rattle.wb_promise.specs.Clerk.{Notes, Doing, Position, Entering, begins, begun, put, nobody, entering, enter, enter_each, write_note, all_raised, greater_of}
