@@ -445,13 +445,13 @@ module _ (P A : Type 0) (shape : Shape) (images : Images) (t : Target P) (commit
       b : (y : Rattle.wb_link.specs.World.AbstractActor) × (slice_get f.site.world.actors a ≡ Some y)
       b = beside P A shape images t commit devices actors n known f a x ex
 
-      abbrev orders_over : Answer → List Order
+      orders_over : Answer → List Order
       orders_over v = orders_then x.orders x.awaiting (commit_job clean) (End v) Done
 
-      abbrev awaiting_over : Answer → List Order
+      awaiting_over : Answer → List Order
       awaiting_over v = awaiting_then x.orders x.awaiting (commit_job clean) (End v) Done
 
-      abbrev over : Answer → Actor
+      over : Answer → Actor
       over v = record x { task = None; orders = orders_over v; awaiting = awaiting_over v }
 
       served : (o : Order) → Contains (held_of x) o → Contains ((x.awaiting ++ x.orders) ++ []) o

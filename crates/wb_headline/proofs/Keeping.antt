@@ -340,7 +340,7 @@ module _ (P A : Type 0) (shape : Shape) (images : Images) (t : Target P) (commit
           not_it (Seal o q v) own_step b place dirty e = absurd own_step
           not_it s own_step b place dirty e = absurd (subst (λ (c : CellStep). IsOwnStep (Suspending its_blocks.0 (most P A shape)) (Cell c)) e own_step)
 
-          abbrev left : CellStep → List Want → Plan
+          left : CellStep → List Want → Plan
           left s rest = record { job = Suspending its_blocks.0 (most P A shape); steps = Cell s ∷ rest; answer = plan.answer }
 
           by : (s : CellStep) (rest : List Want) → IsOwnStep (Suspending its_blocks.0 (most P A shape)) (Cell s) → Saw t.words t.desk.tree.entries x.seen (Cell s ∷ rest) → ((block : OBlock) → number_of (place_in (word_at t.words.seals block)) ≡ place_of t.desk.tree.entries block.0) →

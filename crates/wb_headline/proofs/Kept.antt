@@ -139,7 +139,7 @@ module _ (P A : Type 0) (shape : Shape) (images : Images) (t : Target P) (commit
   pub start_keeps : x.task ≡ None → AreAmongOthers actors → (job : Job) (chosen : Chosen P A) → StartsAs shape (standing P A shape images t commit devices actors n) a job Started chosen → Keeping (phase_given {P = P} {A = A} (Stands t) job chosen) (slice_set actors a (given shape t.desk.mode x job chosen))
   start_keeps xt all_among job chosen h = by_job job chosen h
     where
-      abbrev w : State P A
+      w : State P A
       w = standing P A shape images t commit devices actors n
 
       among : (t' : Target P) (y : Actor) (job : Job) (plan : Plan) → y.task ≡ Some (job, plan) → IsAmong job → GoesAmong P A shape images t commit devices actors n known f rule all_suited k a x ex t' y

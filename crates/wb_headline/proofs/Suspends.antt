@@ -79,10 +79,10 @@ saw_seal words entries seen block later told saw begins other c at = by (place_i
     seal : ℕ
     seal = word_at words.seals block
 
-    abbrev Now : List Bool → Type 0
+    Now : List Bool → Type 0
     Now bits = (c < length bits) × (Contains later (Cell (Look (SealWord other))) ⊎ (slice_get bits c ≡ Some (dirty_in (word_at words.seals other))))
 
-    abbrev Was : Type 0
+    Was : Type 0
     Was = (c < length seen) × (Contains (Cell (Look (SealWord block)) ∷ later) (Cell (Look (SealWord other))) ⊎ (slice_get seen c ≡ Some (dirty_in (word_at words.seals other))))
 
     -- the same block, if both stand in this cache block
@@ -96,25 +96,31 @@ saw_seal words entries seen block later told saw begins other c at = by (place_i
         (λ i. record { 0 = (sym f.5 ∙ ap (λ (e : Entry). e.origin.0) entry ∙ g.5) i })
 
     by : (place : Option CBlock) → number_of place ≡ place_of entries block.0 → Was → Now (seen_at place (dirty_in seal) seen)
-    by None n was = (was.0, elim was.1 [
-      | inl looks ↦ first_or (Cell (Look (SealWord block))) (Cell (Look (SealWord other))) later _ looks
-          (λ same. absurd (let is : other ≡ block = cc in let bad : None ≡ Some c = n ∙ ap (λ (b : OBlock). place_of entries b.0) (sym is) ∙ at in cc)) (λ still. inl still)
-      | inr is ↦ inr is
-    ])
-    by (Some d) n was = (subst (λ (k : ℕ). c < k) (sym (length-set seen d.0 (dirty_in seal))) was.0, elim (cases_eq c d.0) [
-      | inl same ↦ (
-          let mine : block ≡ other = one_block (sym n ∙ ap (λ (k : ℕ). Some k) (sym same)) in
-          let old = there_is seen c was.0 in
-          inr (ap (λ (k : ℕ). slice_get (slice_set seen k (dirty_in seal)) c) (sym same) ∙ set_there seen c old.0 (dirty_in seal) old.1 ∙ ap (λ (b : OBlock). Some (dirty_in (word_at words.seals b))) mine))
-      | inr away ↦ elim was.1 [
+    by None n was = (
+      was.0,
+      elim was.1 [
         | inl looks ↦ first_or (Cell (Look (SealWord block))) (Cell (Look (SealWord other))) later _ looks
-            (λ same. absurd (
+            (λ same. absurd (let is : other ≡ block = cc in let bad : None ≡ Some c = n ∙ ap (λ (b : OBlock). place_of entries b.0) (sym is) ∙ at in cc)) (λ still. inl still)
+        | inr is ↦ inr is
+      ],
+    )
+    by (Some d) n was = (
+      subst (λ (k : ℕ). c < k) (sym (length-set seen d.0 (dirty_in seal))) was.0,
+      elim (cases_eq c d.0) [
+        | inl same ↦ (
+            let mine : block ≡ other = one_block (sym n ∙ ap (λ (k : ℕ). Some k) (sym same)) in
+            let old = there_is seen c was.0 in
+            inr (ap (λ (k : ℕ). slice_get (slice_set seen k (dirty_in seal)) c) (sym same) ∙ set_there seen c old.0 (dirty_in seal) old.1 ∙ ap (λ (b : OBlock). Some (dirty_in (word_at words.seals b))) mine))
+        | inr away ↦ elim was.1 [
+          | inl looks ↦ first_or (Cell (Look (SealWord block))) (Cell (Look (SealWord other))) later _ looks
+              (λ same. absurd (
               let is : other ≡ block = cc in
               let both : Some d.0 ≡ Some c = n ∙ ap (λ (b : OBlock). place_of entries b.0) (sym is) ∙ at in
               let bad : d.0 ≡ c = cc in away (sym bad))) (λ still. inl still)
-        | inr is ↦ inr (set_other seen d.0 c (dirty_in seal) away ∙ is)
-      ]
-    ])
+          | inr is ↦ inr (set_other seen d.0 c (dirty_in seal) away ∙ is)
+        ]
+      ],
+    )
 
 -- it starts with a look at the seal of each block that is mapped
 pub saw_first : (words : Words) (entries : List (Option Entry)) (caches most : ℕ) (blocks : List OBlock) (first : Want) → ((block : OBlock) (c : ℕ) → place_of entries block.0 ≡ Some c → (c < caches) × Contains blocks block) →

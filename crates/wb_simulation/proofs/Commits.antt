@@ -84,14 +84,14 @@ module _ (clean : Bool) (now : Situation) (a : ℕ) (x : Actor) (plan : Plan) (s
 
   -- it answers; one that leads a commit still has failed
   answered : (orders' awaiting' : List Order) → ((o : Order) → Contains (held x) o → Contains (orders' ++ awaiting') o) → (answer : Answer) → want plan ≡ End answer → WorldFollows (Answers (commit_there clean) answer) a s now (record x { task = None; orders = orders'; awaiting = awaiting' })
-  answered orders' awaiting' keeps answer e = answers_by plan (commit_task clean blocks now.most) answer f.job e (λ later k. no_end later (subst (λ (us : List Want). IsOfCommit clean now.most us) k f.steps)) (λ p. IsLeading now.size its.2.failed p y ⊎ IsLate its.2.failed p y → Goal) by f.at
+  answered orders' awaiting' keeps answer e = answers_by plan (commit_task clean blocks now.most) answer f.job e (λ later k. no_end clean later (subst (λ (us : List Want). IsOfCommit clean now.most us) k f.steps)) (λ p. IsLeading now.size its.2.failed p y ⊎ IsLate its.2.failed p y → Goal) by f.at
     where
       p : Plan
       p = committing clean blocks now.most [] answer
 
-      no_end : {clean : Bool} (later : List Want) → IsOfCommit clean now.most (End answer ∷ later) → ⊥
-      no_end {true} later o = o
-      no_end {false} later o = o
+      no_end : (clean : Bool) (later : List Want) → IsOfCommit clean now.most (End answer ∷ later) → ⊥
+      no_end true later o = o
+      no_end false later o = o
 
       Goal : Type 0
       Goal = WorldFollows (Answers (commit_there clean) answer) a s now (record x { task = None; orders = orders'; awaiting = awaiting' })

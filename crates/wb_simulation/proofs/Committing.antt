@@ -204,7 +204,7 @@ module _ (now : Situation) (clean : Bool) (blocks : List OBlock) (a : ℕ) (x : 
       let t = effect s.shared (commit_there clean) (λ o. []) (begin_there clean) DoneThere in
       let b = begun_so clean s.shared in
       goes_leading now now.words (λ f. f) a x (record x { task = Some (commit_job clean, plan') }) s y g ex ey (Begins clean) true l.results t (l.results, quiet_are_unnoted y.task l.results l.quiet, refl) l.may l.shared
-      (stands now clean blocks a x s y ex ey g now.words plan' x.card x.seen true (gone y y.task l.results) refl on.0 on.1 (λ e n. absurd (leads_on n on.1)) l.at)
+      (stands now clean blocks a x s y ex ey g now.words plan' x.card x.seen true (gone y y.task l.results) refl on.0 on.1 (λ e n. absurd (leads_on clean n on.1)) l.at)
       (record { fail = b.fail ∙ g.words_agree.fail; seals = λ block. subst (λ f. SealAgrees (word_at now.words.seals block) (f block.0)) (sym b.seals) (g.words_agree.seals block) }) b.origin b.cache b.mode b.commits (λ e. b.commits) (λ d v n ev k. runs (g.led d v ev k)) (λ k. (b.commits, λ u. b.broken ∙ by_broken s.shared.broken refl)) b.turned b.desk (ap (λ (v : AbstractActor). v.order) l.at.is ∙ sym (ap (λ (v : AbstractActor). v.order) is.is)) refl b.mapping (is_no_migration clean)
     where
       runs : s.shared.committing ≡ true → ⊥
@@ -214,9 +214,9 @@ module _ (now : Situation) (clean : Bool) (blocks : List OBlock) (a : ℕ) (x : 
       by_broken false e = e
       by_broken true e = absurd (runs (g.broken e))
 
-      leads_on : {clean : Bool} → begun_steps (commit_task clean blocks now.most) nodes ≡ [] → LeadsAt true (begun_steps (commit_task clean blocks now.most) nodes) → ⊥
-      leads_on {true} n l = absurd (cc)
-      leads_on {false} n l = absurd (cc)
+      leads_on : (clean : Bool) → begun_steps (commit_task clean blocks now.most) nodes ≡ [] → LeadsAt true (begun_steps (commit_task clean blocks now.most) nodes) → ⊥
+      leads_on true n l = absurd (cc)
+      leads_on false n l = absurd (cc)
 
   -- the commit ends, and nobody leads one
   pub ends : (later : List Want) (answer : Answer) → IsOfCommit clean now.most (Desk EndCommit ∷ later) → IsCommitting now.size [] (left (Desk EndCommit ∷ later) answer) true y → WorldFollowsBy Ends Quietly a s (record now { committing = false }) (record x { task = Some (commit_job clean, after (left (Desk EndCommit ∷ later) answer) Done) })

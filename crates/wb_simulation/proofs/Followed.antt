@@ -1,5 +1,5 @@
 -- Each step of a read or a write on the shared words is followed.
-use Rattle.std.proofs.Common.{Bool, ◌≡◌, ◌≢◌, ◌∙◌, ◌⊎◌, inl, inr, ℕ, List, [], ◌∷◌, Option, Some, refl, sym, ap, subst, slice_get}
+use Rattle.std.proofs.Common.{false, Bool, ◌≡◌, ◌≢◌, ◌∙◌, ◌⊎◌, inl, inr, ℕ, List, [], ◌∷◌, Option, Some, refl, sym, ap, subst, slice_get}
 use Rattle.wb_disk.specs.Device.{Content}
 use Rattle.wb_words.specs.SharedWords.{Words, word_at}
 use Rattle.wb_words.specs.Rule.{LockRule}
@@ -17,7 +17,7 @@ use Rattle.wb_tasks.specs.declared.step.Answer.{Answer}
 use Rattle.wb_tasks.specs.declared.step.Want.TheVariants.{Cell, End}
 use Rattle.wb_tasks.proofs.Readiness.{job_stays}
 use Rattle.wb_link.specs.Tables.{Job as AbstractJob}
-use Rattle.wb_link.specs.World.{World, AbstractActor}
+use Rattle.wb_link.specs.World.{World, AbstractActor, is_alone}
 use Rattle.wb_refines.specs.Going.{records, shared_after, gone}
 use Rattle.wb_refines.specs.Models.{IsRequest, IsAt, HasStopped, OnlyParts, TellsPlace, plan_of}
 use Rattle.wb_refines.specs.Roles.{Role, IsAs, request_role}

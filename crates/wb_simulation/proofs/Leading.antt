@@ -71,7 +71,8 @@ pub has_wants : (size : ℕ) (job : AbstractJob) (clean : Bool) (steps : List Wa
 has_wants size job clean (Device (WriteNode number) ∷ later) m = has_wants size job clean later m
 has_wants size job clean (Device (Sync Metadata) ∷ later) m = has_wants size job clean later m
 has_wants size job clean (Device WriteRoot ∷ later) m = λ e. absurd (cc)
-has_wants size job clean (Desk EndCommit ∷ later) m = λ e. absurd (cc)
+has_wants size job true (Desk EndCommit ∷ later) m = λ e. absurd (cc)
+has_wants size job false (Desk EndCommit ∷ later) m = λ e. absurd (cc)
 has_wants size job clean steps m = absurd m
 
 pub begins_by_look : (clean : Bool) (blocks : List OBlock) (most : ℕ) → want (table (commit_task clean blocks most)) ≡ Cell (Look Fail)

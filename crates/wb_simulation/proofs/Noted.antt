@@ -249,7 +249,7 @@ module _ (size a : ℕ) (s : World) (y : AbstractActor) (n : Notes) (m : Abstrac
     where
       -- what its answer makes durable, whichever of both it is
       ends_here : (clean : Bool) → (histories_after m.histories (commit_there clean) (End AnsweredDone) ≡ m.histories) × (finished_after (commit_there clean) (End AnsweredDone) (m.entered a) m.finished ≡ m.finished)
-          × ((λ b o. abstract_floors_after (commit_there clean) (End AnsweredDone) (m.asked a) m.floors b o) ≡ (λ b o. max (m.floors b o) (m.asked a b o)))
+          × ◌≡◌ {A = ℕ → ℕ → ℕ} (λ b o. abstract_floors_after (commit_there clean) (End AnsweredDone) (m.asked a) m.floors b o) (λ b o. max (m.floors b o) (m.asked a b o))
       ends_here true = (refl, refl, refl)
       ends_here false = (refl, refl, refl)
 

@@ -110,7 +110,7 @@ starts_followed = record {
       let u = y now a x s ex none g in
       let same = looks_first now.size looks now.most in
       starts now a x s ex none g Suspend plan seen' (commit_there true) tt (λ b z e. subst IsAmongOthers (sym (rest b z e)) tt) (nobody_at now s g rest) refl refl (λ k. absurd k) refl
-      (λ idle. record { blocks = looks; job = refl; steps = to_look now.most looks; at = inl (record { leads = false; at = refl; has_failed = λ e n. absurd (cc); is = record { buffer = u.buffer; is = λ i. record { task = Some (same (~ i)); held = idle.held i; order = None; leads = idle.leads i; buffer = u.buffer } } }) })
+      (λ idle. record { blocks = looks; job = refl; steps = to_look now.most looks; at = inl (record { leads = false; at = refl; has_failed = λ e n. absurd (cc); is = record { buffer = u.buffer; is = λ i. record { task = Some (sym same i); held = idle.held i; order = None; leads = idle.leads i; buffer = u.buffer } } }) })
       (λ l. record { blocks = looks; job = refl; steps = to_look now.most looks; at = inr l });
 }
   where
