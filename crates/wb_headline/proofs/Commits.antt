@@ -81,6 +81,8 @@ use Rattle.wb_headline.proofs.Desking.{desk_stays, desk_begins, desk_ends, desk_
 use Rattle.wb_headline.proofs.Following.{situation, size, most, Followed, Goes}
 use Rattle.wb_headline.proofs.Rooted.{same_one}
 use Rattle.wb_headline.proofs.Suspends.{AllSeen, Saw, marked_places, saw_all, takes_seen, takes_none}
+use Rattle.std.proofs.lemmas.Bool.{cases_eq}
+use Rattle.wb_simulation.specs.Opened.{located}
 use Rattle.wb_headline.proofs.Keeping.{KeepingAt, saw_now, all_told}
 use Rattle.wb_simulation.specs.Actors.{IsOfCommit, IsAmongOthers}
 use Rattle.wb_simulation.proofs.Followed.{begins_by}
@@ -187,9 +189,9 @@ marks true seen = Some seen
 marks false seen = None
 
 -- What it stores is of the blocks that the desk maps, and takes those as clean whose seals are, or none.
-begun_places : {P : Type 0} (clean : Bool) (seen : List Bool) (hint_of : P → ℕ → ℕ) (desk : DeskState P) (image : Image) (tree : Mapping) → HasBegunWith hint_of (marks clean seen) desk image (commit_begun desk tree) → (λ (b : ℕ). place_of tree.entries b) ≡ (λ b. place_of desk.tree.entries b)
-begun_places true seen hint_of desk image tree h = ap (λ (es : List (Option Entry)) (b : ℕ). place_of es b) (h.image_is.2.same_entries ∙ h.image_is.1.entries) ∙ (λ i b. marked_places (hint_of desk.policy) seen desk.tree.entries 0 b i)
-begun_places false seen hint_of desk image tree h = ap (λ (es : List (Option Entry)) (b : ℕ). place_of es b) h.image_is.same_entries
+begun_places : {P : Type 0} (clean : Bool) (seen : List Bool) (hint_of : P → ℕ → ℕ) (desk : DeskState P) (image : Image) (tree : Mapping) → HasBegunWith hint_of (marks clean seen) desk image (commit_begun desk tree) → located tree.entries ≡ located desk.tree.entries
+begun_places true seen hint_of desk image tree h = ap located (h.image_is.2.same_entries ∙ h.image_is.1.entries) ∙ (λ i b. marked_places (hint_of desk.policy) seen desk.tree.entries 0 b i)
+begun_places false seen hint_of desk image tree h = ap located h.image_is.same_entries
 
 begun_takes : {P : Type 0} (clean : Bool) (seen : List Bool) (hint_of : P → ℕ → ℕ) (desk : DeskState P) (image : Image) (tree : Mapping) (words : Words) (s : Shared) (state : Stored) → HasBegunWith hint_of (marks clean seen) desk image (commit_begun desk tree) →
     WordsAgree words s → (clean ≡ true → AllSeen words desk.tree.entries seen × ((block : OBlock) → number_of (place_in (word_at words.seals block)) ≡ place_of desk.tree.entries block.0)) → state.root.clean ≡ image.root.clean → state.found.entries ≡ tree.entries → StateTakesClean state (clean_by clean s)
@@ -621,32 +623,72 @@ module _ (P A : Type 0) (shape : Shape) (images : Images) (t : Target P) (commit
   abbrev Any_done : (clean : Bool) → x.task ≡ Some (commit_job clean, plan) → doing.job ≡ commit_job clean → Want → Got → List Bytes → Chosen P A → Type 0
   Any_done clean xt job_is next got read chosen = Done_by P A shape images t commit devices actors n known f rule a x ex clean plan xt doing noted job_is suits next got read chosen
 
+  -- what a suspend meets as a flush does
+  abbrev IsCommon : Want → Type 0
+  IsCommon (Cell step) = Unit {0}
+  IsCommon (Device step) = Unit {0}
+  IsCommon (Desk EndCommit) = Unit {0}
+  IsCommon (End answer) = Unit {0}
+  IsCommon next = ⊥
+
+  abbrev Gives_as : Job → Want → Got → List Bytes → Chosen P A → Type 0
+  Gives_as job next got read chosen = Gives shape (standing P A shape images t commit devices actors n) x job next got read chosen
+
+  as_flush : (clean : Bool) (next : Want) (got : Got) (read : List Bytes) (chosen : Chosen P A) → IsCommon next → Gives_as (commit_job clean) next got read chosen → Gives_as Flush next got read chosen
+  as_flush false next got read chosen common g = g
+  as_flush true (Cell step) got read chosen common g = g
+  as_flush true (Device (Sync Metadata)) got read chosen common g = g
+  as_flush true (Device step) got read chosen common g = g
+  as_flush true (Desk EndCommit) got read chosen common g = g
+  as_flush true (End Finished) got read chosen common g = g
+  as_flush true (End answer) got read chosen common g = g
+  as_flush true next got read chosen common g = absurd common
+
   pub commit_steps : (clean : Bool) (xt : x.task ≡ Some (commit_job clean, plan)) (job_is : doing.job ≡ commit_job clean) (next : Want) (got : Got) (read : List Bytes) (chosen : Chosen P A) → length doing.then_finished ≡ length n.floors → next ≡ want plan →
       Gives shape (standing P A shape images t commit devices actors n) x (commit_job clean) next got read chosen → Any_done clean xt job_is next got read chosen
-  commit_steps clean xt job_is (Cell (Look Fail)) got read chosen asked e g = subst (λ (v : Got). Any_done clean xt job_is (Cell (Look Fail)) v read chosen) (sym g.1) (looks_at_fail P A shape images t commit devices actors n known f rule a x ex clean plan xt doing noted job_is e)
-  commit_steps clean xt job_is (Cell SetFailed) got read chosen asked e g = subst (λ (v : Got). Any_done clean xt job_is (Cell SetFailed) v read chosen) (sym g.1) (sets_failed P A shape images t commit devices actors n known f rule a x ex clean plan xt doing noted job_is e)
+  commit_steps clean xt job_is (Cell (Look Fail)) got read chosen asked e g =
+      let h = as_flush clean (Cell (Look Fail)) got read chosen tt g in
+      subst (λ (v : Got). Any_done clean xt job_is (Cell (Look Fail)) v read chosen) (sym h.1) (looks_at_fail P A shape images t commit devices actors n known f rule a x ex clean plan xt doing noted job_is e)
+  commit_steps clean xt job_is (Cell SetFailed) got read chosen asked e g =
+      let h = as_flush clean (Cell SetFailed) got read chosen tt g in
+      subst (λ (v : Got). Any_done clean xt job_is (Cell SetFailed) v read chosen) (sym h.1) (sets_failed P A shape images t commit devices actors n known f rule a x ex clean plan xt doing noted job_is e)
   commit_steps true xt job_is (Cell (Look (SealWord block))) got read chosen asked e g = subst (λ (v : Got). Any_done true xt job_is (Cell (Look (SealWord block))) v read chosen) (sym g.1) (sees xt job_is block e)
   commit_steps true xt job_is (Cell SetSuspended) got read chosen asked e g = subst (λ (v : Got). Any_done true xt job_is (Cell SetSuspended) v read chosen) (sym g.1) (sets_suspended xt job_is e)
-  commit_steps clean xt job_is (Cell step) got read chosen asked e g = absurd (mine P A shape images t commit devices actors n known f rule a x ex clean plan xt doing noted job_is suits (Cell step) e)
-  commit_steps clean xt job_is (Device (Sync Cache)) got read chosen asked e g = subst (λ (v : Got). Any_done clean xt job_is (Device (Sync Cache)) v read chosen) (sym g.1) (syncs P A shape images t commit devices actors n known f rule a x ex clean plan xt doing noted job_is Cache tt e read)
-  commit_steps clean xt job_is (Device (Sync Origin)) got read chosen asked e g = subst (λ (v : Got). Any_done clean xt job_is (Device (Sync Origin)) v read chosen) (sym g.1) (syncs P A shape images t commit devices actors n known f rule a x ex clean plan xt doing noted job_is Origin tt e read)
-  commit_steps clean xt job_is (Device (Sync Metadata)) got read chosen asked e g = subst (λ (v : Got). Any_done clean xt job_is (Device (Sync Metadata)) v read chosen) (sym g.1) (by_sync P A shape images t commit devices actors n known f rule a x ex clean plan xt doing noted job_is suits read chosen commit refl g.2 e)
+  commit_steps true xt job_is (Cell step) got read chosen asked e g = absurd (mine P A shape images t commit devices actors n known f rule a x ex true plan xt doing noted job_is suits (Cell step) e)
+  commit_steps false xt job_is (Cell step) got read chosen asked e g = absurd (mine P A shape images t commit devices actors n known f rule a x ex false plan xt doing noted job_is suits (Cell step) e)
+  commit_steps clean xt job_is (Device (Sync Cache)) got read chosen asked e g =
+      let h = as_flush clean (Device (Sync Cache)) got read chosen tt g in
+      subst (λ (v : Got). Any_done clean xt job_is (Device (Sync Cache)) v read chosen) (sym h.1) (syncs P A shape images t commit devices actors n known f rule a x ex clean plan xt doing noted job_is Cache tt e read)
+  commit_steps clean xt job_is (Device (Sync Origin)) got read chosen asked e g =
+      let h = as_flush clean (Device (Sync Origin)) got read chosen tt g in
+      subst (λ (v : Got). Any_done clean xt job_is (Device (Sync Origin)) v read chosen) (sym h.1) (syncs P A shape images t commit devices actors n known f rule a x ex clean plan xt doing noted job_is Origin tt e read)
+  commit_steps clean xt job_is (Device (Sync Metadata)) got read chosen asked e g =
+      let h = as_flush clean (Device (Sync Metadata)) got read chosen tt g in
+      subst (λ (v : Got). Any_done clean xt job_is (Device (Sync Metadata)) v read chosen) (sym h.1) (by_sync P A shape images t commit devices actors n known f rule a x ex clean plan xt doing noted job_is suits read chosen commit refl h.2 e)
   commit_steps clean xt job_is (Device (WriteNode k)) got read chosen asked e g =
-      let p = by_put P A shape images t commit devices actors n known f rule a x ex clean plan xt doing noted job_is suits (WriteNode k) refl e read tt chosen commit refl g.2 in
-      subst (λ (v : Got). Any_done clean xt job_is (Device (WriteNode k)) v read chosen) (sym g.1) (subst (λ (c : Chosen P A). Any_done clean xt job_is (Device (WriteNode k)) Done read c) (sym p.1) p.2)
+      let h = as_flush clean (Device (WriteNode k)) got read chosen tt g in
+      let p = by_put P A shape images t commit devices actors n known f rule a x ex clean plan xt doing noted job_is suits (WriteNode k) refl e read tt chosen commit refl h.2 in
+      subst (λ (v : Got). Any_done clean xt job_is (Device (WriteNode k)) v read chosen) (sym h.1) (subst (λ (c : Chosen P A). Any_done clean xt job_is (Device (WriteNode k)) Done read c) (sym p.1) p.2)
   commit_steps clean xt job_is (Device WriteRoot) got read chosen asked e g =
-      let p = by_put P A shape images t commit devices actors n known f rule a x ex clean plan xt doing noted job_is suits WriteRoot refl e read tt chosen commit refl g.2 in
-      subst (λ (v : Got). Any_done clean xt job_is (Device WriteRoot) v read chosen) (sym g.1) (subst (λ (c : Chosen P A). Any_done clean xt job_is (Device WriteRoot) Done read c) (sym p.1) p.2)
+      let h = as_flush clean (Device WriteRoot) got read chosen tt g in
+      let p = by_put P A shape images t commit devices actors n known f rule a x ex clean plan xt doing noted job_is suits WriteRoot refl e read tt chosen commit refl h.2 in
+      subst (λ (v : Got). Any_done clean xt job_is (Device WriteRoot) v read chosen) (sym h.1) (subst (λ (c : Chosen P A). Any_done clean xt job_is (Device WriteRoot) Done read c) (sym p.1) p.2)
   commit_steps true xt job_is (Desk (BeginCommit marked allowed)) (Began nodes) read (Commits c tree) asked e g = begins P A shape images t commit devices actors n known f rule a x ex true plan xt doing noted job_is nodes allowed marked c tree e g.2.2 g.2.3.0 g.2.3.1 (λ q. has_seen xt marked allowed e)
   commit_steps false xt job_is (Desk (BeginCommit marked allowed)) (Began nodes) read (Commits c tree) asked e g = begins P A shape images t commit devices actors n known f rule a x ex false plan xt doing noted job_is nodes allowed marked c tree e g.2.2 g.2.3.0 g.2.3.1 (λ q. absurd (cc))
   commit_steps clean xt job_is (Desk (BeginCommit marked allowed)) (GotRefused refusal) read Plain asked e g = begin_refused P A shape images t commit devices actors n known f rule a x ex clean plan xt doing noted job_is refusal allowed marked e g.2
   commit_steps clean xt job_is (Desk (BeginCommit marked allowed)) got read chosen asked e g = absurd g.2
-  commit_steps clean xt job_is (Desk EndCommit) got read chosen asked e g = subst (λ (v : Got). Any_done clean xt job_is (Desk EndCommit) v read chosen) (sym g.1) (by_end P A shape images t commit devices actors n known f rule a x ex clean plan xt doing noted job_is suits read commit refl g.2 e chosen)
-  commit_steps clean xt job_is (End answer) got read chosen asked e g = subst (λ (v : Got). Any_done clean xt job_is (End answer) v read chosen) (sym g.1) (subst (λ (c : Chosen P A). Any_done clean xt job_is (End answer) Done read c) (sym g.0.1) (answers P A shape images t commit devices actors n known f rule a x ex clean plan xt doing noted job_is answer _ read e asked))
-  commit_steps clean xt job_is (Device (ReadMetadata k)) got read chosen asked e g = absurd (mine P A shape images t commit devices actors n known f rule a x ex clean plan xt doing noted job_is suits (Device (ReadMetadata k)) e)
+  commit_steps clean xt job_is (Desk EndCommit) got read chosen asked e g =
+      let h = as_flush clean (Desk EndCommit) got read chosen tt g in
+      subst (λ (v : Got). Any_done clean xt job_is (Desk EndCommit) v read chosen) (sym h.1) (by_end P A shape images t commit devices actors n known f rule a x ex clean plan xt doing noted job_is suits read commit refl h.2 e chosen)
+  commit_steps clean xt job_is (End answer) got read chosen asked e g =
+      let h = as_flush clean (End answer) got read chosen tt g in
+      subst (λ (v : Got). Any_done clean xt job_is (End answer) v read chosen) (sym h.1) (subst (λ (c : Chosen P A). Any_done clean xt job_is (End answer) Done read c) (sym h.0.1) (answers P A shape images t commit devices actors n known f rule a x ex clean plan xt doing noted job_is answer _ read e asked))
+  commit_steps true xt job_is (Device (ReadMetadata k)) got read chosen asked e g = absurd (mine P A shape images t commit devices actors n known f rule a x ex true plan xt doing noted job_is suits (Device (ReadMetadata k)) e)
+  commit_steps false xt job_is (Device (ReadMetadata k)) got read chosen asked e g = absurd (mine P A shape images t commit devices actors n known f rule a x ex false plan xt doing noted job_is suits (Device (ReadMetadata k)) e)
   commit_steps false xt job_is (Desk (ReleaseOrder b)) got read (Asks new) asked e g = subst (λ (v : Got). Any_done false xt job_is (Desk (ReleaseOrder b)) v read (Asks new)) (sym g.1) (gives_up xt job_is b new e g.2)
   commit_steps false xt job_is (Desk (ReleaseOrder b)) got read chosen asked e g = absurd g.2
-  commit_steps clean xt job_is next got read chosen asked e g = absurd g
+  commit_steps true xt job_is next got read chosen asked e g = absurd g
+  commit_steps false xt job_is next got read chosen asked e g = absurd g
 
   abbrev Any_failed : (clean : Bool) → x.task ≡ Some (commit_job clean, plan) → doing.job ≡ commit_job clean → Choice → Want → List Bytes → Chosen P A → Type 0
   Any_failed clean xt job_is choice next read chosen = Failed_by P A shape images t commit devices actors n known f rule a x ex clean plan xt doing noted job_is suits choice next read chosen

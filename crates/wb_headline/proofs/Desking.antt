@@ -153,7 +153,7 @@ module _ (P : Type 0) (desk : DeskState P) (s t : Shared) (g : DeskAgrees desk s
   -- nothing comes of desk and mapping
   pub desk_stays : (desk' : DeskState P) → desk'.tree.entries ≡ desk.tree.entries → desk'.space.blocks ≡ desk.space.blocks → t.mapping ≡ s.mapping → t.blocks ≡ s.blocks → DeskAgrees desk' t
   desk_stays desk' e b m k = record {
-    mapping = m ∙ g.mapping ∙ sym e;
+    mapping = m ∙ g.mapping ∙ ap (λ es. located es) (sym e);
     blocks = λ c. ap (λ (f : ℕ → AbstractBlock). f c) k ∙ g.blocks c ∙ ap (λ bs. block_there (state bs c)) (sym b);
   }
 

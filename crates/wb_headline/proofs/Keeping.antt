@@ -147,7 +147,7 @@ sealed_next b place (Cell (Seal o at dirty) ∷ ws) answer i = (dirty, ap (λ (v
 sealed_next b place ws answer i = absurd i
 
 -- what is so of who does not suspend
-saw_among : (words : Words) (entries : List (Option Entry)) (seen : List Bool) (task : Option (Job × Plan)) → IsAmongOthers task → SawTask words entries seen task
+pub saw_among : (words : Words) (entries : List (Option Entry)) (seen : List Bool) (task : Option (Job × Plan)) → IsAmongOthers task → SawTask words entries seen task
 saw_among words entries seen None among = tt
 saw_among words entries seen (Some doing) among = by doing.0 among
   where
@@ -347,7 +347,10 @@ module _ (P A : Type 0) (shape : Shape) (images : Images) (t : Target P) (commit
               Saw (words_after t.words s) t.desk.tree.entries (seen_after (Cell s) (got_of (result_of t.words s)) x.seen) (after (left s rest) (got_of (result_of t.words s))).steps
           by (Look Rattle.wb_words.specs.declared.word.Word.TheVariants.Fail) rest own_step saw told = by_test (t.words.fail == 0)
             where
-              by_test : (v : Bool) → Saw t.words t.desk.tree.entries x.seen (if v then record { job = Suspending its_blocks.0 (most P A shape); steps = rest; answer = plan.answer } else record { job = Suspending its_blocks.0 (most P A shape); steps = []; answer = Refuses Failed }).steps
+              then_left : Bool → Plan
+              then_left v = if v then record { job = Suspending its_blocks.0 (most P A shape); steps = rest; answer = plan.answer } else record { job = Suspending its_blocks.0 (most P A shape); steps = []; answer = Refuses Failed }
+
+              by_test : (v : Bool) → Saw t.words t.desk.tree.entries x.seen (then_left v).steps
               by_test true = saw_on t.words t.words t.desk.tree.entries t.desk.tree.entries x.seen (Cell (Look Rattle.wb_words.specs.declared.word.Word.TheVariants.Fail)) rest (λ b q. absurd (cc)) refl (λ b. refl) saw
               by_test false = λ b. absurd b
           by (Look (SealWord block)) rest own_step saw told = saw_seal t.words t.desk.tree.entries x.seen block rest (told block) saw

@@ -1,6 +1,6 @@
 -- Whatever step an opening takes, done or failing, it is followed, and its answer; a target that it makes has seals that tell where it has each
 -- block, and no orders.
-use Rattle.std.proofs.Common.{◌≡◌, ◌∙◌, ◌≤◌, ◌^◌, inl, inr, ℕ, true, List, Option, Some, None, refl, sym, ap, subst, arith, length, map, replicate, slice_get, slice_set, Contains, ◌⊎◌, []}
+use Rattle.std.proofs.Common.{false, ◌≡◌, ◌∙◌, ◌≤◌, ◌^◌, inl, inr, ℕ, true, List, Option, Some, None, refl, sym, ap, subst, arith, length, map, replicate, slice_get, slice_set, Contains, ◌⊎◌, []}
 use Rattle.std.proofs.lemmas.List.{length-replicate, length-set, length-map}
 use Rattle.wb_types.proofs.Lists.{set_cases}
 use Rattle.wb_types.specs.declared.entry.Entry.{Entry}

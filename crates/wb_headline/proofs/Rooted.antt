@@ -18,7 +18,7 @@ use Rattle.wb_meta.proofs.Leading.{after_failure}
 use Rattle.wb_promise.specs.Headline.{cached_from, place_of}
 use Rattle.wb_simulation.specs.Opened.{is_clean_in}
 use Rattle.wb_simulation.specs.Sites.{StateTakesClean}
-use Rattle.wb_runs.proofs.Images.{Images, Turn, Ends, Settles, Turned, later_of, IsFit}
+use Rattle.wb_runs.proofs.Images.{Images, Turn, Ends, Settles, Turned, later_of}
 use Rattle.wb_runs.proofs.Underway.{Underway, Readable, images_of, underway_readable, led_on}
 use Rattle.wb_runs.proofs.Metadata.{Rooting as RootingKept}
 

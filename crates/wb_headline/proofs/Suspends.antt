@@ -171,13 +171,13 @@ marked_clean hint [] entries n block k dirty at bit = absurd (cc)
 marked_clean hint (b ∷ seen) [] n block k dirty at bit = absurd (cc)
 marked_clean hint (b ∷ seen) (None ∷ es) n block zero dirty at bit = absurd (let f = found_at es block (suc n) (n + 0) at in let is = f.2 in omega (arith, is))
 marked_clean hint (b ∷ seen) (None ∷ es) n block (suc k) dirty at bit = marked_clean hint seen es (suc n) block k dirty (at ∙ (let same : n + suc k ≡ suc n + k = omega arith in ap (λ (i : ℕ). Some i) same)) bit
-marked_clean hint (b ∷ seen) (Some e ∷ es) n block k dirty at bit = by (e.origin.0 == block) k at bit
+marked_clean hint (b ∷ seen) (Some e ∷ es) n block k dirty at bit = by (e.origin.0 == block) k at bit (λ j. marked_clean hint seen es (suc n) block j dirty)
   where
-    by : (t : Bool) (k : ℕ) → (if t then Some n else cached_from block (suc n) es) ≡ Some (n + k) → slice_get (b ∷ seen) k ≡ Some dirty → (if t then cond b false true else is_clean_in (marked_entries hint seen es) block) ≡ cond dirty false true
-    by true zero at bit = (let both : Some b ≡ Some dirty = bit in let same : b ≡ dirty = cc in ap (λ (v : Bool). cond v false true) same)
-    by true (suc k) at bit = absurd (let both : Some n ≡ Some (n + suc k) = at in let bad : n ≡ n + suc k = cc in omega (arith, bad))
-    by false zero at bit = absurd (let f = found_at es block (suc n) (n + 0) at in let is = f.2 in omega (arith, is))
-    by false (suc k) at bit = marked_clean hint seen es (suc n) block k dirty (at ∙ (let same : n + suc k ≡ suc n + k = omega arith in ap (λ (i : ℕ). Some i) same)) bit
+    by : (t : Bool) (k : ℕ) → (if t then Some n else cached_from block (suc n) es) ≡ Some (n + k) → slice_get (b ∷ seen) k ≡ Some dirty → ((j : ℕ) → cached_from block (suc n) es ≡ Some (suc n + j) → slice_get seen j ≡ Some dirty → is_clean_in (marked_entries hint seen es) block ≡ cond dirty false true) → (if t then cond b false true else is_clean_in (marked_entries hint seen es) block) ≡ cond dirty false true
+    by true zero at bit later = (let both : Some b ≡ Some dirty = bit in let same : b ≡ dirty = cc in ap (λ (v : Bool). cond v false true) same)
+    by true (suc k) at bit later = absurd (let both : Some n ≡ Some (n + suc k) = at in let bad : n ≡ n + suc k = cc in omega (arith, bad))
+    by false zero at bit later = absurd (let f = found_at es block (suc n) (n + 0) at in let is = f.2 in omega (arith, is))
+    by false (suc k) at bit later = later k (at ∙ (let same : n + suc k ≡ suc n + k = omega arith in ap (λ (i : ℕ). Some i) same)) bit
 
 -- A state that is marked clean, and whose entries have the bits of all seals, takes those blocks as clean whose seals are.
 pub takes_seen : (hint : ℕ → ℕ) (words : Words) (s : Shared) (old : List (Option Entry)) (seen : List Bool) (state : Stored) → WordsAgree words s → ((block : OBlock) → number_of (place_in (word_at words.seals block)) ≡ place_of old block.0) → AllSeen words old seen → state.root.clean ≡ true → state.found.entries ≡ marked_entries hint seen old → StateTakesClean state (clean_by true s)
@@ -185,7 +185,7 @@ takes_seen hint words s old seen state agree tells all marked entries block c at
     let b : OBlock = record { 0 = block } in
     let there : place_of old block ≡ Some c = sym (marked_places hint seen old 0 block) ∙ ap (λ (es : List (Option Entry)). cached_from block 0 es) (sym entries) ∙ at in
     let bit = all b c there in
-    let stored : is_clean_in state.found.entries block ≡ cond (dirty_in (word_at words.seals b)) false true = ap (λ (es : List (Option Entry)). is_clean_in es block) entries ∙ marked_clean hint seen old 0 block c (dirty_in (word_at words.seals b)) there bit in
+    let stored : is_clean_in state.found.entries block ≡ cond (dirty_in (word_at words.seals b)) false true = ap (λ (es : List (Option Entry)). is_clean_in es block) entries ∙ marked_clean hint seen old 0 block c (dirty_in (word_at words.seals b)) (there ∙ (let same : c ≡ 0 + c = omega arith in ap (λ (i : ℕ). Some i) same)) bit in
     ap (λ (d : Bool). cond d false true) (dirty_there (place_in (word_at words.seals b)) refl (tells b ∙ there)) ∙ sym stored ∙ sym (ap (λ (m : Bool). cond m (is_clean_in state.found.entries block) false) marked)
   where
     dirty_there : (place : Option CBlock) → place_in (word_at words.seals (record { 0 = block })) ≡ place → number_of place ≡ Some c → (s.seals block).dirty ≡ dirty_in (word_at words.seals (record { 0 = block }))

@@ -8,7 +8,7 @@ pub mod Moving
 pub mod Starting
 pub mod Ending
 mod Releasing
-mod Leading
+pub mod Leading
 mod Committing
 pub mod Commits
 mod Counts
