@@ -1,5 +1,5 @@
 -- Where no target stands after it, an event of the abstract world tells its clerk nothing and leads to a site that agrees; so a crash is followed.
-use Rattle.std.proofs.Common.{◌≡◌, ◌≢◌, ◌∙◌, ℕ, Option, Some, None, refl, sym, ap, subst, length, slice_get, ◌⊎◌, Bool, true, false, if◌then◌else◌, List, inl, inr}
+use Rattle.std.proofs.Common.{◌≡◌, ◌≢◌, ◌∙◌, ℕ, Option, Some, None, refl, sym, ap, subst, length, slice_get, ◌⊎◌, List}
 use Rattle.std.proofs.lemmas.List.{length-replicate, length-map}
 use Rattle.wb_types.specs.declared.mode.Mode.{Mode}
 use Rattle.wb_link.specs.Tables.{Script}
@@ -19,7 +19,7 @@ use Rattle.wb_devices.specs.declared.running.RunningCommit.{RunningCommit}
 use Rattle.wb_promise.specs.declared.job.Job.{Job}
 use Rattle.wb_promise.specs.States.{Shape, State, Actor, Phase, Stands, Gone, Opens, resting}
 use Rattle.wb_runs.proofs.Images.{Images, later_of, one_image}
-use Rattle.wb_runs.proofs.Metadata.{MetadataKept, kept_readable}
+use Rattle.wb_runs.proofs.Metadata.{MetadataKept}
 use Rattle.wb_simulation.specs.Sites.{DevicesAgree, LeadsTo}
 use Rattle.wb_types.specs.declared.mode.Dev.TheVariants.{Metadata, Cache, Origin}
 use Rattle.wb_disk.specs.Crash.{Choice}

@@ -55,7 +55,7 @@ use Rattle.wb_promise.specs.declared.job.Job.TheVariants.{Flush, Suspend}
 use Rattle.wb_promise.specs.States.{Shape, State, Actor, Target, Stands, with_device}
 use Rattle.wb_promise.specs.Effects.{actor_then, awaiting_then, buffer_then, seen_then, dropped, orders_then, device_done, device_failed, stepped, led}
 use Rattle.wb_runs.specs.Holding.{cards_of, AllSuited}
-use Rattle.wb_promise.specs.Clerk.{Notes, Doing, noted_step, device_note, failing, put, finished_note, made_durable, greater_of}
+use Rattle.wb_promise.specs.Clerk.{Notes, Doing, noted_step, device_note, failing, put, finished_note, made_durable}
 use Rattle.wb_runs.proofs.Desks.{given_up_stands}
 use Rattle.wb_runs.proofs.Owning.{Owned}
 use Rattle.wb_runs.proofs.Ordering.{held_of}
@@ -89,7 +89,6 @@ use Rattle.wb_simulation.proofs.Followed.{begins_by}
 use Rattle.wb_stage.specs.Seen.{seen_with}
 use Rattle.wb_promise.specs.Headline.{place_of}
 use Rattle.wb_promise.specs.Sealed.{number_of}
-use Rattle.wb_types.specs.declared.entry.Entry.{Entry}
 use Rattle.wb_format.specs.declared.root.Root.{Root}
 use Rattle.wb_refines.specs.Models.{WordsAgree}
 use Rattle.wb_simulation.specs.Worlds.{clean_by}

@@ -1,12 +1,8 @@
 -- What is known of the metadata while an opening's root is on its way, and of the images after a step.
-use Rattle.std.proofs.Common.{◌≡◌, ◌∙◌, ◌+◌, inl, ℕ, suc, Bool, true, false, List, [], ◌∷◌, Option, Some, None, refl, sym, ap, subst, arith, is_some, cond}
-use Rattle.std.specs.List.{count_by}
-use Rattle.std.proofs.lemmas.List.Sums.{sum_by-cons}
-use Rattle.wb_types.specs.declared.entry.Entry.{Entry}
+use Rattle.std.proofs.Common.{◌≡◌, ◌∙◌, inl, Bool, true, false, List, Some, None, refl, sym, ap, subst}
 use Rattle.wb_types.specs.declared.geometry.Geometry.{Geometry}
 use Rattle.wb_disk.specs.Device.{History}
 use Rattle.wb_tree.specs.declared.image.Image.{Image}
-use Rattle.wb_meta.specs.Representing.{Stored}
 use Rattle.wb_meta.specs.Steps.{DoesStep, FailsStep, steps_after}
 use Rattle.wb_meta.specs.declared.read_steps.ReadSteps.{ReadSteps}
 use Rattle.wb_meta.specs.declared.read_steps.ReadSteps.TheVariants.{Done as AllRead}
@@ -15,9 +11,6 @@ use Rattle.wb_meta.proofs.Stepping.{fails as step_fails}
 use Rattle.wb_devices.specs.declared.running.RunningCommit.{RunningCommit}
 use Rattle.wb_meta.specs.Roots.{MayBeReadAs, Commit}
 use Rattle.wb_meta.proofs.Leading.{after_failure}
-use Rattle.wb_promise.specs.Headline.{cached_from, place_of}
-use Rattle.wb_simulation.specs.Opened.{is_clean_in}
-use Rattle.wb_simulation.specs.Sites.{StateTakesClean}
 use Rattle.wb_runs.proofs.Images.{Images, Turn, Ends, Settles, Turned, later_of}
 use Rattle.wb_runs.proofs.Underway.{Underway, Readable, images_of, underway_readable, led_on}
 use Rattle.wb_runs.proofs.Metadata.{Rooting as RootingKept}

@@ -11,9 +11,8 @@ use Rattle.wb_contents.proofs.Lists.{set_there, set_other, there_is}
 use Rattle.wb_words.specs.SharedWords.{Words, word_at, place_in, dirty_in}
 use Rattle.wb_words.specs.declared.word.Word.TheVariants.{Seal as SealWord}
 use Rattle.wb_words.specs.declared.step.CellStep.TheVariants.{Look, SetSuspended}
-use Rattle.wb_tree.specs.Mapping.{Mapping}
 use Rattle.wb_meta.specs.Representing.{Stored}
-use Rattle.wb_desk.specs.Marks.{marked_entry, marked_entries}
+use Rattle.wb_desk.specs.Marks.{marked_entries}
 use Rattle.wb_tasks.specs.Plan.{Plan, node_writes, root_steps, begun_steps, seal_looks}
 use Rattle.wb_tasks.specs.declared.step.DeskStep.TheVariants.{BeginCommit}
 use Rattle.wb_tasks.specs.declared.step.Want.{Want}

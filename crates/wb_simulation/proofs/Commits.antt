@@ -25,7 +25,7 @@ use Rattle.wb_link.specs.Tables.{Job as AbstractJob}
 use Rattle.wb_refines.specs.Translation.{job_for}
 use Rattle.wb_refines.proofs.Committing.{job_is}
 use Rattle.wb_simulation.specs.Telling.{Quietly, Answers, AnswersSo, Releases}
-use Rattle.wb_simulation.specs.Worlds.{Situation, Agrees, Begins, Puts, Ends, GivesUp, WorldFollowsBy, WorldFollows}
+use Rattle.wb_simulation.specs.Worlds.{Situation, Begins, Puts, Ends, GivesUp, WorldFollowsBy, WorldFollows}
 use Rattle.wb_simulation.specs.Laws.{WantsNext, CommitStepsFollowed, commit_job, after_step, turn_of, stepped_actor}
 use Rattle.wb_types.specs.declared.number.OBlock.{OBlock}
 use Rattle.wb_simulation.specs.Carried.{held}

@@ -38,7 +38,7 @@ use Rattle.wb_promise.specs.declared.job.Job.TheVariants.{Flush, Suspend}
 use Rattle.wb_promise.specs.States.{Actor, with_device}
 use Rattle.wb_simulation.specs.Actors.{IsLate, IsOfCommit, LeadsAt, StandsFor, AreReleases, AreAmongOthers}
 use Rattle.wb_simulation.specs.Telling.{Quietly, Releases}
-use Rattle.wb_simulation.specs.Worlds.{Situation, zeros, Agrees, Turn, Stays, Begins, Puts, Ends, GivesUp, clean_by, TurnedTo, DeskTurnedTo, WorldFollowsBy, WorldFollows, IsUnfinished}
+use Rattle.wb_simulation.specs.Worlds.{Situation, zeros, Agrees, Turn, Stays, Begins, Puts, Ends, GivesUp, TurnedTo, DeskTurnedTo, WorldFollowsBy, WorldFollows, IsUnfinished}
 use Rattle.wb_simulation.specs.Laws.{turn_of, commit_job, stepped_actor, IsOnlyOf}
 use Rattle.wb_simulation.proofs.Telling.{unnoted_none, quiet_are_unnoted}
 use Rattle.wb_types.specs.declared.number.OBlock.{OBlock}

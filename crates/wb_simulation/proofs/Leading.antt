@@ -1,6 +1,6 @@
 -- An actor that leads a commit goes on, and nobody else leads one.
-use Rattle.std.proofs.Common.{◌≡◌, ◌≢◌, ◌∙◌, inl, inr, ℕ, zero, suc, Bool, true, false, List, [], ◌∷◌, ◌++◌, Some, None, refl, sym, ap, subst, slice_get}
-use Rattle.wb_types.specs.declared.mode.Dev.TheVariants.{Metadata, Cache, Origin}
+use Rattle.std.proofs.Common.{◌≡◌, ◌≢◌, ◌∙◌, inl, inr, ℕ, zero, suc, Bool, true, false, List, [], ◌∷◌, ◌++◌, Some, refl, sym, ap, subst, slice_get}
+use Rattle.wb_types.specs.declared.mode.Dev.TheVariants.{Metadata}
 use Rattle.wb_disk.specs.Device.{History}
 use Rattle.wb_contents.specs.Devices.{by_block}
 use Rattle.wb_words.specs.SharedWords.{Words, flag}
@@ -11,7 +11,7 @@ use Rattle.wb_tasks.specs.declared.step.DeviceStep.TheVariants.{Sync, WriteNode,
 use Rattle.wb_tasks.specs.declared.step.DeskStep.TheVariants.{EndCommit}
 use Rattle.wb_tasks.specs.declared.step.Want.{Want}
 use Rattle.wb_words.specs.declared.word.Word.TheVariants.{Fail}
-use Rattle.wb_words.specs.declared.step.CellStep.TheVariants.{Look, SetFailed, SetSuspended}
+use Rattle.wb_words.specs.declared.step.CellStep.TheVariants.{Look, SetSuspended}
 use Rattle.wb_tasks.specs.declared.step.DeviceStep.{DeviceStep}
 use Rattle.wb_tasks.specs.declared.step.Want.TheVariants.{Cell, Device, Desk}
 use Rattle.wb_devices.specs.declared.devices.Devices.{Devices}
