@@ -1,5 +1,5 @@
 -- That the promises are not empty: runs that pass through what they speak of.
-use Rattle.std.specs.Prelude.{true, false, ◌≡◌, ◌≤◌, ◌∷◌, ℕ, List, [], Some, None, length, slice_get}
+use Rattle.std.specs.Prelude.{Bool, true, false, ◌≡◌, ◌≤◌, ◌∷◌, ℕ, List, [], Some, None, length, slice_get}
 use Rattle.wb_types.specs.declared.entry.Entry.{Entry}
 use Rattle.wb_types.specs.declared.extent.Extent.{Extent}
 use Rattle.wb_types.specs.declared.mode.Mode.{Mode}
@@ -173,9 +173,12 @@ CanDemote P A = CanPass P A (IsSmall 1 64) (λ shape. to_demote)
 abbrev pub IsWrittenTo : {P A : Type 0} → Bytes → State P A → Type 0
 IsWrittenTo content w = AboutToAnswer (Write first_sector content) w × ReadGives w.devices.cache 0 content
 
--- the seal of the first block says that its copy in the first cache block is clean
+-- the seal of the first block says that its copy in the first cache block is dirty, or clean
+abbrev pub IsSealed : {P A : Type 0} → Bool → State P A → Type 0
+IsSealed dirty w = TargetHas w (λ target. word_at target.words.seals first_block ≡ seal_word (Some first_cache_block) dirty)
+
 abbrev pub IsSealedClean : {P A : Type 0} → State P A → Type 0
-IsSealedClean w = TargetHas w (λ target. word_at target.words.seals first_block ≡ seal_word (Some first_cache_block) false)
+IsSealedClean w = IsSealed false w
 
 -- The first block comes, is written to, and is written back: what was written is on the origin then too, the block stands where it was, its
 -- seal says that it is clean, and no order lives there.
@@ -261,13 +264,9 @@ to_start_again shape =
 abbrev pub CanStartAgain : (P A : Type 0) → Type 0
 CanStartAgain P A = CanPass P A (IsSmall 2 128) to_start_again
 
--- the seal of the first block says that its copy in the first cache block is dirty
-abbrev pub IsSealedDirty : {P A : Type 0} → State P A → Type 0
-IsSealedDirty w = TargetHas w (λ target. word_at target.words.seals first_block ≡ seal_word (Some first_cache_block) true)
-
--- the one entry is that of the first block, with the dirty bit
-abbrev pub IsStoredDirty : {P A : Type 0} → State P A → Type 0
-IsStoredDirty w = TargetHas w (λ target. (entry : Entry) × (target.desk.tree.entries ≡ Some entry ∷ []) × (entry.origin ≡ first_block) × (entry.dirty ≡ true))
+-- the one entry is that of the first block, with this dirty bit
+abbrev pub IsStored : {P A : Type 0} → Bool → State P A → Type 0
+IsStored dirty w = TargetHas w (λ target. (entry : Entry) × (target.desk.tree.entries ≡ Some entry ∷ []) × (entry.origin ≡ first_block) × (entry.dirty ≡ dirty))
 
 -- what was written to the first sector survives a crash from now on, or may be lost in one still
 abbrev pub IsFloorAt : ℕ → Notes → Type 0
@@ -278,11 +277,22 @@ IsFloorAt position n = slice_get n.floors 0 ≡ Some position
 abbrev pub to_suspend : {P A : Type 0} → Shape → Bytes → List (State P A → Notes → Type 0)
 to_suspend shape content =
     (λ w n. IsPromoted w)
-    ∷ (λ w n. IsWrittenTo content w × IsSealedDirty w)
-    ∷ (λ w n. AboutToAnswer Suspend w × IsStoredDirty w × IsFloorAt 0 n)
+    ∷ (λ w n. IsWrittenTo content w × IsSealed true w)
+    ∷ (λ w n. AboutToAnswer Suspend w × IsStored true w × IsFloorAt 0 n)
     ∷ (λ w n. FirstIsAt (Open Writeback) w × IsFloorAt 1 n)
-    ∷ (λ w n. IsSealedDirty w × StandsIn Writeback w × (slice_get (shown shape w) 0 ≡ Some content))
+    ∷ (λ w n. IsSealed true w × StandsIn Writeback w × (slice_get (shown shape w) 0 ≡ Some content))
     ∷ []
 
 abbrev pub CanSuspend : (P A : Type 0) → Type 0
 CanSuspend P A = (content : Bytes) → CanPass P A (IsSmallest 64) (λ shape. to_suspend shape content)
+
+-- Where the block is not written to, it is stored as clean, and the opening takes it as clean.
+abbrev pub to_stay_clean : {P A : Type 0} → List (State P A → Notes → Type 0)
+to_stay_clean =
+    (λ w n. IsPromoted w × IsSealedClean w)
+    ∷ (λ w n. AboutToAnswer Suspend w × IsStored false w)
+    ∷ (λ w n. IsSealedClean w × StandsIn Writeback w)
+    ∷ []
+
+abbrev pub CanStayClean : (P A : Type 0) → Type 0
+CanStayClean P A = CanPass P A (IsSmallest 64) (λ shape. to_stay_clean)

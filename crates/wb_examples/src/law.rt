@@ -1,7 +1,7 @@
 //! Runs that there are, and answers that the promise refuses.
 
 ghost use Rattle.wb_examples.specs.Excluded.{ExcludesWrongAnswers, ExcludesWrongSuspends};
-ghost use Rattle.wb_examples.specs.Possible.{CanDemote, CanFlush, CanGiveUp, CanOpen, CanPromote, CanReplace, CanStartAgain, CanSurvive, CanSuspend, CanWriteBack, CanWriteHalf, CanWriteThrough};
+ghost use Rattle.wb_examples.specs.Possible.{CanDemote, CanFlush, CanGiveUp, CanOpen, CanPromote, CanReplace, CanStartAgain, CanStayClean, CanSurvive, CanSuspend, CanWriteBack, CanWriteHalf, CanWriteThrough};
 
 /// From any formatted metadata there is a run, over any policy, in which an opening is answered done and its target stands.
 pub fn a_target_can_be_opened<P, A>()
@@ -69,6 +69,11 @@ pub fn a_replacement_can_start_again<P, A>()
 /// it is answered done: what was written is durable with the suspend's answer, the block is stored and taken as dirty, and the opening shows it.
 pub fn a_target_can_be_suspended<P, A>()
     ensures { CanSuspend P A }
+{}
+
+/// And one in which that block, where it was not written to, is stored and taken as clean.
+pub fn a_block_can_stay_clean<P, A>()
+    ensures { CanStayClean P A }
 {}
 
 /// The definitions of the promise tell right answers from wrong ones: of a read, a write and an opening on a sector to which two contents
