@@ -14,7 +14,7 @@ use Rattle.wb_lines.specs.declared.line.TheConstants.{ACTORS}
 use Rattle.wb_lines.specs.declared.line.Line.{Line}
 use Rattle.wb_lines.specs.declared.line.Line.TheVariants.{Nothing, Start, Step, End, Fault, Stop, Open, View}
 use Rattle.wb_lines.specs.declared.line.Task.{Task}
-use Rattle.wb_lines.specs.declared.line.Task.TheVariants.{Read, Write, Flush, Promote, Demote, Clean, Replace, Open as OpenTask}
+use Rattle.wb_lines.specs.declared.line.Task.TheVariants.{Read, Write, Flush, Suspend, Promote, Demote, Clean, Replace, Open as OpenTask}
 use Rattle.wb_lines.specs.declared.setup.Setup.{Setup}
 
 -- one of the actors
@@ -78,11 +78,12 @@ abbrev pub SpellsMode : List (List ℕ) → Mode → Type 0
 SpellsMode (word ∷ []) mode = word ≡ mode_name mode
 SpellsMode words mode = ⊥
 
--- The words of a task: `r S N`, `w S N hh`, `flush`, `promote b c`, `demote b`, `clean b`, `replace v x` or `open <mode>`.
+-- The words of a task: `r S N`, `w S N hh`, `flush`, `suspend`, `promote b c`, `demote b`, `clean b`, `replace v x` or `open <mode>`.
 abbrev pub SpellsTask : List (List ℕ) → Task → Type 0
 SpellsTask (name ∷ words) (Read at count) = (name ≡ codes "r") × SpellsSectors words at.0 count
 SpellsTask (name ∷ words) (Write at count fill) = (name ≡ codes "w") × SpellsFill words at.0 count fill
 SpellsTask (name ∷ words) Flush = (name ≡ codes "flush") × (words ≡ [])
+SpellsTask (name ∷ words) Suspend = (name ≡ codes "suspend") × (words ≡ [])
 SpellsTask (name ∷ words) (Promote block cache) = (name ≡ codes "promote") × SpellsBlocks words block cache
 SpellsTask (name ∷ words) (Demote block) = (name ≡ codes "demote") × SpellsOnlyBlock words block
 SpellsTask (name ∷ words) (Clean block) = (name ≡ codes "clean") × SpellsOnlyBlock words block

@@ -27,6 +27,8 @@ pub enum Task {
     Write { at: Sector, count: u64, fill: u8 },
     /// `flush`: makes durable what was finished.
     Flush,
+    /// `suspend`: makes durable what was finished, with the dirty bits of what is mapped, and leaves the cache suspended.
+    Suspend,
     /// `promote b c`: copies this block of the origin into this cache block, and maps it.
     Promote { block: u32, cache: u32 },
     /// `demote b`: copies this block home where it is dirty, and unmaps it.
@@ -235,6 +237,26 @@ fn read_task(mut words: SplitSpaces<'_>) -> Option<Task>
             words.expect_end()?;
             Some(Task::Flush)
         }
+        "suspend" => {
+            words.expect_end()?;
+            Some(Task::Suspend)
+        }
+        "open" => {
+            let mode = read_last_mode(words)?;
+            Some(Task::Open { mode })
+        }
+        name => read_migration(name, words),
+    }
+}
+
+/// Reads a migration, whose name stands before these words.
+fn read_migration(name: &str, words: SplitSpaces<'_>) -> Option<Task>
+    requires requests { (name.now ≢ codes "r") × (name.now ≢ codes "w") }
+    requires others { (name.now ≢ codes "flush") × (name.now ≢ codes "suspend") × (name.now ≢ codes "open") }
+    ensures found { IfSome result (SpellsTask (name.now ∷ words_of words.entry.0.now)) }
+    ensures none { IfNone result ((task : Told) → ¬ SpellsTask (name.now ∷ words_of words.entry.0.now) task) }
+{
+    match name {
         "promote" => {
             let (block, cache) = read_blocks(words)?;
             Some(Task::Promote { block, cache })
@@ -250,10 +272,6 @@ fn read_task(mut words: SplitSpaces<'_>) -> Option<Task>
         "replace" => {
             let (old, new) = read_blocks(words)?;
             Some(Task::Replace { old, new })
-        }
-        "open" => {
-            let mode = read_last_mode(words)?;
-            Some(Task::Open { mode })
         }
         _ => None,
     }

@@ -220,6 +220,34 @@ const REPLACEMENTS: [Row; 5] = [
     },
 ];
 
+/// A cache with two blocks, one of them dirty, is suspended.
+const SUSPENDS: [Row; 4] = [
+    Row {
+        name: "what was dirty is stored as dirty, and nothing else",
+        lines: "setup writeback 64 4 10 4\nstart 0 promote 0 0\nend 0\nstart 0 promote 5 1\nend 0\nstart 0 w 0 1 22\nend 0\nstart 0 suspend\nend 0\nopen writeback\nview 0 1\n",
+        prints: "0 done\n0 done\n0 done\n0 done\nopen 3 2 1\n0 22\n",
+        ends: Ended::Played,
+    },
+    Row {
+        name: "a root that was written and not synced may be lost",
+        lines: "setup writeback 64 4 10 4\nstart 0 promote 0 0\nend 0\nstart 0 promote 5 1\nend 0\nstart 0 w 0 1 22\nend 0\nstart 0 suspend\nstep 0 9\nstop old\nopen writeback\nview 0 1\n",
+        prints: "0 done\n0 done\n0 done\nopen 2 0 0\n0 00\n",
+        ends: Ended::Played,
+    },
+    Row {
+        name: "or kept",
+        lines: "setup writeback 64 4 10 4\nstart 0 promote 0 0\nend 0\nstart 0 promote 5 1\nend 0\nstart 0 w 0 1 22\nend 0\nstart 0 suspend\nstep 0 9\nstop new\nopen writeback\nview 0 1\n",
+        prints: "0 done\n0 done\n0 done\nopen 3 2 1\n0 22\n",
+        ends: Ended::Played,
+    },
+    Row {
+        name: "it is alone, and the last",
+        lines: "setup writeback 64 4 10 4\nstart 1 w 0 1 11\nstart 0 suspend\nend 1\nstart 0 suspend\nstart 1 r 0 1\nend 0\nstart 1 r 0 1\nend 1\n",
+        prints: "0 refused 3 Busy\n1 done\nskipped\n0 done\n1 refused 6 Failed\n",
+        ends: Ended::Played,
+    },
+];
+
 /// Lines that do not apply, that are refused at the start, and that do nothing.
 const SKIPPED: [Row; 4] = [
     Row {
@@ -354,6 +382,11 @@ fn what_was_written_back_is_on_both(rt: HostRuntime) -> Result<(), Fail> {
 #[test]
 fn a_block_makes_way_for_another(rt: HostRuntime) -> Result<(), Fail> {
     compare(rt.alloc(), &REPLACEMENTS)
+}
+
+#[test]
+fn a_suspend_stores_what_is_dirty(rt: HostRuntime) -> Result<(), Fail> {
+    compare(rt.alloc(), &SUSPENDS)
 }
 
 #[test]
