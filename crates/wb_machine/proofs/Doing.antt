@@ -39,7 +39,7 @@ use Rattle.wb_devices.specs.declared.running.RunningCommit.{RunningCommit}
 use Rattle.wb_devices.specs.Committing.{is_coming}
 use Rattle.wb_devices.specs.Moving.{device_in}
 use Rattle.wb_stage.specs.Asking.{DidMap, DidUnmap, HasBegunWith, ended, DidRelease}
-use Rattle.wb_stage.specs.Stages.{DidAsk, EndsWith, IsServed, is_all_done}
+use Rattle.wb_stage.specs.Stages.{DidAsk, DidBeginWith, EndsWith, IsServed, is_all_done}
 use Rattle.wb_promise.specs.declared.job.Job.{Job}
 use Rattle.wb_promise.specs.declared.job.Job.TheVariants.{Read, Write, Flush, Suspend, Open, Migrate, Replace}
 use Rattle.wb_promise.specs.States.{Shape, Actor, Stands, Target as RunTarget, with_device}
@@ -211,7 +211,7 @@ puts_sector image steps step b p e = absurd p
 -- ---- the desk
 
 -- the dirty bits with which a commit begins for a job that has seen these
-bits_of : Job → List Bool → Option (List Bool)
+abbrev bits_of : Job → List Bool → Option (List Bool)
 bits_of Suspend seen = Some seen
 bits_of job seen = None
 
@@ -257,6 +257,15 @@ module _ (desk : DeskState Quiet) (commit : Option RunningCommit) (desk' : DeskS
   asked_plainly enters leaves (Open mode) step got n did = (enters, leaves, did)
   asked_plainly enters leaves (Migrate migration block) step got n did = (enters, leaves, did)
   asked_plainly enters leaves (Replace old new) step got n did = (enters, leaves, did)
+
+  -- and for a suspend, whose commit begins or ends
+  pub suspend_begins : (step : DeskStep) (clean : Bool) (most : ℕ) (got : Got) → step ≡ BeginCommit clean most → DidBeginWith (λ policy block. 0) (Some seen) most got desk commit desk' commit' → DidAskFor Suspend held seen step got desk commit desk' commit'
+  suspend_begins step clean most got e did = subst (λ (s : DeskStep). DidAskFor Suspend held seen s got desk commit desk' commit') (sym e) (λ policy block. 0, did)
+
+  pub suspend_ends : (with_entry : Quiet → ℕ → ℕ → Quiet) (without_entry : Quiet → ℕ → Quiet) (step : DeskStep) (got : Got) → step ≡ EndCommit → DidAsk with_entry without_entry held step got desk commit desk' commit' → DidAskFor Suspend held seen step got desk commit desk' commit'
+  suspend_ends enters leaves step got e did =
+      let at_end = subst (λ (s : DeskStep). DidAsk enters leaves held s got desk commit desk' commit') e did in
+      subst (λ (s : DeskStep). DidAskFor Suspend held seen s got desk commit desk' commit') (sym e) (enters, leaves, at_end)
 
   did_begin : (job : Job) (clean : Bool) (most nodes : ℕ) (running : RunningCommit) → clean ≡ is_clean job → nodes ≤ most → nodes ≡ length running.image.nodes.items → running.steps ≡ NodesWritten 0 → (hint_of : Quiet → ℕ → ℕ) → HasBegunWith hint_of (bits_of job seen) desk running.image desk' → AreWhole running.image → commit' ≡ Some running →
       DeskWasAsked desk commit job held seen (BeginCommit clean most) (Began nodes) desk' commit'

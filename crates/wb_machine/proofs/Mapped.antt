@@ -1,7 +1,7 @@
 -- The blocks of the first entries of a mapping, as they are listed.
-use Rattle.std.proofs.Common.{◌≡◌, ◌<◌, ◌+◌, inl, inr, ℕ, zero, suc, List, [], ◌∷◌, ◌++◌, Option, Some, None, refl, sym, ap, subst, ◌∙◌, arith, Contains, length, slice_get, slice_index_or}
+use Rattle.std.proofs.Common.{◌≡◌, ◌<◌, ◌+◌, inl, inr, ℕ, zero, suc, List, [], ◌∷◌, ◌++◌, Option, Some, None, refl, sym, ap, subst, ◌∙◌, arith, Contains, length, slice_index_or}
 use Rattle.std.proofs.lemmas.Bool.{cases_eq}
-use Rattle.std.proofs.lemmas.List.{length-map}
+use Rattle.std.proofs.lemmas.List.{append-nil, length-map}
 use Rattle.std.proofs.lemmas.List.Elements.{Contains-append_left, Contains-push, Contains-push_cases}
 use Rattle.wb_types.specs.declared.entry.Entry.{Entry}
 use Rattle.wb_types.specs.declared.number.OBlock.{OBlock}
@@ -10,6 +10,7 @@ use Rattle.wb_tree.specs.Mapping.{IsMapping}
 use Rattle.wb_desk.specs.Desks.{DeskState}
 use Rattle.wb_desk.proofs.Seen.{there}
 use Rattle.wb_promise.specs.Happenings.{AreMapped}
+use Rattle.wb_machine.specs.Serving.{block_in}
 use Rattle.wb_machine.proofs.Possible.{is_inside}
 
 -- these are the blocks of the first so many entries
@@ -27,30 +28,27 @@ mapped_entry (x ∷ es) (suc c) b m = mapped_entry es c b m
 pub none_listed : (entries : List (Option Entry)) → AreListed entries 0 []
 none_listed entries = record { each = λ block has. absurd (omega (arith, has.1)); all = λ block cache l m. absurd (omega (arith, l)) }
 
--- a cache block that has no entry
-pub passed_over : (entries : List (Option Entry)) (c : ℕ) (blocks : List OBlock) → slice_index_or entries c None ≡ None → AreListed entries c blocks → AreListed entries (c + 1) blocks
-passed_over entries c blocks none s = record {
-  each = s.each;
+-- one more cache block, and the block of its entry, if it has one
+pub listed_next : (entries : List (Option Entry)) (c : ℕ) (blocks : List OBlock) (entry : Option Entry) → entry ≡ slice_index_or entries c None → AreListed entries c blocks → AreListed entries (c + 1) (blocks ++ block_in entry)
+listed_next entries c blocks None at s = record {
+  each = λ block has. s.each block (subst (λ (bs : List OBlock). Contains bs block) (append-nil blocks) has);
   all = λ block cache l m. elim (cases_eq cache c) [
     | inl same ↦
         let e = mapped_entry entries cache block.0 m in
-        let bad : None ≡ Some e.0 = sym none ∙ ap (λ (k : ℕ). slice_index_or entries k None) (sym same) ∙ e.1 in
+        let bad : None ≡ Some e.0 = at ∙ ap (λ (k : ℕ). slice_index_or entries k None) (sym same) ∙ e.1 in
         absurd (cc)
-    | inr other ↦ s.all block cache (omega (arith, l, other)) m
+    | inr other ↦ subst (λ (bs : List OBlock). Contains bs block) (sym (append-nil blocks)) (s.all block cache (omega (arith, l, other)) m)
   ];
 }
-
--- and one that has
-pub listed_next : (entries : List (Option Entry)) (c : ℕ) (blocks : List OBlock) (entry : Entry) → slice_index_or entries c None ≡ Some entry → AreListed entries c blocks → AreListed entries (c + 1) (blocks ++ entry.origin ∷ [])
-listed_next entries c blocks entry at s = record {
+listed_next entries c blocks (Some entry) at s = record {
   each = λ block has. elim (Contains-push_cases blocks entry.origin block has) [
     | inl before ↦ s.each block before
-    | inr same ↦ (c, subst (λ (b : OBlock). IsMappedAt (origins entries) b.0 c) same (there entries c entry at))
+    | inr same ↦ (c, subst (λ (b : OBlock). IsMappedAt (origins entries) b.0 c) same (there entries c entry (sym at)))
   ];
   all = λ block cache l m. elim (cases_eq cache c) [
     | inl same ↦
         let e = mapped_entry entries cache block.0 m in
-        let found : Some entry ≡ Some e.0 = sym at ∙ ap (λ (k : ℕ). slice_index_or entries k None) (sym same) ∙ e.1 in
+        let found : Some entry ≡ Some e.0 = at ∙ ap (λ (k : ℕ). slice_index_or entries k None) (sym same) ∙ e.1 in
         let one : entry ≡ e.0 = cc in
         let origin : entry.origin.0 ≡ block.0 = ap (λ (x : Entry). x.origin.0) one ∙ e.2 in
         subst (λ (b : OBlock). Contains (blocks ++ entry.origin ∷ []) b) (ap (λ (n : ℕ). record { 0 = n }) origin) (Contains-push blocks entry.origin)

@@ -77,7 +77,7 @@ idle_there (m ∷ ms) [] a P e h = h
 idle_there (m ∷ ms) (c ∷ cs) zero P e h = works_not m P e h
 idle_there (m ∷ ms) (c ∷ cs) (suc a) P e h = idle_there ms cs a P e h
 
-works_so : (m : Member) → is_some m.task ≡ true → OfSome m.task (λ doing. Unit {0})
+pub works_so : (m : Member) → is_some m.task ≡ true → OfSome m.task (λ doing. Unit {0})
 works_so m e = by_task m.task e
   where
     by_task : (t : Option (Job × Plan)) → is_some t ≡ true → OfSome t (λ doing. Unit {0})

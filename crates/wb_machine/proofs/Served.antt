@@ -20,7 +20,7 @@ use Rattle.wb_policy.specs.declared.quiet.Quiet.{Quiet}
 use Rattle.wb_desk.specs.Commits.{commit_ended}
 use Rattle.wb_desk.specs.Desks.{DeskState}
 use Rattle.wb_tasks.specs.Tables.{TaskJob}
-use Rattle.wb_tasks.specs.Plan.{Plan, after, table, want}
+use Rattle.wb_tasks.specs.Plan.{Plan, after, want}
 use Rattle.wb_tasks.proofs.Readiness.{job_stays}
 use Rattle.wb_tasks.specs.declared.step.DeviceStep.{DeviceStep}
 use Rattle.wb_tasks.specs.declared.step.DeviceStep.TheVariants.{Read as ReadExtent, Write as WriteExtent, Sync, ReadMetadata, WriteNode, WriteRoot}
@@ -257,7 +257,7 @@ module _ (shape : Shape) (devices : Devices (List History)) (t : Target) (member
       by_task None e s = rw (s.devices_are, s.target_is, s.read_is, stays s.member_is) (passes shape before (Step a) what (λ h. idles e (λ d. Unit {0}) h) s.what_is)
       by_task (Some doing) e s = rw (s.what_is, s.read_is) (record {
         chosen = s.performs.chosen;
-        may = works_at doing e (λ y job plan. (want doing.1 ≡ want plan) × Gives shape before y job (want doing.1) s.got (noted_read doing.0 (want doing.1) s.given) s.performs.chosen) (refl, s.performs.gives shape actors x refl);
+        may = works_at doing e (λ y job plan. (want doing.1 ≡ want plan) × Gives shape before y job (want doing.1) s.got (noted_read doing.0 (want doing.1) s.given) s.performs.chosen) (refl, s.performs.gives shape actors x (refl, refl));
         leads = went_on doing (want doing.1) s.got s.performs.chosen (λ job buffer. done_by job buffer s.performs.chosen) devices' t' e s.performs.leads s.member_is;
       })
 
@@ -345,6 +345,7 @@ module _ (shape : Shape) (devices : Devices (List History)) (commit : Option Run
   desk_sizes (Migrate migration block) (Desk (ReleaseOrder b)) g = release_sizes t.desk actor.orders b chosen g.2
   desk_sizes (Read extent) (Desk (ReleaseOrder b)) g = absurd g
   desk_sizes (Write extent content) (Desk (ReleaseOrder b)) g = absurd g
+  desk_sizes Suspend (Desk (ReleaseOrder b)) g = absurd g
   desk_sizes Flush (Desk (ReleaseOrder b)) g = release_sizes t.desk actor.awaiting b chosen g.2
   desk_sizes (Open mode) (Desk (ReleaseOrder b)) g = absurd g
   desk_sizes (Replace old new) (Desk (ReleaseOrder b)) g = absurd g
@@ -375,7 +376,7 @@ step_keeps devices t a m what read devices' t' m' f s = by_task m.task s
           cards = ap (λ (c : CrewState). length c.cards) leads.crew_is ∙ like.1;
           failed = leads.failed_is;
           sizes = ap (λ (d : DeskState Quiet). d.geometry) leads.desk_is
-              ∙ desk_sizes some_shape devices t.commit (target_told t) [] (seat m blank_card) s.got (noted_read doing.0 (want doing.1) s.given) s.performs.chosen doing.0 (want doing.1) (s.performs.gives some_shape [] (seat m blank_card) refl);
+              ∙ desk_sizes some_shape devices t.commit (target_told t) [] (seat m blank_card) s.got (noted_read doing.0 (want doing.1) s.given) s.performs.chosen doing.0 (want doing.1) (s.performs.gives some_shape [] (seat m blank_card) (refl, refl));
         }
 
 -- a start keeps the desk's geometry
@@ -469,11 +470,14 @@ fault_roomy cache_blocks choice devices commit m what devices' commit' m' r f = 
     by_task (Some doing) e (inl f) = subst (λ (v : Member). IsRoomy cache_blocks v) (sym f.member_is) (roomy_then cache_blocks devices m doing (want doing.1) Fault e r)
     by_task (Some doing) e (inr f) = subst (λ (v : Member). IsRoomy cache_blocks v) (sym f.0.member_is) r
 
+no_more : (n : ℕ) → n ≤ n
+no_more n = omega arith
+
 pub given_roomy : (shape : Shape) (mode : Mode) (m : Member) (job : Job) (chosen : Chosen Quiet Global) → IsRoomy shape.geometry.cache_blocks (member_given shape mode m job chosen)
 given_roomy shape mode m (Read extent) chosen = (tt, tt)
 given_roomy shape mode m (Write extent content) chosen = (tt, tt)
-given_roomy shape mode m Flush chosen = (omega arith, tt)
-given_roomy shape mode m Suspend chosen = (omega arith, length_replicate shape.geometry.cache_blocks false)
+given_roomy shape mode m Flush chosen = (no_more (node_count shape.geometry.cache_blocks), tt)
+given_roomy shape mode m Suspend chosen = (no_more (node_count shape.geometry.cache_blocks), length_replicate shape.geometry.cache_blocks false)
 given_roomy shape mode m (Open opened_in) chosen = (tt, tt)
 given_roomy shape mode m (Migrate migration block) chosen = (tt, tt)
 given_roomy shape mode m (Replace old new) chosen = (tt, tt)

@@ -1,13 +1,17 @@
 -- What a member is after a step on its job, by the parts that the step changes.
-use Rattle.std.proofs.Common.{◌≡◌, ◌∙◌, ℕ, Bool, true, false, List, [], Option, Some, None, refl, sym, ap, subst, ◌≢◌, Vec}
+use Rattle.std.proofs.Common.{◌≡◌, ◌∙◌, ℕ, Bool, true, false, List, [], Option, Some, None, refl, sym, ap, subst, ◌≢◌, Vec, arith}
 use Rattle.wb_disk.specs.Device.{Content as Bytes, History}
 use Rattle.wb_devices.specs.declared.devices.Devices.{Devices}
 use Rattle.wb_policy.specs.declared.order.Order.{Order}
 use Rattle.wb_tasks.specs.Plan.{Plan, want}
+use Rattle.wb_tasks.specs.Ready.{IsAsked, IsOwnStep, Suits}
+use Rattle.wb_tasks.specs.Tables.{BlockJob, Reading, Writing, Displacing, Invalidating, Migrating, TaskJob, OnBlock, Flushing, Suspending, Opening}
+use Rattle.wb_tasks.proofs.Readiness.{is_own_step}
+use Rattle.wb_words.specs.declared.card.Card.{Card}
 use Rattle.wb_tasks.specs.declared.step.DeviceStep.TheVariants.{Read as ReadExtent}
-use Rattle.wb_tasks.specs.declared.step.DeskStep.TheVariants.{Map, Unmap, ReleaseOrder}
+use Rattle.wb_tasks.specs.declared.step.DeskStep.TheVariants.{Map, Unmap, ReleaseOrder, BeginCommit, EndCommit}
 use Rattle.wb_tasks.specs.declared.step.Want.{Want}
-use Rattle.wb_tasks.specs.declared.step.Want.TheVariants.{Device, Desk, End}
+use Rattle.wb_tasks.specs.declared.step.Want.TheVariants.{Cell, Device, Desk, End}
 use Rattle.wb_tasks.specs.declared.step.Got.{Got}
 use Rattle.wb_tasks.specs.declared.step.Got.TheVariants.{Done}
 use Rattle.wb_promise.specs.declared.job.Job.{Job}
@@ -18,10 +22,11 @@ use Rattle.wb_machine.specs.declared.target.Target.{Target}
 use Rattle.wb_machine.specs.declared.machine.TheConstants.{ACTORS}
 use Rattle.wb_machine.specs.Life.{shape_of}
 use Rattle.wb_machine.specs.Members.{Member}
-use Rattle.wb_machine.specs.Serving.{Performs, Steps, MemberSteps, is_copied, member_then, noted_read, may_give_up}
+use Rattle.wb_machine.specs.Serving.{Allows, Performs, Steps, MemberSteps, is_copied, member_then, noted_read, may_give_up}
 use Rattle.std.specs.declared.alloc.Global.{Global}
 use Rattle.wb_words.specs.Cards.{blank_card}
 use Rattle.wb_tasks.specs.declared.step.Answer.TheVariants.{Done as Finished}
+use Rattle.wb_machine.specs.Standing.{AllowsImages}
 use Rattle.wb_machine.specs.Keeping.{IsLeft, IsLeftBy}
 
 -- only a step that is done changes the orders of its actor
@@ -104,3 +109,29 @@ module _ (devices : Devices (List History)) (old : Target) (a : ℕ) (m : Member
       same_member : m' ≡ member_then devices m next got
       same_member = of_parts m' (task_then m.task next got) (orders_then m.orders m.awaiting (job_of m.task) next got) (awaiting_then m.orders m.awaiting (job_of m.task) next got) (buffer_then devices m.buffer next got (job_of m.task)) (seen_then m.seen next got (job_of m.task)) t
           (o ∙ ap (λ (j : Job). orders_then m.orders m.awaiting j next got) job_is) (w ∙ ap (λ (j : Job). awaiting_then m.orders m.awaiting j next got) job_is) (b ∙ ap (λ (j : Job). buffer_then devices m.buffer next got j) job_is) (s ∙ ap (λ (j : Job). seen_then m.seen next got j) job_is)
+
+-- ---- what a step of a task asks for
+
+no_commit : (job : BlockJob) (clean : Bool) (most : ℕ) → IsAsked job (BeginCommit clean most) → ⊥
+no_commit (Reading part) clean most asked = asked
+no_commit (Writing part) clean most asked = asked
+no_commit (Displacing part) clean most asked = asked
+no_commit (Invalidating part) clean most asked = asked
+no_commit (Migrating migration part) clean most asked = asked
+
+allows_next : (nodes : ℕ) (job : TaskJob) (next : Want) → IsOwnStep job next → AllowsImages nodes job → Allows nodes next
+allows_next nodes job (Cell step) own a = tt
+allows_next nodes job (Device step) own a = tt
+allows_next nodes job (Desk (Map block place)) own a = tt
+allows_next nodes job (Desk (Unmap block)) own a = tt
+allows_next nodes job (Desk (ReleaseOrder block)) own a = tt
+allows_next nodes job (Desk EndCommit) own a = tt
+allows_next nodes job (End answer) own a = tt
+allows_next nodes (OnBlock job) (Desk (BeginCommit clean most)) own a = absurd (no_commit job clean most own)
+allows_next nodes (Flushing serves bound) (Desk (BeginCommit clean most)) own a = omega (arith, own.1, a)
+allows_next nodes (Suspending blocks bound) (Desk (BeginCommit clean most)) own a = omega (arith, own.1, a)
+allows_next nodes (Opening left) (Desk (BeginCommit clean most)) own a = absurd own
+
+-- who commits asks for as many nodes as its job allows
+pub allows : (blocks nodes : ℕ) (plan : Plan) (card : Card) → Suits blocks plan card → AllowsImages nodes plan.job → Allows nodes (want plan)
+allows blocks nodes plan card suits a = allows_next nodes plan.job (want plan) (is_own_step blocks plan card suits) a

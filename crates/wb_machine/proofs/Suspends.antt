@@ -1,5 +1,5 @@
 -- What the start of a suspend does over a target that stands is what wb_promise says.
-use Rattle.std.proofs.Common.{◌≡◌, ◌≤◌, ◌<◌, inl, inr, ℕ, Bool, true, false, List, [], Option, Some, None, refl, sym, ap, subst, ◌∙◌, slice_get, slice_set, length, length-set}
+use Rattle.std.proofs.Common.{◌≡◌, ◌≤◌, ◌<◌, inl, inr, ℕ, true, false, List, [], Some, None, refl, sym, ap, subst, ◌∙◌, slice_get, length, length-set, Result, Ok, Err, IfOk, OnErr}
 use Rattle.std.proofs.lemmas.Bool.{cases_Bool}
 use Rattle.wb_types.specs.declared.refusal.Refusal.TheVariants.{Busy}
 use Rattle.wb_disk.specs.Device.{History}
@@ -24,7 +24,12 @@ use Rattle.wb_machine.proofs.Orders.{none_of}
 use Rattle.wb_machine.proofs.Served.{given_roomy, given_so, in_place, roomy_set}
 use Rattle.wb_contents.proofs.Lists.{there_is}
 
--- it leaves the target, and each of the members roomy
+-- what follows where it was done, and where it was not
+pub either : {T E : Type 0} (r : Result T E) (Did : T → Type 0) (Kept P : Type 0) → ((x : T) → Did x → P) → (Kept → P) → IfOk r Did → OnErr r Kept → P
+either (Ok x) Did Kept P f g did kept = f x did
+either (Err e) Did Kept P f g did kept = g kept
+
+-- it leaves each of the members roomy
 pub suspend_roomy : (shape : Shape) (desk : DeskState Quiet) (members : List Member) (a : ℕ) (what : What) (members' : List Member) → AllRoomy shape.geometry.cache_blocks members → StartsSuspend shape desk members a what members' → AllRoomy shape.geometry.cache_blocks members'
 suspend_roomy shape desk members a Skipped members' all s = subst (λ (ms : List Member). AllRoomy shape.geometry.cache_blocks ms) (sym s.1) all
 suspend_roomy shape desk members a (Refused Busy) members' all s = subst (λ (ms : List Member). AllRoomy shape.geometry.cache_blocks ms) (sym s.2) all

@@ -2,6 +2,7 @@
 use Rattle.std.specs.Prelude.{◌≡◌, ◌≤◌, ◌+◌, ◌⊎◌, ℕ, Bool, true, false, if◌then◌else◌, length, List, [], ◌∷◌, Option, Some, None, is_none, is_some, slice_get, slice_set, IfSome}
 use Rattle.std.specs.declared.alloc.Global.{Global}
 use Rattle.wb_types.specs.Extents.{pieces}
+use Rattle.wb_types.specs.declared.entry.Entry.{Entry}
 use Rattle.wb_types.specs.declared.extent.Extent.{Extent}
 use Rattle.wb_types.specs.declared.geometry.Geometry.{Geometry}
 use Rattle.wb_types.specs.declared.mode.Mode.{Mode}
@@ -126,6 +127,11 @@ StartsIf false shape desk m job what desk' m' = IsPassed desk m what desk' m'
 -- a start by who is at nothing, and any other
 abbrev pub Starts : Shape → DeskState Quiet → Member → Job → What → DeskState Quiet → Member → Type 0
 Starts shape desk m job what desk' m' = StartsIf (is_none m.task) shape desk m job what desk' m'
+
+-- the block of an entry, if there is one
+abbrev pub block_in : Option Entry → List OBlock
+block_in None = []
+block_in (Some entry) = entry.origin ∷ []
 
 -- What the start of a suspend comes to where nobody suspends the target: it is skipped where who starts it is at something, refused where another
 -- is, and begins else to look at what is mapped, having seen nothing.
@@ -355,7 +361,7 @@ pub record FailsAt (choice : Choice) (devices : Devices (List History)) (commit 
 -- One call of the desk for a job: a suspend's commit begins with what it has seen.
 abbrev pub DidAskFor : Job → (held : List Order) (seen : List Bool) → DeskStep → Got → DeskState Quiet → Option RunningCommit → DeskState Quiet → Option RunningCommit → Type 0
 DidAskFor Suspend held seen (BeginCommit clean most) got desk commit desk' commit' = (hint_of : Quiet → ℕ → ℕ) × DidBeginWith hint_of (Some seen) most got desk commit desk' commit'
-DidAskFor job held seen step got desk commit desk' commit' = (with_entry : Quiet → ℕ → ℕ → Quiet) × ((without_entry : Quiet → ℕ → Quiet) × DidAsk with_entry without_entry held step got desk commit desk' commit')
+DidAskFor job held seen step got desk commit desk' commit' = (with_entry : Quiet → ℕ → ℕ → Quiet) × (without_entry : Quiet → ℕ → Quiet) × DidAsk with_entry without_entry held step got desk commit desk' commit'
 
 -- What the desk gives that is asked for a job, which may give up one of these orders and has seen this, and what that makes of it and of the commit.
 pub record DeskWasAsked (desk : DeskState Quiet) (commit : Option RunningCommit) (job : Job) (held : List Order) (seen : List Bool) (step : DeskStep) (got : Got) (desk' : DeskState Quiet) (commit' : Option RunningCommit) : Type 0 where

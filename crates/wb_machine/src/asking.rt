@@ -1,9 +1,8 @@
 //! The desk is asked for a commit, for an entry, to let one go, or to give up an order, by the one performer of such steps.
 
-ghost use Rattle.std.specs.Prelude.{◌≡◌, List, length, All, IfSome};
+ghost use Rattle.std.specs.Prelude.{◌≡◌, length, All, IfSome};
 ghost use Rattle.wb_types.specs.declared.number.Place.{Place as PlaceValue};
 ghost use Rattle.wb_promise.specs.declared.job.Job.TheVariants.{Suspend};
-ghost use Rattle.wb_policy.specs.declared.order.Order.{Order as OrderValue};
 ghost use Rattle.wb_format.specs.declared.node.Node.{Node as NodeValue};
 ghost use Rattle.wb_types.specs.Limits.{node_count};
 ghost use Rattle.wb_tasks.specs.Plan.{Fits};
@@ -63,29 +62,30 @@ fn ask_for(
     ensures kind { Fits (OnDesk step) result }
 {
     match job {
-        Job::Suspend => ask_for_suspend(alloc, desk, commit, seen, step),
+        Job::Suspend => ask_for_suspend(alloc, desk, commit, held, seen, step),
         _ => asking::ask(alloc, desk, commit, held, step),
     }
 }
 
-/// One call of the desk for a suspend, whose commit begins with the dirty bits that it has seen; whatever orders there are, none is given up.
+/// One call of the desk for a suspend, whose commit begins with the dirty bits that it has seen.
 fn ask_for_suspend(
     alloc: Global,
     desk: &mut Desk<Quiet>,
     commit: &mut Option<RunningCommit>,
+    orders: &[Order],
     seen: &[bool],
     step: DeskStep,
 ) -> Got
     requires askable { IsAskable commit.old Suspend step }
     requires bits { length seen.now ≡ desk.old.geometry.cache_blocks }
-    ensures did { (held : List OrderValue) → DidAskFor Suspend held seen.now step result desk.old commit.old desk.new commit.new }
+    ensures did { DidAskFor Suspend orders.now seen.now step result desk.old commit.old desk.new commit.new }
     ensures kind { Fits (OnDesk step) result }
 {
     match step {
         DeskStep::BeginCommit(_, most) => {
             asking::begin_commit(alloc, desk, commit, Some(seen), most)
         }
-        DeskStep::EndCommit => asking::ask(alloc, desk, commit, &[], step),
+        DeskStep::EndCommit => asking::ask(alloc, desk, commit, orders, step),
         _ => unreachable!(),
     }
 }

@@ -1,12 +1,12 @@
 //! Starts of suspends, and what a suspend begins with.
 
-ghost use Rattle.std.specs.Prelude.{◌≡◌, ◌<◌, false, length, replicate, IfOk, IfErr, OnErr};
+ghost use Rattle.std.specs.Prelude.{◌≡◌, ◌<◌, ◌++◌, false, length, replicate, IfOk, IfErr, OnOk, OnErr};
 ghost use Rattle.wb_types.specs.declared.refusal.Refusal.TheVariants.{Memory};
 ghost use Rattle.wb_promise.specs.Happenings.{AreMapped};
 ghost use Rattle.wb_machine.specs.declared.machine.TheConstants.{ACTORS};
 ghost use Rattle.wb_machine.specs.Life.{is_suspending, shape_of};
 ghost use Rattle.wb_machine.specs.Members.{somebody_suspends, somebody_works};
-ghost use Rattle.wb_machine.specs.Serving.{StartsSuspend};
+ghost use Rattle.wb_machine.specs.Serving.{StartsSuspend, block_in};
 
 use crate::keeping::see_desk;
 use crate::member::Member;
@@ -15,7 +15,7 @@ use std::alloc::Global;
 use wb_desk::Desk;
 use wb_policy::{Policy, Quiet};
 use wb_promise::What;
-use wb_types::{CBlock, Geometry, OBlock, Refusal};
+use wb_types::{CBlock, Entry, Geometry, OBlock, Refusal};
 
 /// An actor gets a suspend, if it has no task; it is refused as busy where another has one. Nobody suspends the target yet. `Memory` where
 /// there is none for what a suspend begins with; then nothing has changed.
@@ -77,13 +77,23 @@ pub(crate) fn mapped_blocks<P: Policy>(
     see_desk(desk);
     let mut blocks = Vec::new(alloc);
     for c in 0..desk.geometry().cache_blocks {
-        if let Some(entry) = desk.entry(CBlock(c)) {
-            if blocks.push(entry.origin).is_err() {
-                return Err(Refusal::Memory);
-            }
-        }
+        list(&mut blocks, desk.entry(CBlock(c)))?;
     }
     Ok(blocks)
+}
+
+/// One more: the block of this entry, if there is one. `Memory` where there is no room for it.
+fn list(blocks: &mut Vec<OBlock>, entry: Option<Entry>) -> Result<(), Refusal>
+    ensures ok { OnOk result (blocks.new.items ≡ blocks.old.items ++ block_in entry) }
+    ensures refusal { IfErr result (λ refusal. refusal ≡ Memory) }
+{
+    match entry {
+        Some(entry) => match blocks.push(entry.origin) {
+            Ok(()) => Ok(()),
+            Err(_) => Err(Refusal::Memory),
+        },
+        None => Ok(()),
+    }
 }
 
 /// For each cache block no bit. `Memory` where there is none for them.

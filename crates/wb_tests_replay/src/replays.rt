@@ -309,8 +309,8 @@ const ENDED: [Row; 6] = [
         ends: Ended::Refused,
     },
     Row {
-        name: "a suspend, which there is none of yet",
-        lines: "setup writeback 64 4 10 4\nstart 0 suspend\n",
+        name: "a suspend is of no block",
+        lines: "setup writeback 64 4 10 4\nstart 0 suspend 0\n",
         prints: "bad line 2\n",
         ends: Ended::Refused,
     },
