@@ -99,16 +99,19 @@ module _ (heap : Global) where
     planned = is_image g desk.tree (next_plan desk desk.tree false) bare.entries bare.known.is.sound bare.known.is.geometry refl
 
     -- a commit that may begin can begin
-    pub begins_bare : (most : ℕ) → MayBegin desk → DoesBegin {P = P} {A = A} most desk (Began 0) (Commits (bare_commit g (desk.generation + 1)) desk.tree)
+    pub begins_bare : (most : ℕ) → MayBegin desk → DoesBegin {P = P} {A = A} None most desk (Began 0) (Commits (bare_commit g (desk.generation + 1)) desk.tree)
     begins_bare most may = (
       omega arith,
       refl,
       refl,
-      record {
-        may = may;
-        state = refl;
-        image_is = planned;
-        unused = on_unused unknowing desk (λ (b : ℕ). 0) None false desk.tree (bare_image (bare_root g (desk.generation + 1))) bare.known.is.kept may.idle planned bare.known.is.kept.mapping bare.known.is.sound bare.known.is.kept.places.inside;
-      },
+      (
+        (λ policy block. 0),
+        record {
+          may = may;
+          state = refl;
+          image_is = planned;
+          unused = on_unused unknowing desk (λ (b : ℕ). 0) None false desk.tree (bare_image (bare_root g (desk.generation + 1))) bare.known.is.kept may.idle planned bare.known.is.kept.mapping bare.known.is.sound bare.known.is.kept.places.inside;
+        },
+      ),
       All-nil _,
     )

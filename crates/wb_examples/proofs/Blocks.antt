@@ -12,8 +12,6 @@ use Rattle.wb_disk.specs.Device.{Content as Bytes, History, ReadGives, grown, on
 use Rattle.wb_disk.specs.Extents.{written_each, written_where}
 use Rattle.wb_disk.specs.Failing.{lands}
 use Rattle.wb_words.specs.SharedWords.{Words, fresh_words}
-use Rattle.wb_words.specs.Cards.{blank_card}
-use Rattle.wb_words.specs.declared.card.Card.{Card}
 use Rattle.wb_meta.proofs.Histories.{newest-added}
 use Rattle.wb_policy.specs.declared.order.Order.{Order}
 use Rattle.wb_desk.specs.Desks.{DeskState}
@@ -40,7 +38,7 @@ use Rattle.wb_examples.proofs.Shown.{nowhere}
 use Rattle.wb_examples.proofs.Playing.{Move, Gets, Moves, Does, Fails, goes, happens, may_move, ◌⨟◌}
 use Rattle.wb_examples.proofs.Opening.{Idle, flushing, flushing_may}
 use Rattle.wb_examples.proofs.Desks.{Setting, shape, stood, demoted, claimed, given_up, settled, followed, cleaned, leaving, may_promote, may_map, comes, may_demote, demotes, may_replace, leaves, lives, gives_up, may_follow, follows, may_clean, cleans}
-use Rattle.wb_examples.proofs.Scenes.{Scene, Formatted, at, over, Leads, goes_to, From, done, stretch, on, opened_scene, setting, devices, cache_size, origin_size, known_at, Whole, from_opened, small_can, uncut, nothing_lands, may_fail, whole, next_whole}
+use Rattle.wb_examples.proofs.Scenes.{Scene, Own, nothing_known, Formatted, at, over, Leads, goes_to, From, done, stretch, on, opened_scene, setting, devices, cache_size, origin_size, known_at, Whole, from_opened, small_can, uncut, nothing_lands, may_fail, whole, next_whole}
 
 -- ---- contents of the first sector
 
@@ -58,7 +56,7 @@ pub first_written : (device : List History) (c : Bytes) → 1 ≤ length device 
 first_written [] c l = absurd (omega (arith, l))
 first_written (h ∷ device) c l = (_, refl, newest-added h c)
 
-sync_gives : (device : List History) (c : Bytes) → ReadGives device 0 c → ReadGives (synced device) 0 c
+pub sync_gives : (device : List History) (c : Bytes) → ReadGives device 0 c → ReadGives (synced device) 0 c
 sync_gives [] c g = absurd (let e = g.1 in cc)
 sync_gives (h ∷ device) c g = (only (newest h), refl, (let e = g.1 in let same : h ≡ g.0 = cc in ap newest same) ∙ g.2)
 
@@ -89,7 +87,7 @@ module _ (P A : Type 0) (more : ℕ) (mode : Mode) (s : Setting P more mode) whe
 
   -- at the last step of a migration of it, which was cut into one extent
   abbrev migrated : Job → Option (Job × Plan)
-  migrated job = over job (task_job (shape P more mode s) mode [] job (whole ∷ []))
+  migrated job = over job (task_job (shape P more mode s) mode [] job (whole ∷ []) [])
 
   -- once its seal was put
   abbrev sealed : ℕ → Words
@@ -101,8 +99,8 @@ module _ (P A : Type 0) (more : ℕ) (mode : Mode) (s : Setting P more mode) whe
   abbrev pub promoting : List (Move P A)
   promoting = ordering promotes (Moves ∷ Moves ∷ Does Done (Asks (stood P more mode s)) ∷ goes 2 [])
 
-  pub promoting_leads : (d : Devices (List History)) → 64 ≤ length d.cache → 64 ≤ length d.origin → 64 ≤ threshold → (card : Card) → Leads P A more mode s (at P A more mode s (opened_scene P A more mode s d) card) promoting (came d)
-  promoting_leads d cache_size origin_size room card = goes_to P A more mode s _ _ _ ((uncut whole (omega arith), may_promote P more mode s room) ⨟ (tt, omega (arith, origin_size)) ⨟ (tt, omega (arith, cache_size)) ⨟ (refl, (may_map P more mode s, comes P more mode s, refl)) ⨟ tt) refl
+  pub promoting_leads : (d : Devices (List History)) → 64 ≤ length d.cache → 64 ≤ length d.origin → 64 ≤ threshold → (own : Own) → Leads P A more mode s (at P A more mode s (opened_scene P A more mode s d) own) promoting (came d)
+  promoting_leads d cache_size origin_size room own = goes_to P A more mode s _ _ _ ((s.idle, (uncut whole (omega arith), may_promote P more mode s room)) ⨟ (tt, omega (arith, origin_size)) ⨟ (tt, omega (arith, cache_size)) ⨟ (refl, (may_map P more mode s, comes P more mode s, refl)) ⨟ tt) refl
 
   abbrev gone : Scene P → Scene P
   gone scene = record scene { words = sealed 0; desk = demoted P more mode s; task = migrated (Migrate Demote first_block) }
@@ -110,21 +108,21 @@ module _ (P A : Type 0) (more : ℕ) (mode : Mode) (s : Setting P more mode) whe
   abbrev demoting : List (Move P A)
   demoting = goes 1 (ordering (Migrate Demote first_block) (Does Done (Asks (demoted P more mode s)) ∷ goes 2 []))
 
-  demoting_leads : (d : Devices (List History)) → 64 ≤ threshold → (card : Card) → Leads P A more mode s (at P A more mode s (came d) card) demoting (gone (came d))
-  demoting_leads d room card = goes_to P A more mode s _ _ _ ((uncut whole (omega arith), may_demote P more mode s room) ⨟ (refl, refl, demotes P more mode s) ⨟ tt) refl
+  demoting_leads : (d : Devices (List History)) → 64 ≤ threshold → (own : Own) → Leads P A more mode s (at P A more mode s (came d) own) demoting (gone (came d))
+  demoting_leads d room own = goes_to P A more mode s _ _ _ ((s.idle, (uncut whole (omega arith), may_demote P more mode s room)) ⨟ (refl, refl, demotes P more mode s) ⨟ tt) refl
 
 pub can_promote : (P A : Type 0) → CanPromote P A
 can_promote P A = small_can P A 0 64 Writeback (λ e. cc) (λ shape. (λ w n. IsPromoted w) ∷ []) (λ f room.
     let s = setting P A 0 Writeback f in let d = devices P A 0 Writeback f in
-    from_opened P A 0 Writeback f ((λ w n. IsPromoted w) ∷ []) (λ n e. stretch P A 0 Writeback s (opened_scene P A 0 Writeback s d) (came P A 0 Writeback s d) (promoting P A 0 Writeback s) ((λ w n. IsPromoted w) ∷ []) (λ card known. promoting_leads P A 0 Writeback s d (cache_size P A 0 Writeback f) (omega (arith, origin_size P A 0 Writeback f)) room card)
-    (λ card n. ((refl, refl), refl, refl)) (done P A 0 Writeback s (came P A 0 Writeback s d)) blank_card (known_at P A 0 Writeback f) n))
+    from_opened P A 0 Writeback f ((λ w n. IsPromoted w) ∷ []) (λ n e. stretch P A 0 Writeback s (opened_scene P A 0 Writeback s d) (came P A 0 Writeback s d) (promoting P A 0 Writeback s) ((λ w n. IsPromoted w) ∷ []) (λ own known. promoting_leads P A 0 Writeback s d (cache_size P A 0 Writeback f) (omega (arith, origin_size P A 0 Writeback f)) room own)
+    (λ own n. ((refl, refl), refl, refl)) (done P A 0 Writeback s (came P A 0 Writeback s d)) nothing_known (known_at P A 0 Writeback f) n))
 
 pub can_demote : (P A : Type 0) → CanDemote P A
 can_demote P A = small_can P A 0 64 Writeback (λ e. cc) (λ shape. to_demote) (λ f room.
     let s = setting P A 0 Writeback f in let d = devices P A 0 Writeback f in
-    from_opened P A 0 Writeback f to_demote (λ n e. stretch P A 0 Writeback s (opened_scene P A 0 Writeback s d) (came P A 0 Writeback s d) (promoting P A 0 Writeback s) to_demote (λ card known. promoting_leads P A 0 Writeback s d (cache_size P A 0 Writeback f) (omega (arith, origin_size P A 0 Writeback f)) room card)
-    (λ card n. ((refl, refl), refl, refl))
-    (stretch P A 0 Writeback s (came P A 0 Writeback s d) (gone P A 0 Writeback s (came P A 0 Writeback s d)) (demoting P A 0 Writeback s) (drop 1 to_demote) (λ card known. demoting_leads P A 0 Writeback s d room card) (λ card n. ((refl, refl), nowhere 0 1 f.sizes.k, refl, refl)) (done P A 0 Writeback s (gone P A 0 Writeback s (came P A 0 Writeback s d)))) blank_card (known_at P A 0 Writeback f) n))
+    from_opened P A 0 Writeback f to_demote (λ n e. stretch P A 0 Writeback s (opened_scene P A 0 Writeback s d) (came P A 0 Writeback s d) (promoting P A 0 Writeback s) to_demote (λ own known. promoting_leads P A 0 Writeback s d (cache_size P A 0 Writeback f) (omega (arith, origin_size P A 0 Writeback f)) room own)
+    (λ own n. ((refl, refl), refl, refl))
+    (stretch P A 0 Writeback s (came P A 0 Writeback s d) (gone P A 0 Writeback s (came P A 0 Writeback s d)) (demoting P A 0 Writeback s) (drop 1 to_demote) (λ own known. demoting_leads P A 0 Writeback s d room own) (λ own n. ((refl, refl), nowhere 0 1 f.sizes.k, refl, refl)) (done P A 0 Writeback s (gone P A 0 Writeback s (came P A 0 Writeback s d)))) nothing_known (known_at P A 0 Writeback f) n))
 
 -- ---- of two blocks the first is written to, and written back or replaced
 
@@ -143,8 +141,8 @@ module _ (P A : Type 0) (s : Setting P 1 Writeback) where
   abbrev words : (first second number fail : ℕ) → Words
   words first second number fail = record { cells = 0 ∷ 0 ∷ []; seals = first ∷ second ∷ []; numbers = number ∷ 0 ∷ []; read_hits = 0; read_misses = 0; write_hits = number; write_misses = 0; fail = fail }
 
-  abbrev state : Scene P → Card → State P A
-  state scene card = at P A 1 Writeback s scene card
+  abbrev state : Scene P → Own → State P A
+  state scene own = at P A 1 Writeback s scene own
 
   -- ---- where it is
 
@@ -153,32 +151,32 @@ module _ (P A : Type 0) (s : Setting P 1 Writeback) where
     here words desk task orders awaiting = record { devices = d; words = words; desk = desk; task = task; orders = orders; awaiting = awaiting; buffer = buffer }
 
     abbrev wrote : Bytes → Scene P
-    wrote content = here (words 3 0 1 0) (stood P 1 Writeback s) (over (Write first_sector content) (task_job shape1 Writeback [] (Write first_sector content) (first_sector ∷ []))) [] []
+    wrote content = here (words 3 0 1 0) (stood P 1 Writeback s) (over (Write first_sector content) (task_job shape1 Writeback [] (Write first_sector content) (first_sector ∷ []) [])) [] []
 
     abbrev written_back : Scene P
     written_back = here (words 2 0 1 0) (cleaned P 1 Writeback s) (migrated P A 1 Writeback s (Migrate Clean first_block)) [] []
 
     abbrev left : Scene P
-    left = here (words 0 0 1 0) (claimed P 1 Writeback s) (over (Migrate Demote first_block) (task_job shape1 Writeback [] replaces (whole ∷ []))) [] (replacement ∷ [])
+    left = here (words 0 0 1 0) (claimed P 1 Writeback s) (over (Migrate Demote first_block) (task_job shape1 Writeback [] replaces (whole ∷ []) [])) [] (replacement ∷ [])
 
     abbrev failed : Option (Job × Plan) → Scene P
     failed task = record { devices = d; words = record (words 3 0 1 (bit_or 0 1)) { cells = 1 ∷ 0 ∷ [] }; desk = leaving P 1 Writeback s replacement; task = task; orders = replacement ∷ []; awaiting = []; buffer = buffer }
 
     -- a flush of these orders has still to do this, and is refused then
     abbrev refused : List Want → Option (Job × Plan)
-    refused steps = Some (Flush, record { job = task_job shape1 Writeback (replacement ∷ []) Flush []; steps = steps; answer = IsRefused Memory })
+    refused steps = Some (Flush, record { job = task_job shape1 Writeback (replacement ∷ []) Flush [] []; steps = steps; answer = IsRefused Memory })
 
     abbrev given : Scene P
     given = here (words 0 0 1 0) (given_up P 1 Writeback s) (refused []) [] []
 
     abbrev served : Scene P
-    served = here (words 0 0 1 0) (settled P 1 Writeback s) (over Flush (task_job shape1 Writeback (replacement ∷ []) Flush [])) [] (replacement ∷ [])
+    served = here (words 0 0 1 0) (settled P 1 Writeback s) (over Flush (task_job shape1 Writeback (replacement ∷ []) Flush [] [])) [] (replacement ∷ [])
 
     abbrev begun : Scene P
-    begun = here (words 0 0 1 0) (settled P 1 Writeback s) (Some (follows_job, table (task_job shape1 Writeback [] follows_job (next_whole ∷ [])))) (replacement ∷ []) []
+    begun = here (words 0 0 1 0) (settled P 1 Writeback s) (Some (follows_job, table (task_job shape1 Writeback [] follows_job (next_whole ∷ []) []))) (replacement ∷ []) []
 
     abbrev followed_there : Scene P
-    followed_there = here (words 0 2 1 0) (followed P 1 Writeback s) (over follows_job (task_job shape1 Writeback [] follows_job (next_whole ∷ []))) [] []
+    followed_there = here (words 0 2 1 0) (followed P 1 Writeback s) (over follows_job (task_job shape1 Writeback [] follows_job (next_whole ∷ []) [])) [] []
 
   -- ---- what happens there
 
@@ -211,41 +209,41 @@ module _ (P A : Type 0) (s : Setting P 1 Writeback) where
     abbrev home : Devices (List History)
     home = record d { origin = written_each d.origin 0 taken_home }
 
-    writing_leads : (content : Bytes) (card : Card) → Leads P A 1 Writeback s (state (here d buffer (words 2 0 0 0) (stood P 1 Writeback s) (migrated P A 1 Writeback s promotes) [] []) card) (writing content) (wrote (record d { cache = written d.cache 0 content }) buffer content)
-    writing_leads content card = goes_to P A 1 Writeback s _ _ _ ((refl, uncut first_sector (omega arith)) ⨟ (tt, omega (arith, cache_size)) ⨟ tt) refl
+    writing_leads : (content : Bytes) (own : Own) → Leads P A 1 Writeback s (state (here d buffer (words 2 0 0 0) (stood P 1 Writeback s) (migrated P A 1 Writeback s promotes) [] []) own) (writing content) (wrote (record d { cache = written d.cache 0 content }) buffer content)
+    writing_leads content own = goes_to P A 1 Writeback s _ _ _ ((s.idle, (refl, uncut first_sector (omega arith))) ⨟ (tt, omega (arith, cache_size)) ⨟ tt) refl
 
-    cleaning_leads : 64 ≤ s.sizes.threshold → (content : Bytes) (card : Card) → Leads P A 1 Writeback s (state (wrote d buffer content) card) cleaning (written_back home taken_home)
-    cleaning_leads room content card = goes_to P A 1 Writeback s _ _ _ ((uncut whole (omega arith), may_clean P 1 Writeback s room) ⨟ (tt, omega (arith, cache_size)) ⨟ (tt, omega (arith, origin_size)) ⨟ (refl, refl, cleans P 1 Writeback s) ⨟ tt) refl
+    cleaning_leads : 64 ≤ s.sizes.threshold → (content : Bytes) (own : Own) → Leads P A 1 Writeback s (state (wrote d buffer content) own) cleaning (written_back home taken_home)
+    cleaning_leads room content own = goes_to P A 1 Writeback s _ _ _ ((s.idle, (uncut whole (omega arith), may_clean P 1 Writeback s room)) ⨟ (tt, omega (arith, cache_size)) ⨟ (tt, omega (arith, origin_size)) ⨟ (refl, refl, cleans P 1 Writeback s) ⨟ tt) refl
 
-    replacing_leads : 128 ≤ s.sizes.threshold → (content : Bytes) (card : Card) → Leads P A 1 Writeback s (state (wrote d buffer content) card) replacing (left home taken_home)
-    replacing_leads room content card = goes_to P A 1 Writeback s _ _ _ ((uncut whole (omega arith), may_replace P 1 Writeback s room refl) ⨟ (tt, omega (arith, cache_size)) ⨟ (tt, omega (arith, origin_size)) ⨟ (refl, refl, leaves P 1 Writeback s) ⨟ tt) refl
+    replacing_leads : 128 ≤ s.sizes.threshold → (content : Bytes) (own : Own) → Leads P A 1 Writeback s (state (wrote d buffer content) own) replacing (left home taken_home)
+    replacing_leads room content own = goes_to P A 1 Writeback s _ _ _ ((s.idle, (uncut whole (omega arith), may_replace P 1 Writeback s room refl)) ⨟ (tt, omega (arith, cache_size)) ⨟ (tt, omega (arith, origin_size)) ⨟ (refl, refl, leaves P 1 Writeback s) ⨟ tt) refl
 
-    failing_leads : 128 ≤ s.sizes.threshold → (content : Bytes) (card : Card) → Leads P A 1 Writeback s (state (wrote d buffer content) card) failing (failed (record d { origin = written_where (lands Origin nothing_lands) d.origin 0 taken_home }) taken_home None)
-    failing_leads room content card = goes_to P A 1 Writeback s _ _ _ ((uncut whole (omega arith), may_replace P 1 Writeback s room refl) ⨟ (tt, omega (arith, cache_size)) ⨟ (may_fail (length d.origin), (refl, tt)) ⨟ tt) refl
+    failing_leads : 128 ≤ s.sizes.threshold → (content : Bytes) (own : Own) → Leads P A 1 Writeback s (state (wrote d buffer content) own) failing (failed (record d { origin = written_where (lands Origin nothing_lands) d.origin 0 taken_home }) taken_home None)
+    failing_leads room content own = goes_to P A 1 Writeback s _ _ _ ((s.idle, (uncut whole (omega arith), may_replace P 1 Writeback s room refl)) ⨟ (tt, omega (arith, cache_size)) ⨟ (may_fail (length d.origin), (refl, tt)) ⨟ tt) refl
 
-    refusing_leads : (card : Card) → Leads P A 1 Writeback s (state (left d buffer) card) refusing (record (left d buffer) { task = refused d buffer (Desk (ReleaseOrder first_block) ∷ []) })
-    refusing_leads card = goes_to P A 1 Writeback s _ _ _ (tt ⨟ (refl, refl, record { idle = refl; next = omega (arith, s.later) }) ⨟ tt) refl
+    refusing_leads : (own : Own) → Leads P A 1 Writeback s (state (left d buffer) own) refusing (record (left d buffer) { task = refused d buffer (Desk (ReleaseOrder first_block) ∷ []) })
+    refusing_leads own = goes_to P A 1 Writeback s _ _ _ ((s.idle, tt) ⨟ (refl, refl, record { idle = refl; next = omega (arith, s.later) }) ⨟ tt) refl
 
-    abbrev idle_there : Card → Idle P
-    idle_there card = record { global = global; shape = shape1; words = words 0 0 1 0; desk = claimed P 1 Writeback s; devices = d; actor = record { task = None; card = card; orders = []; awaiting = replacement ∷ []; buffer = buffer }; rest = s.rest }
+    abbrev idle_there : Own → Idle P
+    idle_there own = record { global = global; shape = shape1; words = words 0 0 1 0; desk = claimed P 1 Writeback s; devices = d; actor = record { task = None; card = own.card; orders = []; awaiting = replacement ∷ []; buffer = buffer; seen = own.seen }; rest = s.rest; others = s.idle }
 
     abbrev flush : List (Move P A)
-    flush = goes 1 (flushing P A (idle_there blank_card))
+    flush = goes 1 (flushing P A (idle_there nothing_known))
 
     abbrev durable : Devices (List History)
     durable = record { metadata = synced (rooted (bare_commit global shape1.geometry (s.generation + 1)) (synced d.metadata)); cache = synced d.cache; origin = synced d.origin }
 
-    flush_leads : (card : Card) → IsKnown P A shape1 (state (left d buffer) card) → Leads P A 1 Writeback s (state (left d buffer) card) flush (served durable buffer)
-    flush_leads card known = goes_to P A 1 Writeback s _ _ _ (flushing_may P A (idle_there card) (record { images = known.images; known = known.known; entries = refl }) (record { idle = refl; next = omega (arith, s.later) })) refl
+    flush_leads : (own : Own) → IsKnown P A shape1 (state (left d buffer) own) → Leads P A 1 Writeback s (state (left d buffer) own) flush (served durable buffer)
+    flush_leads own known = goes_to P A 1 Writeback s _ _ _ (flushing_may P A (idle_there own) (record { images = known.images; known = known.known; entries = refl }) (record { idle = refl; next = omega (arith, s.later) })) refl
 
-    answering_leads : (card : Card) → Leads P A 1 Writeback s (state (served d buffer) card) answering (begun d buffer)
-    answering_leads card = goes_to P A 1 Writeback s _ _ _ ((uncut next_whole (omega arith), inr (first_block, (0, omega arith, refl), refl)) ⨟ tt) refl
+    answering_leads : (own : Own) → Leads P A 1 Writeback s (state (served d buffer) own) answering (begun d buffer)
+    answering_leads own = goes_to P A 1 Writeback s _ _ _ ((s.idle, (uncut next_whole (omega arith), inr (first_block, (0, omega arith, refl), refl))) ⨟ tt) refl
 
     abbrev brought : List Bytes
     brought = contents_at d.origin next_whole
 
-    following_leads : (card : Card) → Leads P A 1 Writeback s (state (begun d buffer) card) following (followed_there (record d { cache = written_each d.cache 0 brought }) brought)
-    following_leads card = goes_to P A 1 Writeback s _ _ _ ((tt, omega (arith, origin_size)) ⨟ (tt, omega (arith, cache_size)) ⨟ (refl, (may_follow P 1 Writeback s, follows P 1 Writeback s, refl)) ⨟ tt) refl
+    following_leads : (own : Own) → Leads P A 1 Writeback s (state (begun d buffer) own) following (followed_there (record d { cache = written_each d.cache 0 brought }) brought)
+    following_leads own = goes_to P A 1 Writeback s _ _ _ ((tt, omega (arith, origin_size)) ⨟ (tt, omega (arith, cache_size)) ⨟ (refl, (may_follow P 1 Writeback s, follows P 1 Writeback s, refl)) ⨟ tt) refl
 
 -- ---- the whole runs
 
@@ -302,31 +300,31 @@ module _ (P A : Type 0) (f : Formatted P A 1 Writeback) (room : 128 ≤ f.sizes.
   -- the block comes, and is written to
   comes_written : (conditions : List (State P A → Notes → Type 0)) → From P A 1 Writeback s (wrote P A s d2 buffer content) conditions → From P A 1 Writeback s (opened_scene P A 1 Writeback s d0) ((λ w n. IsPromoted w) ∷ (λ w n. IsWrittenTo content w) ∷ conditions)
   comes_written conditions behind = stretch P A 1 Writeback s (opened_scene P A 1 Writeback s d0) (came P A 1 Writeback s d0) (promoting P A 1 Writeback s) ((λ w n. IsPromoted w) ∷ (λ w n. IsWrittenTo content w) ∷ conditions)
-      (λ card known. promoting_leads P A 1 Writeback s d0 (cache_size P A 1 Writeback f) (omega (arith, origin0)) (omega (arith, room)) card) (λ card n. ((refl, refl), refl, refl))
-      (stretch P A 1 Writeback s (came P A 1 Writeback s d0) (wrote P A s d2 buffer content) (writing P A s content) ((λ w n. IsWrittenTo content w) ∷ conditions) (λ card known. writing_leads P A s d1 buffer cache1 origin0 content card) (λ card n. ((refl, refl), has_content)) behind)
+      (λ own known. promoting_leads P A 1 Writeback s d0 (cache_size P A 1 Writeback f) (omega (arith, origin0)) (omega (arith, room)) own) (λ own n. ((refl, refl), refl, refl))
+      (stretch P A 1 Writeback s (came P A 1 Writeback s d0) (wrote P A s d2 buffer content) (writing P A s content) ((λ w n. IsWrittenTo content w) ∷ conditions) (λ own known. writing_leads P A s d1 buffer cache1 origin0 content own) (λ own n. ((refl, refl), has_content)) behind)
 
   comes_unseen : (conditions : List (State P A → Notes → Type 0)) → From P A 1 Writeback s (wrote P A s d2 buffer content) conditions → From P A 1 Writeback s (opened_scene P A 1 Writeback s d0) conditions
   comes_unseen conditions behind = on P A 1 Writeback s (opened_scene P A 1 Writeback s d0) (came P A 1 Writeback s d0) (promoting P A 1 Writeback s) conditions (promoting_leads P A 1 Writeback s d0 (cache_size P A 1 Writeback f) (omega (arith, origin0)) (omega (arith, room)))
       (on P A 1 Writeback s (came P A 1 Writeback s d0) (wrote P A s d2 buffer content) (writing P A s content) conditions (writing_leads P A s d1 buffer cache1 origin0 content) behind)
 
   whole_run : (conditions : List (State P A → Notes → Type 0)) → From P A 1 Writeback s (opened_scene P A 1 Writeback s d0) conditions → Whole P A 1 Writeback f conditions
-  whole_run conditions from = from_opened P A 1 Writeback f conditions (λ n e. from blank_card (known_at P A 1 Writeback f) n)
+  whole_run conditions from = from_opened P A 1 Writeback f conditions (λ n e. from nothing_known (known_at P A 1 Writeback f) n)
 
-  half_replaced : (card : Card) → IsHalfReplaced (state P A s (left P A s d3 carried) card)
-  half_replaced card = ((refl, refl), refl, lives P 1 Writeback s)
+  half_replaced : (own : Own) → IsHalfReplaced (state P A s (left P A s d3 carried) own)
+  half_replaced own = ((refl, refl), refl, lives P 1 Writeback s)
 
   pub writes_back : Whole P A 1 Writeback f (to_write_back content)
   writes_back = whole_run (to_write_back content) (comes_written (drop 2 (to_write_back content)) (
-      stretch P A 1 Writeback s (wrote P A s d2 buffer content) (written_back P A s d3 carried) (cleaning P A s) (drop 2 (to_write_back content)) (λ card known. cleaning_leads P A s d2 buffer cache2 origin0 (omega (arith, room)) content card)
-      (λ card n. ((refl, refl), (refl, refl), goes_home, refl, refl, refl)) (done P A 1 Writeback s (written_back P A s d3 carried))))
+      stretch P A 1 Writeback s (wrote P A s d2 buffer content) (written_back P A s d3 carried) (cleaning P A s) (drop 2 (to_write_back content)) (λ own known. cleaning_leads P A s d2 buffer cache2 origin0 (omega (arith, room)) content own)
+      (λ own n. ((refl, refl), (refl, refl), goes_home, refl, refl, refl)) (done P A 1 Writeback s (written_back P A s d3 carried))))
 
   pub replaces_all : Whole P A 1 Writeback f (to_replace content)
   replaces_all = whole_run (to_replace content) (comes_written (drop 2 (to_replace content)) (
-      stretch P A 1 Writeback s (wrote P A s d2 buffer content) (left P A s d3 carried) (replacing P A s) (drop 2 (to_replace content)) (λ card known. replacing_leads P A s d2 buffer cache2 origin0 room content card) (λ card n. ((refl, refl), half_replaced card)) (
-      stretch P A 1 Writeback s (left P A s d3 carried) (served P A s d4 carried) (flush P A s d3 carried cache2 origin3) (drop 3 (to_replace content)) (flush_leads P A s d3 carried cache2 origin3) (λ card n. ((refl, refl), (refl, refl), refl)) (
-      stretch P A 1 Writeback s (served P A s d4 carried) (begun P A s d4 carried) (answering P A s) (drop 4 (to_replace content)) (λ card known. answering_leads P A s d4 carried cache4 origin4 card) (λ card n. (refl, (refl, refl))) (
-      stretch P A 1 Writeback s (begun P A s d4 carried) (followed_there P A s (record d4 { cache = written_each d4.cache 0 (contents_at d4.origin next_whole) }) (contents_at d4.origin next_whole)) (following P A s) (drop 5 (to_replace content)) (λ card known. following_leads P A s d4 carried cache4 origin4 card)
-      (λ card n. ((refl, refl), (refl, refl), sync_gives d3.origin content goes_home, refl, nowhere 0 1 f.sizes.k, refl))
+      stretch P A 1 Writeback s (wrote P A s d2 buffer content) (left P A s d3 carried) (replacing P A s) (drop 2 (to_replace content)) (λ own known. replacing_leads P A s d2 buffer cache2 origin0 room content own) (λ own n. ((refl, refl), half_replaced own)) (
+      stretch P A 1 Writeback s (left P A s d3 carried) (served P A s d4 carried) (flush P A s d3 carried cache2 origin3) (drop 3 (to_replace content)) (flush_leads P A s d3 carried cache2 origin3) (λ own n. ((refl, refl), (refl, refl), refl)) (
+      stretch P A 1 Writeback s (served P A s d4 carried) (begun P A s d4 carried) (answering P A s) (drop 4 (to_replace content)) (λ own known. answering_leads P A s d4 carried cache4 origin4 own) (λ own n. (refl, (refl, refl))) (
+      stretch P A 1 Writeback s (begun P A s d4 carried) (followed_there P A s (record d4 { cache = written_each d4.cache 0 (contents_at d4.origin next_whole) }) (contents_at d4.origin next_whole)) (following P A s) (drop 5 (to_replace content)) (λ own known. following_leads P A s d4 carried cache4 origin4 own)
+      (λ own n. ((refl, refl), (refl, refl), sync_gives d3.origin content goes_home, refl, nowhere 0 1 f.sizes.k, refl))
       (done P A 1 Writeback s (followed_there P A s (record d4 { cache = written_each d4.cache 0 (contents_at d4.origin next_whole) }) (contents_at d4.origin next_whole))))))))
 
   abbrev to_refuse : Scene P
@@ -336,9 +334,9 @@ module _ (P A : Type 0) (f : Formatted P A 1 Writeback) (room : 128 ≤ f.sizes.
   gives_up_all =
       let giving : Move P A = Does Done (Asks (given_up P 1 Writeback s)) in
       whole_run (to_give_up (shape1 P A s)) (comes_unseen (to_give_up (shape1 P A s)) (
-      stretch P A 1 Writeback s (wrote P A s d2 buffer content) (left P A s d3 carried) (replacing P A s) (to_give_up (shape1 P A s)) (λ card known. replacing_leads P A s d2 buffer cache2 origin0 room content card) (λ card n. half_replaced card) (
-      stretch P A 1 Writeback s (left P A s d3 carried) to_refuse (refusing P A s) (drop 1 (to_give_up (shape1 P A s))) (λ card known. refusing_leads P A s d3 carried cache2 origin3 card)
-      (λ card n. ((refl, refl), ((refl, refl), refl, lives P 1 Writeback s), (happens s.global (state P A s to_refuse card) giving, may_move s.global (shape1 P A s) (state P A s to_refuse card) giving (refl, refl, gives_up P 1 Writeback s), ((refl, refl), (refl, refl), refl, refl))))
+      stretch P A 1 Writeback s (wrote P A s d2 buffer content) (left P A s d3 carried) (replacing P A s) (to_give_up (shape1 P A s)) (λ own known. replacing_leads P A s d2 buffer cache2 origin0 room content own) (λ own n. half_replaced own) (
+      stretch P A 1 Writeback s (left P A s d3 carried) to_refuse (refusing P A s) (drop 1 (to_give_up (shape1 P A s))) (λ own known. refusing_leads P A s d3 carried cache2 origin3 own)
+      (λ own n. ((refl, refl), ((refl, refl), refl, lives P 1 Writeback s), (happens s.global (state P A s to_refuse own) giving, may_move s.global (shape1 P A s) (state P A s to_refuse own) giving (refl, refl, gives_up P 1 Writeback s), ((refl, refl), (refl, refl), refl, refl))))
       (done P A 1 Writeback s to_refuse))))
 
   abbrev kept : Scene P
@@ -348,8 +346,8 @@ module _ (P A : Type 0) (f : Formatted P A 1 Writeback) (room : 128 ≤ f.sizes.
   starts_again =
       let again : Move P A = Gets replaces (Cut (whole ∷ [])) in
       whole_run (to_start_again (shape1 P A s)) (comes_unseen (to_start_again (shape1 P A s)) (
-      stretch P A 1 Writeback s (wrote P A s d2 buffer content) kept (failing P A s) (to_start_again (shape1 P A s)) (λ card known. failing_leads P A s d2 buffer cache2 origin0 room content card)
-      (λ card n. (refl, (refl, refl), (happens s.global (state P A s kept card) again, may_move s.global (shape1 P A s) (state P A s kept card) again (uncut whole (omega arith), (first_cache_block, (0, omega arith, refl), refl)), (refl, (refl, refl)))))
+      stretch P A 1 Writeback s (wrote P A s d2 buffer content) kept (failing P A s) (to_start_again (shape1 P A s)) (λ own known. failing_leads P A s d2 buffer cache2 origin0 room content own)
+      (λ own n. (refl, (refl, refl), (happens s.global (state P A s kept own) again, may_move s.global (shape1 P A s) (state P A s kept own) again (s.idle, (uncut whole (omega arith), (first_cache_block, (0, omega arith, refl), refl))), (refl, (refl, refl)))))
       (done P A 1 Writeback s kept)))
 
 pub can_write_back : (P A : Type 0) → CanWriteBack P A

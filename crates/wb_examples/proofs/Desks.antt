@@ -28,6 +28,7 @@ use Rattle.wb_promise.specs.States.{Shape, Actor}
 use Rattle.wb_examples.specs.Possible.{first_block, second_block, first_cache_block, replacement}
 use Rattle.wb_tree.proofs.Branching.Edits.{changed-edit as changed}
 use Rattle.wb_examples.proofs.Completing.{empty_sound}
+use Rattle.wb_examples.proofs.Playing.{AreIdle}
 
 -- so many blocks of 64 sectors behind the first on the cache, so many metadata sectors, so many sectors for which orders may ask at once, and so
 -- many actors behind the first
@@ -55,6 +56,7 @@ pub record Setting (P : Type 0) (more : ℕ) (mode : Mode) : Type 0 where
   pub generation : ℕ
   pub later : generation + 3 < 2 ^ 64
   pub rest : List Actor
+  pub idle : AreIdle rest
 
 -- ---- no block stands anywhere but one in the first cache block, and no order lives but there
 
@@ -106,7 +108,7 @@ module _ (P : Type 0) (more : ℕ) (mode : Mode) (s : Setting P more mode) where
   abbrev pub stood : DeskState P
   stood = mapped ordered first_cache_block (changed_at desk.tree 0 (Some (entry_of first_block))) policy
 
-  stood_sound : IsSound stood.tree
+  pub stood_sound : IsSound stood.tree
   stood_sound = changed-sound desk.tree 0 (Some (entry_of first_block)) (empty_sound (suc k))
 
   abbrev live : (order : Order) (sectors number : ℕ) → LiveOrder

@@ -1,5 +1,5 @@
 -- That the promises exclude wrong answers: each of them by hand.
-use Rattle.std.proofs.Common.{◌≡◌, ◌∙◌, ◌≤◌, ℕ, zero, suc, [], ◌∷◌, Some, refl, sym, arith, slice_get}
+use Rattle.std.proofs.Common.{◌≡◌, ◌∙◌, ◌≤◌, inl, inr, ℕ, zero, suc, Bool, true, false, List, [], ◌∷◌, Option, Some, None, refl, sym, ap, arith, slice_get}
 use Rattle.std.specs.Prelude.{Contains, IsPermutation}
 use Rattle.std.proofs.lemmas.List.Sorted.{IsPermutation-refl, length_permutation, Contains-permutation}
 use Rattle.std.proofs.lemmas.List.Elements.{All-cons, All-head, All-nil}
@@ -7,7 +7,19 @@ use Rattle.wb_types.proofs.Lists.{Contains-first, Contains-one}
 use Rattle.wb_types.specs.declared.mode.Dev.TheVariants.{Cache, Origin}
 use Rattle.wb_disk.specs.Device.{Content as Bytes}
 use Rattle.wb_promise.specs.Clerk.{Doing}
-use Rattle.wb_examples.specs.Excluded.{ExcludesWrongAnswers, older, newer, foreign, given_reading, with_floor, opening}
+use Rattle.wb_types.specs.declared.entry.Entry.{Entry}
+use Rattle.wb_tree.specs.Mapping.{Mapping}
+use Rattle.wb_desk.specs.Desks.{DeskState}
+use Rattle.wb_desk.specs.Entries.{entry_of}
+use Rattle.wb_desk.specs.Marks.{marked_entries}
+use Rattle.wb_tasks.specs.declared.step.Got.TheVariants.{Began}
+use Rattle.wb_devices.specs.declared.running.RunningCommit.{RunningCommit}
+use Rattle.wb_promise.specs.declared.job.Job.TheVariants.{Flush, Suspend}
+use Rattle.wb_promise.specs.declared.event.What.TheVariants.{Started}
+use Rattle.wb_promise.specs.States.{Shape, State, Actor, Phase, Stands, Gone, Opens, OfTarget}
+use Rattle.wb_promise.specs.Happenings.{Chosen, Looks, Commits, HasTask, SuspendStarts, DoesBegin}
+use Rattle.wb_examples.specs.Possible.{first_block}
+use Rattle.wb_examples.specs.Excluded.{ExcludesWrongAnswers, ExcludesWrongSuspends, StoresSeen, BeginsCommit, older, newer, foreign, given_reading, with_floor, opening}
 use Rattle.wb_promise.specs.Headline.{IsAllowedAt, IsLatest, ShowsAllowed}
 
 -- one place, or another
@@ -65,3 +77,59 @@ excludes P A = record {
   not_refused = λ shape. refl;
   skipped = λ w a has skips. skips has;
 }
+
+-- ---- suspends
+
+module _ (P A : Type 0) where
+  alone : (w : State P A) (other : ℕ) (chosen : Chosen P A) → HasTask w other → SuspendStarts w Started chosen → ⊥
+  alone w other (Looks blocks) has starts = starts.0 other has
+  alone w other chosen has starts = absurd starts
+
+  -- a commit of a job over whatever stands
+  begun : (w : State P A) (seen : Option (List Bool)) (most nodes : ℕ) (commit : RunningCommit) (tree : Mapping) → OfTarget w.phase (λ t. DoesBegin {P = P} {A = A} seen most t.desk (Began nodes) (Commits commit tree)) → (desk : DeskState P) × DoesBegin {P = P} {A = A} seen most desk (Began nodes) (Commits commit tree)
+  begun w seen most nodes commit tree begins = by_phase w.phase begins
+    where
+      by_phase : (phase : Phase P A) → OfTarget phase (λ t. DoesBegin {P = P} {A = A} seen most t.desk (Began nodes) (Commits commit tree)) → (desk : DeskState P) × DoesBegin {P = P} {A = A} seen most desk (Began nodes) (Commits commit tree)
+      by_phase (Stands t) b = (t.desk, b)
+      by_phase Gone b = absurd b
+      by_phase (Opens mode reading) b = absurd b
+
+  unmarked : (desk : DeskState P) (entry : Entry) → entry.dirty ≡ false → StoresSeen P A desk entry → ⊥
+  unmarked desk entry clean s =
+      let with_hints = s.begins.3 in
+      let is = with_hints.1.image_is in
+      let marked = is.2.same_entries ∙ is.1.entries ∙ ap (λ (es : List (Option Entry)). marked_entries (with_hints.0 desk.policy) (true ∷ []) es) s.mapped in
+      let same : Some entry ∷ [] ≡ marked_entries (with_hints.0 desk.policy) (true ∷ []) (Some (entry_of first_block) ∷ []) = sym s.stored ∙ marked in
+      let dirty : entry.dirty ≡ true = ap (λ (es : List (Option Entry)). first_dirty es) same in
+      absurd (let both : true ≡ false = sym dirty ∙ clean in cc)
+    where
+      first_dirty : List (Option Entry) → Bool
+      first_dirty (Some e ∷ es) = e.dirty
+      first_dirty es = false
+
+  unclean : (shape : Shape) (w : State P A) (x : Actor) (commit : RunningCommit) → commit.image.root.clean ≡ false → BeginsCommit shape w x Suspend commit → ⊥
+  unclean shape w x commit not b =
+      let d = (begun w (Some x.seen) b.most b.nodes commit b.tree b.gives.2).1 in
+      let clean : commit.image.root.clean ≡ true = d.3.1.image_is.2.root_clean in
+      absurd (let both : true ≡ false = sym clean ∙ not in cc)
+
+  clean : (shape : Shape) (w : State P A) (x : Actor) (commit : RunningCommit) → commit.image.root.clean ≡ true → BeginsCommit shape w x Flush commit → ⊥
+  clean shape w x commit is b =
+      let d = (begun w None b.most b.nodes commit b.tree b.gives.2).1 in
+      let unclean : commit.image.root.clean ≡ false = d.3.1.image_is.root_clean in
+      absurd (let both : true ≡ false = sym is ∙ unclean in cc)
+
+  pub excludes_suspends : ExcludesWrongSuspends P A
+  excludes_suspends = record {
+    alone = λ shape w a other chosen has starts. alone w other chosen has starts;
+    busy = λ shape w a other has idle. idle other has;
+    skipped = λ shape w a job suspends. ((refl, refl), inr (inr (inl suspends)));
+    beside = λ shape w a job read chosen suspends may. may.1 (inr (inr (inl suspends)));
+    unanswered = λ shape w a job refusal read chosen suspends may. may.1 (inr (inr (inl suspends)));
+    unmarked = unmarked;
+    unclean = unclean;
+    clean = clean;
+    raised = λ shape. refl;
+    not_since = λ shape. refl;
+    not_refused = λ shape. refl;
+  }

@@ -10,4 +10,7 @@ mod Scenes
 mod Blocks
 mod Surviving
 mod Through
+mod Marking
+mod Rereading
+mod Suspending
 mod Excluding

@@ -36,7 +36,7 @@ use Rattle.wb_examples.proofs.Bare.{BareDesk}
 use Rattle.wb_examples.proofs.Beginning.{bare_commit, begins_bare}
 use Rattle.wb_examples.proofs.Completing.{stored, next_commit, all_read}
 use Rattle.wb_examples.proofs.Shown.{no_seals}
-use Rattle.wb_examples.proofs.Playing.{Move, Gets, Does, goes, ends, played, MayGo, goes_on, if_writes, ◌⨟◌}
+use Rattle.wb_examples.proofs.Playing.{Move, Gets, Does, goes, ends, played, AreIdle, MayGo, goes_on, if_writes, ◌⨟◌}
 
 -- openings start in write-back
 pub write_back_starts : Writeback ≢ Passthrough
@@ -56,6 +56,7 @@ pub record Down (P A : Type 0) : Type 0 where
   pub none : HasNoTree shape.geometry metadata
   pub size : length metadata ≡ shape.geometry.meta_sectors
   pub rest : List Actor
+  pub idle : AreIdle rest
 
 module _ (P A : Type 0) (d : Down P A) where
   open d use {global, shape, rest}
@@ -104,7 +105,7 @@ module _ (P A : Type 0) (d : Down P A) where
 
   pub opening_may : MayGo global shape down opening
   opening_may =
-      if_writes d.mode (Unit {0}) d.writes tt
+      if_writes d.mode (AreIdle rest × Unit {0}) d.writes (d.idle, tt)
       ⨟ (refl, refl, refl)
       ⨟ (refl, refl, first_read P A shape.geometry durable d.alloc global left slot.0 slot.1 (omega (arith, shape.geometry.within.meta_from)))
       ⨟ (refl, refl, all_read A global shape.geometry durable none_then same_size P (left - 1) d.alloc global slot.0 slot.1)
@@ -121,7 +122,7 @@ module _ (P A : Type 0) (d : Down P A) where
     devices = record { metadata = synced (rooted commit durable); cache = synced d.cache; origin = synced d.origin };
     commit = None;
     phase = Stands (record { words = fresh_words shape.geometry.origin_blocks; desk = target.desk });
-    actors = record { task = None; card = blank_card; orders = []; awaiting = []; buffer = [] } ∷ all_resting rest;
+    actors = record { task = None; card = blank_card; orders = []; awaiting = []; buffer = []; seen = [] } ∷ all_resting rest;
   }
 
   pub rooted_size : length opened.devices.metadata ≡ shape.geometry.meta_sectors
@@ -130,7 +131,7 @@ module _ (P A : Type 0) (d : Down P A) where
   pub opened_is : ends global shape down opening ≡ opened
   opened_is = ap (λ (steps : List CellStep). record opened {
     phase = Stands (record { words = words_by (fresh_words shape.geometry.origin_blocks) steps; desk = target.desk });
-    actors = record { task = None; card = card_by (fresh_words shape.geometry.origin_blocks) blank_card steps; orders = []; awaiting = []; buffer = [] } ∷ all_resting rest;
+    actors = record { task = None; card = card_by (fresh_words shape.geometry.origin_blocks) blank_card steps; orders = []; awaiting = []; buffer = []; seen = [] } ∷ all_resting rest;
   }) (no_seals none_then.root.clean 0 none_then.root.geometry.cache_blocks)
 
   pub known : IsKnown P A shape opened
@@ -153,6 +154,7 @@ pub record Idle (P : Type 0) : Type 0 where
   pub devices : Devices (List History)
   pub actor : Actor
   pub rest : List Actor
+  pub others : AreIdle rest
 
 module _ (P A : Type 0) (i : Idle P) where
   open i use {global, shape, desk}
@@ -191,7 +193,7 @@ module _ (P A : Type 0) (i : Idle P) where
 
     pub flushing_may : MayGo global shape idle flushing
     flushing_may =
-        tt
+        (i.others, tt)
         ⨟ (refl, refl, begins_bare global P A shape.geometry desk m bare (node_count shape.geometry.cache_blocks) may)
         ⨟ (refl, refl, (comes_next root_commit m (NodesWritten 0) (Sync Metadata) fits_now refl refl, refl))
         ⨟ (refl, refl, (comes_next (record root_commit { steps = NodesSynced }) (synced m) NodesSynced WriteRoot fits_synced refl refl, root_does (record root_commit { steps = NodesSynced }) (synced m) may.next refl))

@@ -1,6 +1,7 @@
 -- Plays a run in which the first actor alone is at work, from a list of what comes next: what happens at each, where it leads, and what is to
 -- be shown for it. Steps that give what they must need nothing shown.
-use Rattle.std.proofs.Common.{Global, ◌≡◌, ◌≢◌, ◌≤◌, ◌+◌, ◌⊎◌, inl, inr, ℕ, zero, suc, Bool, true, false, ◌&&◌, List, [], ◌∷◌, ◌++◌, Option, Some, None, refl, ap, arith, length, slice_get}
+use Rattle.std.proofs.Common.{Global, ◌≡◌, ◌≢◌, ◌≤◌, ◌+◌, ◌⊎◌, inl, inr, ℕ, zero, suc, Bool, true, false, ◌&&◌, ◌==◌, List, [], ◌∷◌, ◌++◌, Option, Some, None, refl, ap, arith, length, slice_get, replicate}
+use Rattle.std.specs.Prelude.{not}
 use Rattle.wb_types.specs.declared.extent.Extent.{Extent}
 use Rattle.wb_types.specs.declared.mode.Dev.{Dev}
 use Rattle.wb_types.specs.declared.mode.Dev.TheVariants.{Metadata, Cache, Origin}
@@ -20,14 +21,14 @@ use Rattle.wb_tasks.specs.declared.step.Want.TheVariants.{Cell, Device, End}
 use Rattle.wb_tasks.specs.declared.step.Got.{Got}
 use Rattle.wb_tasks.specs.declared.step.Got.TheVariants.{Done, Fault}
 use Rattle.wb_promise.specs.declared.job.Job.{Job}
-use Rattle.wb_promise.specs.declared.job.Job.TheVariants.{Read, Write, Flush, Open, Migrate, Replace}
+use Rattle.wb_promise.specs.declared.job.Job.TheVariants.{Read, Write, Flush, Suspend, Open, Migrate, Replace}
 use Rattle.wb_promise.specs.declared.event.Event.{Event}
 use Rattle.wb_promise.specs.declared.event.Event.TheVariants.{Start, Step, FaultStep, Stop}
 use Rattle.wb_promise.specs.declared.event.What.{What}
 use Rattle.wb_promise.specs.declared.event.What.TheVariants.{Started, Stepped, Stopped}
-use Rattle.wb_promise.specs.States.{Shape, State, Actor, Phase, Stands, Gone}
-use Rattle.wb_promise.specs.Happenings.{Chosen, Plain, Happening, OfSome, OnTask, IsOutOfPlace, StartGives, Gives, MayFailAt, Falters, MayStop, May}
-use Rattle.wb_promise.specs.Effects.{after_happening, after_all, IsRun}
+use Rattle.wb_promise.specs.States.{Shape, State, Actor, Phase, Stands, Gone, resting}
+use Rattle.wb_promise.specs.Happenings.{Chosen, Plain, Happening, OfSome, OnTask, HasTask, IsSuspending, IsOutOfPlace, StartsAs, Gives, MayFailAt, Falters, MayStop, May}
+use Rattle.wb_promise.specs.Effects.{after_happening, after_all, all_resting, IsRun}
 use Rattle.wb_promise.specs.Clerk.{Notes}
 use Rattle.wb_promise.specs.Headline.{note_happening, noted}
 use denote.RawPtr.{null_ptr}
@@ -116,14 +117,23 @@ abbrev is_idle : Option Actor → Bool
 is_idle None = false
 is_idle (Some x) = is_free x.task
 
+-- none of these actors has a task
+abbrev pub AreIdle : List Actor → Type 0
+AreIdle actors = (a : ℕ) → ¬ OfSome (slice_get actors a) (λ x. OfSome x.task (λ d. Unit {0}))
+
+-- nor has any but the first of these
+abbrev OthersAreIdle : List Actor → Type 0
+OthersAreIdle [] = ⊥
+OthersAreIdle (x ∷ actors) = AreIdle actors
+
 -- a mode in which openings start
 abbrev pub is_writing : Mode → Bool
 is_writing Passthrough = false
 is_writing mode = true
 
--- an opening in such a mode is in place where no target stands, any other job where one does
+-- an opening in such a mode is in place where no target stands that could go on, any other job where a target does
 abbrev is_in_place : {P A : Type 0} → Phase P A → Job → Bool
-is_in_place (Stands t) (Open mode) = false
+is_in_place (Stands t) (Open mode) = is_writing mode && not (t.words.fail == 0)
 is_in_place (Stands t) job = true
 is_in_place Gone (Open mode) = is_writing mode
 is_in_place phase job = false
@@ -149,7 +159,7 @@ IfMoves (Migrate migration block) (Device (WriteExtent device e)) on = on device
 IfMoves job next on = ⊥
 
 abbrev Needs : {P A : Type 0} → Shape → State P A → Move P A → Type 0
-Needs shape w (Gets job chosen) = If (is_idle (slice_get w.actors 0) && is_in_place w.phase job) (StartGives shape w.phase (slice_get w.actors 0) job Started chosen)
+Needs shape w (Gets job chosen) = If (is_idle (slice_get w.actors 0) && is_in_place w.phase job) (OthersAreIdle w.actors × StartsAs shape w 0 job Started chosen)
 Needs shape w Goes = is_plain_task w.phase (task_of (slice_get w.actors 0)) ≡ true
 Needs shape w Moves = OnTask w 0 (λ x job s. IfMoves job (want s) (λ device e. HoldsBlocks device × (e.first + e.count ≤ length (device_in device w.devices))))
 Needs shape w (Reads content) = OnTask w 0 (λ x job s. Gives shape w x job (want s) Done (content ∷ []) Plain)
@@ -198,16 +208,44 @@ plain_task {P} {A} phase (Some x) e = by_task x.task e
     by_task None e = absurd (cc)
     by_task (Some d) e = e
 
-idle_applies : {P A : Type 0} (o : Option Actor) (phase : Phase P A) (job : Job) → is_idle o ≡ true → is_in_place phase job ≡ true → (o ≡ None) ⊎ OfSome o (λ x. OfSome x.task (λ d. Unit {0})) ⊎ IsOutOfPlace phase job → ⊥
-idle_applies None phase job e f d = absurd (cc)
-idle_applies {P} {A} (Some x) phase job e f d = elim d [ inl none ↦ absurd (cc) | inr more ↦ elim more [ inl task ↦ busy x.task e task | inr out ↦ placed phase job f out ] ]
+-- nobody is at anything
+pub nobody_works : (actors : List Actor) → is_idle (slice_get actors 0) ≡ true → OthersAreIdle actors → AreIdle actors
+nobody_works [] e o a h = absurd o
+nobody_works (x ∷ actors) e o zero h = busy x.task e h
   where
     busy : (t : Option (Job × Plan)) → is_free t ≡ true → OfSome t (λ d. Unit {0}) → ⊥
     busy None e h = h
     busy (Some d) e h = absurd (cc)
+nobody_works (x ∷ actors) e o (suc a) h = o a h
 
+-- whoever has a task of some kind has one
+has_any : (o : Option Actor) (Q : Job → Type 0) → OfSome o (λ x. OfSome x.task (λ d. Q d.0)) → OfSome o (λ x. OfSome x.task (λ d. Unit {0}))
+has_any None Q h = h
+has_any (Some x) Q h = by_task x.task h
+  where
+    by_task : (t : Option (Job × Plan)) → OfSome t (λ d. Q d.0) → OfSome t (λ d. Unit {0})
+    by_task None h = h
+    by_task (Some d) h = tt
+
+there : (o : Option Actor) → is_idle o ≡ true → o ≡ None → ⊥
+there None e none = absurd (cc)
+there (Some x) e none = absurd (cc)
+
+idle_applies : {P A : Type 0} (w : State P A) (job : Job) → is_idle (slice_get w.actors 0) ≡ true → is_in_place w.phase job ≡ true → OthersAreIdle w.actors → (slice_get w.actors 0 ≡ None) ⊎ HasTask w 0 ⊎ IsSuspending w ⊎ IsOutOfPlace w.phase job → ⊥
+idle_applies {P} {A} w job e f o d = elim d [
+  | inl none ↦ there (slice_get w.actors 0) e none
+  | inr more ↦ elim more [
+    | inl task ↦ nobody_works w.actors e o 0 task
+    | inr later ↦ elim later [ inl suspends ↦ nobody_works w.actors e o suspends.0 (has_any (slice_get w.actors suspends.0) (λ at. at ≡ Suspend) suspends.1) | inr out ↦ placed w.phase job f out ]
+  ]
+]
+  where
     placed : (phase : Phase P A) (job : Job) → is_in_place phase job ≡ true → IsOutOfPlace phase job → ⊥
-    placed (Stands t) (Open mode) e out = absurd (cc)
+    placed (Stands t) (Open mode) e out =
+        let both = and_true (is_writing mode) (not (t.words.fail == 0)) e in
+        let written = both.0 in
+        let failed = both.1 in
+        elim out [ inl zero_word ↦ absurd (let same : not (t.words.fail == 0) ≡ false = ap (λ n. not (n == 0)) zero_word in cc) | inr past ↦ absurd (let same : is_writing mode ≡ false = ap is_writing past in cc) ]
     placed (Stands t) job e out = out tt
     placed Gone (Open mode) e out = elim out [ inl t ↦ t | inr past ↦ absurd (let same : is_writing mode ≡ false = ap is_writing past in cc) ]
     placed phase job e out = absurd (cc)
@@ -225,6 +263,7 @@ module _ {P A : Type 0} (global : Global) (shape : Shape) (w : State P A) where
   plain_gives phase x (Read extent) (End answer) e = ((refl, refl), refl)
   plain_gives phase x (Write extent content) (End answer) e = ((refl, refl), refl)
   plain_gives phase x Flush (End answer) e = ((refl, refl), refl)
+  plain_gives phase x Suspend (End answer) e = ((refl, refl), refl)
   plain_gives phase x (Migrate migration block) (End answer) e = ((refl, refl), refl)
   plain_gives phase x (Replace old new) (End answer) e = ((refl, refl), refl)
   plain_gives phase x job next e = absurd (cc)
@@ -242,9 +281,9 @@ module _ {P A : Type 0} (global : Global) (shape : Shape) (w : State P A) where
 
   pub may_move : (move : Move P A) → Needs shape w move → May shape w (happens global w move)
   may_move (Gets job chosen) h =
-      let r = holds (is_idle (slice_get w.actors 0) && is_in_place w.phase job) (StartGives shape w.phase (slice_get w.actors 0) job Started chosen) h in
+      let r = holds (is_idle (slice_get w.actors 0) && is_in_place w.phase job) (OthersAreIdle w.actors × StartsAs shape w 0 job Started chosen) h in
       let free = and_true (is_idle (slice_get w.actors 0)) (is_in_place w.phase job) r.0 in
-      (refl, idle_applies (slice_get w.actors 0) w.phase job free.0 free.1, r.1)
+      (refl, idle_applies w job free.0 free.1 r.1.0, r.1.1)
   may_move Goes h = at_next (slice_get w.actors 0) (λ x job next. is_plain w.phase job next ≡ true) (λ x job next wanted. (next ≡ wanted) × Gives shape w x job next (given_by w.phase next) [] Plain) (λ x job next e. (refl, plain_gives w.phase x job next e)) (plain_task w.phase (slice_get w.actors 0) h)
   may_move Moves h = by_next (λ x job next. IfMoves job next (λ device e. HoldsBlocks device × (e.first + e.count ≤ length (device_in device w.devices)))) Done [] Plain moves_gives h
   may_move (Reads content) h = by_next (λ x job next. Gives shape w x job next Done (content ∷ []) Plain) Done (content ∷ []) Plain (λ x job next g. g) h
@@ -276,3 +315,16 @@ after_append shape w (h ∷ hs) ks = after_append shape (after_happening shape w
 pub noted_append : {P A : Type 0} (shape : Shape) (w : State P A) (n : Notes) (hs ks : List (Happening P A)) → noted shape w n (hs ++ ks) ≡ noted shape (after_all shape w hs) (noted shape w n hs) ks
 noted_append shape w n [] ks = refl
 noted_append shape w n (h ∷ hs) ks = noted_append shape (after_happening shape w h) (note_happening shape w n h) hs ks
+
+-- ---- others
+
+-- whoever rests has no task
+pub resting_idle : (actors : List Actor) → AreIdle (all_resting actors)
+resting_idle [] a h = h
+resting_idle (x ∷ actors) zero h = h
+resting_idle (x ∷ actors) (suc a) h = resting_idle actors a h
+
+pub replicated_idle : (n : ℕ) → AreIdle (replicate n resting)
+replicated_idle zero a h = h
+replicated_idle (suc n) zero h = h
+replicated_idle (suc n) (suc a) h = replicated_idle n a h

@@ -18,7 +18,7 @@ use Rattle.wb_promise.specs.Clerk.{Notes, formatted}
 use Rattle.wb_promise.specs.Headline.{noted}
 use Rattle.wb_examples.specs.Possible.{PassesThrough, CanPass, HasActors, TargetHas, AboutToAnswer, CanOpen, CanFlush}
 use Rattle.wb_runs.proofs.Formatted.{formatted_none}
-use Rattle.wb_examples.proofs.Playing.{played, goes_on, run_append, after_append, noted_append}
+use Rattle.wb_examples.proofs.Playing.{played, goes_on, resting_idle, replicated_idle, run_append, after_append, noted_append}
 use Rattle.wb_examples.proofs.Opening.{write_back_starts, Down, down, opening, opening_may, opened, opened_is, bare, may_begin, target, Idle, idle, flushing, flushing_may}
 
 -- ---- how runs begin
@@ -67,6 +67,7 @@ module _ (P A : Type 0) where
     none = formatted_none geometry metadata f;
     size = size;
     rest = replicate others resting;
+    idle = replicated_idle others;
   }
 
   pub can_open : CanOpen P A
@@ -80,6 +81,6 @@ module _ (P A : Type 0) where
     where
       by_down : (d : Down P A) → PassesThrough d.shape (down P A d) (formatted d.shape) ((λ w n. AboutToAnswer Flush w) ∷ [])
       by_down d =
-          let i : Idle P = record { global = d.global; shape = d.shape; words = fresh_words d.shape.geometry.origin_blocks; desk = (target P A d).desk; devices = (opened P A d).devices; actor = resting; rest = all_resting d.rest } in
+          let i : Idle P = record { global = d.global; shape = d.shape; words = fresh_words d.shape.geometry.origin_blocks; desk = (target P A d).desk; devices = (opened P A d).devices; actor = resting; rest = all_resting d.rest; others = resting_idle d.rest } in
           along d.shape (down P A d) (opened P A d) (formatted d.shape) (played d.global d.shape (down P A d) (opening P A d)) ((λ w n. AboutToAnswer Flush w) ∷ []) (opened_is P A d) (goes_on d.global d.shape (down P A d) (opening P A d) (opening_may P A d))
           (played d.global d.shape (idle P A i) (flushing P A i), goes_on d.global d.shape (idle P A i) (flushing P A i) (flushing_may P A i (bare P A d) (may_begin P A d)), (refl, refl), tt)

@@ -1,5 +1,5 @@
 -- Where a run is in which the first actor alone is at work over a small shape, how its stretches are put together, and that an opening leads there.
-use Rattle.std.proofs.Common.{Global, IsPermutation, ◌≡◌, ◌≢◌, ◌∙◌, ◌≤◌, ◌*◌, ◌+◌, ℕ, zero, suc, List, [], ◌∷◌, Option, Some, None, refl, sym, ap, subst, arith, length, replicate, is_some}
+use Rattle.std.proofs.Common.{Global, IsPermutation, ◌≡◌, ◌≢◌, ◌∙◌, ◌≤◌, ◌*◌, ◌+◌, ℕ, zero, suc, Bool, List, [], ◌∷◌, Option, Some, None, refl, sym, ap, subst, arith, length, replicate, is_some}
 use Rattle.std.specs.List.{count_by}
 use Rattle.std.proofs.lemmas.List.{append-nil, length-map, length-replicate}
 use Rattle.std.proofs.lemmas.List.Elements.{All-cons, All-nil}
@@ -11,7 +11,7 @@ use Rattle.wb_types.specs.declared.geometry.Geometry.{Geometry}
 use Rattle.wb_types.specs.Extents.{IsCutInto, sectors_in}
 use Rattle.wb_types.specs.declared.mode.Dev.TheVariants.{Origin}
 use Rattle.wb_types.specs.declared.mode.Mode.{Mode}
-use Rattle.wb_types.specs.declared.mode.Mode.TheVariants.{Passthrough}
+use Rattle.wb_types.specs.declared.mode.Mode.TheVariants.{Writeback, Passthrough}
 use Rattle.wb_types.specs.declared.version.Version.{Version}
 use Rattle.wb_disk.specs.Device.{Content as Bytes, History, only, newest}
 use Rattle.wb_disk.specs.Memory.{blank}
@@ -36,10 +36,10 @@ use Rattle.wb_promise.specs.Happenings.{Happening}
 use Rattle.wb_promise.specs.Effects.{all_resting}
 use Rattle.wb_promise.specs.Clerk.{Notes, formatted}
 use Rattle.wb_promise.specs.Headline.{noted}
-use Rattle.wb_examples.specs.Possible.{PassesThrough, CanPass, IsSmall}
+use Rattle.wb_examples.specs.Possible.{PassesThrough, CanPass, IsSmall, IsSmallest}
 use Rattle.wb_runs.proofs.MetadataRuns.{IsKnown, known_always}
-use Rattle.wb_examples.proofs.Playing.{Move, played, ends, MayGo, goes_on}
-use Rattle.wb_examples.proofs.Opening.{Down, down, opening, opening_may, opened, opened_is, none_then, rooted_size, known as opened_known}
+use Rattle.wb_examples.proofs.Playing.{Move, played, ends, resting_idle, MayGo, goes_on}
+use Rattle.wb_examples.proofs.Opening.{write_back_starts, Down, down, opening, opening_may, opened, opened_is, none_then, rooted_size, known as opened_known}
 use Rattle.wb_examples.proofs.Desks.{Sizes, geometry_of, shape_of, Setting, shape, desk}
 use Rattle.wb_examples.proofs.Runs.{along, can_pass, first_down}
 
@@ -77,29 +77,37 @@ pub record Scene (P : Type 0) : Type 0 where
 abbrev pub over : Job → TaskJob → Option (Job × Plan)
 over job task = Some (job, record { job = task; steps = []; answer = Finished })
 
-abbrev card_in : List Actor → Card
-card_in [] = blank_card
-card_in (x ∷ xs) = x.card
+-- what an actor knows for itself: of the shared words, and what it has seen in a suspend
+pub record Own : Type 0 where
+  pub card : Card
+  pub seen : List Bool
+
+abbrev pub nothing_known : Own
+nothing_known = record { card = blank_card; seen = [] }
+
+abbrev own_in : List Actor → Own
+own_in [] = nothing_known
+own_in (x ∷ xs) = record { card = x.card; seen = x.seen }
 
 module _ (P A : Type 0) (more : ℕ) (mode : Mode) (s : Setting P more mode) where
   open s use {global, rest}
 
-  abbrev pub at : Scene P → Card → State P A
-  at scene card = record {
+  abbrev pub at : Scene P → Own → State P A
+  at scene own = record {
     devices = scene.devices;
     commit = None;
     phase = Stands (record { words = scene.words; desk = scene.desk });
-    actors = record { task = scene.task; card = card; orders = scene.orders; awaiting = scene.awaiting; buffer = scene.buffer } ∷ rest;
+    actors = record { task = scene.task; card = own.card; orders = scene.orders; awaiting = scene.awaiting; buffer = scene.buffer; seen = own.seen } ∷ rest;
   }
 
   -- it leads there, but for what its actor knows then
   pub record Leads (w : State P A) (moves : List (Move P A)) (to : Scene P) : Type 0 where
     pub may : MayGo global (shape P more mode s) w moves
-    pub card : Card
-    pub is : ends global (shape P more mode s) w moves ≡ at to card
+    pub own : Own
+    pub is : ends global (shape P more mode s) w moves ≡ at to own
 
-  pub goes_to : (w : State P A) (moves : List (Move P A)) (to : Scene P) → MayGo global (shape P more mode s) w moves → ends global (shape P more mode s) w moves ≡ at to (card_in (ends global (shape P more mode s) w moves).actors) → Leads w moves to
-  goes_to w moves to may is = record { may = may; card = card_in (ends global (shape P more mode s) w moves).actors; is = is }
+  pub goes_to : (w : State P A) (moves : List (Move P A)) (to : Scene P) → MayGo global (shape P more mode s) w moves → ends global (shape P more mode s) w moves ≡ at to (own_in (ends global (shape P more mode s) w moves).actors) → Leads w moves to
+  goes_to w moves to may is = record { may = may; own = own_in (ends global (shape P more mode s) w moves).actors; is = is }
 
   -- the first of these conditions, and the others
   abbrev pub First : List (State P A → Notes → Type 0) → State P A → Notes → Type 0
@@ -112,38 +120,38 @@ module _ (P A : Type 0) (more : ℕ) (mode : Mode) (s : Setting P more mode) whe
 
   -- what a run may pass through from there on, where this is noted, or whatever is
   abbrev pub FromNoted : Scene P → Notes → List (State P A → Notes → Type 0) → Type 0
-  FromNoted scene n conditions = (card : Card) → IsKnown P A (shape P more mode s) (at scene card) → PassesThrough (shape P more mode s) (at scene card) n conditions
+  FromNoted scene n conditions = (own : Own) → IsKnown P A (shape P more mode s) (at scene own) → PassesThrough (shape P more mode s) (at scene own) n conditions
 
   abbrev pub From : Scene P → List (State P A → Notes → Type 0) → Type 0
-  From scene conditions = (card : Card) → IsKnown P A (shape P more mode s) (at scene card) → (n : Notes) → PassesThrough (shape P more mode s) (at scene card) n conditions
+  From scene conditions = (own : Own) → IsKnown P A (shape P more mode s) (at scene own) → (n : Notes) → PassesThrough (shape P more mode s) (at scene own) n conditions
 
   pub done : (scene : Scene P) → From scene []
-  done scene card known n = tt
+  done scene own known n = tt
 
-  known_then : (scene to : Scene P) (moves : List (Move P A)) (card : Card) (r : Leads (at scene card) moves to) → IsKnown P A (shape P more mode s) (at scene card) → IsKnown P A (shape P more mode s) (at to r.card)
-  known_then scene to moves card r known =
-      subst (λ (w : State P A). IsKnown P A (shape P more mode s) w) r.is (known_always P A (shape P more mode s) (at scene card) (played global (shape P more mode s) (at scene card) moves) known (goes_on global (shape P more mode s) (at scene card) moves r.may))
+  known_then : (scene to : Scene P) (moves : List (Move P A)) (own : Own) (r : Leads (at scene own) moves to) → IsKnown P A (shape P more mode s) (at scene own) → IsKnown P A (shape P more mode s) (at to r.own)
+  known_then scene to moves own r known =
+      subst (λ (w : State P A). IsKnown P A (shape P more mode s) w) r.is (known_always P A (shape P more mode s) (at scene own) (played global (shape P more mode s) (at scene own) moves) known (goes_on global (shape P more mode s) (at scene own) moves r.may))
 
   -- a stretch, after which this is noted, and those behind it
-  pub noted_stretch : (scene to : Scene P) (moves : List (Move P A)) (n m : Notes) (conditions : List (State P A → Notes → Type 0)) (card : Card) → IsKnown P A (shape P more mode s) (at scene card) → Leads (at scene card) moves to →
-      noted (shape P more mode s) (at scene card) n (played global (shape P more mode s) (at scene card) moves) ≡ m → ((card : Card) → First conditions (at to card) m) → FromNoted to m (Later conditions) → PassesThrough (shape P more mode s) (at scene card) n conditions
-  noted_stretch scene to moves n m [] card known r e is behind = tt
-  noted_stretch scene to moves n m (Is ∷ conditions) card known r e is behind =
+  pub noted_stretch : (scene to : Scene P) (moves : List (Move P A)) (n m : Notes) (conditions : List (State P A → Notes → Type 0)) (own : Own) → IsKnown P A (shape P more mode s) (at scene own) → Leads (at scene own) moves to →
+      noted (shape P more mode s) (at scene own) n (played global (shape P more mode s) (at scene own) moves) ≡ m → ((own : Own) → First conditions (at to own) m) → FromNoted to m (Later conditions) → PassesThrough (shape P more mode s) (at scene own) n conditions
+  noted_stretch scene to moves n m [] own known r e is behind = tt
+  noted_stretch scene to moves n m (Is ∷ conditions) own known r e is behind =
       let Holds : State P A → Notes → Type 0 = λ w k. Is w k × PassesThrough (shape P more mode s) w k conditions in
-      let hs = played global (shape P more mode s) (at scene card) moves in
-      let p = subst (λ (w : State P A). Holds w (noted (shape P more mode s) (at scene card) n hs)) (sym r.is) (subst (λ (k : Notes). Holds (at to r.card) k) (sym e) (is r.card, behind r.card (known_then scene to moves card r known))) in
-      (hs, goes_on global (shape P more mode s) (at scene card) moves r.may, p.0, p.1)
+      let hs = played global (shape P more mode s) (at scene own) moves in
+      let p = subst (λ (w : State P A). Holds w (noted (shape P more mode s) (at scene own) n hs)) (sym r.is) (subst (λ (k : Notes). Holds (at to r.own) k) (sym e) (is r.own, behind r.own (known_then scene to moves own r known))) in
+      (hs, goes_on global (shape P more mode s) (at scene own) moves r.may, p.0, p.1)
 
-  pub stretch : (scene to : Scene P) (moves : List (Move P A)) (conditions : List (State P A → Notes → Type 0)) → ((card : Card) → IsKnown P A (shape P more mode s) (at scene card) → Leads (at scene card) moves to) → ((card : Card) (n : Notes) → First conditions (at to card) n) → From to (Later conditions) →
+  pub stretch : (scene to : Scene P) (moves : List (Move P A)) (conditions : List (State P A → Notes → Type 0)) → ((own : Own) → IsKnown P A (shape P more mode s) (at scene own) → Leads (at scene own) moves to) → ((own : Own) (n : Notes) → First conditions (at to own) n) → From to (Later conditions) →
       From scene conditions
-  stretch scene to moves conditions leads is behind card known n =
-      noted_stretch scene to moves n _ conditions card known (leads card known) refl (λ c. is c _) (λ c now. behind c now _)
+  stretch scene to moves conditions leads is behind own known n =
+      noted_stretch scene to moves n _ conditions own known (leads own known) refl (λ c. is c _) (λ c now. behind c now _)
 
   -- or one that the next condition takes in
-  pub on : (scene to : Scene P) (moves : List (Move P A)) (conditions : List (State P A → Notes → Type 0)) → ((card : Card) → Leads (at scene card) moves to) → From to conditions → From scene conditions
-  on scene to moves conditions leads behind card known n =
-      let r = leads card in
-      along (shape P more mode s) (at scene card) (at to r.card) n (played global (shape P more mode s) (at scene card) moves) conditions r.is (goes_on global (shape P more mode s) (at scene card) moves r.may) (behind r.card (known_then scene to moves card r known) _)
+  pub on : (scene to : Scene P) (moves : List (Move P A)) (conditions : List (State P A → Notes → Type 0)) → ((own : Own) → Leads (at scene own) moves to) → From to conditions → From scene conditions
+  on scene to moves conditions leads behind own known n =
+      let r = leads own in
+      along (shape P more mode s) (at scene own) (at to r.own) n (played global (shape P more mode s) (at scene own) moves) conditions r.is (goes_on global (shape P more mode s) (at scene own) moves r.may) (behind r.own (known_then scene to moves own r known) _)
 
   abbrev pub opened_scene : Devices (List History) → Scene P
   opened_scene devices = record { devices = devices; words = fresh_words (suc more); desk = desk P more mode s; task = None; orders = []; awaiting = []; buffer = [] }
@@ -176,6 +184,7 @@ module _ (P A : Type 0) (more : ℕ) (mode : Mode) (f : Formatted P A more mode)
     generation = (none_then P A down_at).root.generation + 1;
     later = omega (arith, f.is_formatted.first.generation);
     rest = all_resting (replicate others resting);
+    idle = resting_idle (replicate others resting);
   }
 
   abbrev pub shape_at : Shape
@@ -194,7 +203,7 @@ module _ (P A : Type 0) (more : ℕ) (mode : Mode) (f : Formatted P A more mode)
   origin_size = length-map down_at.origin (λ (h : History). only (newest h)) ∙ length-replicate (64 * suc more) blank
 
   abbrev pub opened_at : State P A
-  opened_at = at P A more mode setting (opened_scene P A more mode setting devices) blank_card
+  opened_at = at P A more mode setting (opened_scene P A more mode setting devices) nothing_known
 
   opened_there : opened P A down_at ≡ opened_at
   opened_there = ap (λ (g : Geometry). record opened_at {
@@ -234,3 +243,43 @@ small_can P A more asked mode writes conditions passes = can_pass P A (IsSmall (
     by_sizes policy alloc global b c o m v w threshold others metadata e f room =
         subst (λ (b : ℕ). (w : IsWithinLimits b c o m) → Claim P A conditions b c o m v w threshold others metadata) (sym e)
         (subst (λ (o : ℕ). (w : IsWithinLimits 64 c o m) → Claim P A conditions 64 c o m v w threshold others metadata) (sym f) (λ w. by_cache policy alloc global c m v w threshold others metadata room)) w
+
+-- ---- a cache of one block
+
+-- formatted metadata for the smallest cache over the smallest origin, and what an opening over them in write-back wants
+pub record Tiny (P A : Type 0) : Type 0 where
+  pub policy : P
+  pub alloc : A
+  pub global : Global
+  pub meta_sectors : ℕ
+  pub within : IsWithinLimits 64 1 1 meta_sectors
+  pub version : Version
+  pub threshold : ℕ
+  pub others : ℕ
+  pub metadata : List History
+  pub is_formatted : IsFormatted (record { block = 64; cache_blocks = 1; origin_blocks = 1; meta_sectors = meta_sectors; version = version; within = within }) metadata
+  pub size : length metadata ≡ meta_sectors
+
+abbrev pub formatted_of : {P A : Type 0} → Tiny P A → Formatted P A 0 Writeback
+formatted_of t = record {
+  writes = write_back_starts;
+  policy = t.policy;
+  alloc = t.alloc;
+  global = t.global;
+  sizes = record { k = 0; meta_sectors = t.meta_sectors; within = t.within; version = t.version; threshold = t.threshold; others = t.others };
+  metadata = t.metadata;
+  is_formatted = t.is_formatted;
+  size = t.size;
+}
+
+-- the smallest shape is one of such sizes
+pub tiny_can : (P A : Type 0) (asked : ℕ) (conditions : Shape → List (State P A → Notes → Type 0)) → ((t : Tiny P A) → asked ≤ t.threshold → Whole P A 0 Writeback (formatted_of t) (conditions (shape_of 0 (formatted_of t).sizes))) → CanPass P A (IsSmallest asked) conditions
+tiny_can P A asked conditions passes = can_pass P A (IsSmallest asked) conditions (λ shape suits. suits.small.actors) (λ policy alloc global g threshold others metadata suits is_formatted size.
+    by_sizes policy alloc global g.block g.cache_blocks g.origin_blocks g.meta_sectors g.version g.within threshold others metadata suits.small.block suits.cache suits.small.origin suits.small.room is_formatted size)
+  where
+    by_sizes : (policy : P) (alloc : A) (global : Global) (b c o m : ℕ) (v : Version) (w : IsWithinLimits b c o m) (threshold others : ℕ) (metadata : List History) → b ≡ 64 → c ≡ 1 → o ≡ 1 → asked ≤ threshold → Claim P A conditions b c o m v w threshold others metadata
+    by_sizes policy alloc global b c o m v w threshold others metadata e h f room =
+        subst (λ (b : ℕ). (w : IsWithinLimits b c o m) → Claim P A conditions b c o m v w threshold others metadata) (sym e)
+        (subst (λ (c : ℕ). (w : IsWithinLimits 64 c o m) → Claim P A conditions 64 c o m v w threshold others metadata) (sym h)
+        (subst (λ (o : ℕ). (w : IsWithinLimits 64 1 o m) → Claim P A conditions 64 1 o m v w threshold others metadata) (sym f) (λ w is_formatted size.
+        passes (record { policy = policy; alloc = alloc; global = global; meta_sectors = m; within = w; version = v; threshold = threshold; others = others; metadata = metadata; is_formatted = is_formatted; size = size }) room))) w

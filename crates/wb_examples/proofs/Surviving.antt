@@ -25,8 +25,6 @@ use Rattle.wb_desk.specs.Desks.{DeskState}
 use Rattle.wb_desk.specs.Commits.{commit_begun}
 use Rattle.wb_stage.specs.Asking.{ended}
 use Rattle.wb_words.specs.SharedWords.{Words}
-use Rattle.wb_words.specs.Cards.{blank_card}
-use Rattle.wb_words.specs.declared.card.Card.{Card}
 use Rattle.wb_tasks.specs.Plan.{Plan}
 use Rattle.wb_promise.specs.declared.job.Job.{Job}
 use Rattle.wb_promise.specs.declared.job.Job.TheVariants.{Read, Write, Flush}
@@ -44,10 +42,10 @@ use Rattle.wb_runs.proofs.Rooted.{rooted}
 use Rattle.wb_runs.proofs.Spelling.{spelling, spelled_root}
 use Rattle.wb_examples.proofs.Beginning.{bare_root, bare_commit}
 use Rattle.wb_examples.proofs.Shown.{written_same, origin_shown}
-use Rattle.wb_examples.proofs.Playing.{Move, Gets, Moves, Reads, Fails, Stops, goes, played, ends, MayGo, goes_on, ◌⨟◌}
+use Rattle.wb_examples.proofs.Playing.{Move, Gets, Moves, Reads, Fails, Stops, goes, played, ends, resting_idle, MayGo, goes_on, ◌⨟◌}
 use Rattle.wb_examples.proofs.Opening.{write_back_starts, Down, down, opening, opening_may, opened_is, target, bare, Idle, flushing, flushing_may}
 use Rattle.wb_examples.proofs.Desks.{Setting, shape, desk}
-use Rattle.wb_examples.proofs.Scenes.{Scene, Formatted, at, over, Leads, goes_to, FromNoted, noted_stretch, opened_scene, down_at, setting, devices, devices_size, shape_at, opened_at, known_at, opening_run, Whole, from_opened, small_can, uncut, nothing_lands, may_fail}
+use Rattle.wb_examples.proofs.Scenes.{Scene, Own, nothing_known, Formatted, at, over, Leads, goes_to, FromNoted, noted_stretch, opened_scene, down_at, setting, devices, devices_size, shape_at, opened_at, known_at, opening_run, Whole, from_opened, small_can, uncut, nothing_lands, may_fail}
 
 -- the root that was written last, if the newest root has its generation
 pub root_there : (m : List History) (r q : Root) → 2 ≤ length m → r.generation < 2 ^ 64 → q.generation ≡ r.generation → IsNewestRoot (map newest (synced (written (synced m) (r.generation % 2) (spelling r)))) q → q ≡ r
@@ -98,7 +96,7 @@ module _ (P A : Type 0) (policy : P) (alloc : A) (s : Setting P 0 Writeback) (me
 
   -- at the last step of a job on the first sector
   abbrev ending : Job → Option (Job × Plan)
-  ending job = over job (task_job shape0 Writeback [] job (first_sector ∷ []))
+  ending job = over job (task_job shape0 Writeback [] job (first_sector ∷ []) [])
 
   abbrev history : History
   history = record { first = first; later = content ∷ [] }
@@ -116,7 +114,7 @@ module _ (P A : Type 0) (policy : P) (alloc : A) (s : Setting P 0 Writeback) (me
   desk_then = ended (commit_begun (desk P 0 Writeback s) (desk P 0 Writeback s).tree)
 
   abbrev durable : Scene P
-  durable = here (synced (rooted (bare_commit global shape0.geometry (s.generation + 1)) (synced metadata))) (synced cache) (only content ∷ synced sectors) (words 1 1 1) desk_then (over Flush (task_job shape0 Writeback [] Flush []))
+  durable = here (synced (rooted (bare_commit global shape0.geometry (s.generation + 1)) (synced metadata))) (synced cache) (only content ∷ synced sectors) (words 1 1 1) desk_then (over Flush (task_job shape0 Writeback [] Flush [] []))
 
   abbrev notes : History → (last : ℕ) → Option Doing → Notes
   notes history last doing = record { histories = history ∷ histories; finished = last ∷ finished; floors = 0 ∷ floors; doings = doing ∷ doings }
@@ -148,11 +146,11 @@ module _ (P A : Type 0) (policy : P) (alloc : A) (s : Setting P 0 Writeback) (me
   abbrev reading : List (Move P A)
   reading = goes 1 (starting (Read first_sector) (Reads content ∷ goes 2 []))
 
-  abbrev idle_there : Card → Idle P
-  idle_there card = record { global = global; shape = shape0; words = words 1 1 1; desk = desk P 0 Writeback s; devices = was_read.devices; actor = record { task = None; card = card; orders = []; awaiting = []; buffer = [] }; rest = s.rest }
+  abbrev idle_there : Own → Idle P
+  idle_there own = record { global = global; shape = shape0; words = words 1 1 1; desk = desk P 0 Writeback s; devices = was_read.devices; actor = record { task = None; card = own.card; orders = []; awaiting = []; buffer = []; seen = own.seen }; rest = s.rest; others = s.idle }
 
   abbrev flush : List (Move P A)
-  flush = goes 1 (flushing P A (idle_there blank_card))
+  flush = goes 1 (flushing P A (idle_there nothing_known))
 
   abbrev failing : List (Move P A)
   failing = goes 1 (starting (Write first_sector other) (Fails nothing_lands ∷ []))
@@ -160,26 +158,26 @@ module _ (P A : Type 0) (policy : P) (alloc : A) (s : Setting P 0 Writeback) (me
   abbrev crash : List (Move P A)
   crash = Stops nothing_lands ∷ []
 
-  writing_leads : (card : Card) → Leads P A 0 Writeback s (at P A 0 Writeback s opened0 card) writing wrote
-  writing_leads card = goes_to P A 0 Writeback s _ _ _ ((refl, uncut first_sector (omega arith)) ⨟ (tt, omega arith) ⨟ tt) refl
+  writing_leads : (own : Own) → Leads P A 0 Writeback s (at P A 0 Writeback s opened0 own) writing wrote
+  writing_leads own = goes_to P A 0 Writeback s _ _ _ ((s.idle, (refl, uncut first_sector (omega arith))) ⨟ (tt, omega arith) ⨟ tt) refl
 
-  reading_leads : (card : Card) → Leads P A 0 Writeback s (at P A 0 Writeback s wrote card) reading was_read
-  reading_leads card = goes_to P A 0 Writeback s _ _ _ ((refl, uncut first_sector (omega arith)) ⨟ (tt, refl, refl, refl, ((_, refl, refl), tt)) ⨟ tt) refl
+  reading_leads : (own : Own) → Leads P A 0 Writeback s (at P A 0 Writeback s wrote own) reading was_read
+  reading_leads own = goes_to P A 0 Writeback s _ _ _ ((s.idle, (refl, uncut first_sector (omega arith))) ⨟ (tt, refl, refl, refl, ((_, refl, refl), tt)) ⨟ tt) refl
 
-  flush_leads : (card : Card) → IsKnown P A shape0 (at P A 0 Writeback s was_read card) → Leads P A 0 Writeback s (at P A 0 Writeback s was_read card) flush durable
-  flush_leads card known = goes_to P A 0 Writeback s _ _ _ (flushing_may P A (idle_there card) (record { images = known.images; known = known.known; entries = refl }) (record { idle = refl; next = omega (arith, s.later) })) refl
+  flush_leads : (own : Own) → IsKnown P A shape0 (at P A 0 Writeback s was_read own) → Leads P A 0 Writeback s (at P A 0 Writeback s was_read own) flush durable
+  flush_leads own known = goes_to P A 0 Writeback s _ _ _ (flushing_may P A (idle_there own) (record { images = known.images; known = known.known; entries = refl }) (record { idle = refl; next = omega (arith, s.later) })) refl
 
-  failing_may : (card : Card) → MayGo global shape0 (at P A 0 Writeback s durable card) failing
-  failing_may card = (refl, uncut first_sector (omega arith)) ⨟ (may_fail _, (refl, tt)) ⨟ tt
+  failing_may : (own : Own) → MayGo global shape0 (at P A 0 Writeback s durable own) failing
+  failing_may own = (s.idle, (refl, uncut first_sector (omega arith))) ⨟ (may_fail _, (refl, tt)) ⨟ tt
 
   keeps : (device : Dev) (sectors : List History) → Applies device nothing_lands sectors
   keeps device sectors = record { inside = All-nil _; there = λ at h e. omega arith }
 
   -- ---- the second opening, which finds the root of the flush, and shows the origin, since nothing is cached
 
-  module _ (size : length metadata ≡ s.sizes.meta_sectors) (many : length sectors ≡ 63) (card : Card) (known : IsKnown P A shape0 (at P A 0 Writeback s durable card)) where
+  module _ (size : length metadata ≡ s.sizes.meta_sectors) (many : length sectors ≡ 63) (own : Own) (known : IsKnown P A shape0 (at P A 0 Writeback s durable own)) where
     abbrev settled : State P A
-    settled = at P A 0 Writeback s durable card
+    settled = at P A 0 Writeback s durable own
 
     abbrev down_again : State P A
     down_again = lead (lead settled failing) crash
@@ -208,6 +206,7 @@ module _ (P A : Type 0) (policy : P) (alloc : A) (s : Setting P 0 Writeback) (me
       none = none_after P shape0.geometry known.images desk_then settled.devices.metadata down_again.devices.metadata quiet (ap (λ (r : Root). r.top) root_is) (omega (arith, ap (λ (r : Root). r.generation) root_is, s.later)) crash_of;
       size = crash_of.size ∙ quiet.stores.size ∙ ap (λ (g : Geometry). g.meta_sectors) quiet.same;
       rest = all_resting s.rest;
+      idle = resting_idle s.rest;
     }
 
     last_shown : slice_get (shown shape0 (ends global shape0 (down P A again) (opening P A again))) 0 ≡ Some content
@@ -218,7 +217,7 @@ module _ (P A : Type 0) (policy : P) (alloc : A) (s : Setting P 0 Writeback) (me
     last_stretches : PassesThrough shape0 settled n3 (drop 3 conditions)
     last_stretches = (
       played global shape0 settled failing,
-      goes_on global shape0 settled failing (failing_may card),
+      goes_on global shape0 settled failing (failing_may own),
       ((refl, refl), refl),
       (
         played global shape0 (lead settled failing) crash,
@@ -238,19 +237,19 @@ module _ (P A : Type 0) (f : Formatted P A 0 Writeback) where
   abbrev sectors_then : List History
   sectors_then = synced (replicate 63 blank)
 
-  abbrev contents_then : List Bytes
+  abbrev pub contents_then : List Bytes
   contents_then = map newest sectors_then
 
-  abbrev finished_then : List ℕ
+  abbrev pub finished_then : List ℕ
   finished_then = map (λ (c : Bytes). 0) contents_then
 
-  abbrev nobody_else : List (Option Doing)
+  abbrev pub nobody_else : List (Option Doing)
   nobody_else = replicate (length (nobody (replicate f.sizes.others None))) None
 
   abbrev down0 : Down P A
   down0 = down_at P A 0 Writeback f
 
-  noted_then : noted (shape_at P A 0 Writeback f) (down P A down0) (formatted (shape_at P A 0 Writeback f)) (opening_run P A 0 Writeback f)
+  pub noted_then : noted (shape_at P A 0 Writeback f) (down P A down0) (formatted (shape_at P A 0 Writeback f)) (opening_run P A 0 Writeback f)
       ≡ record { histories = only (newest blank) ∷ map only contents_then; finished = 0 ∷ finished_then; floors = 0 ∷ finished_then; doings = None ∷ nobody_else }
   noted_then = ap (λ (ss : List Bytes). begins (suc (length (nobody (replicate f.sizes.others None)))) ss) (
       ap (λ (w : State P A). shown (shape_at P A 0 Writeback f) w) (opened_is P A down0)
@@ -259,7 +258,7 @@ module _ (P A : Type 0) (f : Formatted P A 0 Writeback) where
   pub survives_from : (content other : Bytes) → Whole P A 0 Writeback f (to_survive (shape_at P A 0 Writeback f) content other)
   survives_from content other = from_opened P A 0 Writeback f (to_survive (shape_at P A 0 Writeback f) content other) (λ n e.
       subst (λ (m : Notes). PassesThrough (shape_at P A 0 Writeback f) (opened_at P A 0 Writeback f) m (to_survive (shape_at P A 0 Writeback f) content other)) (sym (e ∙ noted_then))
-      (survives P A f.policy f.alloc (setting P A 0 Writeback f) (devices P A 0 Writeback f).metadata (devices P A 0 Writeback f).cache sectors_then (map only contents_then) (newest blank) finished_then finished_then nobody_else content other (devices_size P A 0 Writeback f) refl blank_card (known_at P A 0 Writeback f)))
+      (survives P A f.policy f.alloc (setting P A 0 Writeback f) (devices P A 0 Writeback f).metadata (devices P A 0 Writeback f).cache sectors_then (map only contents_then) (newest blank) finished_then finished_then nobody_else content other (devices_size P A 0 Writeback f) refl nothing_known (known_at P A 0 Writeback f)))
 
 pub can_survive : (P A : Type 0) → CanSurvive P A
 can_survive P A content other = small_can P A 0 0 Writeback write_back_starts (λ shape. to_survive shape content other) (λ f room. survives_from P A f content other)

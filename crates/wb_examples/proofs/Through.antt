@@ -12,8 +12,6 @@ use Rattle.wb_disk.proofs.Leaving.{read-left}
 use Rattle.wb_disk.proofs.Crashes.{Crashed-crashed_from}
 use Rattle.wb_format.specs.declared.root.Root.{Root}
 use Rattle.wb_meta.specs.Openings.{reopened}
-use Rattle.wb_words.specs.Cards.{blank_card}
-use Rattle.wb_words.specs.declared.card.Card.{Card}
 use Rattle.wb_words.specs.declared.word.Access.TheVariants.{Owned}
 use Rattle.wb_words.specs.declared.word.Kind.TheVariants.{WriteHit}
 use Rattle.wb_words.specs.declared.step.CellStep.TheVariants.{Finish, Count, Release}
@@ -35,10 +33,10 @@ use Rattle.wb_runs.proofs.Metadata.{Quiet}
 use Rattle.wb_runs.proofs.MetadataRuns.{IsKnown}
 use Rattle.wb_examples.specs.Possible.{PassesThrough, first_sector, first_block, to_write_through, to_write_half, CanWriteThrough, CanWriteHalf}
 use Rattle.wb_examples.proofs.Shown.{origin_shown}
-use Rattle.wb_examples.proofs.Playing.{Move, Gets, Moves, Stops, goes, goes_on, played, ends, ◌⨟◌}
+use Rattle.wb_examples.proofs.Playing.{Move, Gets, Moves, Stops, goes, goes_on, played, ends, resting_idle, ◌⨟◌}
 use Rattle.wb_examples.proofs.Opening.{write_back_starts, Down, down, opening, opening_may, opened_is, none_then, target, bare}
 use Rattle.wb_examples.proofs.Desks.{Setting, shape, stood}
-use Rattle.wb_examples.proofs.Scenes.{Scene, Formatted, at, over, Leads, goes_to, done, stretch, on, opened_scene, down_at, setting, devices, devices_size, cache_size, origin_size, shape_at, known_at, Whole, from_opened, small_can, uncut, whole}
+use Rattle.wb_examples.proofs.Scenes.{Scene, Own, nothing_known, Formatted, at, over, Leads, goes_to, done, stretch, on, opened_scene, down_at, setting, devices, devices_size, cache_size, origin_size, shape_at, known_at, Whole, from_opened, small_can, uncut, whole}
 use Rattle.wb_examples.proofs.Surviving.{root_there, none_after}
 use Rattle.wb_examples.proofs.Blocks.{first_written, filled, came, promoting, promoting_leads}
 
@@ -50,7 +48,7 @@ module _ (P A : Type 0) (s : Setting P 0 Writethrough) (content : Bytes) (d : De
   job = Write first_sector content
 
   abbrev task : TaskJob
-  task = task_job shape0 Writethrough [] job (first_sector ∷ [])
+  task = task_job shape0 Writethrough [] job (first_sector ∷ []) []
 
   abbrev words : (cell number hits : ℕ) → Words
   words cell number hits = record { cells = cell ∷ []; seals = 2 ∷ []; numbers = number ∷ []; read_hits = 0; read_misses = 0; write_hits = hits; write_misses = 0; fail = 0 }
@@ -91,11 +89,11 @@ module _ (P A : Type 0) (s : Setting P 0 Writethrough) (content : Bytes) (d : De
   cache_then : 64 ≤ length (filled d).cache
   cache_then = omega (arith, length_written_where (λ at. true) d.cache 0 (contents_at d.origin whole), cache_some)
 
-  starting_leads : (card : Card) → Leads P A 0 Writethrough s (at P A 0 Writethrough s (came P A 0 Writethrough s d) card) starting half
-  starting_leads card = goes_to P A 0 Writethrough s _ _ _ ((refl, uncut first_sector (omega arith)) ⨟ (tt, omega (arith, origin_some)) ⨟ tt) refl
+  starting_leads : (own : Own) → Leads P A 0 Writethrough s (at P A 0 Writethrough s (came P A 0 Writethrough s d) own) starting half
+  starting_leads own = goes_to P A 0 Writethrough s _ _ _ ((s.idle, (refl, uncut first_sector (omega arith))) ⨟ (tt, omega (arith, origin_some)) ⨟ tt) refl
 
-  finishing_leads : (card : Card) → Leads P A 0 Writethrough s (at P A 0 Writethrough s half card) finishing wrote
-  finishing_leads card = goes_to P A 0 Writethrough s _ _ _ ((tt, omega (arith, cache_then)) ⨟ tt) refl
+  finishing_leads : (own : Own) → Leads P A 0 Writethrough s (at P A 0 Writethrough s half own) finishing wrote
+  finishing_leads own = goes_to P A 0 Writethrough s _ _ _ ((tt, omega (arith, cache_then)) ⨟ tt) refl
 
 pub can_write_through : (P A : Type 0) → CanWriteThrough P A
 can_write_through P A content = small_can P A 0 64 Writethrough (λ e. cc) (λ shape. to_write_through content) (λ f room.
@@ -104,13 +102,13 @@ can_write_through P A content = small_can P A 0 64 Writethrough (λ e. cc) (λ s
     let cache_some = cache_size P A 0 Writethrough f in
     let origin_some : 64 ≤ length d.origin = omega (arith, origin_size P A 0 Writethrough f) in
     from_opened P A 0 Writethrough f (to_write_through content) (λ n e.
-    stretch P A 0 Writethrough s (opened_scene P A 0 Writethrough s d) (came P A 0 Writethrough s d) (promoting P A 0 Writethrough s) (to_write_through content) (λ card known. promoting_leads P A 0 Writethrough s d cache_some origin_some room card)
-    (λ card n. (((refl, refl), refl, refl), refl))
-    (stretch P A 0 Writethrough s (came P A 0 Writethrough s d) (half P A s content d cache_some origin_some) (starting P A s content d cache_some origin_some) (drop 1 (to_write_through content)) (λ card known. starting_leads P A s content d cache_some origin_some card)
-    (λ card n. ((refl, refl), first_written d.origin content (omega (arith, origin_some)), refl))
-    (stretch P A 0 Writethrough s (half P A s content d cache_some origin_some) (wrote P A s content d cache_some origin_some) (finishing P A s content d cache_some origin_some) (drop 2 (to_write_through content)) (λ card known. finishing_leads P A s content d cache_some origin_some card)
-    (λ card n. (((refl, refl), first_written (filled d).cache content (omega (arith, cache_then P A s content d cache_some origin_some))), first_written d.origin content (omega (arith, origin_some)), refl))
-    (done P A 0 Writethrough s (wrote P A s content d cache_some origin_some)))) blank_card (known_at P A 0 Writethrough f) n))
+    stretch P A 0 Writethrough s (opened_scene P A 0 Writethrough s d) (came P A 0 Writethrough s d) (promoting P A 0 Writethrough s) (to_write_through content) (λ own known. promoting_leads P A 0 Writethrough s d cache_some origin_some room own)
+    (λ own n. (((refl, refl), refl, refl), refl))
+    (stretch P A 0 Writethrough s (came P A 0 Writethrough s d) (half P A s content d cache_some origin_some) (starting P A s content d cache_some origin_some) (drop 1 (to_write_through content)) (λ own known. starting_leads P A s content d cache_some origin_some own)
+    (λ own n. ((refl, refl), first_written d.origin content (omega (arith, origin_some)), refl))
+    (stretch P A 0 Writethrough s (half P A s content d cache_some origin_some) (wrote P A s content d cache_some origin_some) (finishing P A s content d cache_some origin_some) (drop 2 (to_write_through content)) (λ own known. finishing_leads P A s content d cache_some origin_some own)
+    (λ own n. (((refl, refl), first_written (filled d).cache content (omega (arith, cache_then P A s content d cache_some origin_some))), first_written d.origin content (omega (arith, origin_some)), refl))
+    (done P A 0 Writethrough s (wrote P A s content d cache_some origin_some)))) nothing_known (known_at P A 0 Writethrough f) n))
 
 -- ---- power is lost between the two writes
 
@@ -137,13 +135,13 @@ module _ (P A : Type 0) (f : Formatted P A 0 Writethrough) (content : Bytes) whe
   abbrev shape_here : Shape
   shape_here = shape_at P A 0 Writethrough f
 
-  abbrev there : Card → State P A
-  there card = at P A 0 Writethrough s (half P A s content d cache_some origin_some) card
+  abbrev there : Own → State P A
+  there own = at P A 0 Writethrough s (half P A s content d cache_some origin_some) own
 
   abbrev crash : List (Move P A)
   crash = Stops all_lands ∷ []
 
-  module _ (card : Card) (known : IsKnown P A shape_here (there card)) where
+  module _ (own : Own) (known : IsKnown P A shape_here (there own)) where
     abbrev metadata : List History
     metadata = crashed Metadata all_lands d.metadata
 
@@ -177,16 +175,17 @@ module _ (P A : Type 0) (f : Formatted P A 0 Writethrough) (content : Bytes) whe
       none = none_after P shape_here.geometry known.images (stood P 0 Writethrough s) d.metadata metadata quiet top_is (omega (arith, quiet.generation, s.later)) crash_of;
       size = crash_of.size ∙ devices_size P A 0 Writethrough f;
       rest = all_resting s.rest;
+      idle = resting_idle s.rest;
     }
 
     shown_then : slice_get (shown shape_here (ends f.global shape_here (down P A again) (opening P A again))) 0 ≡ Some content
     shown_then = ap (λ (w : State P A). slice_get (shown shape_here w) 0) (opened_is P A again)
         ∙ ap (λ (ss : List Bytes). slice_get ss 0) (origin_shown shape_here (target P A again).desk.tree.entries (map newest (synced again.cache)) (map newest (synced again.origin)) shape_here.geometry.cache_blocks (bare P A again).entries refl)
 
-    last_stretches : (n : Notes) → PassesThrough shape_here (there card) n (drop 1 (to_write_half shape_here content))
+    last_stretches : (n : Notes) → PassesThrough shape_here (there own) n (drop 1 (to_write_half shape_here content))
     last_stretches n = (
-      played f.global shape_here (there card) crash,
-      goes_on f.global shape_here (there card) crash (record { metadata = lands Metadata _; cache = lands Cache _; origin = lands Origin _ } ⨟ tt),
+      played f.global shape_here (there own) crash,
+      goes_on f.global shape_here (there own) crash (record { metadata = lands Metadata _; cache = lands Cache _; origin = lands Origin _ } ⨟ tt),
       refl,
       (played f.global shape_here (down P A again) (opening P A again), goes_on f.global shape_here (down P A again) (opening P A again) (opening_may P A again), (refl, shown_then), tt),
     )
@@ -194,8 +193,8 @@ module _ (P A : Type 0) (f : Formatted P A 0 Writethrough) (content : Bytes) whe
   pub writes_half : 64 ≤ f.sizes.threshold → Whole P A 0 Writethrough f (to_write_half shape_here content)
   writes_half room = from_opened P A 0 Writethrough f (to_write_half shape_here content) (λ n e.
       on P A 0 Writethrough s (opened_scene P A 0 Writethrough s d) (came P A 0 Writethrough s d) (promoting P A 0 Writethrough s) (to_write_half shape_here content) (promoting_leads P A 0 Writethrough s d cache_some origin_some room)
-      (stretch P A 0 Writethrough s (came P A 0 Writethrough s d) (half P A s content d cache_some origin_some) (starting P A s content d cache_some origin_some) (to_write_half shape_here content) (λ card known. starting_leads P A s content d cache_some origin_some card)
-      (λ card n. (((refl, refl), first_written d.origin content (omega (arith, origin_some)), refl), refl)) (λ card known n. last_stretches card known n)) blank_card (known_at P A 0 Writethrough f) n)
+      (stretch P A 0 Writethrough s (came P A 0 Writethrough s d) (half P A s content d cache_some origin_some) (starting P A s content d cache_some origin_some) (to_write_half shape_here content) (λ own known. starting_leads P A s content d cache_some origin_some own)
+      (λ own n. (((refl, refl), first_written d.origin content (omega (arith, origin_some)), refl), refl)) (λ own known n. last_stretches own known n)) nothing_known (known_at P A 0 Writethrough f) n)
 
 pub can_write_half : (P A : Type 0) → CanWriteHalf P A
 can_write_half P A content = small_can P A 0 64 Writethrough (λ e. cc) (λ shape. to_write_half shape content) (λ f room. writes_half P A f content room)

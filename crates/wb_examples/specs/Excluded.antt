@@ -1,27 +1,34 @@
 -- What the promises exclude: answers that are right and ones that are not, on one sector to which two contents were written. A definition that
 -- were always true, or never, would be caught by one of these.
-use Rattle.std.specs.Prelude.{◌≡◌, ℕ, List, [], ◌∷◌, Some, None, map}
+use Rattle.std.specs.Prelude.{true, false, ◌≡◌, ℕ, Bool, List, [], ◌∷◌, Some, None, map}
+use Rattle.wb_types.specs.declared.entry.Entry.{Entry}
 use Rattle.wb_types.specs.declared.mode.Dev.{Dev}
 use Rattle.wb_types.specs.declared.mode.Dev.TheVariants.{Cache, Origin}
 use Rattle.wb_types.specs.declared.mode.Mode.{Mode}
 use Rattle.wb_types.specs.declared.mode.Mode.TheVariants.{Writeback, Writethrough}
 use Rattle.wb_types.specs.declared.number.Place.{Place}
-use Rattle.wb_types.specs.declared.refusal.Refusal.TheVariants.{Io, Memory, GenerationEnd, NotFormatted, Damaged, Mismatch, Geometry}
+use Rattle.wb_types.specs.declared.refusal.Refusal.{Refusal}
+use Rattle.wb_types.specs.declared.refusal.Refusal.TheVariants.{Io, Memory, Busy, GenerationEnd, NotFormatted, Damaged, Mismatch, Geometry}
 use Rattle.wb_disk.specs.Device.{Content as Bytes, History}
 use Rattle.wb_tasks.specs.declared.step.Answer.{Answer}
 use Rattle.wb_tasks.specs.declared.step.Answer.TheVariants.{Done as Finished, Refused as Refuses}
+use Rattle.wb_tasks.specs.declared.step.DeskStep.TheVariants.{BeginCommit}
 use Rattle.wb_tasks.specs.declared.step.DeviceStep.TheVariants.{Write as WriteExtent}
-use Rattle.wb_tasks.specs.declared.step.Want.TheVariants.{Device, End}
-use Rattle.wb_tasks.specs.declared.step.Got.TheVariants.{Done}
+use Rattle.wb_tasks.specs.declared.step.Want.TheVariants.{Device, Desk, End}
+use Rattle.wb_tasks.specs.declared.step.Got.TheVariants.{Done, Began}
+use Rattle.wb_devices.specs.declared.running.RunningCommit.{RunningCommit}
+use Rattle.wb_desk.specs.Desks.{DeskState}
+use Rattle.wb_desk.specs.Entries.{entry_of}
+use Rattle.wb_tree.specs.Mapping.{Mapping}
 use Rattle.wb_promise.specs.declared.job.Job.{Job}
-use Rattle.wb_promise.specs.declared.job.Job.TheVariants.{Read, Write, Flush, Open}
-use Rattle.wb_promise.specs.declared.event.Event.TheVariants.{Step}
-use Rattle.wb_promise.specs.declared.event.What.TheVariants.{Skipped, Stepped}
-use Rattle.wb_promise.specs.States.{Shape, State}
-use Rattle.wb_promise.specs.Happenings.{HasTask}
+use Rattle.wb_promise.specs.declared.job.Job.TheVariants.{Read, Write, Flush, Suspend, Open}
+use Rattle.wb_promise.specs.declared.event.Event.TheVariants.{Start, Step}
+use Rattle.wb_promise.specs.declared.event.What.TheVariants.{Skipped, Started, Stepped, Refused}
+use Rattle.wb_promise.specs.States.{Shape, State, Actor}
+use Rattle.wb_promise.specs.Happenings.{Chosen, Plain, Commits, HasTask, IsSuspending, DoesBegin, Gives, StartsAs, MayBe}
 use Rattle.wb_promise.specs.Clerk.{Notes, Doing, Reading, Position, noted_what}
 use Rattle.wb_promise.specs.Headline.{AnswersRightly, SkipsRightly}
-use Rattle.wb_examples.specs.Possible.{first_sector}
+use Rattle.wb_examples.specs.Possible.{first_sector, first_block}
 
 -- what was written first, and last, and something else
 abbrev pub older : Bytes
@@ -57,9 +64,9 @@ opening failed = record (at_job (Open Writeback)) { failed = failed }
 abbrev pub IsAnsweredRightly : ℕ → Doing → Answer → List Bytes → Type 0
 IsAnsweredRightly floor doing answer shown = AnswersRightly shown (with_floor floor doing) (Step 0) (Stepped (End answer) Done)
 
--- the floors once a flush is answered that began when so much was finished
-abbrev pub floors_after : Shape → ℕ → Answer → List ℕ
-floors_after shape finished answer = (noted_what shape Writeback [] (with_floor 0 (record (at_job Flush) { then_finished = finished ∷ [] })) (Step 0) (Stepped (End answer) Done) []).floors
+-- the floors once a job is answered that began when so much was finished
+abbrev pub floors_after : Job → Shape → ℕ → Answer → List ℕ
+floors_after job shape finished answer = (noted_what shape Writeback [] (with_floor 0 (record (at_job job) { then_finished = finished ∷ [] })) (Step 0) (Stepped (End answer) Done) []).floors
 
 -- the histories once a write of something else has written this of a device, over a target of this mode
 abbrev pub histories_after : Shape → Mode → Dev → List History
@@ -96,8 +103,46 @@ pub record ExcludesWrongAnswers (P A : Type 0) : Type 0 where
   -- who is at nothing does not answer
   pub nobody : ¬ AnswersRightly [] (record (with_floor 0 (at_job Flush)) { doings = None ∷ [] }) (Step 0) (Stepped (End Finished) Done)
   -- a flush that is done raises the floor to what was finished when it began, and to nothing that was finished since; a refused one does not
-  pub raised : (shape : Shape) → floors_after shape 1 Finished ≡ 1 ∷ []
-  pub not_since : (shape : Shape) → floors_after shape 0 Finished ≡ 0 ∷ []
-  pub not_refused : (shape : Shape) → floors_after shape 1 (Refuses Memory) ≡ 0 ∷ []
+  pub raised : (shape : Shape) → floors_after Flush shape 1 Finished ≡ 1 ∷ []
+  pub not_since : (shape : Shape) → floors_after Flush shape 0 Finished ≡ 0 ∷ []
+  pub not_refused : (shape : Shape) → floors_after Flush shape 1 (Refuses Memory) ≡ 0 ∷ []
   -- whoever has a task is not skipped
   pub skipped : (w : State P A) (a : ℕ) → HasTask w a → ¬ SkipsRightly w (Step a) Skipped
+
+-- A commit that stores the first block's entry so, over a desk that maps this block alone, once a suspend has seen its copy dirty.
+pub record StoresSeen (P A : Type 0) (desk : DeskState P) (entry : Entry) : Type 0 where
+  pub mapped : desk.tree.entries ≡ Some (entry_of first_block) ∷ []
+  pub commit : RunningCommit
+  pub tree : Mapping
+  pub stored : tree.entries ≡ Some entry ∷ []
+  pub most : ℕ
+  pub nodes : ℕ
+  pub begins : DoesBegin {P = P} {A = A} (Some (true ∷ [])) most desk (Began nodes) (Commits commit tree)
+
+-- a step of a job begins this commit
+pub record BeginsCommit {P A : Type 0} (shape : Shape) (w : State P A) (x : Actor) (job : Job) (commit : RunningCommit) : Type 0 where
+  pub clean : Bool
+  pub most : ℕ
+  pub nodes : ℕ
+  pub read : List Bytes
+  pub tree : Mapping
+  pub gives : Gives shape w x job (Desk (BeginCommit clean most)) (Began nodes) read (Commits commit tree)
+
+-- What suspends are not.
+pub record ExcludesWrongSuspends (P A : Type 0) : Type 0 where
+  -- where anybody has a task none starts, and it may be refused as busy
+  pub alone : (shape : Shape) (w : State P A) (a other : ℕ) (chosen : Chosen P A) → HasTask w other → ¬ StartsAs shape w a Suspend Started chosen
+  pub busy : (shape : Shape) (w : State P A) (a other : ℕ) → HasTask w other → StartsAs shape w a Suspend (Refused Busy) Plain
+  -- while one is at work every start is skipped, none is answered, and none starts
+  pub skipped : (shape : Shape) (w : State P A) (a : ℕ) (job : Job) → IsSuspending w → MayBe shape w (Start a job) Skipped [] Plain
+  pub beside : (shape : Shape) (w : State P A) (a : ℕ) (job : Job) (read : List Bytes) (chosen : Chosen P A) → IsSuspending w → ¬ MayBe shape w (Start a job) Started read chosen
+  pub unanswered : (shape : Shape) (w : State P A) (a : ℕ) (job : Job) (refusal : Refusal) (read : List Bytes) (chosen : Chosen P A) → IsSuspending w → ¬ MayBe shape w (Start a job) (Refused refusal) read chosen
+  -- what it has seen dirty is stored as dirty
+  pub unmarked : (desk : DeskState P) (entry : Entry) → entry.dirty ≡ false → ¬ StoresSeen P A desk entry
+  -- its root is clean, and no flush's is
+  pub unclean : (shape : Shape) (w : State P A) (x : Actor) (commit : RunningCommit) → commit.image.root.clean ≡ false → ¬ BeginsCommit shape w x Suspend commit
+  pub clean : (shape : Shape) (w : State P A) (x : Actor) (commit : RunningCommit) → commit.image.root.clean ≡ true → ¬ BeginsCommit shape w x Flush commit
+  -- one that is done raises the floor as a flush does
+  pub raised : (shape : Shape) → floors_after Suspend shape 1 Finished ≡ 1 ∷ []
+  pub not_since : (shape : Shape) → floors_after Suspend shape 0 Finished ≡ 0 ∷ []
+  pub not_refused : (shape : Shape) → floors_after Suspend shape 1 (Refuses Memory) ≡ 0 ∷ []

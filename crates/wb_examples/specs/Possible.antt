@@ -1,5 +1,6 @@
 -- That the promises are not empty: runs that pass through what they speak of.
-use Rattle.std.specs.Prelude.{true, false, ◌≡◌, ◌≤◌, ◌∷◌, ℕ, List, [], Some, None, length, slice_get}
+use Rattle.std.specs.Prelude.{Bool, true, false, ◌≡◌, ◌≤◌, ◌∷◌, ℕ, List, [], Some, None, length, slice_get}
+use Rattle.wb_types.specs.declared.entry.Entry.{Entry}
 use Rattle.wb_types.specs.declared.extent.Extent.{Extent}
 use Rattle.wb_types.specs.declared.mode.Mode.{Mode}
 use Rattle.wb_types.specs.declared.mode.Mode.TheVariants.{Writeback, Writethrough}
@@ -26,7 +27,7 @@ use Rattle.wb_tasks.specs.declared.step.DeskStep.TheVariants.{ReleaseOrder}
 use Rattle.wb_tasks.specs.declared.step.Want.{Want}
 use Rattle.wb_tasks.specs.declared.step.Want.TheVariants.{Device, Desk, End}
 use Rattle.wb_promise.specs.declared.job.Job.{Job}
-use Rattle.wb_promise.specs.declared.job.Job.TheVariants.{Read, Write, Flush, Migrate}
+use Rattle.wb_promise.specs.declared.job.Job.TheVariants.{Read, Write, Flush, Suspend, Migrate, Open}
 use Rattle.wb_promise.specs.States.{Shape, State, Target, Gone, OfTarget, start}
 use Rattle.wb_promise.specs.Happenings.{Happening, AtWork, OfSome, May}
 use Rattle.wb_promise.specs.Effects.{after_happening, after_all, IsRun}
@@ -61,6 +62,11 @@ pub record IsSmall (blocks asked : ℕ) (shape : Shape) : Type 0 where
   pub block : shape.geometry.block ≡ 64
   pub origin : shape.geometry.origin_blocks ≡ blocks
   pub room : asked ≤ shape.threshold
+
+-- So it is, and the cache has one block.
+pub record IsSmallest (asked : ℕ) (shape : Shape) : Type 0 where
+  pub small : IsSmall 1 asked shape
+  pub cache : shape.geometry.cache_blocks ≡ 1
 
 -- ---- what is so in a state
 
@@ -167,9 +173,12 @@ CanDemote P A = CanPass P A (IsSmall 1 64) (λ shape. to_demote)
 abbrev pub IsWrittenTo : {P A : Type 0} → Bytes → State P A → Type 0
 IsWrittenTo content w = AboutToAnswer (Write first_sector content) w × ReadGives w.devices.cache 0 content
 
--- the seal of the first block says that its copy in the first cache block is clean
+-- the seal of the first block says that its copy in the first cache block is dirty, or clean
+abbrev pub IsSealed : {P A : Type 0} → Bool → State P A → Type 0
+IsSealed dirty w = TargetHas w (λ target. word_at target.words.seals first_block ≡ seal_word (Some first_cache_block) dirty)
+
 abbrev pub IsSealedClean : {P A : Type 0} → State P A → Type 0
-IsSealedClean w = TargetHas w (λ target. word_at target.words.seals first_block ≡ seal_word (Some first_cache_block) false)
+IsSealedClean w = IsSealed false w
 
 -- The first block comes, is written to, and is written back: what was written is on the origin then too, the block stands where it was, its
 -- seal says that it is clean, and no order lives there.
@@ -254,3 +263,36 @@ to_start_again shape =
 
 abbrev pub CanStartAgain : (P A : Type 0) → Type 0
 CanStartAgain P A = CanPass P A (IsSmall 2 128) to_start_again
+
+-- the one entry is that of the first block, with this dirty bit
+abbrev pub IsStored : {P A : Type 0} → Bool → State P A → Type 0
+IsStored dirty w = TargetHas w (λ target. (entry : Entry) × (target.desk.tree.entries ≡ Some entry ∷ []) × (entry.origin ≡ first_block) × (entry.dirty ≡ dirty))
+
+-- what was written to the first sector survives a crash from now on, or may be lost in one still
+abbrev pub IsFloorAt : ℕ → Notes → Type 0
+IsFloorAt position n = slice_get n.floors 0 ≡ Some position
+
+-- The first block comes, is written to, and the target is suspended: the image that was committed has the dirty bit. Its answer raises the floor,
+-- which an opening finds that starts behind it. The opening takes the block as dirty, and shows what was written.
+abbrev pub to_suspend : {P A : Type 0} → Shape → Bytes → List (State P A → Notes → Type 0)
+to_suspend shape content =
+    (λ w n. IsPromoted w)
+    ∷ (λ w n. IsWrittenTo content w × IsSealed true w)
+    ∷ (λ w n. AboutToAnswer Suspend w × IsStored true w × IsFloorAt 0 n)
+    ∷ (λ w n. FirstIsAt (Open Writeback) w × IsFloorAt 1 n)
+    ∷ (λ w n. IsSealed true w × StandsIn Writeback w × (slice_get (shown shape w) 0 ≡ Some content))
+    ∷ []
+
+abbrev pub CanSuspend : (P A : Type 0) → Type 0
+CanSuspend P A = (content : Bytes) → CanPass P A (IsSmallest 64) (λ shape. to_suspend shape content)
+
+-- Where the block is not written to, it is stored as clean, and the opening takes it as clean.
+abbrev pub to_stay_clean : {P A : Type 0} → List (State P A → Notes → Type 0)
+to_stay_clean =
+    (λ w n. IsPromoted w × IsSealedClean w)
+    ∷ (λ w n. AboutToAnswer Suspend w × IsStored false w)
+    ∷ (λ w n. IsSealedClean w × StandsIn Writeback w)
+    ∷ []
+
+abbrev pub CanStayClean : (P A : Type 0) → Type 0
+CanStayClean P A = CanPass P A (IsSmallest 64) (λ shape. to_stay_clean)

@@ -1,7 +1,7 @@
 //! Runs that there are, and answers that the promise refuses.
 
-ghost use Rattle.wb_examples.specs.Excluded.{ExcludesWrongAnswers};
-ghost use Rattle.wb_examples.specs.Possible.{CanDemote, CanFlush, CanGiveUp, CanOpen, CanPromote, CanReplace, CanStartAgain, CanSurvive, CanWriteBack, CanWriteHalf, CanWriteThrough};
+ghost use Rattle.wb_examples.specs.Excluded.{ExcludesWrongAnswers, ExcludesWrongSuspends};
+ghost use Rattle.wb_examples.specs.Possible.{CanDemote, CanFlush, CanGiveUp, CanOpen, CanPromote, CanReplace, CanStartAgain, CanStayClean, CanSurvive, CanSuspend, CanWriteBack, CanWriteHalf, CanWriteThrough};
 
 /// From any formatted metadata there is a run, over any policy, in which an opening is answered done and its target stands.
 pub fn a_target_can_be_opened<P, A>()
@@ -65,8 +65,25 @@ pub fn a_replacement_can_start_again<P, A>()
     ensures { CanStartAgain P A }
 {}
 
+/// And over the smallest origin and cache one in which the block that was promoted is written to, the target is suspended, and an opening behind
+/// it is answered done: what was written is durable with the suspend's answer, the block is stored and taken as dirty, and the opening shows it.
+pub fn a_target_can_be_suspended<P, A>()
+    ensures { CanSuspend P A }
+{}
+
+/// And one in which that block, where it was not written to, is stored and taken as clean.
+pub fn a_block_can_stay_clean<P, A>()
+    ensures { CanStayClean P A }
+{}
+
 /// The definitions of the promise tell right answers from wrong ones: of a read, a write and an opening on a sector to which two contents
 /// were written, of a flush's floor, and of a skipped step.
 pub fn promises_exclude_wrong_answers<P, A>()
     ensures { ExcludesWrongAnswers P A }
+{}
+
+/// And of suspends: none starts beside a task, nothing starts beside one, what it has seen dirty is stored so, by a root that is marked clean as
+/// no flush's is, and its answer raises the floor.
+pub fn promises_exclude_wrong_suspends<P, A>()
+    ensures { ExcludesWrongSuspends P A }
 {}

@@ -1,5 +1,5 @@
 -- Where no target stands after it, an event of the abstract world tells its clerk nothing and leads to a site that agrees; so a crash is followed.
-use Rattle.std.proofs.Common.{◌≡◌, ◌≢◌, ◌∙◌, ℕ, Option, Some, None, refl, sym, ap, subst, length, slice_get, ◌⊎◌, Bool, true, false, if◌then◌else◌, List, inl, inr}
+use Rattle.std.proofs.Common.{◌≡◌, ◌≢◌, ◌∙◌, ℕ, Option, Some, None, refl, sym, ap, subst, length, slice_get, ◌⊎◌, List}
 use Rattle.std.proofs.lemmas.List.{length-replicate, length-map}
 use Rattle.wb_types.specs.declared.mode.Mode.{Mode}
 use Rattle.wb_link.specs.Tables.{Script}
@@ -18,8 +18,8 @@ use Rattle.wb_devices.specs.declared.devices.Devices.{Devices}
 use Rattle.wb_devices.specs.declared.running.RunningCommit.{RunningCommit}
 use Rattle.wb_promise.specs.declared.job.Job.{Job}
 use Rattle.wb_promise.specs.States.{Shape, State, Actor, Phase, Stands, Gone, Opens, resting}
-use Rattle.wb_runs.proofs.Images.{Images, later_of, IsFitToo, one_image, IsFit}
-use Rattle.wb_runs.proofs.Metadata.{MetadataKept, kept_readable}
+use Rattle.wb_runs.proofs.Images.{Images, later_of, one_image}
+use Rattle.wb_runs.proofs.Metadata.{MetadataKept}
 use Rattle.wb_simulation.specs.Sites.{DevicesAgree, LeadsTo}
 use Rattle.wb_types.specs.declared.mode.Dev.TheVariants.{Metadata, Cache, Origin}
 use Rattle.wb_disk.specs.Crash.{Choice}
@@ -83,13 +83,6 @@ pub record SameSectors (n n' : Notes) : Type 0 where
 pub sized_so : (P A : Type 0) (shape : Shape) (actors actors' : List Actor) (n n' : Notes) → SameSectors n n' → length actors' ≡ length actors → Sized P A shape actors n → Sized P A shape actors' n'
 sized_so P A shape actors actors' n n' same l z = record { actors_many = l ∙ z.actors_many; doings_many = same.doings ∙ z.doings_many; sectors = ap length same.histories ∙ z.sectors }
 
-fit_later_of : (images : Images) → IsFitToo images.running → IsFitToo (later_of images)
-fit_later_of images f = by_written images.written
-  where
-    by_written : (b : Bool) → IsFitToo (if b then images.running else None)
-    by_written true = f
-    by_written false = tt
-
 module _ (P A : Type 0) (shape : Shape) where
   -- the site that was come to
   pub record Arrived (committed : Stored) (later : Option Stored) (phase : PhaseThere) (devices : Devices (List History)) (n : Notes) : Type 0 where
@@ -132,9 +125,9 @@ module _ (P A : Type 0) (shape : Shape) where
       agree = agree;
     }
 
-  module _ (images : Images) (later : Option Stored) (phase : PhaseThere) (devices : Devices (List History)) (n : Notes) (r : Arrived images.committed later phase devices n) (fit : IsFitToo later) (down : phase ≢ StandsThere) (actors : List Actor) (sized : Sized P A shape actors n) where
+  module _ (images : Images) (later : Option Stored) (phase : PhaseThere) (devices : Devices (List History)) (n : Notes) (r : Arrived images.committed later phase devices n) (down : phase ≢ StandsThere) (actors : List Actor) (sized : Sized P A shape actors n) where
     follow : DevicesFollow P A shape images later devices r.site
-    follow = record { fit = fit; agree = r.agree; down = λ e. down (sym r.phase_is ∙ e); idle = r.idle }
+    follow = record { agree = r.agree; down = λ e. down (sym r.phase_is ∙ e); idle = r.idle }
 
     -- nobody opens
     pub gone : (commit : Option RunningCommit) → MetadataKept {P = P} {A = A} shape.geometry images Gone commit devices.metadata → Goes P A shape (record { devices = devices; commit = commit; phase = Gone; actors = actors }) n
@@ -170,22 +163,15 @@ module _ (P A : Type 0) (shape : Shape) where
   -- in any phase the devices agree
   pub record Agreeing (images : Images) (devices : Devices (List History)) (v : Site) : Type 0 where
     pub later : Option Stored
-    pub fit : IsFitToo later
     pub agree : DevicesAgree shape.geometry (size P A shape) images.committed later devices v.world.shared
 
   pub agreeing : (images : Images) (phase : Phase P A) (commit : Option RunningCommit) (devices : Devices (List History)) (actors : List Actor) (v : Site) → MetadataKept shape.geometry images phase commit devices.metadata → PhaseFollows P A shape images phase commit devices actors v → Agreeing images devices v
   agreeing images (Stands t) commit devices actors v known p = record {
     later = later_of images;
-    fit = fit_later_of images (kept_readable shape.geometry images devices.metadata P A (Stands t) commit known).fit_later;
     agree = record { origin = p.agrees.origin; cache = p.agrees.cache; images = p.images_agree };
   }
-  agreeing images Gone commit devices actors v known p = record { later = p.later; fit = p.devices_follow.fit; agree = p.devices_follow.agree }
-  agreeing images (Opens mode reading) commit devices actors v known p = record { later = p.later; fit = p.devices_follow.fit; agree = p.devices_follow.agree }
-
--- one of the two states is fit, whichever it is
-pub one_fit : (images : Images) (later : Option Stored) (state : Stored) → IsFit images.committed → IsFitToo later → (state ≡ images.committed) ⊎ (later ≡ Some state) → IsFit state
-one_fit images later state f g (inl e) = subst IsFit (sym e) f
-one_fit images later state f g (inr e) = subst (λ (o : Option Stored). IsFitToo o) e g
+  agreeing images Gone commit devices actors v known p = record { later = p.later; agree = p.devices_follow.agree }
+  agreeing images (Opens mode reading) commit devices actors v known p = record { later = p.later; agree = p.devices_follow.agree }
 
 -- nobody is at anything
 pub ended_same : (n : Notes) → SameSectors n (record n { doings = nobody n.doings })
@@ -195,8 +181,7 @@ module _ (P A : Type 0) (shape : Shape) (images : Images) (w : State P A) (n : N
   pub crash_goes : (choice : Choice) → Goes P A shape (after_crash w choice) (record n { doings = nobody n.doings })
   crash_goes choice =
       let d = agreeing P A shape images w.phase w.commit w.devices w.actors f.site known f.phase in
-      let r = kept_readable shape.geometry images w.devices.metadata P A w.phase w.commit known in
       let l = openings_followed.crashes shape.geometry (size P A shape) images.committed d.later f.site w.devices (all_crashed choice w.devices) d.agree (Crashed-crashed_from Metadata choice 0 w.devices.metadata) (Crashed-crashed_from Cache choice 0 w.devices.cache) (Crashed-crashed_from Origin choice 0 w.devices.origin) in
       let v = arrives P A shape images w n (record n { doings = nobody n.doings }) f (ended_same n) l.state None GoneThere (all_crashed choice w.devices) l.leads (λ e. absurd (cc)) in
-      gone P A shape (one_image l.state) None GoneThere (all_crashed choice w.devices) (record n { doings = nobody n.doings }) v tt (λ e. absurd (cc)) (all_resting w.actors) (sized_so P A shape w.actors (all_resting w.actors) n (record n { doings = nobody n.doings }) (ended_same n) (length-map w.actors (λ (x : Actor). resting)) f.sized) None
-      (record { read = l.leads.agrees.images.read; fit = one_fit images d.later l.state r.fit d.fit l.one_of; fit_later = tt })
+      gone P A shape (one_image l.state) None GoneThere (all_crashed choice w.devices) (record n { doings = nobody n.doings }) v (λ e. absurd (cc)) (all_resting w.actors) (sized_so P A shape w.actors (all_resting w.actors) n (record n { doings = nobody n.doings }) (ended_same n) (length-map w.actors (λ (x : Actor). resting)) f.sized) None
+      (record { read = l.leads.agrees.images.read })

@@ -83,7 +83,6 @@ module _ (P A : Type 0) (shape : Shape) (metadata : List History) (f : IsFormatt
         phase = record {
           later = None;
           devices_follow = record {
-            fit = tt;
             agree = record {
               origin = empty_device zeros (size P A shape) (sector_count shape);
               cache = empty_device zeros (size P A shape) (cache_sector_count shape);

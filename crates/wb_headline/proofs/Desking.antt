@@ -157,9 +157,9 @@ module _ (P : Type 0) (desk : DeskState P) (s t : Shared) (g : DeskAgrees desk s
     blocks = λ c. ap (λ (f : ℕ → AbstractBlock). f c) k ∙ g.blocks c ∙ ap (λ bs. block_there (state bs c)) (sym b);
   }
 
-  pub desk_begins : (tree : Mapping) → tree.entries ≡ desk.tree.entries → t.mapping ≡ s.mapping → t.blocks ≡ (λ c. begun (s.blocks c)) → DeskAgrees (commit_begun desk tree) t
+  pub desk_begins : (tree : Mapping) → located tree.entries ≡ located desk.tree.entries → t.mapping ≡ s.mapping → t.blocks ≡ (λ c. begun (s.blocks c)) → DeskAgrees (commit_begun desk tree) t
   desk_begins tree e m k = record {
-    mapping = m ∙ g.mapping ∙ ap (λ es. located es) (sym e);
+    mapping = m ∙ g.mapping ∙ sym e;
     blocks = λ c. ap (λ (f : ℕ → AbstractBlock). f c) k ∙ ap begun (g.blocks c) ∙ sym (begun_there (state desk.space.blocks c)) ∙ ap (λ (v : Block). block_there v) (sym (state_map block_begun refl desk.space.blocks c));
   }
 

@@ -20,7 +20,7 @@ use Rattle.wb_devices.specs.declared.running.RunningCommit.{RunningCommit}
 use Rattle.wb_promise.specs.declared.job.Job.{Job}
 use Rattle.wb_promise.specs.States.{Shape, State, Actor, Target, Phase, Stands, Gone, Opens, block_size, sector_count}
 use Rattle.wb_promise.specs.Clerk.{Notes}
-use Rattle.wb_runs.proofs.Images.{Images, later_of, IsFitToo}
+use Rattle.wb_runs.proofs.Images.{Images, later_of}
 use Rattle.wb_runs.proofs.Metadata.{MetadataKept}
 use Rattle.wb_link.specs.World.{AbstractActor}
 use Rattle.wb_link.specs.Clerk.{AbstractNotes}
@@ -111,7 +111,6 @@ module _ (P A : Type 0) (shape : Shape) where
 
   -- where no target stands the devices agree; beside the committed state the metadata may be read as this one
   pub record DevicesFollow (images : Images) (later : Option Stored) (devices : Devices (List History)) (v : Site) : Type 0 where
-    pub fit : IsFitToo later
     pub agree : DevicesAgree shape.geometry size images.committed later devices v.world.shared
     pub down : v.phase ≢ StandsThere
     pub idle : (a : ℕ) (y : AbstractActor) → slice_get v.world.actors a ≡ Some y → y.task ≡ None

@@ -1,6 +1,6 @@
--- Where a target stands, the orders that actors have live, the seals tell where the desk has each block, and each seal that is left is right:
--- so it stays, whoever goes on.
-use Rattle.std.proofs.Common.{if◌then◌else◌, ◌≡◌, ◌≢◌, ◌∙◌, ◌<◌, ◌==◌, ◌⊎◌, ◌++◌, inl, inr, ℕ, Bool, true, false, List, ◌∷◌, Option, Some, None, refl, sym, ap, subst, arith, unwrap_or, slice_get, slice_set, Contains}
+-- Where a target stands, the orders that actors have live, the seals tell where the desk has each block, and each seal that is left is right; and
+-- who suspends is at it alone, and has seen what it has looked at: so it stays, whoever goes on.
+use Rattle.std.proofs.Common.{[], if◌then◌else◌, ◌≡◌, ◌≢◌, ◌∙◌, ◌<◌, ◌==◌, ◌⊎◌, ◌++◌, inl, inr, ℕ, Bool, true, false, List, ◌∷◌, Option, Some, None, refl, sym, ap, subst, arith, unwrap_or, slice_get, slice_set, Contains}
 use Rattle.std.proofs.lemmas.Bool.{cases_eq}
 use Rattle.std.proofs.lemmas.List.Elements.{Contains-append_cases, Contains-append_left, Contains-append_right}
 use Rattle.wb_types.proofs.Lists.{set_cases}
@@ -9,6 +9,9 @@ use Rattle.wb_types.specs.declared.geometry.Geometry.{Geometry}
 use Rattle.wb_types.specs.declared.number.OBlock.{OBlock}
 use Rattle.wb_types.specs.declared.number.CBlock.{CBlock}
 use Rattle.wb_types.specs.declared.refusal.Refusal.{Refusal}
+use Rattle.wb_types.specs.declared.refusal.Refusal.TheVariants.{Failed}
+use Rattle.wb_stage.specs.Seen.{seen_after}
+use Rattle.wb_headline.proofs.Suspends.{Saw, SawJob, SawTask, saw_on, saw_seal, begun_once}
 use Rattle.wb_disk.specs.Device.{History}
 use Rattle.wb_contents.proofs.Positions.{changed_same, changed_other}
 use Rattle.wb_words.specs.declared.word.Access.{Access}
@@ -36,25 +39,25 @@ use Rattle.wb_desk.proofs.Entering.{entrance, named_inside}
 use Rattle.wb_desk.proofs.Leaving.{mapped_within}
 use Rattle.wb_stage.specs.Asking.{DidRelease, DidUnmap, IsGivenUp, is_of, order_of as order_found}
 use Rattle.wb_tasks.specs.Tables.{BlockJob, Reading, Writing, Displacing, Invalidating, Migrating, OnBlock, Flushing, Suspending, Opening, TaskJob, access_of, range_of}
-use Rattle.wb_tasks.specs.Plan.{Plan, want, after, after_fault, after_fault_of, after_refusal, first_step, later_steps, lets_go, got_of}
+use Rattle.wb_tasks.specs.Plan.{Plan, want, after, after_fault, after_fault_of, after_refusal, first_step, later_steps, lets_go, lets_go_unless_busy, got_of}
 use Rattle.wb_tasks.specs.Ready.{Has, MayTake, Suits, SuitsJob, IsOwnStep, IsJobs, block_of}
 use Rattle.wb_tasks.proofs.Readiness.{is_own_step, is_ready}
 use Rattle.wb_tasks.specs.declared.step.Answer.{Answer}
-use Rattle.wb_tasks.specs.declared.step.Answer.TheVariants.{Done as Finished}
+use Rattle.wb_tasks.specs.declared.step.Answer.TheVariants.{Done as Finished, Refused as Refuses}
 use Rattle.wb_tasks.specs.declared.step.DeviceStep.{DeviceStep}
 use Rattle.wb_tasks.specs.declared.step.DeviceStep.TheVariants.{Read as ReadExtent, Write as WriteExtent}
 use Rattle.wb_tasks.specs.declared.step.DeskStep.{DeskStep}
-use Rattle.wb_tasks.specs.declared.step.DeskStep.TheVariants.{Map, Unmap, ReleaseOrder}
+use Rattle.wb_tasks.specs.declared.step.DeskStep.TheVariants.{Map, Unmap, ReleaseOrder, BeginCommit, EndCommit}
 use Rattle.wb_tasks.specs.declared.step.Migration.{Migration}
 use Rattle.wb_tasks.specs.declared.step.Migration.TheVariants.{Promote, Demote}
 use Rattle.wb_tasks.specs.declared.step.Want.{Want}
 use Rattle.wb_tasks.specs.declared.step.Want.TheVariants.{Cell, Device, Desk, End}
 use Rattle.wb_tasks.specs.declared.step.Got.{Got}
-use Rattle.wb_tasks.specs.declared.step.Got.TheVariants.{Done, Fault, Refused as GotRefused}
+use Rattle.wb_tasks.specs.declared.step.Got.TheVariants.{Done, Fault, Began, Refused as GotRefused}
 use Rattle.wb_devices.specs.declared.devices.Devices.{Devices}
 use Rattle.wb_devices.specs.declared.running.RunningCommit.{RunningCommit}
 use Rattle.wb_promise.specs.declared.job.Job.{Job}
-use Rattle.wb_promise.specs.declared.job.Job.TheVariants.{Read, Write, Flush, Open, Migrate, Replace}
+use Rattle.wb_promise.specs.declared.job.Job.TheVariants.{Read, Write, Flush, Suspend, Open, Migrate, Replace}
 use Rattle.wb_promise.specs.States.{Shape, Actor, Target, Phase, Stands, Gone, Opens}
 use Rattle.wb_promise.specs.Effects.{actor_then, awaiting_answered, awaiting_released, awaiting_then, dropped, job_of, orders_answered, orders_released, orders_then, replacing}
 use Rattle.wb_promise.specs.Clerk.{Notes}
@@ -66,7 +69,7 @@ use Rattle.wb_contents.proofs.Lists.{set_other, set_there}
 use Rattle.wb_runs.proofs.Metadata.{MetadataKept, unknowing}
 use Rattle.wb_runs.proofs.Ordering.{held_of, then_had}
 use Rattle.wb_runs.proofs.Owning.{Owned, dropped_is, owned_over, owned_same, owned_within}
-use Rattle.wb_simulation.specs.Actors.{IsDoing}
+use Rattle.wb_simulation.specs.Actors.{IsDoing, IsCommitAt, IsAmong, IsAmongOthers}
 use Rattle.wb_simulation.specs.Opened.{located}
 use Rattle.wb_simulation.specs.Steps.{AreOfBlock}
 use Rattle.wb_simulation.proofs.Followed.{begins_by, doing_of}
@@ -91,11 +94,17 @@ abbrev pub TaskRight : List (Option Entry) → Card → Option (Job × Plan) →
 TaskRight entries card None = Unit {0}
 TaskRight entries card (Some doing) = RightWhere (place_of entries) card doing.1.steps
 
+-- all but this one rest
+abbrev pub OthersRest : List Actor → ℕ → Type 0
+OthersRest actors a = (b : ℕ) (z : Actor) → b ≢ a → slice_get actors b ≡ Some z → z.task ≡ None
+
 pub record KeepingAt {P : Type 0} (t : Target P) (actors : List Actor) : Type 0 where
   pub owned : Owned t.desk actors
   pub parted : (a : ℕ) (x : Actor) → slice_get actors a ≡ Some x → AreParted x
   pub tells : (block : OBlock) → Tells t.words t.desk.tree.entries actors block
   pub right : (a : ℕ) (x : Actor) → slice_get actors a ≡ Some x → TaskRight t.desk.tree.entries x.card x.task
+  pub alone : (a : ℕ) (x : Actor) → slice_get actors a ≡ Some x → IsAmongOthers x.task ⊎ OthersRest actors a
+  pub saw : (a : ℕ) (x : Actor) → slice_get actors a ≡ Some x → SawTask t.words t.desk.tree.entries x.seen x.task
 
 abbrev pub HasNone : Actor → Type 0
 HasNone x = (order : Order) → Contains (held_of x) order → ⊥
@@ -137,6 +146,20 @@ sealed_next : (b : OBlock) (place : Option CBlock) (ws : List Want) (answer : An
 sealed_next b place (Cell (Seal o at dirty) ∷ ws) answer i = (dirty, ap (λ (v : OBlock). Cell (Seal v at dirty)) i.0 ∙ ap (λ (v : Option CBlock). Cell (Seal b v dirty)) i.1)
 sealed_next b place ws answer i = absurd i
 
+-- what is so of who does not suspend
+pub saw_among : (words : Words) (entries : List (Option Entry)) (seen : List Bool) (task : Option (Job × Plan)) → IsAmongOthers task → SawTask words entries seen task
+saw_among words entries seen None among = tt
+saw_among words entries seen (Some doing) among = by doing.0 among
+  where
+    by : (job : Job) → IsAmong job → SawJob words entries seen job doing.1.steps
+    by Suspend among = absurd among
+    by job among = tt
+
+among_then : (task : Option (Job × Plan)) (next : Want) (got : Got) → IsAmongOthers task → IsAmongOthers (Rattle.wb_promise.specs.Effects.task_then task next got)
+among_then None next got among = tt
+among_then (Some doing) (End answer) got among = tt
+among_then (Some doing) next got among = among
+
 -- seals after a step that seals nothing
 seals_same : (words : Words) (step : CellStep) → ((b : OBlock) (place : Option CBlock) (dirty : Bool) → step ≢ Seal b place dirty) → (words_after words step).seals ≡ words.seals
 seals_same words (Take access block seen) n = by_test (word_at words.cells block == seen)
@@ -171,16 +194,33 @@ module _ (P A : Type 0) (shape : Shape) (images : Images) (t : Target P) (commit
   abbrev Untold : Target P → OBlock → Type 0
   Untold t' b = (word_at t'.words.seals b ≡ word_at t.words.seals b) × (place_of t'.desk.tree.entries b.0 ≡ place_of t.desk.tree.entries b.0) × ((place : Option CBlock) → SealsNext b place x.task → ⊥)
 
+  -- who goes on may suspend alone, and nobody beside it suspends
+  pub record GoesAmong (t' : Target P) (y : Actor) : Type 0 where
+    pub nobody : (c : ℕ) (z : Actor) → c ≢ a → slice_get actors c ≡ Some z → IsAmongOthers z.task
+    pub itself : IsAmongOthers y.task ⊎ OthersRest actors a
+    pub saw : SawTask t'.words t'.desk.tree.entries y.seen y.task
+
   -- who goes on keeps what is kept
-  pub going : (t' : Target P) (y : Actor) → Owned t'.desk (slice_set actors a y) → AreParted y → ((c : ℕ) (z : Actor) → c ≢ a → slice_get actors c ≡ Some z → (access : Access) (b : OBlock) → z.card.hold ≡ Held access b → place_of t'.desk.tree.entries b.0 ≡ place_of t.desk.tree.entries b.0) →
+  pub going : (t' : Target P) (y : Actor) → GoesAmong t' y → Owned t'.desk (slice_set actors a y) → AreParted y → ((c : ℕ) (z : Actor) → c ≢ a → slice_get actors c ≡ Some z → (access : Access) (b : OBlock) → z.card.hold ≡ Held access b → place_of t'.desk.tree.entries b.0 ≡ place_of t.desk.tree.entries b.0) →
       ((b : OBlock) → Untold t' b ⊎ Tells t'.words t'.desk.tree.entries (slice_set actors a y) b) → TaskRight t'.desk.tree.entries y.card y.task → KeepingAt t' (slice_set actors a y)
-  going t' y owned parted others tells mine = record {
+  going t' y among owned parted others tells mine = record {
     owned = owned;
     parted = λ c z e. elim (set_cases actors a c y z e) [ inl i ↦ subst (λ (v : Actor). AreParted v) (sym i.1) parted | inr o ↦ k.parted c z o.1 ];
     tells = λ b. elim (tells b) [ inl same ↦ by_told b same (k.tells b) | inr told ↦ told ];
     right = λ c z e. elim (set_cases actors a c y z e) [
       | inl i ↦ subst (λ (v : Actor). TaskRight t'.desk.tree.entries v.card v.task) (sym i.1) mine
       | inr o ↦ same_right t.desk.tree.entries t'.desk.tree.entries z.card z.task (others c z o.0 o.1) (k.right c z o.1)
+    ];
+    alone = λ c z e. elim (set_cases actors a c y z e) [
+      | inl i ↦ elim among.itself [
+        | inl o ↦ inl (subst (λ (v : Actor). IsAmongOthers v.task) (sym i.1) o)
+        | inr rest ↦ inr (λ d v n ev. let away = (λ (same : d ≡ a). n (same ∙ sym i.0)) in rest d v away (sym (set_other actors a d y away) ∙ ev))
+      ]
+      | inr o ↦ inl (among.nobody c z o.0 o.1)
+    ];
+    saw = λ c z e. elim (set_cases actors a c y z e) [
+      | inl i ↦ subst (λ (v : Actor). SawTask t'.words t'.desk.tree.entries v.seen v.task) (sym i.1) among.saw
+      | inr o ↦ saw_among t'.words t'.desk.tree.entries z.seen z.task (among.nobody c z o.0 o.1)
     ];
   }
     where
@@ -194,8 +234,8 @@ module _ (P A : Type 0) (shape : Shape) (images : Images) (t : Target P) (commit
       ]
 
   -- where it seals nothing next, and neither words nor places change
-  pub plainly : (t' : Target P) (y : Actor) → t'.words.seals ≡ t.words.seals → ((b : ℕ) → place_of t'.desk.tree.entries b ≡ place_of t.desk.tree.entries b) → ((b : OBlock) (place : Option CBlock) → SealsNext b place x.task → ⊥) → Owned t'.desk (slice_set actors a y) → AreParted y → TaskRight t'.desk.tree.entries y.card y.task → KeepingAt t' (slice_set actors a y)
-  plainly t' y seals places not owned parted mine = going t' y owned parted (λ c z n e access b h. places b.0) (λ b. inl (ap (λ (s : List ℕ). word_at s b) seals, places b.0, not b)) mine
+  pub plainly : (t' : Target P) (y : Actor) → GoesAmong t' y → t'.words.seals ≡ t.words.seals → ((b : ℕ) → place_of t'.desk.tree.entries b ≡ place_of t.desk.tree.entries b) → ((b : OBlock) (place : Option CBlock) → SealsNext b place x.task → ⊥) → Owned t'.desk (slice_set actors a y) → AreParted y → TaskRight t'.desk.tree.entries y.card y.task → KeepingAt t' (slice_set actors a y)
+  plainly t' y among seals places not owned parted mine = going t' y among owned parted (λ c z n e access b h. places b.0) (λ b. inl (ap (λ (s : List ℕ). word_at s b) seals, places b.0, not b)) mine
 
   module _ (job : Job) (plan : Plan) (xt : x.task ≡ Some (job, plan)) where
     pub suits : Suits shape.geometry.origin_blocks plan x.card
@@ -219,6 +259,130 @@ module _ (P A : Type 0) (shape : Shape) (images : Images) (t : Target P) (commit
     -- what it is then
     abbrev y : Want → Got → Actor
     y next got = actor_then {P = P} {A = A} shape (Stands t) devices x next got
+
+    -- nobody suspends while it is at something else
+    nobody_suspends : (c : ℕ) (z : Actor) → c ≢ a → slice_get actors c ≡ Some z → IsAmongOthers z.task
+    nobody_suspends c z away ez = elim (k.alone c z ez) [
+      | inl o ↦ o
+      | inr rest ↦ absurd (let bad : None ≡ Some (job, plan) = sym (rest a x (λ e. away (sym e)) ex) ∙ xt in cc)
+    ]
+
+    -- so it goes on, and answers, where what it has seen is told if it suspends
+    goes_among : (t' : Target P) (next : Want) (got : Got) → Rattle.wb_promise.specs.Effects.task_then (Some (job, plan)) next got ≡ Some (job, after plan got) → (job ≡ Suspend → Saw t'.words t'.desk.tree.entries (seen_after next got x.seen) (after plan got).steps) → GoesAmong t' (y next got)
+    goes_among t' next got on saw = record {
+      nobody = nobody_suspends;
+      itself = elim (k.alone a x ex) [ inl o ↦ inl (among_then x.task next got o) | inr rest ↦ inr rest ];
+      saw = subst (λ (o : Option (Job × Plan)). SawTask t'.words t'.desk.tree.entries (Rattle.wb_promise.specs.Effects.seen_then x.seen next got (job_of o)) (Rattle.wb_promise.specs.Effects.task_then o next got)) (sym xt)
+          (subst (λ (o : Option (Job × Plan)). SawTask t'.words t'.desk.tree.entries (Rattle.wb_promise.specs.Effects.seen_then x.seen next got job) o) (sym on) (by job saw));
+    }
+      where
+        by : (j : Job) → (j ≡ Suspend → Saw t'.words t'.desk.tree.entries (seen_after next got x.seen) (after plan got).steps) → SawJob t'.words t'.desk.tree.entries (Rattle.wb_promise.specs.Effects.seen_then x.seen next got j) j (after plan got).steps
+        by Suspend h = h refl
+        by j h = tt
+
+    answers_among : (answer : Answer) (got : Got) → GoesAmong t (y (End answer) got)
+    answers_among answer got = record {
+      nobody = nobody_suspends;
+      itself = elim (k.alone a x ex) [ inl o ↦ inl (among_then x.task (End answer) got o) | inr rest ↦ inr rest ];
+      saw = by x.task;
+    }
+      where
+        by : (o : Option (Job × Plan)) → SawTask t.words t.desk.tree.entries (y (End answer) got).seen (Rattle.wb_promise.specs.Effects.task_then o (End answer) got)
+        by None = tt
+        by (Some doing) = tt
+
+    -- ---- one that suspends
+
+    module _ (suspends : job ≡ Suspend) where
+      its_task : x.task ≡ Some (Suspend, plan)
+      its_task = xt ∙ ap (λ (j : Job). Some (j, plan)) suspends
+
+      its_blocks : (looks : List OBlock) × (plan.job ≡ Suspending looks (most P A shape))
+      its_blocks =
+          let z = beside P A shape images t commit devices actors n known f a x ex in
+          let r : IsCommitAt (size P A shape) (most P A shape) _ true plan z.0 = doing_of (size P A shape) (most P A shape) t.words x z.0 Suspend plan (f.phase.agrees.each a x z.0 ex z.1) its_task in
+          (r.blocks, r.job)
+
+      -- what it has seen up to now
+      pub saw_now : Saw t.words t.desk.tree.entries x.seen plan.steps
+      saw_now = subst (λ (o : Option (Job × Plan)). SawTask t.words t.desk.tree.entries x.seen o) its_task (k.saw a x ex)
+
+      -- nobody is to seal anything, so the seals tell
+      pub all_told : (next : Want) → next ≡ want plan → ((b : OBlock) (place : Option CBlock) (dirty : Bool) → next ≢ Cell (Seal b place dirty)) → (block : OBlock) → number_of (place_in (word_at t.words.seals block)) ≡ place_of t.desk.tree.entries block.0
+      all_told next e not block = by (k.tells block)
+        where
+          by : Tells t.words t.desk.tree.entries actors block → number_of (place_in (word_at t.words.seals block)) ≡ place_of t.desk.tree.entries block.0
+          by (inl told) = told
+          by (inr (place, at, (c, (z, ez, s)))) = absurd (elim (cases_eq c a) [
+            | inl here ↦ (
+                let both : Some z ≡ Some x = sym ez ∙ ap (slice_get actors) here ∙ ex in
+                let same : z ≡ x = cc in not_sealing next e not block place (subst (λ (v : Actor). SealsNext block place v.task) same s))
+            | inr away ↦ elim (k.alone a x ex) [
+              | inl among ↦ subst IsAmongOthers its_task among
+              | inr rest ↦ subst (λ (o : Option (Job × Plan)). SealsNext block place o) (rest c z away ez) s
+            ]
+          ])
+
+      saw_first_of : (next : Want) → next ≡ want plan → ((answer : Answer) → next ≢ End answer) → (rest : List Want) × (plan.steps ≡ next ∷ rest) × Saw t.words t.desk.tree.entries x.seen (next ∷ rest)
+      saw_first_of next e step = let first = begins_by plan next (sym e) step in (first.0, first.1, subst (λ (ws : List Want). Saw t.words t.desk.tree.entries x.seen ws) first.1 saw_now)
+
+      -- what is left of it, with this next
+      is_left : (next : Want) (rest : List Want) → plan.steps ≡ next ∷ rest → plan ≡ record { job = Suspending its_blocks.0 (most P A shape); steps = next ∷ rest; answer = plan.answer }
+      is_left next rest s = λ i. record { job = its_blocks.1 i; steps = s i; answer = plan.answer }
+
+      saw_words : (step : CellStep) → Cell step ≡ want plan → Saw (words_after t.words step) t.desk.tree.entries (seen_after (Cell step) (got_of (result_of t.words step)) x.seen) (after plan (got_of (result_of t.words step))).steps
+      saw_words step e =
+          let s = saw_first_of (Cell step) e (λ v q. absurd (cc)) in
+          subst (λ (p : Plan). Saw (words_after t.words step) t.desk.tree.entries (seen_after (Cell step) (got_of (result_of t.words step)) x.seen) (after p (got_of (result_of t.words step))).steps) (sym (is_left (Cell step) s.0 s.1))
+          (by step s.0 (own (Suspending its_blocks.0 (most P A shape)) (Cell step) its_blocks.1 e) s.2 (all_told (Cell step) e (λ b p d q. not_it step (own (Suspending its_blocks.0 (most P A shape)) (Cell step) its_blocks.1 e) b p d (let same : step ≡ Seal b p d = cc in same))))
+        where
+          not_it : (s : CellStep) → IsOwnStep (Suspending its_blocks.0 (most P A shape)) (Cell s) → (b : OBlock) (place : Option CBlock) (dirty : Bool) → s ≢ Seal b place dirty
+          not_it (Seal o q v) own_step b place dirty e = absurd own_step
+          not_it s own_step b place dirty e = absurd (subst (λ (c : CellStep). IsOwnStep (Suspending its_blocks.0 (most P A shape)) (Cell c)) e own_step)
+
+          left : CellStep → List Want → Plan
+          left s rest = record { job = Suspending its_blocks.0 (most P A shape); steps = Cell s ∷ rest; answer = plan.answer }
+
+          by : (s : CellStep) (rest : List Want) → IsOwnStep (Suspending its_blocks.0 (most P A shape)) (Cell s) → Saw t.words t.desk.tree.entries x.seen (Cell s ∷ rest) → ((block : OBlock) → number_of (place_in (word_at t.words.seals block)) ≡ place_of t.desk.tree.entries block.0) →
+              Saw (words_after t.words s) t.desk.tree.entries (seen_after (Cell s) (got_of (result_of t.words s)) x.seen) (after (left s rest) (got_of (result_of t.words s))).steps
+          by (Look Rattle.wb_words.specs.declared.word.Word.TheVariants.Fail) rest own_step saw told = by_test (t.words.fail == 0)
+            where
+              then_left : Bool → Plan
+              then_left v = if v then record { job = Suspending its_blocks.0 (most P A shape); steps = rest; answer = plan.answer } else record { job = Suspending its_blocks.0 (most P A shape); steps = []; answer = Refuses Failed }
+
+              by_test : (v : Bool) → Saw t.words t.desk.tree.entries x.seen (then_left v).steps
+              by_test true = saw_on t.words t.words t.desk.tree.entries t.desk.tree.entries x.seen (Cell (Look Rattle.wb_words.specs.declared.word.Word.TheVariants.Fail)) rest (λ b q. absurd (cc)) refl (λ b. refl) saw
+              by_test false = λ b. absurd b
+          by (Look (SealWord block)) rest own_step saw told = saw_seal t.words t.desk.tree.entries x.seen block rest (told block) saw
+          by SetFailed rest own_step saw told = saw_on t.words (words_after t.words SetFailed) t.desk.tree.entries t.desk.tree.entries x.seen (Cell SetFailed) rest (λ b q. absurd (cc)) refl (λ b. refl) saw
+          by SetSuspended rest own_step saw told = saw_on t.words (words_after t.words SetSuspended) t.desk.tree.entries t.desk.tree.entries x.seen (Cell SetSuspended) rest (λ b q. absurd (cc)) refl (λ b. refl) saw
+          by s rest own_step saw told = absurd own_step
+
+      saw_device : (step : DeviceStep) (got : Got) → Device step ≡ want plan → (got ≡ Done) ⊎ (got ≡ Fault) → Saw t.words t.desk.tree.entries x.seen (after plan got).steps
+      saw_device step got e (inl done) =
+          let s = saw_first_of (Device step) e (λ v q. absurd (cc)) in
+          subst (λ (g : Got). Saw t.words t.desk.tree.entries x.seen (after plan g).steps) (sym done) (subst (λ (ws : List Want). Saw t.words t.desk.tree.entries x.seen (later_steps ws)) (sym s.1) (saw_on t.words t.words t.desk.tree.entries t.desk.tree.entries x.seen (Device step) s.0 (λ b q. absurd (cc)) refl (λ b. refl) s.2))
+      saw_device step got e (inr fault) =
+          let s = saw_first_of (Device step) e (λ v q. absurd (cc)) in
+          subst (λ (g : Got). Saw t.words t.desk.tree.entries x.seen (after plan g).steps) (sym fault) (subst (λ (p : Plan). Saw t.words t.desk.tree.entries x.seen (after p Fault).steps) (sym (is_left (Device step) s.0 s.1)) (λ b. absurd b))
+
+      -- of the desk it asks for its commit, and ends it
+      pub saw_begin : (clean : Bool) (allowed : ℕ) (desk' : DeskState P) (got : Got) → Desk (BeginCommit clean allowed) ≡ want plan → ((nodes : ℕ) × (got ≡ Began nodes)) ⊎ ((refusal : Refusal) × (got ≡ GotRefused refusal)) → Saw t.words desk'.tree.entries x.seen (after plan got).steps
+      saw_begin clean allowed desk' got e (inl began) =
+          let s = saw_first_of (Desk (BeginCommit clean allowed)) e (λ v q. absurd (cc)) in
+          subst (λ (g : Got). Saw t.words desk'.tree.entries x.seen (after plan g).steps) (sym began.1) (subst (λ (p : Plan). Saw t.words desk'.tree.entries x.seen (after p (Began began.0)).steps) (sym (is_left (Desk (BeginCommit clean allowed)) s.0 s.1)) (λ b. absurd (begun_once true its_blocks.0 (most P A shape) began.0 b)))
+      saw_begin clean allowed desk' got e (inr r) =
+          let s = saw_first_of (Desk (BeginCommit clean allowed)) e (λ v q. absurd (cc)) in
+          subst (λ (g : Got). Saw t.words desk'.tree.entries x.seen (after plan g).steps) (sym r.1) (subst (λ (p : Plan). Saw t.words desk'.tree.entries x.seen (after p (GotRefused r.0)).steps) (sym (is_left (Desk (BeginCommit clean allowed)) s.0 s.1)) (by_refusal r.0))
+        where
+          by_refusal : (refusal : Refusal) → Saw t.words desk'.tree.entries x.seen (lets_go_unless_busy (Suspending its_blocks.0 (most P A shape)) refusal)
+          by_refusal Rattle.wb_types.specs.declared.refusal.Refusal.TheVariants.Busy = λ b. absurd b
+          by_refusal refusal = λ b. absurd b
+
+      pub saw_end : (desk' : DeskState P) → ((b : ℕ) → place_of desk'.tree.entries b ≡ place_of t.desk.tree.entries b) → Desk EndCommit ≡ want plan → Saw t.words desk'.tree.entries x.seen (after plan Done).steps
+      saw_end desk' places e =
+          let s = saw_first_of (Desk EndCommit) e (λ v q. absurd (cc)) in
+          subst (λ (ws : List Want). Saw t.words desk'.tree.entries x.seen (later_steps ws)) (sym s.1) (saw_on t.words t.words t.desk.tree.entries desk'.tree.entries x.seen (Desk EndCommit) s.0 (λ b q. absurd (cc)) refl places s.2)
 
     y_parted : (next : Want) (got : Got) → AreParted (y next got)
     y_parted next got = parted_then x.orders x.awaiting (job_of x.task) next got (k.parted a x ex)
@@ -302,7 +466,8 @@ module _ (P A : Type 0) (shape : Shape) (images : Images) (t : Target P) (commit
           by_job : (j : Job) → x.task ≡ Some (j, plan) → place_in (seal_word place dirty) ≡ place
           by_job (Read extent) jt = of_it (doing (Read extent) jt).part.block.0 (doing (Read extent) jt).of_block
           by_job (Write extent content) jt = of_it (doing (Write extent content) jt).part.block.0 (doing (Write extent content) jt).of_block
-          by_job Flush jt = (let r = doing Flush jt in absurd (own (Flushing r.serves (most P A shape)) (Cell (Seal b place dirty)) r.job is_seal))
+          by_job Flush jt = (let r = doing Flush jt in absurd (own (Flushing r.blocks (most P A shape)) (Cell (Seal b place dirty)) r.job is_seal))
+          by_job Suspend jt = (let r = doing Suspend jt in absurd (own (Suspending r.blocks (most P A shape)) (Cell (Seal b place dirty)) r.job is_seal))
           by_job (Open mode) jt = absurd (doing (Open mode) jt)
           by_job (Migrate m block) jt =
               let c = carried now shape.geometry.origin_blocks f.site.world f.phase.agrees a x m block plan ex jt suits (Cell (Seal b place dirty)) is_seal tt in
@@ -350,12 +515,12 @@ module _ (P A : Type 0) (shape : Shape) (images : Images) (t : Target P) (commit
       pub cell_keeps : KeepingAt (record { words = words_after t.words step; desk = t.desk }) (slice_set actors a (y (Cell step) (got_of (result_of t.words step))))
       cell_keeps =
           let got = got_of (result_of t.words step) in
-          going t_words (y (Cell step) got) (owned_same P t.desk actors a x (y (Cell step) got) ex k.owned t.desk refl refl) (y_parted (Cell step) got) (λ c z m ez access b h. refl) told
+          going t_words (y (Cell step) got) (goes_among t_words (Cell step) got refl (λ s. saw_words s step e)) (owned_same P t.desk actors a x (y (Cell step) got) ex k.owned t.desk refl refl) (y_parted (Cell step) got) (λ c z m ez access b h. refl) told
           (mine t.desk.tree.entries (Cell step) got (Some (job, after plan got)) refl after_words)
 
     -- ---- on a device
 
-    module _ (step : DeviceStep) (e : Device step ≡ want plan) (got : Got) (gave : (j : BlockJob) → plan.job ≡ OnBlock j → (got ≡ Done) ⊎ (got ≡ Fault)) where
+    module _ (step : DeviceStep) (e : Device step ≡ want plan) (got : Got) (gave : (j : BlockJob) → plan.job ≡ OnBlock j → (got ≡ Done) ⊎ (got ≡ Fault)) (synced : job ≡ Suspend → (got ≡ Done) ⊎ (got ≡ Fault)) where
       after_device : RightWhere (place_of t.desk.tree.entries) x.card (after plan got).steps
       after_device = by plan.job refl
         where
@@ -383,27 +548,27 @@ module _ (P A : Type 0) (shape : Shape) (images : Images) (t : Target P) (commit
           by q is = holds_none x.card (after plan got).steps (place_of t.desk.tree.entries) (subst (λ (q : TaskJob). SuitsJob shape.geometry.origin_blocks q x.card plan.steps) is suits).0
 
       pub device_keeps : KeepingAt t (slice_set actors a (y (Device step) got))
-      device_keeps = plainly t (y (Device step) got) refl (λ b. refl) (not_sealing (Device step) e (λ b p d q. absurd (cc))) (owned_same P t.desk actors a x (y (Device step) got) ex k.owned t.desk refl refl) (y_parted (Device step) got)
+      device_keeps = plainly t (y (Device step) got) (goes_among t (Device step) got refl (λ s. saw_device s step got e (synced s))) refl (λ b. refl) (not_sealing (Device step) e (λ b p d q. absurd (cc))) (owned_same P t.desk actors a x (y (Device step) got) ex k.owned t.desk refl refl) (y_parted (Device step) got)
           (mine t.desk.tree.entries (Device step) got (Some (job, after plan got)) refl after_device)
 
     -- ---- its answer
 
     pub answer_keeps : (answer : Answer) (got : Got) → End answer ≡ want plan → KeepingAt t (slice_set actors a (y (End answer) got))
-    answer_keeps answer got e = plainly t (y (End answer) got) refl (λ b. refl) (not_sealing (End answer) e (λ b p d q. absurd (cc))) (owned_within P t.desk actors a x (y (End answer) got) ex k.owned t.desk (λ o h. then_had x (job_of x.task) (End answer) got o h) refl) (y_parted (End answer) got)
+    answer_keeps answer got e = plainly t (y (End answer) got) (answers_among answer got) refl (λ b. refl) (not_sealing (End answer) e (λ b p d q. absurd (cc))) (owned_within P t.desk actors a x (y (End answer) got) ex k.owned t.desk (λ o h. then_had x (job_of x.task) (End answer) got o h) refl) (y_parted (End answer) got)
         (mine t.desk.tree.entries (End answer) got None refl tt)
 
     -- ---- at the desk
 
     -- where it is asked of who holds nothing, and the entries stay
-    pub desk_plain : (step : DeskStep) (got : Got) (desk' : DeskState P) → Desk step ≡ want plan → x.card.hold ≡ Nothing → ((b : ℕ) → place_of desk'.tree.entries b ≡ place_of t.desk.tree.entries b) → Owned desk' (slice_set actors a (y (Desk step) got)) → KeepingAt (record { words = t.words; desk = desk' }) (slice_set actors a (y (Desk step) got))
-    desk_plain step got desk' e none places owned = plainly (record { words = t.words; desk = desk' }) (y (Desk step) got) refl places (not_sealing (Desk step) e (λ b p d q. absurd (cc))) owned (y_parted (Desk step) got)
+    pub desk_plain : (step : DeskStep) (got : Got) (desk' : DeskState P) → (job ≡ Suspend → Saw t.words desk'.tree.entries x.seen (after plan got).steps) → Desk step ≡ want plan → x.card.hold ≡ Nothing → ((b : ℕ) → place_of desk'.tree.entries b ≡ place_of t.desk.tree.entries b) → Owned desk' (slice_set actors a (y (Desk step) got)) → KeepingAt (record { words = t.words; desk = desk' }) (slice_set actors a (y (Desk step) got))
+    desk_plain step got desk' saw e none places owned = plainly (record { words = t.words; desk = desk' }) (y (Desk step) got) (goes_among (record { words = t.words; desk = desk' }) (Desk step) got refl saw) refl places (not_sealing (Desk step) e (λ b p d q. absurd (cc))) owned (y_parted (Desk step) got)
         (mine desk'.tree.entries (Desk step) got (Some (job, after plan got)) refl (holds_none x.card (after plan got).steps (place_of desk'.tree.entries) none))
 
     -- A block that is mapped or unmapped is sealed so next.
     module _ (step : DeskStep) (e : Desk step ≡ want plan) (b : OBlock) (place : Option CBlock) (desk' : DeskState P) (inside : b.0 < shape.geometry.origin_blocks) (holds : x.card.hold ≡ Held Own b) (here : number_of place ≡ place_of desk'.tree.entries b.0) (elsewhere : (i : ℕ) → i ≢ b.0 → place_of desk'.tree.entries i ≡ place_of t.desk.tree.entries i)
-        (sealed : (answer : Answer) → (dirty : Bool) × (first_step (after plan Done).steps answer ≡ Cell (Seal b place dirty))) (still : SealsRight (place_of desk'.tree.entries b.0) (after plan Done).steps) (owned : Owned desk' (slice_set actors a (y (Desk step) Done))) where
+        (sealed : (answer : Answer) → (dirty : Bool) × (first_step (after plan Done).steps answer ≡ Cell (Seal b place dirty))) (still : SealsRight (place_of desk'.tree.entries b.0) (after plan Done).steps) (owned : Owned desk' (slice_set actors a (y (Desk step) Done))) (other : job ≢ Suspend) where
       moved : KeepingAt (record { words = t.words; desk = desk' }) (slice_set actors a (y (Desk step) Done))
-      moved = going (record { words = t.words; desk = desk' }) (y (Desk step) Done) owned (y_parted (Desk step) Done)
+      moved = going (record { words = t.words; desk = desk' }) (y (Desk step) Done) (goes_among (record { words = t.words; desk = desk' }) (Desk step) Done refl (λ s. absurd (other s))) owned (y_parted (Desk step) Done)
           (λ c z away ez access o h. elsewhere o.0 (λ same. owned_alone shape.geometry.origin_blocks t.words actors rule a c x z ex ez away b inside holds access (h ∙ (λ i. Held access (record { 0 = same i })))))
           tells
           (mine desk'.tree.entries (Desk step) Done (Some (job, after plan Done)) refl now)
@@ -460,7 +625,7 @@ module _ (P A : Type 0) (shape : Shape) (images : Images) (t : Target P) (commit
         (λ i not. ap (λ (es : List (Option Entry)). place_of es i) changed.entries ∙ sym (entered i) ∙ changed_other (located t.desk.tree.entries) bl.0 i (Some c.0) not)
         (λ answer. subst (λ (us : List Want). (dirty : Bool) × (first_step (later_steps us) answer ≡ Cell (Seal bl (Some c) dirty))) (sym first.1) (sealed_next bl (Some c) first.0 answer r.0))
         (subst (λ (o : Option ℕ). SealsRight o (after plan Done).steps) here (subst (λ (us : List Want). SealsRight (Some c.0) (later_steps us)) (sym first.1) r.1))
-        (over P t.desk actors are k.owned a x ex order.0 c.0 order.2.live (Contains-append_left x.orders x.awaiting order.0 order.2.mine) bl is_its (k.parted a x ex) order.2.mine new (ap (λ (d : DeskState P). d.orders.slots) is) (y job plan xt (Desk (Map bl c)) Done) refl refl)
+        (over P t.desk actors are k.owned a x ex order.0 c.0 order.2.live (Contains-append_left x.orders x.awaiting order.0 order.2.mine) bl is_its (k.parted a x ex) order.2.mine new (ap (λ (d : DeskState P). d.orders.slots) is) (y job plan xt (Desk (Map bl c)) Done) refl refl) (λ q. absurd (cc))
 
     module _ (bl : OBlock) (new : DeskState P) (e : Desk (Unmap bl) ≡ want plan) (did : DidUnmap (λ policy o. new.policy) bl t.desk new) where
       leaves_keeps : (c : ℕ) (o : Order) → slice_get slots c ≡ Some (Some o) → Contains x.orders o → Removes o → IsMappedAt (holdings t.desk) bl.0 c → is_of bl o ≡ true → (v : Bool) → is_replacement o ≡ v → KeepingAt (record { words = t.words; desk = new }) (slice_set actors a (y job plan xt (Desk (Unmap bl)) Done))
@@ -479,7 +644,7 @@ module _ (P A : Type 0) (shape : Shape) (images : Images) (t : Target P) (commit
           (λ answer. subst (λ (us : List Want). (dirty : Bool) × (first_step (later_steps us) answer ≡ Cell (Seal bl None dirty))) (sym first.1) (sealed_next bl None first.0 answer r'.0))
           (subst (λ (o : Option ℕ). SealsRight o (after plan Done).steps) here (subst (λ (us : List Want). SealsRight None (later_steps us)) (sym first.1) r'.1))
           (subst (λ (d : DeskState P). Owned d (slice_set actors a (y job plan xt (Desk (Unmap bl)) Done))) (sym gone.1)
-          (owned_then P t.desk known.is.kept actors are k.owned a x ex parted bl c o live mine removes at of v r (unmapped t.desk (record { 0 = c }) new.tree new.policy) refl (y job plan xt (Desk (Unmap bl)) Done) refl refl))
+          (owned_then P t.desk known.is.kept actors are k.owned a x ex parted bl c o live mine removes at of v r (unmapped t.desk (record { 0 = c }) new.tree new.policy) refl (y job plan xt (Desk (Unmap bl)) Done) refl refl)) (λ q. absurd (cc))
 
     pub unmap_keeps : (bl : OBlock) (new : DeskState P) → Desk (Unmap bl) ≡ want plan → DidUnmap (λ policy o. new.policy) bl t.desk new → KeepingAt (record { words = t.words; desk = new }) (slice_set actors a (y job plan xt (Desk (Unmap bl)) Done))
     unmap_keeps bl new e did =
@@ -507,13 +672,13 @@ module _ (P A : Type 0) (shape : Shape) (images : Images) (t : Target P) (commit
             let is_its : is_of bl order ≡ true = ap (λ (o : OBlock). is_of o order) same ∙ of_order m block next order of in
             let found = only_of bl x.orders order ends.mine is_its (λ p h i. only_held P t.desk actors are k.owned a x ex order c ends.live held bl is_its p (Contains-append_left x.orders x.awaiting p h) i) in
             let is : new ≡ released t.desk (record { 0 = c }) = (subst (λ (o : Option Order). IsGivenUp o t.desk new) found d).0 l ∙ ap (λ (i : ℕ). released t.desk (record { 0 = i })) (at_there P t.desk actors are k.owned a x ex order c ends.live held) in
-            desk_plain job plan xt (ReleaseOrder bl) Done new e (ready job plan xt (Desk (ReleaseOrder bl)) e) (λ i. ap (λ (q : DeskState P). place_of q.tree.entries i) is)
+            desk_plain job plan xt (ReleaseOrder bl) Done new (λ q. absurd (cc)) e (ready job plan xt (Desk (ReleaseOrder bl)) e) (λ i. ap (λ (q : DeskState P). place_of q.tree.entries i) is)
             (over P t.desk actors are k.owned a x ex order c ends.live held bl is_its (k.parted a x ex) ends.mine new (ap (λ (q : DeskState P). q.orders.slots) is) (y job plan xt (Desk (ReleaseOrder bl)) Done)
             (ap (λ (o : Option (Job × Plan)). orders_released bl (job_of o) x.orders) xt) (ap (λ (o : Option (Job × Plan)). awaiting_released bl (job_of o) x.awaiting) xt))
 
     -- the desk has no memory for its entry
     pub map_refused_keeps : (bl : OBlock) (c : CBlock) (refusal : Refusal) → Desk (Map bl c) ≡ want plan → KeepingAt t (slice_set actors a (y job plan xt (Desk (Map bl c)) (GotRefused refusal)))
-    map_refused_keeps bl c refusal e = plainly t (y job plan xt (Desk (Map bl c)) (GotRefused refusal)) refl (λ i. refl) (not_sealing job plan xt (Desk (Map bl c)) e (λ o p d q. absurd (cc))) (owned_same P t.desk actors a x (y job plan xt (Desk (Map bl c)) (GotRefused refusal)) ex k.owned t.desk refl refl) (y_parted job plan xt (Desk (Map bl c)) (GotRefused refusal))
+    map_refused_keeps bl c refusal e = plainly t (y job plan xt (Desk (Map bl c)) (GotRefused refusal)) (goes_among job plan xt t (Desk (Map bl c)) (GotRefused refusal) refl (λ q. absurd (cc))) refl (λ i. refl) (not_sealing job plan xt (Desk (Map bl c)) e (λ o p d q. absurd (cc))) (owned_same P t.desk actors a x (y job plan xt (Desk (Map bl c)) (GotRefused refusal)) ex k.owned t.desk refl refl) (y_parted job plan xt (Desk (Map bl c)) (GotRefused refusal))
         (mine job plan xt t.desk.tree.entries (Desk (Map bl c)) (GotRefused refusal) (Some (job, after plan (GotRefused refusal))) refl left)
       where
         left : RightWhere (place_of t.desk.tree.entries) x.card (after plan (GotRefused refusal)).steps
@@ -535,14 +700,14 @@ module _ (P A : Type 0) (shape : Shape) (images : Images) (t : Target P) (commit
         held_is = ap (λ (o : Option (Job × Plan)). orders_released bl (job_of o) x.orders ++ awaiting_released bl (job_of o) x.awaiting) xt
 
         by : (o : Option Order) → order_found bl x.awaiting ≡ o → IsGivenUp o t.desk new → KeepingAt (record { words = t.words; desk = new }) (slice_set actors a (y Flush plan xt (Desk (ReleaseOrder bl)) Done))
-        by None q d = desk_plain Flush plan xt (ReleaseOrder bl) Done new e holds (λ i. ap (λ (v : DeskState P). place_of v.tree.entries i) d)
+        by None q d = desk_plain Flush plan xt (ReleaseOrder bl) Done new (λ q. absurd (cc)) e holds (λ i. ap (λ (v : DeskState P). place_of v.tree.entries i) d)
             (owned_within P t.desk actors a x (y Flush plan xt (Desk (ReleaseOrder bl)) Done) ex k.owned new (λ o h. then_had x (job_of x.task) (Desk (ReleaseOrder bl)) Done o h) (ap (λ (v : DeskState P). v.orders) d))
         by (Some order) q d =
             let mine = found_of bl x.awaiting order q in
             let had = Contains-append_right x.orders x.awaiting order mine.0 in
             let l = k.owned.live a x order ex had in
             let is : new ≡ released t.desk l.cache = d.0 l in
-            desk_plain Flush plan xt (ReleaseOrder bl) Done new e holds (λ i. ap (λ (v : DeskState P). place_of v.tree.entries i) is)
+            desk_plain Flush plan xt (ReleaseOrder bl) Done new (λ q. absurd (cc)) e holds (λ i. ap (λ (v : DeskState P). place_of v.tree.entries i) is)
             (owned_over P t.desk actors a x (y Flush plan xt (Desk (ReleaseOrder bl)) Done) ex k.owned order bl l.cache l.live had l.there l.same mine.1
             (λ o h. elim (Contains-append_cases x.orders (dropped bl x.awaiting) o (subst (λ (os : List Order). Contains os o) held_is h)) [
               | inl i ↦ (Contains-append_left x.orders x.awaiting o i, other order l mine.0 mine.1 o i (is_of bl o) refl)

@@ -2,6 +2,7 @@ mod Events
 mod Following
 mod Arriving
 mod Rooted
+mod Suspends
 mod Opening
 mod Answering
 mod Desking
@@ -9,7 +10,7 @@ mod Showing
 mod Opened
 mod Targets
 mod Requests
-mod Flushes
+mod Commits
 mod Doings
 mod Starts
 mod Whole

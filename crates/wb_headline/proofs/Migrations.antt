@@ -193,7 +193,7 @@ module _ (P A : Type 0) (shape : Shape) (images : Images) (t : Target P) (commit
         rested v e =
             let g = migrations_followed.answers now shape.geometry.origin_blocks a x migration block plan v f.site.world (wants e) suits in
             let b = beside P A shape images t commit devices actors n known f a x ex in
-            subst (λ (v' : Actor). Goes P A shape (record { devices = devices; commit = commit; phase = Stands t; actors = slice_set actors a v' }) (put n a None)) (sym (actor_is P A shape (Stands t) devices x migrating_job plan (End v) Done xt ∙ (λ i. record { task = None; card = x.card; orders = (answered_still x.orders x.awaiting migration block v).0 i; awaiting = (answered_still x.orders x.awaiting migration block v).1 i; buffer = x.buffer })))
+            subst (λ (v' : Actor). Goes P A shape (record { devices = devices; commit = commit; phase = Stands t; actors = slice_set actors a v' }) (put n a None)) (sym (actor_is P A shape (Stands t) devices x migrating_job plan (End v) Done xt ∙ (λ i. record { task = None; card = x.card; orders = (answered_still x.orders x.awaiting migration block v).0 i; awaiting = (answered_still x.orders x.awaiting migration block v).1 i; buffer = x.buffer; seen = x.seen })))
             (stays_on P A shape images t commit devices actors n known f a x ex Rests t.words devices (record x { task = None }) (put n a None) g
             (notes_followed.rests Stays a f.site.world _ _ g b.0 n f.notes b.1 noted_less f.notes_agree) (length-set n.doings a None) refl refl)
 

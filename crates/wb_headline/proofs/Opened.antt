@@ -1,6 +1,6 @@
 -- Whatever step an opening takes, done or failing, it is followed, and its answer; a target that it makes has seals that tell where it has each
 -- block, and no orders.
-use Rattle.std.proofs.Common.{◌≡◌, ◌∙◌, ◌≤◌, ◌^◌, inl, inr, ℕ, true, List, Option, Some, None, refl, sym, ap, subst, arith, length, map, replicate, slice_get, slice_set, Contains, ◌⊎◌, []}
+use Rattle.std.proofs.Common.{false, ◌≡◌, ◌∙◌, ◌≤◌, ◌^◌, inl, inr, ℕ, true, List, Option, Some, None, refl, sym, ap, subst, arith, length, map, replicate, slice_get, slice_set, Contains, ◌⊎◌, []}
 use Rattle.std.proofs.lemmas.List.{length-replicate, length-set, length-map}
 use Rattle.wb_types.proofs.Lists.{set_cases}
 use Rattle.wb_types.specs.declared.entry.Entry.{Entry}
@@ -40,7 +40,7 @@ use Rattle.wb_runs.proofs.Linking.{IsTask, AtPhase}
 use Rattle.wb_link.specs.World.{World, abstract_resting as idle}
 use Rattle.wb_link.specs.Clerk.{abstract_opened as opened_notes}
 use Rattle.wb_link.specs.Openings.{Site, Gone as GoneThere, Opens as OpensThere, Learnt, Answering, opened_on, Stage, Settling, Caching, Basing, Looking, Rooting, Renewing}
-use Rattle.wb_headline.proofs.Rooted.{none_clean}
+use Rattle.wb_headline.proofs.Suspends.{takes_none}
 use Rattle.wb_simulation.specs.Opened.{located}
 use Rattle.wb_simulation.specs.Sites.{DevicesAgree, IsRunning}
 use Rattle.wb_simulation.specs.Worlds.{zeros, Agrees}
@@ -84,7 +84,7 @@ module _ (P A : Type 0) (shape : Shape) (images : Images) (devices : Devices (Li
         let y = actor_then {P = P} {A = A} shape (Opens mode reading) devices x (End (Refuses refusal)) got in
         let same : SameSectors n (put n a None) = record { histories = refl; finished = refl; floors = refl; doings = length-set n.doings a None } in
         let readable = kept_readable shape.geometry images devices.metadata P A (Opens mode reading) commit known in
-        gone P A shape images f.phase.later GoneThere devices (put n a None) (rests P A shape images w n (put n a None) f same images.committed f.phase.later GoneThere devices f.phase.devices_follow.idle over.phase_is f.phase.devices_follow.agree) f.phase.devices_follow.fit (λ e. absurd (cc))
+        gone P A shape images f.phase.later GoneThere devices (put n a None) (rests P A shape images w n (put n a None) f same images.committed f.phase.later GoneThere devices f.phase.devices_follow.idle over.phase_is f.phase.devices_follow.agree) (λ e. absurd (cc))
         (slice_set actors a y) (sized_so P A shape actors (slice_set actors a y) n (put n a None) same (length-set actors a y) f.sized) None readable
 
     -- one that is answered done has read all, and its root is durable
@@ -149,17 +149,18 @@ module _ (P A : Type 0) (shape : Shape) (images : Images) (devices : Devices (Li
         pub now : Images
         pub kept : AtDesk shape.geometry now (target_over shape mode policy stored).desk None devices.metadata
         pub entries_are : now.committed.found.entries ≡ tree
+        pub unmarked : now.committed.root.clean ≡ false
         pub alone_is : now.running ≡ None
         pub later_is : later_of now ≡ None
 
       one : One
       one =
           let t = target_stands A shape.geometry images devices.metadata P mode policy shape.threshold stored rd.0.running rooting committed_now in
-          by_standing t.now t.kept.0 t.kept.1 t.kept.0.stands
+          by_standing t.now t.kept.0 t.kept.1 t.kept.2 t.kept.0.stands
         where
-          by_standing : (j : Images) → AtDesk shape.geometry j (target_over shape mode policy stored).desk None devices.metadata → j.committed.found.entries ≡ tree → Rattle.wb_runs.proofs.Metadata.Standing shape.geometry j (target_over shape mode policy stored).desk None devices.metadata → One
-          by_standing j k e (inl q) = record { now = j; kept = k; entries_are = e; alone_is = ap (λ (v : Images). v.running) q.are; later_is = ap later_of q.are }
-          by_standing j k e (inr b) = absurd (let busy = b.busy in cc)
+          by_standing : (j : Images) → AtDesk shape.geometry j (target_over shape mode policy stored).desk None devices.metadata → j.committed.found.entries ≡ tree → j.committed.root.clean ≡ false → Rattle.wb_runs.proofs.Metadata.Standing shape.geometry j (target_over shape mode policy stored).desk None devices.metadata → One
+          by_standing j k e u (inl q) = record { now = j; kept = k; entries_are = e; unmarked = u; alone_is = ap (λ (v : Images). v.running) q.are; later_is = ap later_of q.are }
+          by_standing j k e u (inr b) = absurd (let busy = b.busy in cc)
 
       mapping : IsMapping shape.geometry.cache_blocks shape.geometry.origin_blocks tree
       mapping = one.kept.is.kept.mapping
@@ -223,7 +224,7 @@ module _ (P A : Type 0) (shape : Shape) (images : Images) (devices : Devices (Li
                 images_agree = record {
                   read = readable.read;
                   committed_is = rd.0.same ∙ ap (λ es. located es) (sym one.entries_are);
-                  clean_is = none_clean one.now.committed readable.fit;
+                  clean_is = takes_none one.now.committed one.unmarked;
                   later_is = subst (λ (l : Option Stored). IsRunning l site_now.world.shared) (sym one.later_is) tt;
                 };
                 running = λ state e. absurd (let bad : None ≡ Some state = sym one.alone_is ∙ e in cc);

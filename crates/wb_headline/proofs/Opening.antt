@@ -33,7 +33,7 @@ use Rattle.wb_promise.specs.States.{Shape, State, Actor, Opens}
 use Rattle.wb_promise.specs.Happenings.{Chosen, Plain, Begins, Reaches, Puts, DoesSync, DoesRead}
 use Rattle.wb_promise.specs.Effects.{commit_then, reading_then, actor_then, task_then, led}
 use Rattle.wb_promise.specs.Clerk.{Notes, Doing, noted_step, device_note, failing, put}
-use Rattle.wb_runs.proofs.Images.{Images, one_image, IsFitToo}
+use Rattle.wb_runs.proofs.Images.{Images, one_image}
 use Rattle.wb_runs.proofs.Underway.{Readable, Found, partly_readable}
 use Rattle.wb_runs.proofs.Metadata.{MetadataKept, HasReached, AtOpening, Rooting as RootingKept, kept_readable, root_begins}
 use Rattle.wb_runs.proofs.Linking.{IsTask, AtPhase}
@@ -43,8 +43,9 @@ use Rattle.wb_simulation.specs.Opened.{located}
 use Rattle.wb_simulation.specs.Sites.{DevicesAgree, LeadsTo, locations, StateTakesClean}
 use Rattle.wb_simulation.proofs.Opening.{admitted, openings_followed, read_clean}
 use Rattle.wb_headline.proofs.Following.{opening_at, HasLearnt, HasRoot, HasReadAt, AtStage, IsOver, size, Followed, Goes}
-use Rattle.wb_headline.proofs.Arriving.{SameSectors, sized_so, Arrived, arrives, rests, opens, one_fit}
-use Rattle.wb_headline.proofs.Rooted.{same_one, rooted_on, leads_so, two_read, two_left, both_left, none_clean}
+use Rattle.wb_headline.proofs.Suspends.{takes_none}
+use Rattle.wb_headline.proofs.Arriving.{SameSectors, sized_so, Arrived, arrives, rests, opens}
+use Rattle.wb_headline.proofs.Rooted.{same_one, rooted_on, leads_so, two_read, two_left, both_left}
 
 -- of a step of an opening on a device nothing of the sectors is noted
 pub opening_same : (shape : Shape) (shown : List Bytes) (n : Notes) (a : ℕ) (doing : Doing) (mode : Mode) (step : DeviceStep) (got : Got) (read : List Bytes) → doing.job ≡ Open mode → SameSectors n (noted_step shape Writeback shown n a (Some (Some doing)) (Device step) got read)
@@ -103,13 +104,13 @@ module _ (P A : Type 0) (shape : Shape) (images : Images) (devices : Devices (Li
 
       -- it goes on so
       goes_to : (step : DeviceStep) (got : Got) (read : List Bytes) (chosen : Chosen P A) (images' : Images) (later' : Option Stored) (phase' : PhaseThere) (devices' : Devices (List History)) (reading' : Option (ReadSteps A)) (commit' : Option RunningCommit) (plan' : Plan) →
-          reading_then reading (Device step) got chosen ≡ reading' → commit_then {P = P} {A = A} (Opens mode reading) commit (Device step) got chosen ≡ commit' → after plan got ≡ plan' → Arrived P A shape images'.committed later' phase' devices' (n' step got read) → IsFitToo later' → phase' ≢ StandsThere →
+          reading_then reading (Device step) got chosen ≡ reading' → commit_then {P = P} {A = A} (Opens mode reading) commit (Device step) got chosen ≡ commit' → after plan got ≡ plan' → Arrived P A shape images'.committed later' phase' devices' (n' step got read) → phase' ≢ StandsThere →
           MetadataKept {P = P} {A = A} shape.geometry images' (Opens mode reading') commit' devices'.metadata → AtStage mode reading' commit' later' plan' phase' ⊎ IsOver plan' phase' → Goes P A shape (after_it step got chosen devices') (n' step got read)
-      goes_to step got read chosen images' later' phase' devices' reading' commit' plan' er ec ep v fit down known' at =
+      goes_to step got read chosen images' later' phase' devices' reading' commit' plan' er ec ep v down known' at =
           let y = actor_then {P = P} {A = A} shape (Opens mode reading) devices x (Device step) got in
           subst (λ (r : Option (ReadSteps A)). Goes P A shape (record { devices = devices'; commit = commit_then {P = P} {A = A} (Opens mode reading) commit (Device step) got chosen; phase = Opens mode r; actors = slice_set actors a y }) (n' step got read)) (sym er)
           (subst (λ (c : Option RunningCommit). Goes P A shape (record { devices = devices'; commit = c; phase = Opens mode reading'; actors = slice_set actors a y }) (n' step got read)) (sym ec)
-          (opens P A shape images' later' phase' devices' (n' step got read) v fit down (slice_set actors a y) (sized_so P A shape actors (slice_set actors a y) n (n' step got read) (same step got read) (length-set actors a y) f.sized) mode reading' commit' f.phase.caches known'
+          (opens P A shape images' later' phase' devices' (n' step got read) v down (slice_set actors a y) (sized_so P A shape actors (slice_set actors a y) n (n' step got read) (same step got read) (length-set actors a y) f.sized) mode reading' commit' f.phase.caches known'
           (each_then y plan' (λ (p : Plan). AtStage mode reading' commit' later' p phase' ⊎ IsOver p phase') (ap (λ (t : Option (Job × Plan)). task_then t (Device step) got) xt ∙ ap (λ (p : Plan). Some (Open opened_in, p)) ep) at)))
 
     over : (total : ℕ) (refusal : Refusal) → IsOver (record { job = Opening total; steps = []; answer = Rattle.wb_tasks.specs.declared.step.Answer.TheVariants.Refused refusal }) GoneThere
@@ -137,10 +138,10 @@ module _ (P A : Type 0) (shape : Shape) (images : Images) (devices : Devices (Li
         settle_done read chosen s =
             let b = begins_of chosen (subst (λ (c : Option RunningCommit). DoesSync (Opens mode reading) c device chosen) rd.1 s) in
             let l = openings_followed.settles shape.geometry (size P A shape) images.committed f.phase.later mode f.site devices ph f.phase.devices_follow.agree in
-            let found : Found shape.geometry (one_image l.state) (synced device) = record { committed = l.state; are = refl; read = l.leads.agrees.images.read; settled = l.settled; fit = one_fit images f.phase.later l.state readable.fit f.phase.devices_follow.fit l.one_of } in
+            let found : Found shape.geometry (one_image l.state) (synced device) = record { committed = l.state; are = refl; read = l.leads.agrees.images.read; settled = l.settled } in
             goes_to (opening_at total left Settling) xt (Sync Metadata) Done read chosen (one_image l.state) None (OpensThere mode Caching) (record devices { metadata = synced device }) (Some b.0) None (opening_at total left Caching)
             (ap (λ (c : Chosen P A). reading_then reading (Device (Sync Metadata)) Done c) b.1) (ap (λ (c : Option RunningCommit). led c Done) rd.1) refl
-            (arrives P A shape images w n (n' (Sync Metadata) Done read) f (same (Sync Metadata) Done read) l.state None (OpensThere mode Caching) (record devices { metadata = synced device }) l.leads (no_stand Caching)) tt (no_stand Caching)
+            (arrives P A shape images w n (n' (Sync Metadata) Done read) f (same (Sync Metadata) Done read) l.state None (OpensThere mode Caching) (record devices { metadata = synced device }) l.leads (no_stand Caching)) (no_stand Caching)
             (reached_at b.0 (one_image l.state) (synced device) b.2 found)
             (inl (record { total = total; left = left; stage = Caching; is = refl; phase_is = refl; read = ((b.0, refl), refl, refl) }))
 
@@ -149,7 +150,7 @@ module _ (P A : Type 0) (shape : Shape) (images : Images) (devices : Devices (Li
             let l = openings_followed.settling_fails shape.geometry (size P A shape) images.committed f.phase.later mode f.site devices ph f.phase.devices_follow.agree (synced_where lands device) (partly_synced lands device) in
             goes_to (opening_at total left Settling) xt (Sync Metadata) Fault read chosen images f.phase.later GoneThere (record devices { metadata = synced_where lands device }) None None _
             refl (ap (λ (c : Option RunningCommit). led c Fault) rd.1) refl
-            (arrives P A shape images w n (n' (Sync Metadata) Fault read) f (same (Sync Metadata) Fault read) images.committed f.phase.later GoneThere (record devices { metadata = synced_where lands device }) l no_gone) f.phase.devices_follow.fit no_gone
+            (arrives P A shape images w n (n' (Sync Metadata) Fault read) f (same (Sync Metadata) Fault read) images.committed f.phase.later GoneThere (record devices { metadata = synced_where lands device }) l no_gone) no_gone
             (partly_readable shape.geometry images lands device readable)
             (inr (over total _))
 
@@ -160,28 +161,28 @@ module _ (P A : Type 0) (shape : Shape) (images : Images) (devices : Devices (Li
         cache_done read chosen =
             let l = openings_followed.syncs_cache shape.geometry (size P A shape) images.committed f.phase.later mode f.site devices ph f.phase.devices_follow.agree in
             goes_to (opening_at total left Caching) xt (Sync Cache) Done read chosen images f.phase.later (OpensThere mode Basing) (record devices { cache = synced devices.cache }) reading commit (opening_at total left Basing) refl refl refl
-            (arrives P A shape images w n (n' (Sync Cache) Done read) f (same (Sync Cache) Done read) images.committed f.phase.later (OpensThere mode Basing) (record devices { cache = synced devices.cache }) l (no_stand Basing)) f.phase.devices_follow.fit (no_stand Basing) known
+            (arrives P A shape images w n (n' (Sync Cache) Done read) f (same (Sync Cache) Done read) images.committed f.phase.later (OpensThere mode Basing) (record devices { cache = synced devices.cache }) l (no_stand Basing)) (no_stand Basing) known
             (inl (record { total = total; left = left; stage = Basing; is = refl; phase_is = refl; read = rd }))
 
         pub cache_fails : (read : List Bytes) (chosen : Chosen P A) (lands : ℕ → Bool) → Goes P A shape (after_it (Sync Cache) Fault chosen (record devices { cache = synced_where lands devices.cache })) (n' (Sync Cache) Fault read)
         cache_fails read chosen lands =
             let l = openings_followed.cache_fails shape.geometry (size P A shape) images.committed f.phase.later mode f.site devices ph f.phase.devices_follow.agree lands in
             goes_to (opening_at total left Caching) xt (Sync Cache) Fault read chosen images f.phase.later GoneThere (record devices { cache = synced_where lands devices.cache }) reading commit _ refl refl refl
-            (arrives P A shape images w n (n' (Sync Cache) Fault read) f (same (Sync Cache) Fault read) images.committed f.phase.later GoneThere (record devices { cache = synced_where lands devices.cache }) l no_gone) f.phase.devices_follow.fit no_gone known (inr (over total _))
+            (arrives P A shape images w n (n' (Sync Cache) Fault read) f (same (Sync Cache) Fault read) images.committed f.phase.later GoneThere (record devices { cache = synced_where lands devices.cache }) l no_gone) no_gone known (inr (over total _))
 
       module _ (ph : f.site.phase ≡ OpensThere mode Basing) (rd : HasReadAt Basing reading commit f.phase.later) (xt : x.task ≡ Some (Open opened_in, opening_at total left Basing)) where
         pub origin_done : (read : List Bytes) (chosen : Chosen P A) → Goes P A shape (after_it (Sync Origin) Done chosen (record devices { origin = synced devices.origin })) (n' (Sync Origin) Done read)
         origin_done read chosen =
             let l = openings_followed.syncs_origin shape.geometry (size P A shape) images.committed f.phase.later mode f.site devices ph f.phase.devices_follow.agree in
             goes_to (opening_at total left Basing) xt (Sync Origin) Done read chosen images f.phase.later (OpensThere mode Looking) (record devices { origin = synced devices.origin }) reading commit (opening_at total left Looking) refl refl refl
-            (arrives P A shape images w n (n' (Sync Origin) Done read) f (same (Sync Origin) Done read) images.committed f.phase.later (OpensThere mode Looking) (record devices { origin = synced devices.origin }) l (no_stand Looking)) f.phase.devices_follow.fit (no_stand Looking) known
+            (arrives P A shape images w n (n' (Sync Origin) Done read) f (same (Sync Origin) Done read) images.committed f.phase.later (OpensThere mode Looking) (record devices { origin = synced devices.origin }) l (no_stand Looking)) (no_stand Looking) known
             (inl (record { total = total; left = left; stage = Looking; is = refl; phase_is = refl; read = rd }))
 
         pub origin_fails : (read : List Bytes) (chosen : Chosen P A) (lands : ℕ → Bool) → Goes P A shape (after_it (Sync Origin) Fault chosen (record devices { origin = synced_where lands devices.origin })) (n' (Sync Origin) Fault read)
         origin_fails read chosen lands =
             let l = openings_followed.origin_fails shape.geometry (size P A shape) images.committed f.phase.later mode f.site devices ph f.phase.devices_follow.agree lands in
             goes_to (opening_at total left Basing) xt (Sync Origin) Fault read chosen images f.phase.later GoneThere (record devices { origin = synced_where lands devices.origin }) reading commit _ refl refl refl
-            (arrives P A shape images w n (n' (Sync Origin) Fault read) f (same (Sync Origin) Fault read) images.committed f.phase.later GoneThere (record devices { origin = synced_where lands devices.origin }) l no_gone) f.phase.devices_follow.fit no_gone known (inr (over total _))
+            (arrives P A shape images w n (n' (Sync Origin) Fault read) f (same (Sync Origin) Fault read) images.committed f.phase.later GoneThere (record devices { origin = synced_where lands devices.origin }) l no_gone) no_gone known (inr (over total _))
 
       -- ---- the reading
 
@@ -205,14 +206,14 @@ module _ (P A : Type 0) (shape : Shape) (images : Images) (devices : Devices (Li
         look_stops got read chosen refusal er ec ep =
             let l = openings_followed.look_stops shape.geometry (size P A shape) images.committed None mode f.site devices ph agree in
             goes_to (opening_at total left Looking) xt (ReadMetadata left) got read chosen images None GoneThere devices None None _ er ec ep
-            (arrives P A shape images w n (n' (ReadMetadata left) got read) f (same (ReadMetadata left) got read) images.committed None GoneThere devices l no_gone) tt no_gone readable (inr (over total refusal))
+            (arrives P A shape images w n (n' (ReadMetadata left) got read) f (same (ReadMetadata left) got read) images.committed None GoneThere devices l no_gone) no_gone readable (inr (over total refusal))
 
         -- there is more to read
         look_on : (now : ReadSteps A) (read : List Bytes) (chosen : Chosen P A) → HasReached shape.geometry images now device → reading_then reading (Device (ReadMetadata left)) More chosen ≡ Some now → commit_then {P = P} {A = A} (Opens mode reading) commit (Device (ReadMetadata left)) More chosen ≡ None →
             Goes P A shape (after_it (ReadMetadata left) More chosen devices) (n' (ReadMetadata left) More read)
         look_on now read chosen k er ec =
             goes_to (opening_at total left Looking) xt (ReadMetadata left) More read chosen images None (OpensThere mode Looking) devices (Some now) None (opening_at total (left - 1) Looking) er ec refl
-            (rests P A shape images w n (n' (ReadMetadata left) More read) f (same (ReadMetadata left) More read) images.committed None (OpensThere mode Looking) devices f.phase.devices_follow.idle ph agree) tt (no_stand Looking) k
+            (rests P A shape images w n (n' (ReadMetadata left) More read) f (same (ReadMetadata left) More read) images.committed None (OpensThere mode Looking) devices f.phase.devices_follow.idle ph agree) (no_stand Looking) k
             (inl (record { total = total; left = left - 1; stage = Looking; is = refl; phase_is = refl; read = ((now, refl), refl, refl) }))
 
         -- all was read: the abstract opening learns where each block is
@@ -236,7 +237,7 @@ module _ (P A : Type 0) (shape : Shape) (images : Images) (devices : Devices (Li
             let committed_same = same_one t.turn images t.now alone_now t.turned in
             let v = arrives P A shape images w n (n' (ReadMetadata left) Done read) f (same (ReadMetadata left) Done read) images.committed None (OpensThere mode (Rooting learnt)) devices l (no_stand (Rooting learnt)) in
             goes_to (opening_at total left Looking) xt (ReadMetadata left) Done read chosen t.now None (OpensThere mode (Rooting learnt)) devices (Some (AllRead stored)) (Some running) (opening_at total left (Rooting learnt)) er ec refl
-            (subst (λ (s : Stored). Arrived P A shape s None (OpensThere mode (Rooting learnt)) devices (n' (ReadMetadata left) Done read)) (sym committed_same) v) tt (no_stand (Rooting learnt)) t.kept
+            (subst (λ (s : Stored). Arrived P A shape s None (OpensThere mode (Rooting learnt)) devices (n' (ReadMetadata left) Done read)) (sym committed_same) v) (no_stand (Rooting learnt)) t.kept
             (inl (record {
               total = total;
               left = left;
@@ -316,23 +317,23 @@ module _ (P A : Type 0) (shape : Shape) (images : Images) (devices : Devices (Li
             let old : t.kept.of.old ≡ images.committed = ap (λ (c : Rattle.wb_meta.specs.Roots.Commit). c.old) t.of_is ∙ old_is i rd.0 in
             let read_so = subst (λ (s : Stored). Rattle.wb_meta.specs.Roots.MayBeReadAs shape.geometry s (Some goal) new) old (two_read shape.geometry t.kept.of new t.now _ t.kept.under) in
             let leads : i.locations ≡ locations goal = leads_to i rd.0 ∙ ap locations (sym same_new) in
-            let none = none_clean goal t.kept.under.fit_new in
+            let none = takes_none goal t.kept.unmarked in
             let l = openings_followed.roots i goal new leads none shape.geometry (size P A shape) images.committed f.phase.later mode f.site devices ph f.phase.devices_follow.agree read_so in
             let v = arrives P A shape images w n (n' WriteRoot Done read) f (same WriteRoot Done read) images.committed (Some goal) (OpensThere mode (Renewing i)) devices' l (no_stand (Renewing i)) in
             goes_to (opening_at total left (Rooting i)) xt WriteRoot Done read (Puts new) t.now (Some goal) (OpensThere mode (Renewing i)) devices' (Some (AllRead rd.0.stored)) (Some _) (opening_at total left (Renewing i))
             rd.0.reading_is (ap (λ (c : Option RunningCommit). led c Done) rd.0.commit_is) refl
-            (subst (λ (s : Stored). Arrived P A shape s (Some goal) (OpensThere mode (Renewing i)) devices' (n' WriteRoot Done read)) (sym t.committed_is) v) t.kept.under.fit_new (no_stand (Renewing i)) t.kept
+            (subst (λ (s : Stored). Arrived P A shape s (Some goal) (OpensThere mode (Renewing i)) devices' (n' WriteRoot Done read)) (sym t.committed_is) v) (no_stand (Renewing i)) t.kept
             (inl (record { total = total; left = left; stage = Renewing i; is = refl; phase_is = refl; read = (learnt_still i rd.0 _, (goal, refl, leads, none)) }))
 
         pub root_fails : (read : List Bytes) → FailsStep rd.0.running.image rd.0.running.steps device new → Goes P A shape (after_it WriteRoot Fault (Puts new) devices') (n' WriteRoot Fault read)
         root_fails read bad =
             let goal = k.of.new in
             let read_so = subst (λ (s : Stored). Rattle.wb_meta.specs.Roots.MayBeReadAs shape.geometry s (Some goal) new) (old_is i rd.0) (two_left shape.geometry k.of device images rd.0.running new k.under bad) in
-            let l = openings_followed.root_fails i goal new (leads_to i rd.0) (none_clean goal k.under.fit_new) shape.geometry (size P A shape) images.committed f.phase.later mode f.site devices ph f.phase.devices_follow.agree read_so in
+            let l = openings_followed.root_fails i goal new (leads_to i rd.0) (takes_none goal k.unmarked) shape.geometry (size P A shape) images.committed f.phase.later mode f.site devices ph f.phase.devices_follow.agree read_so in
             let v = arrives P A shape images w n (n' WriteRoot Fault read) f (same WriteRoot Fault read) images.committed (Some goal) GoneThere devices' l no_gone in
             goes_to (opening_at total left (Rooting i)) xt WriteRoot Fault read (Puts new) (Rattle.wb_runs.proofs.Underway.images_of k.of true) (Some goal) GoneThere devices' None None _
             refl (ap (λ (c : Option RunningCommit). led c Fault) rd.0.commit_is) refl
-            (subst (λ (s : Stored). Arrived P A shape s (Some goal) GoneThere devices' (n' WriteRoot Fault read)) (sym (old_is i rd.0)) v) k.under.fit_new no_gone (both_left shape.geometry k.of device images rd.0.running new k.under bad) (inr (over total _))
+            (subst (λ (s : Stored). Arrived P A shape s (Some goal) GoneThere devices' (n' WriteRoot Fault read)) (sym (old_is i rd.0)) v) no_gone (both_left shape.geometry k.of device images rd.0.running new k.under bad) (inr (over total _))
 
       -- and the sync after it
       module _ (i : Learnt) (ph : f.site.phase ≡ OpensThere mode (Renewing i)) (rd : HasReadAt (Renewing i) reading commit f.phase.later) (xt : x.task ≡ Some (Open opened_in, opening_at total left (Renewing i))) (new : List History) where
@@ -343,7 +344,7 @@ module _ (P A : Type 0) (shape : Shape) (images : Images) (devices : Devices (Li
         kept = rooting i rd.0
 
         agree_so : DevicesAgree shape.geometry (size P A shape) images.committed (Some kept.of.new) devices f.site.world.shared
-        agree_so = with_root shape (size P A shape) images.committed kept.of.new f.phase.later i devices devices f.site.world.shared f.phase.devices_follow.agree rd.1 (leads_to i rd.0) (none_clean kept.of.new kept.under.fit_new) refl refl
+        agree_so = with_root shape (size P A shape) images.committed kept.of.new f.phase.later i devices devices f.site.world.shared f.phase.devices_follow.agree rd.1 (leads_to i rd.0) (takes_none kept.of.new kept.unmarked) refl refl
             (subst (λ (s : Stored). Rattle.wb_meta.specs.Roots.MayBeReadAs shape.geometry s (Some kept.of.new) device) (old_is i rd.0) (two_read shape.geometry kept.of device images rd.0.running kept.under))
 
         pub renew_done : (read : List Bytes) → DoesStep rd.0.running.image rd.0.running.steps device new → Goes P A shape (after_it (Sync Metadata) Done Plain renewed) (n' (Sync Metadata) Done read)
@@ -358,8 +359,8 @@ module _ (P A : Type 0) (shape : Shape) (images : Images) (devices : Devices (Li
             let v = arrives P A shape images w n (n' (Sync Metadata) Done read) f (same (Sync Metadata) Done read) images.committed (Some goal) (OpensThere mode (Answering i)) renewed l (no_stand (Answering i)) in
             goes_to (opening_at total left (Renewing i)) xt (Sync Metadata) Done read Plain t.now (Some goal) (OpensThere mode (Answering i)) renewed (Some (AllRead rd.0.stored)) (Some _) (opening_at total left (Answering i))
             rd.0.reading_is (ap (λ (c : Option RunningCommit). led c Done) rd.0.commit_is) refl
-            (subst (λ (s : Stored). Arrived P A shape s (Some goal) (OpensThere mode (Answering i)) renewed (n' (Sync Metadata) Done read)) (sym t.committed_is) v) kept.under.fit_new (no_stand (Answering i)) t.kept
-            (inl (record { total = total; left = left; stage = Answering i; is = refl; phase_is = refl; read = (learnt_still i rd.0 _, (goal, refl, leads_to i rd.0, none_clean goal kept.under.fit_new)) }))
+            (subst (λ (s : Stored). Arrived P A shape s (Some goal) (OpensThere mode (Answering i)) renewed (n' (Sync Metadata) Done read)) (sym t.committed_is) v) (no_stand (Answering i)) t.kept
+            (inl (record { total = total; left = left; stage = Answering i; is = refl; phase_is = refl; read = (learnt_still i rd.0 _, (goal, refl, leads_to i rd.0, takes_none goal kept.unmarked)) }))
 
         pub renew_fails : (read : List Bytes) → FailsStep rd.0.running.image rd.0.running.steps device new → Goes P A shape (after_it (Sync Metadata) Fault Plain renewed) (n' (Sync Metadata) Fault read)
         renew_fails read bad =
@@ -369,4 +370,4 @@ module _ (P A : Type 0) (shape : Shape) (images : Images) (devices : Devices (Li
             let v = arrives P A shape images w n (n' (Sync Metadata) Fault read) f (same (Sync Metadata) Fault read) images.committed (Some goal) GoneThere renewed l no_gone in
             goes_to (opening_at total left (Renewing i)) xt (Sync Metadata) Fault read Plain (Rattle.wb_runs.proofs.Underway.images_of kept.of true) (Some goal) GoneThere renewed None None _
             refl (ap (λ (c : Option RunningCommit). led c Fault) rd.0.commit_is) refl
-            (subst (λ (s : Stored). Arrived P A shape s (Some goal) GoneThere renewed (n' (Sync Metadata) Fault read)) (sym (old_is i rd.0)) v) kept.under.fit_new no_gone (both_left shape.geometry kept.of device images rd.0.running new kept.under bad) (inr (over total _))
+            (subst (λ (s : Stored). Arrived P A shape s (Some goal) GoneThere renewed (n' (Sync Metadata) Fault read)) (sym (old_is i rd.0)) v) no_gone (both_left shape.geometry kept.of device images rd.0.running new kept.under bad) (inr (over total _))

@@ -1,5 +1,5 @@
 -- One recursion over a run: what each kind of event leads to, and that every answer on the way is right.
-use Rattle.std.proofs.Common.{arith, ◌≡◌, ◌∙◌, inl, inr, ℕ, List, [], ◌∷◌, Option, Some, None, All, refl, sym, ap, subst, length, slice_get, slice_set}
+use Rattle.std.proofs.Common.{false, true, arith, ◌≡◌, ◌∙◌, inl, inr, ℕ, List, [], ◌∷◌, Option, Some, None, All, refl, sym, ap, subst, length, slice_get, slice_set}
 use Rattle.wb_types.specs.declared.mode.Mode.{Mode}
 use Rattle.wb_types.specs.declared.mode.Mode.TheVariants.{Writeback}
 use Rattle.wb_types.specs.declared.refusal.Refusal.{Refusal}
@@ -19,13 +19,13 @@ use Rattle.wb_tasks.specs.declared.step.Got.TheVariants.{Done, Fault}
 use Rattle.wb_devices.specs.declared.devices.Devices.{Devices}
 use Rattle.wb_devices.specs.declared.running.RunningCommit.{RunningCommit}
 use Rattle.wb_promise.specs.declared.job.Job.{Job}
-use Rattle.wb_promise.specs.declared.job.Job.TheVariants.{Read, Write, Open, Migrate, Flush, Replace}
+use Rattle.wb_promise.specs.declared.job.Job.TheVariants.{Read, Write, Open, Migrate, Flush, Suspend, Replace}
 use Rattle.wb_promise.specs.declared.event.Event.{Event}
 use Rattle.wb_promise.specs.declared.event.Event.TheVariants.{Step, FaultStep, Start, Stop}
 use Rattle.wb_promise.specs.declared.event.What.{What}
 use Rattle.wb_promise.specs.declared.event.What.TheVariants.{Stepped, Started, Stopped}
 use Rattle.wb_promise.specs.States.{resting, Shape, State, Actor, Phase, Stands, Gone, Opens, start, Target, sector_count, mode_of}
-use Rattle.wb_promise.specs.Happenings.{IsOutOfPlace, Plain, Chosen, Happening, OfSome, Gives, MayBe, Cut, Falters, MayFailAt, StartGives, begun_as}
+use Rattle.wb_promise.specs.Happenings.{IsOutOfPlace, IsSuspending, Plain, Chosen, Happening, OfSome, Gives, MayBe, Cut, Looks, Falters, MayFailAt, StartGives, StartsAs, begun_as}
 use Rattle.wb_promise.specs.Effects.{all_resting, stepped, with_actor, device_done, job_of, phase_then, after_what, after_happening, after_all, IsRun, device_failed, given, cleared, phase_given, started, actor_then}
 use Rattle.wb_promise.specs.Clerk.{Notes, Doing, formatted, noted_step, noted_what, put, begun, starting}
 use Rattle.wb_promise.specs.Headline.{IsLatest, shown, shown_in, note_happening, noted, ShowsAllowed, ShownBy, ShowsRightly, OpensRightly, AllOpenRightly, IsRightAnswer, DoingRightly, AnswersRightly, AllRight, CrashConsistent, Headline}
@@ -50,11 +50,12 @@ use Rattle.wb_tasks.specs.Ready.{Suits}
 use Rattle.wb_runs.proofs.Lists.{free, there_rests}
 use Rattle.wb_runs.proofs.Using.{used_what}
 use Rattle.wb_runs.proofs.InsideRuns.{Inside, inside_what, want_inside}
-use Rattle.wb_headline.proofs.Kept.{fault_keeps, none_goes, none_rest, none_set, start_keeps, step_keeps}
+use Rattle.wb_headline.proofs.Kept.{at_nothing, fault_keeps, none_goes, none_rest, none_set, start_keeps, step_keeps}
 use Rattle.wb_headline.proofs.Targets.{never_replaces}
 use Rattle.wb_headline.proofs.Arriving.{crash_goes}
-use Rattle.wb_headline.proofs.Starts.{any_start, any_replacement, read_starts, write_starts, flush_starts, opening_starts}
-use Rattle.wb_headline.proofs.Flushes.{flush_steps, flush_faults}
+use Rattle.wb_headline.proofs.Starts.{any_start, any_replacement, read_starts, write_starts, flush_starts, suspend_starts, opening_starts}
+use Rattle.wb_simulation.specs.Actors.{IsAmong, IsAmongOthers, AreAmongOthers}
+use Rattle.wb_headline.proofs.Commits.{commit_steps, commit_faults}
 use Rattle.wb_headline.proofs.Migrations.{any_step, any_fault}
 
 module _ (P A : Type 0) (shape : Shape) where
@@ -85,7 +86,8 @@ module _ (P A : Type 0) (shape : Shape) where
         by_job : (job : Job) → x.task ≡ Some (job, plan) → (d : Noted shape t.desk.mode job plan (slice_get n.doings a)) → Gives shape (in_phase (Stands t)) x job next got read chosen → Stepped_to P A shape (in_phase (Stands t)) n a x job next got read chosen d.doing
         by_job (Read extent) xt d g = read_steps P A shape b.goes.images t commit devices actors n b.goes.known b.goes.followed b.used.here a x ex plan suits d.doing d.is extent xt d.job_is d.claim next got read chosen e g
         by_job (Write extent content) xt d g = write_steps P A shape b.goes.images t commit devices actors n b.goes.known b.goes.followed b.used.here a x ex plan suits d.doing d.is extent content xt d.job_is d.claim next got read chosen e g
-        by_job Flush xt d g = flush_steps P A shape b.goes.images t commit devices actors n b.goes.known b.goes.followed b.used.here a x ex plan xt d.doing d.is d.job_is suits b.keeping.owned next got read chosen (asked d.doing d.is) e g
+        by_job Flush xt d g = commit_steps P A shape b.goes.images t commit devices actors n b.goes.known b.goes.followed b.used.here b.used.suited b.keeping a x ex plan d.doing d.is suits false xt d.job_is next got read chosen (asked d.doing d.is) e g
+        by_job Suspend xt d g = commit_steps P A shape b.goes.images t commit devices actors n b.goes.known b.goes.followed b.used.here b.used.suited b.keeping a x ex plan d.doing d.is suits true xt d.job_is next got read chosen (asked d.doing d.is) e g
         by_job (Open mode) xt d g = absurd (subst (λ (o : Option (Job × Plan)). TaskHere {P = P} {A = A} (Stands t) o) xt (b.linked.here a x ex))
         by_job (Migrate migration block) xt d g = any_step P A shape t commit devices actors n b a x migration block plan d.doing ex xt d.is d.job_is next got read chosen e g
         by_job (Replace old new) xt d g = absurd (never_replaces P A shape b.goes.images t commit devices actors n b.goes.known b.goes.followed a x ex old new plan xt)
@@ -118,7 +120,8 @@ module _ (P A : Type 0) (shape : Shape) where
         by_job : (job : Job) → x.task ≡ Some (job, plan) → (d : Noted shape t.desk.mode job plan (slice_get n.doings a)) → Faulted_to P A shape (in_phase (Stands t)) n a x choice job next read chosen d.doing
         by_job (Read extent) xt d = read_faults P A shape b.goes.images t commit devices actors n b.goes.known b.goes.followed b.used.here a x ex plan suits d.doing d.is extent xt d.job_is d.claim choice next read chosen e m g
         by_job (Write extent content) xt d = write_faults P A shape b.goes.images t commit devices actors n b.goes.known b.goes.followed b.used.here a x ex plan suits d.doing d.is extent content xt d.job_is d.claim choice next read chosen inside b.inside.cache b.inside.origin e m g
-        by_job Flush xt d = flush_faults P A shape b.goes.images t commit devices actors n b.goes.known b.goes.followed b.used.here a x ex plan xt d.doing d.is d.job_is suits b.keeping.owned choice next read chosen e m g
+        by_job Flush xt d = commit_faults P A shape b.goes.images t commit devices actors n b.goes.known b.goes.followed b.used.here b.used.suited b.keeping a x ex plan d.doing d.is suits false xt d.job_is choice next read chosen e m g
+        by_job Suspend xt d = commit_faults P A shape b.goes.images t commit devices actors n b.goes.known b.goes.followed b.used.here b.used.suited b.keeping a x ex plan d.doing d.is suits true xt d.job_is choice next read chosen e m g
         by_job (Open mode) xt d = absurd (subst (λ (o : Option (Job × Plan)). TaskHere {P = P} {A = A} (Stands t) o) xt (b.linked.here a x ex))
         by_job (Migrate migration block) xt d = any_fault P A shape t commit devices actors n b a x migration block plan d.doing ex xt d.is d.job_is choice next read chosen e m g
         by_job (Replace old new) xt d = absurd (never_replaces P A shape b.goes.images t commit devices actors n b.goes.known b.goes.followed a x ex old new plan xt)
@@ -165,33 +168,51 @@ module _ (P A : Type 0) (shape : Shape) where
     holds_none : TaskSuits shape.geometry.origin_blocks x.card None
     holds_none = subst (λ (o : Option (Job × Plan)). TaskSuits shape.geometry.origin_blocks x.card o) xt (b.used.suited a x ex)
 
-    goes_and : (job : Job) (chosen : Chosen P A) → StartGives shape (Stands t) (Some x) job Started chosen → Goes P A shape (record w_now { phase = phase_given {P = P} {A = A} (Stands t) job chosen; actors = slice_set actors a (given shape t.desk.mode x job chosen) }) (put n a (Some (begun n (begun_as job)))) →
-        Onward (with_actor w_now (slice_get actors a) (λ y. record w_now { phase = phase_given {P = P} {A = A} (Stands t) job chosen; actors = slice_set actors a (given shape t.desk.mode y job chosen) })) (put n a (Some (begun n (begun_as job))))
-    goes_and job chosen g goes = put_there w_now (put n a (Some (begun n (begun_as job)))) a x job chosen ex (goes, start_keeps P A shape b.goes.images t commit devices actors n b.goes.known b.goes.followed b.used.here b.used.suited b.keeping a x ex xt job chosen g)
+    module _ (among : AreAmongOthers actors) where
+      goes_and : (job : Job) (chosen : Chosen P A) → StartsAs shape w_now a job Started chosen → Goes P A shape (record w_now { phase = phase_given {P = P} {A = A} (Stands t) job chosen; actors = slice_set actors a (given shape t.desk.mode x job chosen) }) (put n a (Some (begun n (begun_as job)))) →
+          Onward (with_actor w_now (slice_get actors a) (λ y. record w_now { phase = phase_given {P = P} {A = A} (Stands t) job chosen; actors = slice_set actors a (given shape t.desk.mode y job chosen) })) (put n a (Some (begun n (begun_as job))))
+      goes_and job chosen g goes = put_there w_now (put n a (Some (begun n (begun_as job)))) a x job chosen ex (goes, start_keeps P A shape b.goes.images t commit devices actors n b.goes.known b.goes.followed b.used.here b.used.suited b.keeping a x ex xt among job chosen g)
 
-    start_at_target : (job : Job) (chosen : Chosen P A) → (¬ IsOutOfPlace {P = P} {A = A} (Stands t) job) → StartGives shape (Stands t) (Some x) job Started chosen → Begun_to w_now n a job chosen
-    start_at_target (Open mode) chosen place g = start_opening w_now n b a x mode chosen ex place
-    start_at_target (Read extent) (Cut cut) place g = goes_and (Read extent) (Cut cut) g (read_starts P A shape b.goes.images t commit devices actors n b.goes.known b.goes.followed a x ex xt extent cut holds_none g.0 g.1)
-    start_at_target (Write extent content) (Cut cut) place g = goes_and (Write extent content) (Cut cut) g (write_starts P A shape b.goes.images t commit devices actors n b.goes.known b.goes.followed a x ex xt extent content cut holds_none g.0 g.1)
-    start_at_target Flush Plain place g = goes_and Flush Plain g (flush_starts P A shape b.goes.images t commit devices actors n b.goes.known b.goes.followed a x ex xt [])
-    start_at_target (Migrate migration block) chosen place g = goes_and (Migrate migration block) chosen g (any_start P A shape t commit devices actors n b a x ex xt migration block chosen g)
-    start_at_target (Replace old new) chosen place g = goes_and (Replace old new) chosen g (any_replacement P A shape t commit devices actors n b a x ex xt old new chosen g)
-    start_at_target job chosen place g = absurd g
+      -- whose orders it has
+      its : (job : Job) (chosen : Chosen P A) → StartGives shape (Stands t) (slice_get actors a) job Started chosen → StartGives shape (Stands t) (Some x) job Started chosen
+      its job chosen g = subst (λ (o : Option Actor). StartGives shape (Stands t) o job Started chosen) ex g
+
+      start_at_target : (job : Job) (chosen : Chosen P A) → (¬ IsOutOfPlace {P = P} {A = A} (Stands t) job) → StartsAs shape w_now a job Started chosen → Begun_to w_now n a job chosen
+      start_at_target (Open mode) chosen place g = start_opening w_now n b a x mode chosen ex place
+      start_at_target (Read extent) (Cut cut) place g = goes_and (Read extent) (Cut cut) g (read_starts P A shape b.goes.images t commit devices actors n b.goes.known b.goes.followed a x ex xt extent cut among holds_none g.0 g.1)
+      start_at_target (Write extent content) (Cut cut) place g = goes_and (Write extent content) (Cut cut) g (write_starts P A shape b.goes.images t commit devices actors n b.goes.known b.goes.followed a x ex xt extent content cut among holds_none g.0 g.1)
+      start_at_target Flush Plain place g = goes_and Flush Plain g (flush_starts P A shape b.goes.images t commit devices actors n b.goes.known b.goes.followed a x ex xt [] among)
+      start_at_target Suspend (Looks blocks) place g = goes_and Suspend (Looks blocks) g (suspend_starts P A shape b.goes.images t commit devices actors n b.goes.known b.goes.followed a x ex xt blocks (λ c z ez. at_nothing P A w_now c z ez (g.0 c)))
+      start_at_target (Migrate migration block) chosen place g = goes_and (Migrate migration block) chosen g (any_start P A shape t commit devices actors n b a x ex xt among migration block chosen (its (Migrate migration block) chosen g))
+      start_at_target (Replace old new) chosen place g = goes_and (Replace old new) chosen g (any_replacement P A shape t commit devices actors n b a x ex xt among old new chosen (its (Replace old new) chosen g))
+      start_at_target job chosen place g = absurd g
+
+  -- nobody suspends where a start is in place
+  all_among : (w : State P A) → (IsSuspending w → ⊥) → AreAmongOthers w.actors
+  all_among w none b z ez = by z.task refl
+    where
+      by : (o : Option (Job × Plan)) → z.task ≡ o → IsAmongOthers o
+      by None e = tt
+      by (Some doing) e = by_job doing.0 refl
+        where
+          by_job : (job : Job) → doing.0 ≡ job → IsAmong job
+          by_job Suspend is = none (b, subst (λ (o : Option Actor). OfSome o (λ v. OfSome v.task (λ d. d.0 ≡ Suspend))) (sym ez) (subst (λ (o : Option (Job × Plan)). OfSome o (λ d. d.0 ≡ Suspend)) (sym e) is))
+          by_job job is = tt
 
   -- where none stands, nothing but an opening is in place
-  start_by_phase : (w : State P A) (phase : Phase P A) → w.phase ≡ phase → (n : Notes) → Whole P A shape w n → (a : ℕ) (x : Actor) (job : Job) (chosen : Chosen P A) → slice_get w.actors a ≡ Some x → x.task ≡ None → (¬ IsOutOfPlace phase job) → StartGives shape phase (Some x) job Started chosen → Begun_to w n a job chosen
-  start_by_phase w (Stands t) e n b a x job chosen ex xt place g =
+  start_by_phase : (w : State P A) (phase : Phase P A) → w.phase ≡ phase → (n : Notes) → Whole P A shape w n → (a : ℕ) (x : Actor) (job : Job) (chosen : Chosen P A) → slice_get w.actors a ≡ Some x → x.task ≡ None → (IsSuspending w → ⊥) → (¬ IsOutOfPlace phase job) → StartsAs shape w a job Started chosen → Begun_to w n a job chosen
+  start_by_phase w (Stands t) e n b a x job chosen ex xt alone place g =
       let is : record { devices = w.devices; commit = w.commit; phase = Stands t; actors = w.actors } ≡ w = λ i. record w { phase = sym e i } in
-      subst (λ (v : State P A). Begun_to v n a job chosen) is (start_at_target t w.commit w.devices w.actors n (subst (λ (v : State P A). Whole P A shape v n) (sym is) b) a x ex xt job chosen place g)
-  start_by_phase w phase e n b a x (Open mode) chosen ex xt place g = start_opening w n b a x mode chosen ex (subst (λ (p : Phase P A). ¬ IsOutOfPlace p (Open mode)) (sym e) place)
-  start_by_phase w phase e n b a x job chosen ex xt place g = absurd (place (λ z. z))
+      subst (λ (v : State P A). Begun_to v n a job chosen) is (start_at_target t w.commit w.devices w.actors n (subst (λ (v : State P A). Whole P A shape v n) (sym is) b) a x ex xt (all_among w alone) job chosen place (subst (λ (v : State P A). StartsAs shape v a job Started chosen) (sym is) g))
+  start_by_phase w phase e n b a x (Open mode) chosen ex xt alone place g = start_opening w n b a x mode chosen ex (subst (λ (p : Phase P A). ¬ IsOutOfPlace p (Open mode)) (sym e) place)
+  start_by_phase w phase e n b a x job chosen ex xt alone place g = absurd (place (λ z. z))
 
   -- ---- every event
 
   on_what : (w : State P A) (n : Notes) → Whole P A shape w n → (event : Event) (what : What) (read : List Bytes) (chosen : Chosen P A) → MayBe shape w event what read chosen → Onward (after_what shape w event what chosen) (noted_what shape (mode_of w.phase) (shown shape (after_what shape w event what chosen)) n event what read)
   on_what w n b (Start a job) Started read chosen h =
       let x = free P A w a job h.1 in
-      start_by_phase w w.phase refl n b a x.0 job chosen x.1 x.2 (λ o. h.1 (inr (inr o))) (subst (λ (o : Option Actor). StartGives shape w.phase o job Started chosen) x.1 h.2)
+      start_by_phase w w.phase refl n b a x.0 job chosen x.1 x.2 (λ s. h.1 (inr (inr (inl s)))) (λ o. h.1 (inr (inr (inr o)))) h.2
   on_what w n b (Step a) (Stepped next got) read chosen h = task_goes w n b a next got read chosen (λ job buffer step. device_done job buffer step chosen) (λ x job plan. (next ≡ want plan) × Gives shape w x job next got read chosen)
       (λ x job plan ex xt d g. step_by_phase w.devices w.commit w.actors n a x ex w.phase b job plan xt d next got read chosen g.0 g.1) (slice_get w.actors a) refl h
   on_what w n b (FaultStep a choice) (Stepped next got) read chosen h =

@@ -31,7 +31,7 @@ use Rattle.wb_promise.specs.declared.job.Job.{Job}
 use Rattle.wb_promise.specs.declared.job.Job.TheVariants.{Read, Write}
 use Rattle.wb_promise.specs.States.{Shape, State, Actor, Target, Stands, with_device, sector_count}
 use Rattle.wb_promise.specs.Happenings.{block_range, Chosen, Gives, Falters, MayFailAt}
-use Rattle.wb_promise.specs.Effects.{actor_then, orders_then, awaiting_then, device_done, device_failed, stepped}
+use Rattle.wb_promise.specs.Effects.{actor_then, orders_then, awaiting_then, device_done, device_failed, stepped, seen_then}
 use Rattle.wb_runs.specs.Holding.{cards_of}
 use Rattle.wb_promise.specs.Clerk.{Notes, Doing, noted_step, device_note, failing, put, readings_from, sector_for, write_note, enter_each, entering, finished_note, all_raised, Entering, enter, is_entered}
 use Rattle.wb_contents.proofs.Lists.{set_there}
@@ -67,6 +67,12 @@ use Rattle.wb_tasks.proofs.Readiness.{is_own_step}
 use Rattle.wb_runs.specs.Inside.{StepInside}
 use Rattle.wb_runs.proofs.Stepping.{data_device}
 
+-- a read or write sees nothing of seals, as a suspend does
+seen_still : (seen : List Bool) (job : Job) (next : Want) (got : Got) → IsRequestJob job → seen_then seen next got job ≡ seen
+seen_still seen (Read extent) next got q = refl
+seen_still seen (Write extent content) next got q = refl
+seen_still seen job next got q = absurd q
+
 module _ (P A : Type 0) (shape : Shape) (images : Images) (t : Target P) (commit : Option RunningCommit) (devices : Devices (List History)) (actors : List Actor) (n : Notes) (known : MetadataKept {P = P} {A = A} shape.geometry images (Stands t) commit devices.metadata)
     (f : Followed P A shape images (standing P A shape images t commit devices actors n) n) (rule : LockRule shape.geometry.origin_blocks t.words (cards_of actors)) (a : ℕ) (x : Actor) (ex : slice_get actors a ≡ Some x) (job : Job) (plan : Plan) (xt : x.task ≡ Some (job, plan)) (suits : Suits shape.geometry.origin_blocks plan x.card) where
   -- the state after a step that leaves words, desk and metadata
@@ -84,7 +90,7 @@ module _ (P A : Type 0) (shape : Shape) (images : Images) (t : Target P) (commit
 
   -- a step on the shared words
   pub on_words : (step : CellStep) → IsRequestJob job → Cell step ≡ want plan → Goes P A shape (after_it (words_after t.words step) devices (actor_then {P = P} {A = A} shape (Stands t) devices x (Cell step) (got_of (result_of t.words step)))) n
-  on_words step q e = subst (λ (y : Actor). Goes P A shape (after_it (words_after t.words step) devices y) n) (sym (actor_is P A shape (Stands t) devices x job plan (Cell step) (got_of (result_of t.words step)) xt))
+  on_words step q e = subst (λ (y : Actor). Goes P A shape (after_it (words_after t.words step) devices y) n) (sym (actor_is P A shape (Stands t) devices x job plan (Cell step) (got_of (result_of t.words step)) xt ∙ (λ i. record (stepped_actor t.words job plan step x) { seen = seen_still x.seen job (Cell step) (got_of (result_of t.words step)) q i })))
       (quietly (words_after t.words step) devices (stepped_actor t.words job plan step x)
       (cell_steps_followed (situation shape t devices actors) shape.geometry.origin_blocks a x job plan step f.site.world q rule (record { here = ex; task = xt; asks = sym e; agrees = f.phase.agrees }) suits) refl)
 
@@ -237,7 +243,7 @@ module _ (P A : Type 0) (shape : Shape) (images : Images) (t : Target P) (commit
     answered_with : (there : Answer) (of : Rattle.wb_link.specs.Tables.Job) (n' : Notes) → length n'.doings ≡ length n.doings → length n'.histories ≡ length n.histories → (g : WorldFollows (Answers of there) a f.site.world (situation shape t devices actors) (record x { task = None })) →
         NotesAgree (size P A shape) n' (abstract_after_all f.site.world g.records) (told f.notes g.records) → Answered n'
     answered_with there of n' d h g notes =
-        subst (λ (y : Actor). Goes P A shape (record { devices = devices; commit = commit; phase = Stands (record { words = t.words; desk = t.desk }); actors = slice_set actors a y }) n') (sym (actor_is P A shape (Stands t) devices x job plan (End answer) Done xt ∙ (λ i. record { task = None; card = x.card; orders = orders_still x.orders x.awaiting job answer request i; awaiting = awaiting_still x.orders x.awaiting job answer request i; buffer = x.buffer })))
+        subst (λ (y : Actor). Goes P A shape (record { devices = devices; commit = commit; phase = Stands (record { words = t.words; desk = t.desk }); actors = slice_set actors a y }) n') (sym (actor_is P A shape (Stands t) devices x job plan (End answer) Done xt ∙ (λ i. record { task = None; card = x.card; orders = orders_still x.orders x.awaiting job answer request i; awaiting = awaiting_still x.orders x.awaiting job answer request i; buffer = x.buffer; seen = seen_still x.seen job (End answer) Done request i })))
         (stays_on P A shape images t commit devices actors n known f a x ex (Answers of there) t.words devices (record x { task = None }) n' g notes d h refl)
 
   -- by its job

@@ -1,12 +1,8 @@
 -- What is known of the metadata while an opening's root is on its way, and of the images after a step.
-use Rattle.std.proofs.Common.{◌≡◌, ◌∙◌, ◌+◌, inl, ℕ, suc, Bool, true, false, List, [], ◌∷◌, Option, Some, None, refl, sym, ap, subst, arith, is_some, cond}
-use Rattle.std.specs.List.{count_by}
-use Rattle.std.proofs.lemmas.List.Sums.{sum_by-cons}
-use Rattle.wb_types.specs.declared.entry.Entry.{Entry}
+use Rattle.std.proofs.Common.{◌≡◌, ◌∙◌, inl, Bool, true, false, List, Some, None, refl, sym, ap, subst}
 use Rattle.wb_types.specs.declared.geometry.Geometry.{Geometry}
 use Rattle.wb_disk.specs.Device.{History}
 use Rattle.wb_tree.specs.declared.image.Image.{Image}
-use Rattle.wb_meta.specs.Representing.{Stored}
 use Rattle.wb_meta.specs.Steps.{DoesStep, FailsStep, steps_after}
 use Rattle.wb_meta.specs.declared.read_steps.ReadSteps.{ReadSteps}
 use Rattle.wb_meta.specs.declared.read_steps.ReadSteps.TheVariants.{Done as AllRead}
@@ -15,10 +11,7 @@ use Rattle.wb_meta.proofs.Stepping.{fails as step_fails}
 use Rattle.wb_devices.specs.declared.running.RunningCommit.{RunningCommit}
 use Rattle.wb_meta.specs.Roots.{MayBeReadAs, Commit}
 use Rattle.wb_meta.proofs.Leading.{after_failure}
-use Rattle.wb_promise.specs.Headline.{cached_from, place_of}
-use Rattle.wb_simulation.specs.Opened.{is_clean_in}
-use Rattle.wb_simulation.specs.Sites.{StateTakesClean}
-use Rattle.wb_runs.proofs.Images.{Images, Turn, Ends, Settles, Turned, later_of, IsFit}
+use Rattle.wb_runs.proofs.Images.{Images, Turn, Ends, Settles, Turned, later_of}
 use Rattle.wb_runs.proofs.Underway.{Underway, Readable, images_of, underway_readable, led_on}
 use Rattle.wb_runs.proofs.Metadata.{Rooting as RootingKept}
 
@@ -49,25 +42,7 @@ module _ (g : Geometry) (of : Commit) (device : List History) where
       (after_failure of u.can commit.steps new (step_fails of.image of.old.root.geometry.meta_sectors of.before device new commit.steps u.can.places u.come (subst (λ (i : Image). FailsStep i commit.steps device new) (sym u.image) failing)))
 
   pub both_left : (images : Images) (commit : RunningCommit) (new : List History) → Underway g images commit of device → FailsStep commit.image commit.steps device new → Readable g (images_of of true) new
-  both_left images commit new u failing = record { read = two_left images commit new u failing; fit = u.fit; fit_later = u.fit_new }
-
--- ---- a tree without entries
-
-pub nowhere : (entries : List (Option Entry)) → count_by is_some entries ≡ 0 → (block : ℕ) → place_of entries block ≡ None
-nowhere entries e block = by entries 0 e
-  where
-    by : (es : List (Option Entry)) (c : ℕ) → count_by is_some es ≡ 0 → cached_from block c es ≡ None
-    by [] c e = refl
-    by (None ∷ es) c e = by es (suc c) e
-    by (Some entry ∷ es) c e = absurd (let bad : count_by is_some es + 1 ≡ 0 = (let f : Option Entry → ℕ = λ x. cond (is_some x) 1 0 in let one : 1 + count_by is_some es ≡ 0 = sym (sum_by-cons f (Some entry) es) ∙ e in omega (arith, one)) in omega (arith, bad))
-
--- where its root is marked clean only if it has no entry, a state takes no block as clean
-pub none_clean : (state : Stored) → IsFit state → StateTakesClean state (λ block. false)
-none_clean state fit block cache e = by state.root.clean refl
-  where
-    by : (t : Bool) → state.root.clean ≡ t → false ≡ cond t (is_clean_in state.found.entries block) false
-    by true c = absurd (let none = nowhere state.found.entries (fit c) block in let bad : None ≡ Some cache = sym none ∙ e in cc)
-    by false c = refl
+  both_left images commit new u failing = record { read = two_left images commit new u failing }
 
 -- ---- an opening's root
 
@@ -82,7 +57,7 @@ pub rooted_on : (A : Type 0) (g : Geometry) (images : Images) (reading : ReadSte
 rooted_on A g images reading commit old new k does =
     let u = led_on g images commit k.of old new k.under does in record {
       now = u.now;
-      kept = record { stored = k.stored; all = k.all; of = k.of; under = u.kept; tree = k.tree; used = k.used; generation = k.generation; entries = k.entries; fits = k.fits; geometry = k.geometry };
+      kept = record { stored = k.stored; all = k.all; of = k.of; under = u.kept; tree = k.tree; used = k.used; generation = k.generation; entries = k.entries; unmarked = k.unmarked; fits = k.fits; geometry = k.geometry };
       of_is = refl;
       committed_is = ap (λ (i : Images). i.committed) u.kept.are ∙ sym (ap (λ (i : Images). i.committed) k.under.are);
     }

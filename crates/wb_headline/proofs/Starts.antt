@@ -1,4 +1,4 @@
--- Whatever is started is followed: a read, a write, a flush, an opening, and a migration or a replacement, under an order that is given or again under one that was kept.
+-- Whatever is started is followed: a read, a write, a flush, a suspend, an opening, and a migration or a replacement, under an order that is given or again under one that was kept.
 use Rattle.std.proofs.Common.{◌≡◌, ◌≢◌, ◌∙◌, ◌<◌, ◌+◌, ◌-◌, ◌/◌, inl, inr, ℕ, zero, suc, true, false, List, [], ◌∷◌, Option, Some, None, refl, sym, ap, subst, arith, length, slice_get, slice_set, Contains, ◌^◌, Bool, get_or}
 use Rattle.std.proofs.lemmas.List.{length-set, length-map}
 use Rattle.std.proofs.lemmas.List.Elements.{Contains-append_left}
@@ -16,21 +16,23 @@ use Rattle.wb_policy.specs.declared.order.Order.{Order}
 use Rattle.wb_devices.specs.declared.devices.Devices.{Devices}
 use Rattle.wb_devices.specs.declared.running.RunningCommit.{RunningCommit}
 use Rattle.wb_promise.specs.declared.job.Job.{Job}
-use Rattle.wb_promise.specs.declared.job.Job.TheVariants.{Read, Write, Flush, Open, Migrate, Replace}
+use Rattle.wb_promise.specs.declared.job.Job.TheVariants.{Read, Write, Flush, Suspend, Open, Migrate, Replace}
 use Rattle.wb_promise.specs.States.{Shape, State, Actor, Target, Phase, Stands, Gone, Opens, OfTarget, resting, block_size}
 use Rattle.wb_promise.specs.Happenings.{blocks_left, block_range, extent_refusal, task_job, Chosen, Cut, Orders, StartGives, begun_as, order_for}
-use Rattle.wb_promise.specs.Effects.{all_resting, phase_given, given}
+use Rattle.wb_promise.specs.Effects.{all_resting, phase_given, given, unseen}
 use Rattle.wb_promise.specs.Clerk.{Notes, Doing, begun, put, nobody}
 use Rattle.wb_runs.proofs.Images.{Images, later_of}
 use Rattle.wb_runs.proofs.Metadata.{MetadataKept, kept_readable, unknowing}
 use Rattle.wb_runs.proofs.Extents.{AllWithin, MayStart, may_start, some_sectors, cut_within, cut_of_block}
 use Rattle.wb_runs.proofs.Lists.{rests}
-use Rattle.wb_link.specs.Tables.{Job as AbstractJob, Flushing as FlushingFor}
+use Rattle.wb_link.specs.Tables.{Job as AbstractJob}
+use Rattle.wb_refines.specs.Commits.{commit_there}
 use Rattle.wb_link.specs.World.{World, abstract_after_all, job_alone, Shared, Mapped as MappedThere, NamesBlock as NamesThere}
 use Rattle.wb_link.specs.Openings.{Opens as OpensThere, Settling, MayOpen}
 use Rattle.wb_refines.specs.Translation.{job_for}
 use Rattle.wb_simulation.specs.Sites.{StateTakesClean}
-use Rattle.wb_simulation.specs.Actors.{IsBusyAt}
+use Rattle.wb_simulation.specs.Actors.{IsBusyAt, AreAmongOthers}
+use Rattle.wb_simulation.specs.Opened.{AreAtRest}
 use Rattle.wb_simulation.specs.Steps.{IsPart}
 use Rattle.wb_simulation.specs.Telling.{Quietly, Starts, Resumes}
 use Rattle.wb_simulation.specs.Worlds.{Stays, Turn, TurnedTo, DeskTurnedTo, WorldFollowsBy}
@@ -98,9 +100,9 @@ part_of shape mode caches extent cut inside cuts = record {
 module _ (P A : Type 0) (shape : Shape) (images : Images) (t : Target P) (commit : Option RunningCommit) (devices : Devices (List History)) (actors : List Actor) (n : Notes) (known : MetadataKept {P = P} {A = A} shape.geometry images (Stands t) commit devices.metadata)
     (f : Followed P A shape images (standing P A shape images t commit devices actors n) n) (a : ℕ) (x : Actor) (ex : slice_get actors a ≡ Some x) (xt : x.task ≡ None) where
   -- an actor that has been given a job, there or not
-  begins_so : (job : Job) (plan : Plan) (of : AbstractJob) → Begun of a f.site.world (situation shape t devices actors) (record x { task = Some (job, plan) }) →
-      Goes P A shape (record { devices = devices; commit = commit; phase = Stands (record { words = t.words; desk = t.desk }); actors = slice_set actors a (record x { task = Some (job, plan) }) }) (put n a (Some (begun n job)))
-  begins_so job plan of b = by b
+  begins_so : (job : Job) (plan : Plan) (seen' : List Bool) (of : AbstractJob) → Begun of a f.site.world (situation shape t devices actors) (record x { task = Some (job, plan); seen = seen' }) →
+      Goes P A shape (record { devices = devices; commit = commit; phase = Stands (record { words = t.words; desk = t.desk }); actors = slice_set actors a (record x { task = Some (job, plan); seen = seen' }) }) (put n a (Some (begun n job)))
+  begins_so job plan seen' of b = by b
     where
       n' : Notes
       n' = put n a (Some (begun n job))
@@ -114,29 +116,38 @@ module _ (P A : Type 0) (shape : Shape) (images : Images) (t : Target P) (commit
       was : (d : Option Doing) × (slice_get n.doings a ≡ Some d)
       was = there n.doings a less
 
-      by : Begun of a f.site.world (situation shape t devices actors) (record x { task = Some (job, plan) }) →
-          Goes P A shape (record { devices = devices; commit = commit; phase = Stands (record { words = t.words; desk = t.desk }); actors = slice_set actors a (record x { task = Some (job, plan) }) }) (put n a (Some (begun n job)))
-      by (inl g) = stays_on P A shape images t commit devices actors n known f a x ex (Starts of) t.words devices (record x { task = Some (job, plan) }) (put n a (Some (begun n job))) g
+      y' : Actor
+      y' = record x { task = Some (job, plan); seen = seen' }
+
+      by : Begun of a f.site.world (situation shape t devices actors) (record x { task = Some (job, plan); seen = seen' }) →
+          Goes P A shape (record { devices = devices; commit = commit; phase = Stands (record { words = t.words; desk = t.desk }); actors = slice_set actors a (record x { task = Some (job, plan); seen = seen' }) }) (put n a (Some (begun n job)))
+      by (inl g) = stays_on P A shape images t commit devices actors n known f a x ex (Starts of) t.words devices y' (put n a (Some (begun n job))) g
           (notes_followed.starts of job Stays a f.site.world _ _ g y.0 n f.notes y.1 less f.notes_agree was.0 was.1) (length-set n.doings a (Some (begun n job))) refl refl
       by (inr g) =
           let none = (subst (λ (q : Option (Job × Plan)). IsBusyAt (size P A shape) (most P A shape) (f.phase.agrees.each a x y.0 ex y.1).failed q x.card y.0) xt (f.phase.agrees.each a x y.0 ex y.1).at).0 in
-          stays_on P A shape images t commit devices actors n known f a x ex Quietly t.words devices (record x { task = Some (job, plan) }) (put n a (Some (begun n job))) g
+          stays_on P A shape images t commit devices actors n known f a x ex Quietly t.words devices y' (put n a (Some (begun n job))) g
           (notes_followed.starts_late job Stays a f.site.world _ _ g y.0 n f.notes y.1 less f.notes_agree none) (length-set n.doings a (Some (begun n job))) refl refl
 
-  pub read_starts : (extent : Extent) (cut : List Extent) → x.card.hold ≡ Nothing → extent_refusal shape extent ≡ None → IsCutInto extent cut →
-      Goes P A shape (record { devices = devices; commit = commit; phase = Stands (record { words = t.words; desk = t.desk }); actors = slice_set actors a (record x { task = Some (Read extent, table (task_job shape t.desk.mode x.awaiting (Read extent) cut)) }) }) (put n a (Some (begun n (Read extent))))
-  read_starts extent cut holds inside cuts = begins_so (Read extent) (table (task_job shape t.desk.mode x.awaiting (Read extent) cut)) (job_for (size P A shape) [] (OnBlock (ReadingPart (block_range shape t.desk.mode extent cut))))
-      (starts_followed.read (situation shape t devices actors) a x extent (block_range shape t.desk.mode extent cut) f.site.world ex xt holds (part_of shape t.desk.mode f.phase.agrees.caches extent cut inside cuts) f.phase.agrees)
+  pub read_starts : (extent : Extent) (cut : List Extent) → AreAmongOthers actors → x.card.hold ≡ Nothing → extent_refusal shape extent ≡ None → IsCutInto extent cut →
+      Goes P A shape (record { devices = devices; commit = commit; phase = Stands (record { words = t.words; desk = t.desk }); actors = slice_set actors a (record x { task = Some (Read extent, table (task_job shape t.desk.mode x.awaiting (Read extent) cut [])) }) }) (put n a (Some (begun n (Read extent))))
+  read_starts extent cut among holds inside cuts = begins_so (Read extent) (table (task_job shape t.desk.mode x.awaiting (Read extent) cut [])) x.seen (job_for (size P A shape) [] (OnBlock (ReadingPart (block_range shape t.desk.mode extent cut))))
+      (starts_followed.read (situation shape t devices actors) a x extent (block_range shape t.desk.mode extent cut) f.site.world ex xt holds (part_of shape t.desk.mode f.phase.agrees.caches extent cut inside cuts) among f.phase.agrees)
 
-  pub write_starts : (extent : Extent) (content : Bytes) (cut : List Extent) → x.card.hold ≡ Nothing → extent_refusal shape extent ≡ None → IsCutInto extent cut →
-      Goes P A shape (record { devices = devices; commit = commit; phase = Stands (record { words = t.words; desk = t.desk }); actors = slice_set actors a (record x { task = Some (Write extent content, table (task_job shape t.desk.mode x.awaiting (Write extent content) cut)) }) }) (put n a (Some (begun n (Write extent content))))
-  write_starts extent content cut holds inside cuts = begins_so (Write extent content) (table (task_job shape t.desk.mode x.awaiting (Write extent content) cut)) (job_for (size P A shape) content (OnBlock (WritingPart (block_range shape t.desk.mode extent cut))))
-      (starts_followed.write (situation shape t devices actors) a x extent content (block_range shape t.desk.mode extent cut) f.site.world ex xt holds (part_of shape t.desk.mode f.phase.agrees.caches extent cut inside cuts) refl f.phase.agrees)
+  pub write_starts : (extent : Extent) (content : Bytes) (cut : List Extent) → AreAmongOthers actors → x.card.hold ≡ Nothing → extent_refusal shape extent ≡ None → IsCutInto extent cut →
+      Goes P A shape (record { devices = devices; commit = commit; phase = Stands (record { words = t.words; desk = t.desk }); actors = slice_set actors a (record x { task = Some (Write extent content, table (task_job shape t.desk.mode x.awaiting (Write extent content) cut [])) }) }) (put n a (Some (begun n (Write extent content))))
+  write_starts extent content cut among holds inside cuts = begins_so (Write extent content) (table (task_job shape t.desk.mode x.awaiting (Write extent content) cut [])) x.seen (job_for (size P A shape) content (OnBlock (WritingPart (block_range shape t.desk.mode extent cut))))
+      (starts_followed.write (situation shape t devices actors) a x extent content (block_range shape t.desk.mode extent cut) f.site.world ex xt holds (part_of shape t.desk.mode f.phase.agrees.caches extent cut inside cuts) refl among f.phase.agrees)
 
   -- a flush
-  pub flush_starts : (cut : List Extent) → Goes P A shape (record { devices = devices; commit = commit; phase = Stands (record { words = t.words; desk = t.desk }); actors = slice_set actors a (record x { task = Some (Flush, table (task_job shape t.desk.mode x.awaiting Flush cut)) }) }) (put n a (Some (begun n Flush)))
-  flush_starts cut = begins_so Flush (table (task_job shape t.desk.mode x.awaiting Flush cut)) (FlushingFor None)
-      (starts_followed.flush (situation shape t devices actors) a x (blocks_left x.awaiting) f.site.world ex xt f.phase.agrees)
+  pub flush_starts : (cut : List Extent) → AreAmongOthers actors → Goes P A shape (record { devices = devices; commit = commit; phase = Stands (record { words = t.words; desk = t.desk }); actors = slice_set actors a (record x { task = Some (Flush, table (task_job shape t.desk.mode x.awaiting Flush cut [])) }) }) (put n a (Some (begun n Flush)))
+  flush_starts cut among = begins_so Flush (table (task_job shape t.desk.mode x.awaiting Flush cut [])) x.seen (commit_there false)
+      (starts_followed.flush (situation shape t devices actors) a x (blocks_left x.awaiting) f.site.world ex xt among f.phase.agrees)
+
+  -- a suspend, which looks at these blocks and has seen none
+  pub suspend_starts : (looks : List OBlock) → AreAtRest actors →
+      Goes P A shape (record { devices = devices; commit = commit; phase = Stands (record { words = t.words; desk = t.desk }); actors = slice_set actors a (record x { task = Some (Suspend, table (task_job shape t.desk.mode x.awaiting Suspend [] looks)); seen = unseen shape Suspend x.seen }) }) (put n a (Some (begun n Suspend)))
+  suspend_starts looks rest = begins_so Suspend (table (task_job shape t.desk.mode x.awaiting Suspend [] looks)) (unseen shape Suspend x.seen) (commit_there true)
+      (starts_followed.suspend (situation shape t devices actors) a x looks (unseen shape Suspend x.seen) f.site.world ex rest f.phase.agrees)
 
 -- ---- an opening, over whatever is there
 
@@ -155,7 +166,7 @@ module _ (P A : Type 0) (shape : Shape) (images : Images) (w : State P A) (n : N
   may_open (Opens mode reading) e not = inl (subst (λ (q : Phase P A). Rattle.wb_headline.proofs.Following.PhaseFollows P A shape images q w.commit w.devices w.actors f.site) e f.phase).devices_follow.down
 
   -- an opening begins
-  pub opening_starts : (a : ℕ) (mode : Mode) (y : Actor) → (OfTarget w.phase (λ t. t.words.fail ≡ 0) → ⊥) → mode ≢ Passthrough → y.task ≡ Some (Open mode, table (task_job shape Writeback y.awaiting (Open mode) [])) →
+  pub opening_starts : (a : ℕ) (mode : Mode) (y : Actor) → (OfTarget w.phase (λ t. t.words.fail ≡ 0) → ⊥) → mode ≢ Passthrough → y.task ≡ Some (Open mode, table (task_job shape Writeback y.awaiting (Open mode) [] [])) →
       Goes P A shape (record { devices = w.devices; commit = None; phase = Opens mode None; actors = slice_set (all_resting w.actors) a y }) (put (record n { doings = nobody n.doings }) a (Some (begun n (Open mode))))
   opening_starts a mode y not caches yt =
       let d = agreeing P A shape images w.phase w.commit w.devices w.actors f.site known f.phase in
@@ -163,13 +174,13 @@ module _ (P A : Type 0) (shape : Shape) (images : Images) (w : State P A) (n : N
       let n' = put (record n { doings = nobody n.doings }) a (Some (begun n (Open mode))) in
       let same : SameSectors n n' = record { histories = refl; finished = refl; floors = refl; doings = length-set (nobody n.doings) a (Some (begun n (Open mode))) ∙ length-map n.doings (λ (o : Option Doing). None) } in
       let v = arrives P A shape images w n n' f same images.committed d.later (OpensThere mode Settling) w.devices l (λ e. absurd (cc)) in
-      opens P A shape images d.later (OpensThere mode Settling) w.devices n' v d.fit (λ e. absurd (cc)) (slice_set (all_resting w.actors) a y)
+      opens P A shape images d.later (OpensThere mode Settling) w.devices n' v (λ e. absurd (cc)) (slice_set (all_resting w.actors) a y)
       (sized_so P A shape w.actors (slice_set (all_resting w.actors) a y) n n' same (length-set (all_resting w.actors) a y ∙ length-map w.actors (λ (z : Actor). resting)) f.sized) mode None None caches
       (kept_readable shape.geometry images w.devices.metadata P A w.phase w.commit known)
       (λ b z job plan e zt. elim (set_cases (all_resting w.actors) a b y z e) [
         | inl here ↦
-            let both : Some (Open mode, table (task_job shape Writeback y.awaiting (Open mode) [])) ≡ Some (job, plan) = sym yt ∙ ap (λ (q : Actor). q.task) (sym here.1) ∙ zt in
-            let is = (Rattle.std.proofs.lemmas.Option.some_pair_parts (Open mode) job (table (task_job shape Writeback y.awaiting (Open mode) [])) plan both).1 in
+            let both : Some (Open mode, table (task_job shape Writeback y.awaiting (Open mode) [] [])) ≡ Some (job, plan) = sym yt ∙ ap (λ (q : Actor). q.task) (sym here.1) ∙ zt in
+            let is = (Rattle.std.proofs.lemmas.Option.some_pair_parts (Open mode) job (table (task_job shape Writeback y.awaiting (Open mode) [] [])) plan both).1 in
             inl (record { total = shape.geometry.meta_sectors; left = shape.geometry.meta_sectors; stage = Settling; is = sym is; phase_is = refl; read = (refl, refl) })
         | inr other ↦ absurd (let none : z.task ≡ None = (rests w.actors b z other.1).0 in let bad : None ≡ Some (job, plan) = sym none ∙ zt in cc)
       ])
@@ -200,7 +211,7 @@ plain_there l (Promote k) block c = refl
 plain_there l Demote block c = refl
 plain_there l Clean block c = refl
 
-module _ (P A : Type 0) (shape : Shape) (t : Target P) (commit : Option RunningCommit) (devices : Devices (List History)) (actors : List Actor) (n : Notes) (b : Whole P A shape (at_target P A shape t commit devices actors) n) (a : ℕ) (x : Actor) (ex : slice_get actors a ≡ Some x) (xt : x.task ≡ None) where
+module _ (P A : Type 0) (shape : Shape) (t : Target P) (commit : Option RunningCommit) (devices : Devices (List History)) (actors : List Actor) (n : Notes) (b : Whole P A shape (at_target P A shape t commit devices actors) n) (a : ℕ) (x : Actor) (ex : slice_get actors a ≡ Some x) (xt : x.task ≡ None) (among : AreAmongOthers actors) where
   g : Followed P A shape b.goes.images (standing P A shape b.goes.images t commit devices actors n) n
   g = b.goes.followed
 
@@ -295,7 +306,7 @@ module _ (P A : Type 0) (shape : Shape) (t : Target P) (commit : Option RunningC
         let s = g.site.world.shared in
         let less = slice_get_within t.desk.orders.slots c.0 None may.give.vacant in
         let h = migrations_followed.starts (situation shape t devices actors) a x migration block c next o cut g.site.world ex xt holds some (small c.0 less) cuts
-        (vacant_there t.desk.orders.slots c.0 may.give.vacant) of there (ungiven o block c next may named_by) waits given_there g.phase.agrees in
+        (vacant_there t.desk.orders.slots c.0 may.give.vacant) of there (ungiven o block c next may named_by) waits given_there among g.phase.agrees in
         let s' = (abstract_after_all g.site.world h.records).shared in
         let turned = images_stay migration c.0 s s' h.turned in
         let readable = kept_readable shape.geometry b.goes.images devices.metadata P A (Stands t) commit b.goes.known in
@@ -315,7 +326,7 @@ module _ (P A : Type 0) (shape : Shape) (t : Target P) (commit : Option RunningC
         let y : Actor = record x { task = Some (begun_job, begun_plan) } in
         let k = kept_there l.cache here in
         let h = migrations_followed.again (situation shape t devices actors) a x migration block l.cache next o cut g.site.world ex xt holds some (small l.cache.0 (slot_within t.desk.orders.slots l.cache.0 l.live l.there)) cuts here of k.0 has
-        (λ d z ez i. b.keeping.owned.one d a z x o ez ex i had) k.1 g.phase.agrees in
+        (λ d z ez i. b.keeping.owned.one d a z x o ez ex i had) k.1 among g.phase.agrees in
         stays_on P A shape b.goes.images t commit devices actors n b.goes.known g a x ex Resumes t.words devices y n' h (notes_then Stays slots_now y h refl) (length-set n.doings a (Some (begun n begun_job))) refl refl
 
   -- ---- any start

@@ -6,7 +6,7 @@ pub mod Locks
 pub mod Followed
 pub mod Extents
 pub mod Moving
-pub mod Flushing
+pub mod Committing
 pub mod Tasks
 pub mod Modes
 pub mod Migrating

@@ -1,4 +1,4 @@
--- The tables of reads, writes and flushes, and those of the abstract world, step by step.
+-- The tables of reads, writes, flushes and suspends, and those of the abstract world, step by step.
 use Rattle.std.proofs.Common.{◌≡◌, ◌≢◌, ◌<◌, ◌%◌, ℕ, Bool, true, false, List, [], ◌∷◌, ◌++◌, Option, Some, None, refl, ap, map, mod-lt}
 use Rattle.std.proofs.lemmas.Nat.{div-mul-add, mod-mul-add}
 use Rattle.wb_types.specs.declared.extent.Extent.{Extent}
@@ -10,15 +10,22 @@ use Rattle.wb_types.specs.declared.mode.Dev.TheVariants.{Cache}
 use Rattle.wb_disk.specs.Device.{Content}
 use Rattle.wb_words.specs.declared.word.Access.TheVariants.{Shared}
 use Rattle.wb_words.specs.declared.step.CellStep.TheVariants.{Release}
-use Rattle.wb_tasks.specs.Tables.{BlockRange, OnBlock, Reading, Writing, cache_extent, place_read, read_step, read_count, writes, writing, work}
+use Rattle.wb_types.specs.declared.number.OBlock.{OBlock}
+use Rattle.wb_tasks.specs.Plan.{table}
+use Rattle.wb_tasks.specs.Tables.{BlockRange, OnBlock, Reading, Writing, Suspending, cache_extent, place_read, read_step, read_count, writes, writing, work}
 use Rattle.wb_tasks.specs.declared.step.Want.{Want}
 use Rattle.wb_tasks.specs.declared.step.Want.TheVariants.{Cell}
-use Rattle.wb_link.specs.Tables.{Read_all, Write_all, Set_seal, Job as AbstractJob, read_each, write_each, write_through_each, abstract_work as work_there}
-use Rattle.wb_refines.specs.Translation.{number_of, location_at, offsets_in, offsets, block_in, job_for, writing_in, wants_of}
+use Rattle.wb_link.specs.Tables.{Read_all, Write_all, Set_seal, Job as AbstractJob, abstract_table as table_there, read_each, write_each, write_through_each, abstract_work as work_there}
+use Rattle.wb_refines.specs.Translation.{script_for, number_of, location_at, offsets_in, offsets, block_in, job_for, writing_in, wants_of}
 use Rattle.wb_refines.specs.Laws.{TablesAgree}
 
 pub tables_agree : TablesAgree
-tables_agree size most content part serves = (refl, refl, refl)
+tables_agree size most content part blocks = (refl, refl, refl, suspends blocks)
+  where
+    -- whether it has a seal to look at or none
+    suspends : (blocks : List OBlock) → script_for size content (table (Suspending blocks most)) ≡ table_there (job_for size content (Suspending blocks most))
+    suspends [] = refl
+    suspends (b ∷ bs) = refl
 
 module _ (part : BlockRange) (some : 0 < part.block_sectors) where
   abbrev size : ℕ

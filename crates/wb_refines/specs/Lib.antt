@@ -4,7 +4,7 @@ pub mod Models
 pub mod Roles
 pub mod Data
 pub mod Laws
-pub mod Flushes
+pub mod Commits
 pub mod Tasks
 pub mod Migrations
 pub mod Carrying

@@ -1,4 +1,4 @@
--- The tables of reads, writes and flushes as those of the abstract world: which job each is there, and which steps of it each
+-- The tables of reads, writes, flushes and suspends as those of the abstract world: which job each is there, and which steps of it each
 -- step stands for. A look at a lock word, the exchange and the look at the seal stand for nothing by themselves: the abstract
 -- actor takes its block, and sees the seal, where the number is looked at, after which a task can no longer find its block worn.
 use Rattle.std.specs.Prelude.{◌%◌, ◌/◌, ℕ, false, List, [], ◌∷◌, Option, Some, None}
@@ -15,7 +15,7 @@ use Rattle.wb_words.specs.declared.word.Access.TheVariants.{Shared, Owned}
 use Rattle.wb_words.specs.declared.word.Word.TheVariants.{Cell as LockWord, Seal as SealWord, Number, Count as CountWord, Fail}
 use Rattle.wb_words.specs.declared.step.CellStep.{CellStep}
 use Rattle.wb_words.specs.declared.step.CellStep.TheVariants.{Look, Take, Release, Seal, Finish, Count, SetFailed, SetSuspended}
-use Rattle.wb_tasks.specs.Tables.{TaskJob, OnBlock, Reading, Writing}
+use Rattle.wb_tasks.specs.Tables.{TaskJob, OnBlock, Reading, Writing, Suspending}
 use Rattle.wb_tasks.specs.Plan.{Plan}
 use Rattle.wb_tasks.specs.declared.step.Answer.{Answer}
 use Rattle.wb_tasks.specs.declared.step.Answer.TheVariants.{Done as Finished, Refused as Refuses}
@@ -25,7 +25,7 @@ use Rattle.wb_tasks.specs.declared.step.DeskStep.{DeskStep}
 use Rattle.wb_tasks.specs.declared.step.DeskStep.TheVariants.{BeginCommit, EndCommit}
 use Rattle.wb_tasks.specs.declared.step.Want.{Want}
 use Rattle.wb_tasks.specs.declared.step.Want.TheVariants.{Cell, Device, Desk, End}
-use Rattle.wb_link.specs.Tables.{Script, Read_all, Write_all, abstract_acquire, breaking, Job as AbstractJob, Reading as ReadingAt, Writing as WritingAt, Writing_through as WritingThroughAt, Flushing as FlushingFor, Want as AbstractWant, Look_fail, Set_seal, Leave, Disown, Sync_cache_device, Sync_origin_device, Put_root, Sync_metadata, End_running, Answer as AbstractAnswer, Finished as AnsweredDone, Busy as AnsweredBusy, Failed as AnsweredFailed, Io as AnsweredIo}
+use Rattle.wb_link.specs.Tables.{Script, Read_all, Write_all, abstract_acquire, breaking, Job as AbstractJob, Reading as ReadingAt, Writing as WritingAt, Writing_through as WritingThroughAt, Flushing as FlushingFor, Suspending as SuspendingThere, Want as AbstractWant, Look_fail, Set_seal, Set_suspended, Leave, Disown, Sync_cache_device, Sync_origin_device, Put_root, Sync_metadata, End_running, Answer as AbstractAnswer, Finished as AnsweredDone, Busy as AnsweredBusy, Failed as AnsweredFailed, Io as AnsweredIo}
 
 -- the number of the cache block in which a block stands
 abbrev pub number_of : Option CBlock → Option ℕ
@@ -50,10 +50,11 @@ abbrev pub writing_in : Mode → ℕ → List (List ℕ) → Content → Abstrac
 writing_in Writethrough block os content = WritingThroughAt block os content
 writing_in mode block os content = WritingAt false block os content
 
--- A read, a write of this content to each sector; and a flush, which serves nobody there.
+-- A read, a write of this content to each sector; a suspend; and a flush, which serves nobody there.
 abbrev pub job_for : ℕ → Content → TaskJob → AbstractJob
 job_for size content (OnBlock (Reading part)) = ReadingAt false part.block.0 (offsets size part.extents)
 job_for size content (OnBlock (Writing part)) = writing_in part.mode part.block.0 (offsets size part.extents) content
+job_for size content (Suspending blocks most) = SuspendingThere
 job_for size content job = FlushingFor None
 
 -- the block of a read or write
@@ -78,7 +79,7 @@ cell_wants job (Seal block place dirty) rest = Set_seal block.0 (record { locati
 cell_wants job (Finish block) rest = rest
 cell_wants job (Count kind) rest = rest
 cell_wants job SetFailed rest = breaking job
-cell_wants job SetSuspended rest = rest
+cell_wants job SetSuspended rest = Set_suspended ∷ rest
 
 -- An extent is one step there too. Of a commit's steps on metadata the root and the last sync are there; the latter stands
 -- with the commit's end.
@@ -106,9 +107,10 @@ abbrev pub wants_of : ℕ → AbstractJob → List Want → List AbstractWant
 wants_of size job [] = []
 wants_of size job (next ∷ later) = step_wants size job next (wants_of size job later)
 
--- A flush that is refused, for whatever reason, has not begun its commit; a read or write that did not take its block was busy.
+-- A flush or a suspend that is refused, for whatever reason, has not begun its commit; a read or write that did not take its block was busy.
 abbrev pub refusal_for : AbstractJob → AbstractAnswer
 refusal_for (FlushingFor order) = AnsweredFailed
+refusal_for SuspendingThere = AnsweredFailed
 refusal_for job = AnsweredBusy
 
 abbrev pub answer_for : AbstractJob → Answer → AbstractAnswer

@@ -7,9 +7,9 @@ ghost use Rattle.wb_refines.specs.Migrations.{MigrationTablesAgree};
 ghost use Rattle.wb_refines.specs.Carrying.{CarryingFollowed};
 ghost use Rattle.wb_refines.specs.Carried.{MigrationCellsFollowed};
 ghost use Rattle.wb_refines.specs.Data.{ExtentsFollowed};
-ghost use Rattle.wb_refines.specs.Flushes.{FlushStepsRefined};
+ghost use Rattle.wb_refines.specs.Commits.{CommitStepsRefined};
 
-/// A read, a write or a flush begins in the abstract world as its table does here.
+/// A read, a write, a flush or a suspend begins in the abstract world as its table does here.
 pub fn tables_agree()
     ensures { TablesAgree }
 {}
@@ -30,9 +30,9 @@ pub fn extents_are_followed()
     ensures { ExtentsFollowed }
 {}
 
-/// So is each step of a flush, done, refused or failing, by one that serves nobody there; but not that an order is given up.
-pub fn flush_steps_are_followed()
-    ensures { FlushStepsRefined }
+/// So is each step of a suspend, and of a flush, by one that serves nobody there, done, refused or failing; but not that an order is given up.
+pub fn commit_steps_are_followed()
+    ensures { CommitStepsRefined }
 {}
 
 /// The table of a migration goes on as the abstract one: from its start, from where it has seen its block where its order says, and where it gives everything back or has failed.

@@ -25,7 +25,7 @@ pub mod Opening
 pub mod Claims
 pub mod Linking
 pub mod LinkedRuns
-mod Spelled
+pub mod Spelled
 pub mod Readings
 pub mod Rooted
 mod Bounds

@@ -106,6 +106,7 @@ pub record Rooting {A : Type 0} (g : Geometry) (images : Images) (reading : Read
   pub used : of.used ≡ stored.used.items
   pub generation : of.new.root.generation ≡ stored.root.generation + 1
   pub entries : of.new.found.entries ≡ stored.tree.entries
+  pub unmarked : of.new.root.clean ≡ false
   pub fits : FitsDevice g.meta_sectors stored.root stored.tree stored.used.items
   pub geometry : stored.root.geometry ≡ g
 
@@ -280,6 +281,7 @@ module _ (A : Type 0) (g : Geometry) (images : Images) (device : List History) w
               used = refl;
               generation = ap (λ (r : Root). r.generation) opens.root_is ∙ ap (λ (r : Root). r.generation + 1) (sym committed.0);
               entries = sym committed.1;
+              unmarked = ap (λ (r : Root). r.clean) opens.root_is;
               fits = subst (λ (n : ℕ). FitsDevice n stored.root stored.tree stored.used.items) k.found.read.size k.on;
               geometry = ap (λ (r : Root). r.geometry) committed.0 ∙ k.found.read.same_geometry;
             };
@@ -291,9 +293,9 @@ module _ (A : Type 0) (g : Geometry) (images : Images) (device : List History) w
       by_reading (RootFound global root loader) k next = absurd next.is_done
       by_reading (AllRead stored) k next = subst (λ (c : Option RunningCommit). Turns (λ i. AtOpening g i (Some (AllRead stored)) c device) images) (sym next.commit_is) (over stored k next)
 
-  -- the images after it, whose committed state has the desk's entries
+  -- the images after it, whose committed state has the desk's entries, and is not marked clean
   pub target_stands : (P : Type 0) (mode : Mode) (policy : P) (threshold : ℕ) (stored : Stored_there A) (commit : RunningCommit) → Rooting g images (AllRead stored) commit device → is_committed commit.steps ≡ true
-      → Turns (λ now. AtDesk g now (opened g (stored.root.generation + 1) stored.tree stored.used.items mode policy threshold (count_by is_some stored.tree.entries)) None device × (now.committed.found.entries ≡ stored.tree.entries)) images
+      → Turns (λ now. AtDesk g now (opened g (stored.root.generation + 1) stored.tree stored.used.items mode policy threshold (count_by is_some stored.tree.entries)) None device × (now.committed.found.entries ≡ stored.tree.entries) × (now.committed.root.clean ≡ false)) images
   target_stands P mode policy threshold stored commit k done =
       let stores = all_done g images commit k.of device k.under done in
       let same : k.stored ≡ stored = by_done (k.all) in
@@ -329,6 +331,7 @@ module _ (A : Type 0) (g : Geometry) (images : Images) (device : List History) w
             });
           },
           k.entries ∙ ap (λ (s : Stored_there A). s.tree.entries) same,
+          k.unmarked,
         );
       }
     where

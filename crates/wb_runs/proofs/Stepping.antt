@@ -114,6 +114,7 @@ module _ (P A : Type 0) (shape : Shape) where
       used = k.used;
       generation = k.generation;
       entries = k.entries;
+      unmarked = k.unmarked;
       fits = k.fits;
       geometry = k.geometry;
     };

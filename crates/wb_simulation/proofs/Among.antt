@@ -23,13 +23,23 @@ use Rattle.wb_refines.proofs.Cells.{failed_flag}
 use Rattle.wb_refines.proofs.Going.{goes, with_own}
 use Rattle.wb_promise.specs.States.{Actor}
 use Rattle.wb_runs.specs.Holding.{cards_of}
-use Rattle.wb_simulation.specs.Actors.{StandsFor}
+use Rattle.wb_simulation.specs.Actors.{StandsFor, AreAmongOthers}
 use Rattle.wb_simulation.specs.Telling.{Telling, Quietly, IsTold}
 use Rattle.wb_simulation.specs.Carried.{held}
 use Rattle.wb_simulation.specs.Worlds.{zeros, Situation, Agrees, OrdersAgree, Turn, Stays, TurnedTo, DeskTurnedTo, WorldFollowsBy, WorldFollows, IsUnfinished}
 use Rattle.wb_simulation.proofs.Cells.{Leading, shared_stays, gone_nowhere}
 use Rattle.wb_simulation.proofs.Orders.{who, by_pair, IsDone, IsNoMigration, does_none, orders_on}
 use Rattle.wb_contents.proofs.Lists.{there_is}
+
+-- the suspended bit tells that a target serves no more, as the failed bit does
+pub suspended_flag : (n failures suspensions : ℕ) → n ≡ fail_word failures suspensions → flag (bit_or n 2) ≡ true
+suspended_flag n f z e = ap (λ v. flag (bit_or v 2)) e ∙ by_bits (flag f) (flag z)
+  where
+    by_bits : (p q : Bool) → flag (bit_or (cond p 1 0 + cond q 2 0) 2) ≡ true
+    by_bits true true = refl
+    by_bits true false = refl
+    by_bits false true = refl
+    by_bits false false = refl
 
 -- the failed bit is never cleared
 pub failed_stays : (words : Words) (step : CellStep) (failures suspensions : ℕ) → words.fail ≡ fail_word failures suspensions → flag words.fail ≡ true → flag (words_after words step).fail ≡ true
@@ -43,13 +53,7 @@ failed_stays words (Count ReadMiss) f z e t = t
 failed_stays words (Count WriteHit) f z e t = t
 failed_stays words (Count WriteMiss) f z e t = t
 failed_stays words SetFailed f z e t = failed_flag words.fail f z e
-failed_stays words SetSuspended f z e t = ap (λ v. flag (bit_or v 2)) e ∙ by_bits (flag f) (flag z)
-  where
-    by_bits : (p q : Bool) → flag (bit_or (cond p 1 0 + cond q 2 0) 2) ≡ true
-    by_bits true true = refl
-    by_bits true false = refl
-    by_bits false true = refl
-    by_bits false false = refl
+failed_stays words SetSuspended f z e t = suspended_flag words.fail f z e
 failed_stays words step f z e t = t
 
 -- ---- who is there
@@ -67,8 +71,8 @@ module _ (now : Situation) (s : World) (g : Agrees now s) where
   pub whose : (b : ℕ) (y : AbstractActor) → slice_get s.actors b ≡ Some y → (x : Actor) × (slice_get now.actors b ≡ Some x)
   whose b y e = there_is now.actors b (let l = slice_get_within s.actors b y e in let many = g.many in omega (arith, l, many))
 
-  pub nobody_alone : (b : ℕ) (z : AbstractActor) → slice_get s.actors b ≡ Some z → is_alone z.task ≡ false
-  nobody_alone b z e = let x = whose b z e in (g.each b x.0 z x.1 e).among_others
+  pub nobody_alone : AreAmongOthers now.actors → (b : ℕ) (z : AbstractActor) → slice_get s.actors b ≡ Some z → is_alone z.task ≡ false
+  nobody_alone among b z e = let x = whose b z e in (g.each b x.0 z x.1 e).among_others (among b x.0 x.1)
 
   -- So where it takes its block, whoever holds one beside it has a card that counts it.
   pub takes : (role : Role) (a : ℕ) (card : Card) (step : CellStep) → ((block : OBlock) → step ≡ Look (Number block) → (seal : ℕ) → card.seal ≡ Some seal → role.finds seal) → TakesBeside role step s.actors (cards_of now.actors) a card

@@ -130,7 +130,7 @@ module _ (size : ℕ) (orders : List (Option Order)) (migration : Migration) (bl
     has_failed = λ e. absurd (cc);
     at = subst (λ (t : Option (Job × Plan)). IsBusyAt size most false t x.card y) (sym task) tt;
     below = carried_below size orders migration block part plan.steps plan.answer x y k;
-    among_others = carried_among size orders migration block part plan.steps plan.answer x y k;
+    among_others = λ among. carried_among size orders migration block part plan.steps plan.answer x y k;
   }
 
   pub is_done : plan.job ≡ OnBlock (Migrating migration part) → IsDone size words orders x y

@@ -12,7 +12,7 @@ use Rattle.wb_tasks.specs.declared.step.Answer.{Answer}
 use Rattle.wb_tasks.specs.declared.step.Want.{Want}
 use Rattle.wb_tasks.specs.declared.step.Want.TheVariants.{End}
 use Rattle.wb_link.specs.Tables.{Script, Done as DoneThere}
-use Rattle.wb_link.specs.World.{World, Nothing, Record, AbstractActor}
+use Rattle.wb_link.specs.World.{World, Nothing, Record, AbstractActor, is_alone}
 use Rattle.wb_refines.specs.Going.{records, shared_after, gone, MayGo}
 use Rattle.wb_refines.specs.Translation.{job_for}
 use Rattle.wb_refines.specs.Models.{IsAt, HasStopped, IsFree, held_of}
@@ -61,12 +61,12 @@ module _ (now : Situation) (a : ℕ) (x : Actor) (s : World) (y : AbstractActor)
 
         by : (task : Option Script) → y.task ≡ task → WorldFollows telling a s now over
         by None e = stays_there now a x over s y g ex ey telling (subst (λ (rs : List Record). IsTold telling a y.task rs) (sym (nothing_told a y.task (DoneThere ∷ []) e)) told)
-            (record { failed = flag now.words.fail; has_failed = λ k. k; at = (e, elim rests [ inl r ↦ inl (record { task = e; held = r.held; leads = r.leads }) | inr f ↦ inr f ]); below = st.below; among_others = st.among_others }) keeps (does_none _ _ _ _ _ tt)
+            (record { failed = flag now.words.fail; has_failed = λ k. k; at = (e, elim rests [ inl r ↦ inl (record { task = e; held = r.held; leads = r.leads }) | inr f ↦ inr f ]); below = st.below; among_others = λ among. ap is_alone e }) keeps (does_none _ _ _ _ _ tt)
         by (Some script) e =
             let is : y.task ≡ Some (record { job = script.job; steps = []; answer = script.answer }) = e ∙ ap (λ (ws : List _). Some (record { job = script.job; steps = ws; answer = script.answer })) (subst IsNothingLeft e o.steps) in
             let gone_is : gone y y.task (DoneThere ∷ []) ≡ record y { task = None } = ap (λ (t : Option Script). gone y t (DoneThere ∷ [])) is in
             goes_on now now.words (λ f. f) a x over s y g ex ey telling now.devices (DoneThere ∷ []) s.shared told (subst (λ (t : Option Script). MayGo s.actors a s.shared y t (DoneThere ∷ [])) (sym is) (tt, tt, tt)) (ap (λ (t : Option Script). shared_after s.shared y t (DoneThere ∷ [])) is)
-            (subst (λ (z : AbstractActor). StandsFor now.size now.most now.words over z) (sym gone_is) (record { failed = flag now.words.fail; has_failed = λ k. k; at = (refl, rests); below = record { owned = st.below.owned; shared = st.below.shared }; among_others = refl })) (subst (Leading y) (sym gone_is) (λ l. (l, λ more. absurd more)))
+            (subst (λ (z : AbstractActor). StandsFor now.size now.most now.words over z) (sym gone_is) (record { failed = flag now.words.fail; has_failed = λ k. k; at = (refl, rests); below = record { owned = st.below.owned; shared = st.below.shared }; among_others = λ among. refl })) (subst (Leading y) (sym gone_is) (λ l. (l, λ more. absurd more)))
             g.words_agree g.origin g.cache refl refl refl (refl, refl, refl, refl, refl) (refl, refl) (ap (λ (z : AbstractActor). z.order) gone_is) keeps (does_none _ _ _ _ _ tt)
 
   abbrev Goal : Plan → Content → Answer → Type 0

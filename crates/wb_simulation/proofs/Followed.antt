@@ -1,5 +1,5 @@
 -- Each step of a read or a write on the shared words is followed.
-use Rattle.std.proofs.Common.{Bool, ◌≡◌, ◌≢◌, ◌∙◌, ◌⊎◌, inl, inr, ℕ, List, [], ◌∷◌, Option, Some, refl, sym, ap, subst, slice_get}
+use Rattle.std.proofs.Common.{false, Bool, ◌≡◌, ◌≢◌, ◌∙◌, ◌⊎◌, inl, inr, ℕ, List, [], ◌∷◌, Option, Some, refl, sym, ap, subst, slice_get}
 use Rattle.wb_disk.specs.Device.{Content}
 use Rattle.wb_words.specs.SharedWords.{Words, word_at}
 use Rattle.wb_words.specs.Rule.{LockRule}
@@ -17,7 +17,7 @@ use Rattle.wb_tasks.specs.declared.step.Answer.{Answer}
 use Rattle.wb_tasks.specs.declared.step.Want.TheVariants.{Cell, End}
 use Rattle.wb_tasks.proofs.Readiness.{job_stays}
 use Rattle.wb_link.specs.Tables.{Job as AbstractJob}
-use Rattle.wb_link.specs.World.{World, AbstractActor}
+use Rattle.wb_link.specs.World.{World, AbstractActor, is_alone}
 use Rattle.wb_refines.specs.Going.{records, shared_after, gone}
 use Rattle.wb_refines.specs.Models.{IsRequest, IsAt, HasStopped, OnlyParts, TellsPlace, plan_of}
 use Rattle.wb_refines.specs.Roles.{Role, IsAs, request_role}
@@ -27,7 +27,7 @@ use Rattle.wb_promise.specs.declared.job.Job.TheVariants.{Read, Write}
 use Rattle.wb_promise.specs.States.{Actor}
 use Rattle.wb_runs.specs.Holding.{cards_of}
 use Rattle.wb_simulation.specs.Steps.{IsPart, AreOfBlock}
-use Rattle.wb_simulation.specs.Actors.{IsLate, IsRequestAt, IsDoing, IsBusyAt, StandsFor}
+use Rattle.wb_simulation.specs.Actors.{IsLate, IsRequestAt, IsDoing, IsBusyAt, IsAmongOthers, StandsFor}
 use Rattle.wb_simulation.specs.Telling.{Telling, Quietly, IsTold}
 use Rattle.wb_simulation.specs.Worlds.{Situation, Agrees, WorldFollows}
 use Rattle.wb_simulation.specs.Laws.{CellStepsFollowed, IsRequestJob, stepped_actor}
@@ -90,15 +90,15 @@ module _ (now : Situation) (blocks : ℕ) (a : ℕ) (x : Actor) (job : Job) (ste
   among_all plan telling acted told doing its =
       let k = acted.same.images in
       goes_on now (words_after now.words step) (failed_stays now.words step _ _ rule.logs.fail) a x (stepped_actor now.words job plan step x) s y g ex ey telling now.devices acted.results (shared_after s.shared y y.task acted.results) told acted.may refl
-      (record { failed = acted.failed; has_failed = acted.has_failed; at = doing; below = acted.below; among_others = acted.among_others }) acted.leads acted.words_agree (acted.same.origin ∙ g.origin) (acted.same.cache ∙ g.cache) k.mode k.committing k.broken (k.committed, k.running, k.root_written, k.committed_clean, k.running_clean) (k.mapping, k.blocks) acted.order (λ o h. h) its
+      (record { failed = acted.failed; has_failed = acted.has_failed; at = doing; below = acted.below; among_others = λ among. acted.among_others }) acted.leads acted.words_agree (acted.same.origin ∙ g.origin) (acted.same.cache ∙ g.cache) k.mode k.committing k.broken (k.committed, k.running, k.root_written, k.committed_clean, k.running_clean) (k.mapping, k.blocks) acted.order (λ o h. h) its
 
   abbrev Goal : Plan → Type 0
   Goal plan = WorldFollows Quietly a s (record now { words = words_after now.words step }) (stepped_actor now.words job plan step x)
 
   -- a request's
   of_request : (content : Content) (job_on : BlockRange → BlockJob) → ((part : BlockRange) → IsRequest (job_on part) × (range_of (job_on part) ≡ part)) → ((part : BlockRange) → IsPart now.size part → (seal : ℕ) → AreOfBlock now.size part.block.0 (work_of (OnBlock (job_on part)) seal)) →
-      ((failed : Bool) (p : Plan) (card : Card) (z : AbstractActor) → IsRequestAt now.size content failed job_on p card z → IsDoing now.size now.most failed job p card z) → MigratesNot job → (plan : Plan) → Suits blocks plan x.card → want plan ≡ Cell step → (st : StandsFor now.size now.most now.words x y) → IsRequestAt now.size content st.failed job_on plan x.card y → Goal plan
-  of_request content job_on request works does other plan suits next st r = first plan (OnBlock (job_on r.part)) (Cell step) r.job next (λ p. Suits blocks p x.card → AreOfBlock now.size r.part.block.0 p.steps → At p → Goal p)
+      ((failed : Bool) (p : Plan) (card : Card) (z : AbstractActor) → IsRequestAt now.size content failed job_on p card z → IsDoing now.size now.most failed job p card z) → MigratesNot job → is_alone y.task ≡ false → (plan : Plan) → Suits blocks plan x.card → want plan ≡ Cell step → (st : StandsFor now.size now.most now.words x y) → IsRequestAt now.size content st.failed job_on plan x.card y → Goal plan
+  of_request content job_on request works does other among plan suits next st r = first plan (OnBlock (job_on r.part)) (Cell step) r.job next (λ p. Suits blocks p x.card → AreOfBlock now.size r.part.block.0 p.steps → At p → Goal p)
       (λ rest k suits of at. by rest suits (tells now.size r.part.block.0 step rest of) at) (λ k q. absurd (cc)) suits r.of_block r.at
     where
       At : Plan → Type 0
@@ -137,20 +137,20 @@ module _ (now : Situation) (blocks : ℕ) (a : ℕ) (x : Actor) (job : Job) (ste
           acts : At of → Acted (IsAs role then_plan then_card) (λ j. Unit {0}) s.actors a s.shared y (words_after now.words step) then_plan then_card
           acts (inl i) = acts_in_role (job_on r.part) (λ j. Unit {0}) now.words s.actors a x.card s.shared y plan.answer g.words_agree role (requests_play now.size content (job_on r.part) (request r.part).0 caches r.is_part.some sized) tt blocks (cards_of now.actors) step rest rule (card_there now.actors a x ex)
               (takes now s g role a x.card step (λ b e seal k. tt)) t.0 suits (as_request now.size content (job_on r.part) (Cell step ∷ rest) plan.answer x.card y i)
-          acts (inr (inl k)) = acts_over (job_on r.part) (λ j. Unit {0}) now.words s.actors a x.card s.shared y plan.answer g.words_agree st.failed st.has_failed step rest st.below st.among_others (inl (k, tt))
-          acts (inr (inr l)) = acts_over (job_on r.part) (λ j. Unit {0}) now.words s.actors a x.card s.shared y plan.answer g.words_agree st.failed st.has_failed step rest st.below st.among_others (inr l)
+          acts (inr (inl k)) = acts_over (job_on r.part) (λ j. Unit {0}) now.words s.actors a x.card s.shared y plan.answer g.words_agree st.failed st.has_failed step rest st.below among (inl (k, tt))
+          acts (inr (inr l)) = acts_over (job_on r.part) (λ j. Unit {0}) now.words s.actors a x.card s.shared y plan.answer g.words_agree st.failed st.has_failed step rest st.below among (inr l)
 
           acted : Acted (IsAs role then_plan then_card) (λ j. Unit {0}) s.actors a s.shared y (words_after now.words step) then_plan then_card
           acted = acts at
 
 followed : (now : Situation) (blocks : ℕ) (a : ℕ) (x : Actor) (job : Job) (plan : Plan) (step : CellStep) (s : World) (y : AbstractActor) →
-    LockRule blocks now.words (cards_of now.actors) → slice_get now.actors a ≡ Some x → slice_get s.actors a ≡ Some y → IsRequestJob job → Suits blocks plan x.card → want plan ≡ Cell step → Agrees now s → (st : StandsFor now.size now.most now.words x y) → IsDoing now.size now.most st.failed job plan x.card y →
+    LockRule blocks now.words (cards_of now.actors) → slice_get now.actors a ≡ Some x → slice_get s.actors a ≡ Some y → IsRequestJob job → Suits blocks plan x.card → want plan ≡ Cell step → Agrees now s → (st : StandsFor now.size now.most now.words x y) → x.task ≡ Some (job, plan) → IsDoing now.size now.most st.failed job plan x.card y →
     WorldFollows Quietly a s (record now { words = words_after now.words step }) (stepped_actor now.words job plan step x)
-followed now blocks a x (Read extent) plan step s y rule ex ey q suits next g st d = of_request now blocks a x (Read extent) step s y rule ex ey g [] Reading (λ part. (tt, refl)) (read_of_block now.size) (λ failed p card z r. r) tt plan suits next st d
-followed now blocks a x (Write extent content) plan step s y rule ex ey q suits next g st d = of_request now blocks a x (Write extent content) step s y rule ex ey g content Writing (λ part. (tt, refl)) (write_of_block now.size) (λ failed p card z r. r) tt plan suits next st d
-followed now blocks a x job plan step s y rule ex ey q suits next g st d = absurd q
+followed now blocks a x (Read extent) plan step s y rule ex ey q suits next g st task d = of_request now blocks a x (Read extent) step s y rule ex ey g [] Reading (λ part. (tt, refl)) (read_of_block now.size) (λ failed p card z r. r) tt (st.among_others (subst IsAmongOthers (sym task) tt)) plan suits next st d
+followed now blocks a x (Write extent content) plan step s y rule ex ey q suits next g st task d = of_request now blocks a x (Write extent content) step s y rule ex ey g content Writing (λ part. (tt, refl)) (write_of_block now.size) (λ failed p card z r. r) tt (st.among_others (subst IsAmongOthers (sym task) tt)) plan suits next st d
+followed now blocks a x job plan step s y rule ex ey q suits next g st task d = absurd q
 
 pub cell_steps_followed : CellStepsFollowed
 cell_steps_followed now blocks a x job plan step s q rule wants suits =
     let y = own_there now s wants.agrees a x wants.here in
-    followed now blocks a x job plan step s y.0 rule wants.here y.1 q suits wants.asks wants.agrees y.2 (doing_of now.size now.most now.words x y.0 job plan y.2 wants.task)
+    followed now blocks a x job plan step s y.0 rule wants.here y.1 q suits wants.asks wants.agrees y.2 wants.task (doing_of now.size now.most now.words x y.0 job plan y.2 wants.task)

@@ -8,9 +8,9 @@ pub mod Moving
 pub mod Starting
 pub mod Ending
 mod Releasing
-mod Leading
-mod Flushing
-pub mod Flushes
+pub mod Leading
+mod Committing
+pub mod Commits
 mod Counts
 mod Told
 mod Carrying

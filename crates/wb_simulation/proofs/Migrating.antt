@@ -41,7 +41,7 @@ use Rattle.wb_simulation.proofs.Orders.{carried_again}
 use Rattle.wb_simulation.proofs.Carrying.{IsMigratingOf, at_it, under_migrates, quiet_are_carried, stands_there, carried_job}
 use Rattle.wb_simulation.proofs.Copying.{no_write_read, lives, order_is}
 use Rattle.wb_simulation.specs.Telling.{Carries, IsMigrating}
-use Rattle.wb_simulation.specs.Actors.{IsLate}
+use Rattle.wb_simulation.specs.Actors.{IsLate, IsAmongOthers}
 
 -- ---- a step on the words
 
@@ -118,7 +118,7 @@ cells now blocks a x migration block plan step s rule wants suits sees =
     first plan (OnBlock (Migrating migration d.part)) (Cell step) d.job wants.asks (λ p. Suits blocks p x.card → At d.failed d.part y.0 p → Goal p) (λ rest k suits at. elim at [
       | inl f ↦ goes d.part y.0 y.1 rest (acts now blocks a x step s y.0 wants.agrees rule wants.here y.1 migration block d.part rest plan.answer f suits sees) (is_carried now blocks a x step s y.0 wants.agrees rule wants.here y.1 migration block d.part rest plan.answer f suits sees)
           (carried_job now.size now.orders migration block d.part (Cell step ∷ rest) plan.answer x y.0 f)
-      | inr o ↦ goes d.part y.0 y.1 rest (acts_over (Migrating migration d.part) IsMigrating now.words s.actors a x.card s.shared y.0 plan.answer wants.agrees.words_agree d.failed d.has_failed step rest y.2.below y.2.among_others o) (λ z (n : ⊥). absurd n)
+      | inr o ↦ goes d.part y.0 y.1 rest (acts_over (Migrating migration d.part) IsMigrating now.words s.actors a x.card s.shared y.0 plan.answer wants.agrees.words_agree d.failed d.has_failed step rest y.2.below (y.2.among_others (subst IsAmongOthers (sym wants.task) tt)) o) (λ z (n : ⊥). absurd n)
           (elim o [ inl e ↦ subst IsMigratingOf (sym e.0.task) e.1 | inr l ↦ subst IsMigratingOf (sym l.nothing) tt ])
     ]) (λ k q. absurd (cc)) suits d.at
   where

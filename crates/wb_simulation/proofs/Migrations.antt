@@ -184,12 +184,12 @@ module _ (now : Situation) (blocks : ℕ) (a : ℕ) (x : Actor) (migration : Mig
 
 pub migrations_followed : MigrationsFollowed
 migrations_followed = record {
-  starts = λ now a x migration block c next order cut s ex none hold some small is_cut no_order of is apart waits may g.
+  starts = λ now a x migration block c next order cut s ex none hold some small is_cut no_order of is apart waits may among g.
       let y = own_there now s g a x ex in
-      starts now a x migration block c next order cut s y.0 g ex y.1 none hold some small is_cut of is no_order apart waits may;
-  again = λ now a x migration block c next order cut s ex none hold some small is_cut live of is mine only may g.
+      starts now a x migration block c next order cut s y.0 g among ex y.1 none hold some small is_cut of is no_order apart waits may;
+  again = λ now a x migration block c next order cut s ex none hold some small is_cut live of is mine only may among g.
       let y = own_there now s g a x ex in
-      again now a x migration block c next order cut s y.0 g ex y.1 none hold some small is_cut of is live mine only may;
+      again now a x migration block c next order cut s y.0 g among ex y.1 none hold some small is_cut of is live mine only may;
   cells = cells;
   read_done = λ now blocks a x migration block plan device e s wants suits room. read_is_done now blocks a x migration block plan s _ wants suits device e wants.asks room;
   read_fails = λ now blocks a x migration block plan device e s wants suits. read_has_failed now blocks a x migration block plan s _ wants suits device e wants.asks;

@@ -84,7 +84,7 @@ module _ (now : Situation) (a : ℕ) (x : Actor) (s : World) (y : AbstractActor)
       let k = m.beside.images in
       let both = sides device e h list t m.side_is m.beside in
       goes_on now now.words (λ f. f) a x (record x { task = Some (job, plan) }) s y g ex ey telling (with_device device now.devices list) (got ∷ []) t told m.may refl
-      (subst (λ (v : AbstractActor). StandsFor now.size now.most now.words (record x { task = Some (job, plan) }) v) (sym m.is) (record { failed = false; has_failed = λ e. absurd (cc); at = doing; below = has_no_more now.size content plan x.card z at; among_others = alone }))
+      (subst (λ (v : AbstractActor). StandsFor now.size now.most now.words (record x { task = Some (job, plan) }) v) (sym m.is) (record { failed = false; has_failed = λ e. absurd (cc); at = doing; below = has_no_more now.size content plan x.card z at; among_others = λ among. alone }))
       (λ l. let bad : true ≡ false = sym l ∙ ap (λ (v : AbstractActor). v.leads) (m.is ∙ at.is) in absurd (cc)) (words_beside now.words (location_at now.size device e) s.shared t m.beside g.words_agree)
       both.0 both.1 k.mode k.committing k.broken (k.committed, k.running, k.root_written, k.committed_clean, k.running_clean) (k.mapping, k.blocks) (ap (λ (v : AbstractActor). v.order) (m.is ∙ at.is) ∙ sym own) (λ o h. h) (does_none _ _ _ _ _ other)
 

@@ -19,6 +19,7 @@ use Rattle.wb_contents.proofs.Lists.{set_there, set_other, replicated, set_twice
 use Rattle.wb_link.proofs.Steps.{in_set}
 use Rattle.wb_refines.specs.Going.{records, shared_after, gone}
 use Rattle.wb_refines.specs.Translation.{writing_in}
+use Rattle.wb_refines.specs.Commits.{commit_there}
 use Rattle.wb_refines.proofs.Going.{own_steps, with_own}
 use Rattle.wb_promise.specs.declared.job.Job.{Job}
 use Rattle.wb_promise.specs.Clerk.{Notes, Doing, Position, Entering, begins, begun, put, nobody, entering, enter, enter_each, write_note, all_raised, greater_of}
@@ -237,13 +238,20 @@ module _ (size a : ℕ) (s : World) (y : AbstractActor) (n : Notes) (m : Abstrac
       ends_here Writethrough = (refl, refl, refl)
       ends_here Passthrough = (refl, refl, refl)
 
-  flush_answers : (script : Script) (doing : Doing) → y.task ≡ Some script → script.steps ≡ [] → script.answer ≡ AnsweredDone → script.job ≡ Flushing None → slice_get n.doings a ≡ Some (Some doing) → length doing.then_finished ≡ length n.floors →
+  commit_answers : (clean : Bool) (script : Script) (doing : Doing) → y.task ≡ Some script → script.steps ≡ [] → script.answer ≡ AnsweredDone → script.job ≡ commit_there clean → slice_get n.doings a ≡ Some (Some doing) → length doing.then_finished ≡ length n.floors →
       After (Done ∷ []) (put (record n { floors = greater_of n.floors doing.then_finished }) a None)
-  flush_answers script doing at none ans is here long =
-      let d = does_alike (Flushing None) script doing at is here in
-      answered (put (record n { floors = greater_of n.floors doing.then_finished }) a None) script (Flushing None) AnsweredDone at none ans is
-      (agree_after s.waiting (put (record n { floors = greater_of n.floors doing.then_finished }) a None) (noted_step m a (Some (Flushing None)) (End AnsweredDone)) s.shared over g.histories g.finished
-      ((λ i b o. max (g.floors i b o) (d.asked i b o)) ∙ sym (greater_counts size n.floors doing.then_finished (sym long))) refl refl (greater-length n.floors doing.then_finished (sym long)) (put_others None) (length-set n.doings a None) (λ b ne. changed_other m.jobs a b None ne) (λ b ne. changed_other m.entered a b (m.entered a) ne) (λ b ne. refl) tt)
+  commit_answers clean script doing at none ans is here long =
+      let d = does_alike (commit_there clean) script doing at is here in
+      let k = ends_here clean in
+      answered (put (record n { floors = greater_of n.floors doing.then_finished }) a None) script (commit_there clean) AnsweredDone at none ans is
+      (agree_after s.waiting (put (record n { floors = greater_of n.floors doing.then_finished }) a None) (noted_step m a (Some (commit_there clean)) (End AnsweredDone)) s.shared over (k.0 ∙ g.histories) (k.1 ∙ g.finished)
+      (k.2 ∙ (λ i b o. max (g.floors i b o) (d.asked i b o)) ∙ sym (greater_counts size n.floors doing.then_finished (sym long))) refl refl (greater-length n.floors doing.then_finished (sym long)) (put_others None) (length-set n.doings a None) (λ b ne. changed_other m.jobs a b None ne) (λ b ne. changed_other m.entered a b (entered_after m.histories (commit_there clean) (End AnsweredDone) (m.entered a)) ne) (λ b ne. refl) tt)
+    where
+      -- what its answer makes durable, whichever of both it is
+      ends_here : (clean : Bool) → (histories_after m.histories (commit_there clean) (End AnsweredDone) ≡ m.histories) × (finished_after (commit_there clean) (End AnsweredDone) (m.entered a) m.finished ≡ m.finished)
+          × ◌≡◌ {A = ℕ → ℕ → ℕ} (λ b o. abstract_floors_after (commit_there clean) (End AnsweredDone) (m.asked a) m.floors b o) (λ b o. max (m.floors b o) (m.asked a b o))
+      ends_here true = (refl, refl, refl)
+      ends_here false = (refl, refl, refl)
 
   -- of which nothing is noted but that its task is over
   ends_alone : (script : Script) → y.task ≡ Some script → script.steps ≡ [] → noted_step m a (Some script.job) (End script.answer) ≡ record m { jobs = changed m.jobs a None } → After (Done ∷ []) (put n a None)
@@ -420,10 +428,10 @@ notes_followed = record {
       let t = f.told y ey in let k = script_of (writing_in mode block os content) y.task t.0 in
       subst (λ (rs : List Record). NotesAgree now.size (put (record n { finished = all_raised n.finished doing.entered }) a None) (abstract_after_all s rs) (told m rs)) (sym t.1)
       (write_answers now.size a s y n m ey among g mode block os content k.script doing k.at k.none k.done k.is here);
-  flush_answered = λ turn a s now x f y n m ey among g doing here long.
-      let t = f.told y ey in let k = script_of (Flushing None) y.task t.0 in
+  commit_answered = λ clean turn a s now x f y n m ey among g doing here long.
+      let t = f.told y ey in let k = script_of (commit_there clean) y.task t.0 in
       subst (λ (rs : List Record). NotesAgree now.size (put (record n { floors = greater_of n.floors doing.then_finished }) a None) (abstract_after_all s rs) (told m rs)) (sym t.1)
-      (flush_answers now.size a s y n m ey among g k.script doing k.at k.none k.done k.is here long);
+      (commit_answers now.size a s y n m ey among g clean k.script doing k.at k.none k.done k.is here long);
   refused = λ job refusal turn a s now x f y n m ey among g.
       let t = f.told y ey in
       subst (λ (rs : List Record). NotesAgree now.size (put n a None) (abstract_after_all s rs) (told m rs)) (sym t.1) (by_task now.size a s y n m ey among g job refusal y.task refl t.0);

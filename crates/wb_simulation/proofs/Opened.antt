@@ -236,7 +236,7 @@ opened_followed mode size most origin_blocks cache_blocks clean entries learnt b
     has_failed = λ e. absurd (cc);
     at = subst (λ t. IsBusyAt size most false t x.card idle) (sym (rest a x e)) (refl, inl (record { task = refl; held = refl; leads = refl }));
     below = holds_nothing idle x.card refl;
-    among_others = refl;
+    among_others = λ among. refl;
   });
   orders_agree = no_orders size words actors cache_blocks (length actors) (opened_on s mode learnt blocks) rest;
 }

@@ -52,7 +52,7 @@ same_images geometry committed later metadata s t c r w k l g = record { read = 
 pub images_followed : ImagesFollowed
 images_followed = record {
   stay = λ geometry committed later old new s t g turn read. same_images geometry committed later new s t turn.0 turn.1 turn.2 turn.3 turn.4 (record { read = read; committed_is = g.committed_is; clean_is = g.clean_is; later_is = g.later_is });
-  begin = λ geometry committed metadata s t g turn. (record { read = g.read; committed_is = turn.0 ∙ g.committed_is; clean_is = subst (StateTakesClean committed) (sym turn.3) g.clean_is; later_is = tt }, turn.1);
+  begin = λ clean geometry committed metadata s t g turn. (record { read = g.read; committed_is = turn.0 ∙ g.committed_is; clean_is = subst (StateTakesClean committed) (sym turn.3) g.clean_is; later_is = tt }, turn.1);
   put = λ geometry committed state later old new s t g turn runs takes read. record { read = read; committed_is = turn.0 ∙ g.committed_is; clean_is = subst (StateTakesClean committed) (sym turn.3) g.clean_is; later_is = (turn.2, turn.1 ∙ runs, subst (StateTakesClean state) (sym turn.4) takes) };
   put_none = λ geometry committed written later old new s t g turn read. record { read = read; committed_is = turn.0 ∙ g.committed_is; clean_is = subst (StateTakesClean committed) (sym turn.3) g.clean_is; later_is = tt };
   end = λ geometry state metadata s t turn runs takes read. record { read = read; committed_is = turn.0 ∙ runs; clean_is = subst (StateTakesClean state) (sym turn.2) takes; later_is = tt };

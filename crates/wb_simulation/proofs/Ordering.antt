@@ -15,7 +15,7 @@ use Rattle.wb_tasks.specs.Plan.{Plan}
 use Rattle.wb_tasks.specs.declared.step.Migration.{Migration}
 use Rattle.wb_tasks.specs.declared.step.Migration.TheVariants.{Promote}
 use Rattle.wb_link.specs.Tables.{Job as AbstractJob, Order as AbstractOrder, Finished as AnsweredDone, Script, Flag, Done as DoneThere, abstract_table as table_there}
-use Rattle.wb_link.specs.World.{IsAbstractRun, World, Shared, Start, Again, ShareNoBlock, Ungiven, MayStart, MayAgain, AbstractActor, abstract_reserved, Record, abstract_order_of as order_of_job, aside, abstract_taken, abstract_given, abstract_after_all, start_actor, again_actor}
+use Rattle.wb_link.specs.World.{IsAbstractRun, World, is_alone, Shared, Start, Again, ShareNoBlock, Ungiven, MayStart, MayAgain, AbstractActor, abstract_reserved, Record, abstract_order_of as order_of_job, aside, abstract_taken, abstract_given, abstract_after_all, start_actor, again_actor}
 use Rattle.wb_contents.proofs.Lists.{set_there, set_other, set_twice}
 use Rattle.wb_refines.specs.Tasks.{AllInBlocks, IsResting}
 use Rattle.wb_refines.specs.Models.{held_of}
@@ -26,7 +26,7 @@ use Rattle.wb_refines.proofs.Carrying.{under_order}
 use Rattle.wb_refines.proofs.Tasks.{within_offsets}
 use Rattle.wb_promise.specs.declared.job.Job.TheVariants.{Migrate}
 use Rattle.wb_promise.specs.States.{Actor}
-use Rattle.wb_simulation.specs.Actors.{StandsFor}
+use Rattle.wb_simulation.specs.Actors.{StandsFor, AreAmongOthers}
 use Rattle.wb_simulation.proofs.Cut.{whole_part, whole_covered}
 use Rattle.wb_contents.proofs.Positions.{changed_same, changed_other}
 use Rattle.wb_link.proofs.Aside.{aside_cases}
@@ -79,7 +79,7 @@ module _ (now : Situation) (s : World) (g : Agrees now s) where
 
 -- ---- what it is there
 
-module _ (now : Situation) (a : ℕ) (x : Actor) (migration : Migration) (block : OBlock) (c : CBlock) (next : Option ℕ) (order : Order) (cut : List Extent) (s : World) (y : AbstractActor) (g : Agrees now s) (ex : slice_get now.actors a ≡ Some x) (ey : slice_get s.actors a ≡ Some y) (none : x.task ≡ None)
+module _ (now : Situation) (a : ℕ) (x : Actor) (migration : Migration) (block : OBlock) (c : CBlock) (next : Option ℕ) (order : Order) (cut : List Extent) (s : World) (y : AbstractActor) (g : Agrees now s) (among : AreAmongOthers now.actors) (ex : slice_get now.actors a ≡ Some x) (ey : slice_get s.actors a ≡ Some y) (none : x.task ≡ None)
     (hold : x.card.hold ≡ HoldsNothing) (some : 0 < now.size) (small : c.0 < 2 ^ 32) (is_cut : IsCutInto (whole_block now.size block) cut) (of : IsOrderFor migration block next order) (order_is : order_there s.shared.mapping c.0 order ≡ order_of_block block c next) where
   abbrev part : BlockRange
   part = record { mode = Writeback; block_sectors = now.size; block = block; extents = cut }
@@ -193,7 +193,7 @@ module _ (now : Situation) (a : ℕ) (x : Actor) (migration : Migration) (block 
 
     falls_there : (turn : Turn) (rs : List Record) → flag now.words.fail ≡ true → IsAbstractRun now.size s rs → abstract_after_all s rs ≡ record { shared = t; actors = slice_set s.actors a fallen; waiting = waiting } → IsResumed a y.task rs → IsGiven now.words turn s.shared t → WorldFollowsBy turn Resumes a s (record now { orders = orders' }) x'
     falls_there turn rs failed run is told i = begins now a x x' s y g ex ey turn Resumes orders' rs waiting t fallen run is told i (λ l. (l, λ more. absurd more))
-        (record { failed = false; has_failed = λ e. absurd (cc); at = tt; below = record { owned = st.below.owned; shared = st.below.shared }; among_others = refl }) (ordered fallen refl (late_done now.size now.words orders' migration block part plan x' fallen refl refl true (λ e. failed) (record { has_failed = refl; nothing = refl; at = inl refl })))
+        (record { failed = false; has_failed = λ e. absurd (cc); at = tt; below = record { owned = st.below.owned; shared = st.below.shared }; among_others = λ k. refl }) (ordered fallen refl (late_done now.size now.words orders' migration block part plan x' fallen refl refl true (λ e. failed) (record { has_failed = refl; nothing = refl; at = inl refl })))
 
   falls : (ys : List AbstractActor) (m : Migration) (u : Shared) (v : AbstractActor) → u.fail ≡ true → MayGo ys a u v (Some (table_there (job_under own (offsets now.size cut) m))) (Flag true ∷ DoneThere ∷ []) × (shared_after u v (Some (table_there (job_under own (offsets now.size cut) m))) (Flag true ∷ DoneThere ∷ []) ≡ u) × (gone v (Some (table_there (job_under own (offsets now.size cut) m))) (Flag true ∷ DoneThere ∷ []) ≡ record v { task = None })
   falls ys (Promote k) u v f = ((sym f, tt, (tt, tt, tt)), refl, refl)
@@ -221,7 +221,7 @@ module _ (now : Situation) (a : ℕ) (x : Actor) (migration : Migration) (block 
 
     starts_so : IsResting y → Goal
     starts_so idle = begins_there orders_then (order ∷ x.orders) (set_there now.orders c.0 None (Some order) no_order) (Contains-first order x.orders) (λ d n. set_other now.orders c.0 d (Some order) n) (aside s.waiting y.order) (λ d n. refl) aside_not alone (abstract_reserved s.shared job) (is_given migration).mapping (given_by migration c.0) (Start a job ∷ []) (fills_given migration may)
-        ((y, record { actor = ey; task = idle.task; free = inl (idle.held, idle.leads); nobody_alone = nobody_alone now s g; may = may_start migration may free waits }), tt)
+        ((y, record { actor = ey; task = idle.task; free = inl (idle.held, idle.leads); nobody_alone = nobody_alone now s g among; may = may_start migration may free waits }), tt)
         (ap (λ (o : Option AbstractActor). start_actor s a o job) ey ∙ (λ i. record { shared = abstract_reserved s.shared job; actors = slice_set s.actors a (given_is idle i); waiting = aside s.waiting y.order })) (Given job (under_migrates own (offsets now.size cut) migration) refl) (is_given migration)
 
     -- it has kept something at a failure, and is refused there at once
@@ -238,7 +238,7 @@ module _ (now : Situation) (a : ℕ) (x : Actor) (migration : Migration) (block 
         let w2 : World = record { shared = t; actors = slice_set s.actors a (record y { task = None; order = Some own }); waiting = aside s.waiting y.order } in
         let then_is : abstract_after_all w1 (records a (Some (table_there job)) results) ≡ w2 = went.is ∙ (λ i. record { shared = f.1 i; actors = slice_set (slice_set s.actors a y1) a (f.2 i); waiting = aside s.waiting y.order }) ∙ (λ i. record { shared = t; actors = set_twice s.actors a y1 (record y { task = None; order = under_order own (offsets now.size cut) migration i }) i; waiting = aside s.waiting y.order }) in
         falls_there orders_then (order ∷ x.orders) (set_there now.orders c.0 None (Some order) no_order) (Contains-first order x.orders) (λ d n. set_other now.orders c.0 d (Some order) n) (aside s.waiting y.order) (λ d n. refl) aside_not alone t (is_given migration).mapping (given_by migration c.0) (Start a job ∷ records a (Some (table_there job)) results) failed (
-          (y, record { actor = ey; task = rest.0; free = inr (g.words_agree.fail ∙ failed); nobody_alone = nobody_alone now s g; may = may_start migration may free waits }),
+          (y, record { actor = ey; task = rest.0; free = inr (g.words_agree.fail ∙ failed); nobody_alone = nobody_alone now s g among; may = may_start migration may free waits }),
           subst (λ (w : World). IsAbstractRun now.size w (records a (Some (table_there job)) results)) (sym begun_is) went.run,
         )
         (ap (λ (w : World). abstract_after_all w (records a (Some (table_there job)) results)) begun_is ∙ then_is) (Failing job (under_migrates own (offsets now.size cut) migration) rest.0 refl) (is_given migration)
@@ -255,7 +255,7 @@ module _ (now : Situation) (a : ℕ) (x : Actor) (migration : Migration) (block 
 
     -- it has kept something at a failure, and nothing is begun there
     late : flag now.words.fail ≡ true → Again_goal
-    late failed = stays_there now a x resuming s y g ex ey Resumes (subst (λ (t : Option Script). IsResumed a t (records a t [])) (sym rest.0) (Nowhere refl refl)) (record { failed = false; has_failed = λ e. absurd (cc); at = tt; below = st.below; among_others = st.among_others }) (λ o h. h)
+    late failed = stays_there now a x resuming s y g ex ey Resumes (subst (λ (t : Option Script). IsResumed a t (records a t [])) (sym rest.0) (Nowhere refl refl)) (record { failed = false; has_failed = λ e. absurd (cc); at = tt; below = st.below; among_others = λ k. ap is_alone rest.0 }) (λ o h. h)
         (late_done now.size now.words now.orders migration block part plan resuming y refl refl true (λ e. failed) (record { has_failed = refl; nothing = rest.0; at = inl refl }))
 
     -- no other actor has it
@@ -275,7 +275,7 @@ module _ (now : Situation) (a : ℕ) (x : Actor) (migration : Migration) (block 
     again_so : IsResting y → Again_goal
     again_so idle = begins_there now.orders x.orders live mine (λ d n. refl) (abstract_taken (aside s.waiting y.order) (order_of_job job)) (λ d n. ap (λ (o : Option AbstractOrder). abstract_taken (aside s.waiting y.order) o d) own_job ∙ changed_other (aside s.waiting y.order) c.0 d None n)
         (λ d p e w. let bad : None ≡ Some p = sym (ap (λ (o : Option AbstractOrder). abstract_taken (aside s.waiting y.order) o c.0) own_job ∙ changed_same (aside s.waiting y.order) c.0 None) ∙ ap (abstract_taken (aside s.waiting y.order) (order_of_job job)) (sym e) ∙ w in absurd (cc)) nobody_else s.shared refl Stays (Again a job ∷ []) (fills_kept migration may)
-        ((y, record { actor = ey; task = idle.task; free = inl (idle.held, idle.leads); order = (own, own_job, is_put); nobody_alone = nobody_alone now s g; may = may_again migration may }), tt)
+        ((y, record { actor = ey; task = idle.task; free = inl (idle.held, idle.leads); order = (own, own_job, is_put); nobody_alone = nobody_alone now s g among; may = may_again migration may }), tt)
         (ap (λ (o : Option AbstractActor). again_actor s a o job) ey ∙ (λ i. record { shared = s.shared; actors = slice_set s.actors a (given_is idle i); waiting = abstract_taken (aside s.waiting y.order) (order_of_job job) })) (Kept job (under_migrates own (offsets now.size cut) migration) refl) (given_nothing now.words s.shared g.words_agree)
 
     pub again : Again_goal

@@ -28,7 +28,7 @@ empty_device c size count = λ i b o. here (nat_lt o size) (b * size + o) i
     here false at = refl
 
 rests : (size most blocks : ℕ) → StandsFor size most (fresh_words blocks) resting idle
-rests size most blocks = record { failed = false; has_failed = λ e. absurd (cc); at = (refl, inl (record { task = refl; held = refl; leads = refl })); below = holds_nothing idle resting.card refl; among_others = refl }
+rests size most blocks = record { failed = false; has_failed = λ e. absurd (cc); at = (refl, inl (record { task = refl; held = refl; leads = refl })); below = holds_nothing idle resting.card refl; among_others = λ among. refl }
 
 pub can_agree : CanAgree
 can_agree size most blocks caches cache origin many = record {

@@ -8,7 +8,7 @@ use Rattle.wb_link.specs.Tables.{Order as AbstractOrder}
 use Rattle.wb_link.specs.World.{World, Shared, Release, release_order, block_given_back, aside, after_record, AbstractActor}
 use Rattle.wb_contents.proofs.Lists.{set_there, set_other, set_same}
 use Rattle.wb_promise.specs.States.{Actor}
-use Rattle.wb_simulation.specs.Actors.{StandsFor}
+use Rattle.wb_simulation.specs.Actors.{StandsFor, AreAmongOthers}
 use Rattle.wb_simulation.specs.Carried.{held, live_there, order_there}
 use Rattle.wb_simulation.specs.Telling.{Releases}
 use Rattle.wb_simulation.specs.Worlds.{Situation, Agrees, OrdersAgree, GivesUp, WorldFollowsBy}
@@ -17,7 +17,7 @@ use Rattle.wb_simulation.proofs.Starting.{begins}
 use Rattle.wb_simulation.proofs.Orders.{IsNoMigration, cache_there, does_none, begins_so}
 use Rattle.wb_simulation.proofs.Among.{whose, nobody_alone}
 
-module _ (now : Situation) (a : ℕ) (x x' : Actor) (s : World) (y : AbstractActor) (ex : slice_get now.actors a ≡ Some x) (ey : slice_get s.actors a ≡ Some y) (g : Agrees now s)
+module _ (now : Situation) (a : ℕ) (x x' : Actor) (s : World) (y : AbstractActor) (ex : slice_get now.actors a ≡ Some x) (ey : slice_get s.actors a ≡ Some y) (g : Agrees now s) (among : AreAmongOthers now.actors)
     (c : ℕ) (order : Order) (slot : slice_get now.orders c ≡ Some (Some order)) (only : IsOnlyOf now.actors a order) (none : y.order ≡ None) (st : StandsFor now.size now.most now.words x' y) (other : IsNoMigration x'.task) where
   abbrev own : AbstractOrder
   own = order_there s.shared.mapping c order
@@ -58,5 +58,5 @@ module _ (now : Situation) (a : ℕ) (x x' : Actor) (s : World) (y : AbstractAct
       (λ d p e w. let bad : None ≡ Some p = sym (changed_same s.waiting c None) ∙ ap (changed s.waiting c None) (sym e) ∙ w in absurd (cc)) (λ b v p n ev e at. nobody b v p ev e at) t refl
 
   pub released_there : WorldFollowsBy (GivesUp c) Releases a s (record now { orders = over }) x'
-  released_there = begins now a x x' s y g ex ey (GivesUp c) Releases over (Release c ∷ []) (changed s.waiting c None) t y ((own, waits, nobody_alone now s g), tt) world_is (c, refl)
+  released_there = begins now a x x' s y g ex ey (GivesUp c) Releases over (Release c ∷ []) (changed s.waiting c None) t y ((own, waits, nobody_alone now s g among), tt) world_is (c, refl)
       (record { words_agree = record { fail = g.words_agree.fail; seals = g.words_agree.seals }; origin = refl; cache = refl; mode = refl; commits = refl; broken = refl; mapping = refl; turned = (refl, refl, refl, refl, refl); desk = (refl, refl) }) (λ l. (l, λ more. more)) st ordered

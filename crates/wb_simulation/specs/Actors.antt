@@ -1,11 +1,11 @@
 -- When an actor of a run is one of the abstract world, where a target stands.
-use Rattle.std.specs.Prelude.{◌≡◌, ◌≢◌, ◌⊎◌, ℕ, Bool, true, false, List, [], ◌∷◌, Option, Some, None}
+use Rattle.std.specs.Prelude.{◌≡◌, ◌≢◌, ◌⊎◌, ℕ, Bool, true, false, List, [], ◌∷◌, Option, Some, None, slice_get}
 use Rattle.wb_disk.specs.Device.{Content}
 use Rattle.wb_words.specs.SharedWords.{Words, flag}
 use Rattle.wb_words.specs.declared.card.Card.{Card}
-use Rattle.wb_words.specs.declared.step.CellStep.TheVariants.{Look, SetFailed}
-use Rattle.wb_words.specs.declared.word.Word.TheVariants.{Fail}
-use Rattle.wb_tasks.specs.Tables.{BlockRange, BlockJob, Reading, Writing, OnBlock, Flushing}
+use Rattle.wb_words.specs.declared.step.CellStep.TheVariants.{Look, SetFailed, SetSuspended}
+use Rattle.wb_words.specs.declared.word.Word.TheVariants.{Fail, Seal as SealWord}
+use Rattle.wb_tasks.specs.Tables.{BlockRange, BlockJob, Reading, Writing, OnBlock}
 use Rattle.wb_tasks.specs.Plan.{Plan, table}
 use Rattle.wb_tasks.specs.declared.step.Answer.TheVariants.{Done as Finished}
 use Rattle.wb_tasks.specs.declared.step.Want.{Want}
@@ -16,10 +16,10 @@ use Rattle.wb_tasks.specs.declared.step.DeskStep.TheVariants.{BeginCommit, Relea
 use Rattle.wb_types.specs.declared.number.OBlock.{OBlock}
 use Rattle.wb_link.specs.World.{AbstractActor, is_alone}
 use Rattle.wb_refines.specs.Models.{IsAt, HasStopped, IsBelow}
-use Rattle.wb_refines.specs.Flushes.{IsFlushing, IsOnMetadata}
+use Rattle.wb_refines.specs.Commits.{IsCommitting, IsToBegin, IsOnMetadata, commit_task}
 use Rattle.wb_refines.specs.Tasks.{IsResting}
 use Rattle.wb_promise.specs.declared.job.Job.{Job}
-use Rattle.wb_promise.specs.declared.job.Job.TheVariants.{Read, Write, Flush, Open, Migrate, Replace}
+use Rattle.wb_promise.specs.declared.job.Job.TheVariants.{Read, Write, Flush, Suspend, Open, Migrate, Replace}
 use Rattle.wb_promise.specs.States.{Actor}
 use Rattle.wb_simulation.specs.Steps.{IsPart, AreOfBlock}
 
@@ -43,43 +43,47 @@ AreReleases [] = Unit {0}
 AreReleases (Desk (ReleaseOrder block) ∷ later) = AreReleases later
 AreReleases steps = ⊥
 
--- what may be left of a flush
-abbrev pub IsOfFlush : ℕ → List Want → Type 0
-IsOfFlush most [] = Unit {0}
-IsOfFlush most (Cell (Look Fail) ∷ later) = later ≡ Desk (BeginCommit false most) ∷ []
-IsOfFlush most (Desk (BeginCommit clean nodes) ∷ later) = (clean ≡ false) × (nodes ≡ most) × (later ≡ [])
-IsOfFlush most (Desk (ReleaseOrder block) ∷ later) = AreReleases later
-IsOfFlush most (Cell SetFailed ∷ later) = later ≡ []
-IsOfFlush most (Device (Sync Cache) ∷ Device (Sync Origin) ∷ later) = IsOnMetadata later
-IsOfFlush most (Device (Sync Origin) ∷ later) = IsOnMetadata later
-IsOfFlush most later = IsOnMetadata later
+-- What may be left of a flush, or of a suspend, which marks its root clean.
+abbrev pub IsOfCommit : (clean : Bool) → ℕ → List Want → Type 0
+IsOfCommit clean most [] = Unit {0}
+IsOfCommit clean most (Cell (Look Fail) ∷ later) = IsToBegin clean most later
+IsOfCommit clean most (Cell (Look (SealWord block)) ∷ later) = (clean ≡ true) × IsToBegin true most later
+IsOfCommit clean most (Desk (BeginCommit marked nodes) ∷ later) = (marked ≡ clean) × (nodes ≡ most) × (later ≡ [])
+IsOfCommit clean most (Desk (ReleaseOrder block) ∷ later) = (clean ≡ false) × AreReleases later
+IsOfCommit clean most (Cell SetFailed ∷ later) = later ≡ []
+IsOfCommit clean most (Cell SetSuspended ∷ later) = (clean ≡ true) × (later ≡ [])
+IsOfCommit clean most (Device (Sync Cache) ∷ Device (Sync Origin) ∷ later) = IsOnMetadata clean later
+IsOfCommit clean most (Device (Sync Origin) ∷ later) = IsOnMetadata clean later
+IsOfCommit clean most later = IsOnMetadata clean later
 
--- a flush leads a commit from its beginning to its end
+-- it leads a commit from its beginning to its end
 abbrev pub LeadsAt : Bool → List Want → Type 0
 LeadsAt leads [] = Unit {0}
-LeadsAt leads (Cell (Look Fail) ∷ later) = leads ≡ false
+LeadsAt leads (Cell (Look word) ∷ later) = leads ≡ false
+LeadsAt leads (Cell SetSuspended ∷ later) = leads ≡ false
 LeadsAt leads (Desk (BeginCommit clean most) ∷ later) = leads ≡ false
 LeadsAt leads (Desk (ReleaseOrder block) ∷ later) = leads ≡ false
 LeadsAt leads steps = leads ≡ true
 
--- it is at the same there; where it leads a commit still when it answers, the target has failed
+-- It is at the same there; where it leads a commit still when it answers, the target has failed
 pub record IsLeading (size : ℕ) (failed : Bool) (plan : Plan) (y : AbstractActor) : Type 0 where
   pub leads : Bool
   pub at : LeadsAt leads plan.steps
   pub has_failed : leads ≡ true → plan.steps ≡ [] → failed ≡ true
-  pub is : IsFlushing size [] plan leads y
+  pub is : IsCommitting size [] plan leads y
 
-pub record IsFlushAt (size most : ℕ) (failed : Bool) (plan : Plan) (y : AbstractActor) : Type 0 where
-  pub serves : List OBlock
-  pub job : plan.job ≡ Flushing serves most
-  pub steps : IsOfFlush most plan.steps
+pub record IsCommitAt (size most : ℕ) (failed clean : Bool) (plan : Plan) (y : AbstractActor) : Type 0 where
+  pub blocks : List OBlock
+  pub job : plan.job ≡ commit_task clean blocks most
+  pub steps : IsOfCommit clean most plan.steps
   pub at : IsLeading size failed plan y ⊎ IsLate failed plan y
 
 -- what an actor with this job is there; of a migration `Carried` speaks
 abbrev pub IsDoing : (size most : ℕ) → Bool → Job → Plan → Card → AbstractActor → Type 0
 IsDoing size most failed (Read extent) plan card y = IsRequestAt size [] failed Reading plan card y
 IsDoing size most failed (Write extent content) plan card y = IsRequestAt size content failed Writing plan card y
-IsDoing size most failed Flush plan card y = IsFlushAt size most failed plan y
+IsDoing size most failed Flush plan card y = IsCommitAt size most failed false plan y
+IsDoing size most failed Suspend plan card y = IsCommitAt size most failed true plan y
 IsDoing size most failed (Open mode) plan card y = ⊥
 IsDoing size most failed (Migrate migration block) plan card y = Unit {0}
 IsDoing size most failed (Replace old new) plan card y = ⊥
@@ -89,11 +93,24 @@ abbrev pub IsBusyAt : (size most : ℕ) → Bool → Option (Job × Plan) → Ca
 IsBusyAt size most failed None card y = (y.task ≡ None) × (IsResting y ⊎ (failed ≡ true))
 IsBusyAt size most failed (Some doing) card y = IsDoing size most failed doing.0 doing.1 card y
 
--- An actor of a run is this one there, which has no block that the card does not count, and no task that has to be alone. What it is at may
--- rest on it that the target has failed, which it has then, and for good.
+-- a suspend has to be alone, and nothing else has
+abbrev pub IsAmong : Job → Type 0
+IsAmong Suspend = ⊥
+IsAmong job = Unit {0}
+
+abbrev pub IsAmongOthers : Option (Job × Plan) → Type 0
+IsAmongOthers None = Unit {0}
+IsAmongOthers (Some doing) = IsAmong doing.0
+
+-- nobody suspends
+abbrev pub AreAmongOthers : List Actor → Type 0
+AreAmongOthers actors = (b : ℕ) (z : Actor) → slice_get actors b ≡ Some z → IsAmongOthers z.task
+
+-- An actor of a run is this one there, which has no block that the card does not count, and no task that has to be alone but a suspend. What it is
+-- at may rest on it that the target has failed, which it has then, and for good.
 pub record StandsFor (size most : ℕ) (words : Words) (x : Actor) (y : AbstractActor) : Type 0 where
   pub failed : Bool
   pub has_failed : failed ≡ true → flag words.fail ≡ true
   pub at : IsBusyAt size most failed x.task x.card y
   pub below : IsBelow y x.card
-  pub among_others : is_alone y.task ≡ false
+  pub among_others : IsAmongOthers x.task → is_alone y.task ≡ false

@@ -14,11 +14,11 @@ use Rattle.wb_words.specs.SharedWords.{Words, fail_word, fresh_words}
 use Rattle.wb_words.specs.Rule.{LockRule}
 use Rattle.wb_words.specs.Effects.{result_of, words_after, card_after}
 use Rattle.wb_words.specs.declared.step.CellStep.{CellStep}
-use Rattle.wb_words.specs.declared.step.CellStep.TheVariants.{Look, SetFailed}
-use Rattle.wb_words.specs.declared.word.Word.TheVariants.{Fail}
+use Rattle.wb_words.specs.declared.step.CellStep.TheVariants.{Look, SetFailed, SetSuspended}
+use Rattle.wb_words.specs.declared.word.Word.TheVariants.{Fail, Seal as SealWord}
 use Rattle.wb_policy.specs.declared.order.Order.{Order}
 use Rattle.wb_tasks.specs.Plan.{Plan, want, after, got_of, table, device_of}
-use Rattle.wb_tasks.specs.Tables.{BlockRange, Reading, Writing, OnBlock, Flushing}
+use Rattle.wb_tasks.specs.Tables.{BlockRange, Reading, Writing, OnBlock, Flushing, Suspending}
 use Rattle.wb_tasks.specs.declared.step.Answer.{Answer}
 use Rattle.wb_words.specs.declared.card.Hold.TheVariants.{Nothing}
 use Rattle.wb_tasks.specs.Ready.{Suits, HoldsBlocks}
@@ -30,15 +30,17 @@ use Rattle.wb_tasks.specs.declared.step.DeviceStep.TheVariants.{Read as ReadExte
 use Rattle.wb_tasks.specs.declared.step.Got.{Got}
 use Rattle.wb_tasks.specs.declared.step.Got.TheVariants.{Done, Fault, Began, Refused}
 use Rattle.wb_devices.specs.Moving.{device_in}
-use Rattle.wb_link.specs.Tables.{Job as AbstractJob, Flushing as FlushingFor}
+use Rattle.wb_link.specs.Tables.{Job as AbstractJob}
 use Rattle.wb_refines.specs.Translation.{job_for}
 use Rattle.wb_link.specs.World.{World, abstract_begins as world_begins}
-use Rattle.wb_refines.specs.Flushes.{IsNoBegin, IsWrittenAfter}
+use Rattle.wb_refines.specs.Commits.{IsNoBegin, IsWrittenAfter, commit_there}
 use Rattle.wb_promise.specs.declared.job.Job.{Job}
-use Rattle.wb_promise.specs.declared.job.Job.TheVariants.{Read, Write, Flush}
+use Rattle.wb_promise.specs.declared.job.Job.TheVariants.{Read, Write, Flush, Suspend}
 use Rattle.wb_promise.specs.States.{Actor, resting, with_device}
 use Rattle.wb_promise.specs.Clerk.{is_entered}
 use Rattle.wb_runs.specs.Holding.{cards_of}
+use Rattle.wb_simulation.specs.Actors.{AreAmongOthers}
+use Rattle.wb_simulation.specs.Opened.{AreAtRest}
 use Rattle.wb_simulation.specs.Carried.{held}
 use Rattle.wb_simulation.specs.Steps.{IsPart}
 use Rattle.wb_simulation.specs.Telling.{Telling, Quietly, Reads, Writes, Answers, Starts, Releases}
@@ -93,17 +95,21 @@ pub record ExtentStepsFollowed : Type 0 where
 abbrev pub Begun : AbstractJob → ℕ → World → Situation → Actor → Type 0
 Begun job a s now x = WorldFollows (Starts job) a s now x ⊎ WorldFollows Quietly a s now x
 
--- A read or write of one part of a block, or a flush, begins, whether its actor has kept something at a failure or not.
+-- A read or write of one part of a block, or a flush, begins where nobody suspends, and a suspend where nobody is at anything, whether its actor has
+-- kept something at a failure or not.
 pub record StartsFollowed : Type 0 where
   pub read : (now : Situation) (a : ℕ) (x : Actor) (extent : Extent) (part : BlockRange) (s : World) →
-      slice_get now.actors a ≡ Some x → x.task ≡ None → x.card.hold ≡ Nothing → IsPart now.size part → Agrees now s →
+      slice_get now.actors a ≡ Some x → x.task ≡ None → x.card.hold ≡ Nothing → IsPart now.size part → AreAmongOthers now.actors → Agrees now s →
       Begun (job_for now.size [] (OnBlock (Reading part))) a s now (record x { task = Some (Read extent, table (OnBlock (Reading part))) })
   pub write : (now : Situation) (a : ℕ) (x : Actor) (extent : Extent) (content : Content) (part : BlockRange) (s : World) →
-      slice_get now.actors a ≡ Some x → x.task ≡ None → x.card.hold ≡ Nothing → IsPart now.size part → part.mode ≡ now.mode → Agrees now s →
+      slice_get now.actors a ≡ Some x → x.task ≡ None → x.card.hold ≡ Nothing → IsPart now.size part → part.mode ≡ now.mode → AreAmongOthers now.actors → Agrees now s →
       Begun (job_for now.size content (OnBlock (Writing part))) a s now (record x { task = Some (Write extent content, table (OnBlock (Writing part))) })
   pub flush : (now : Situation) (a : ℕ) (x : Actor) (serves : List OBlock) (s : World) →
-      slice_get now.actors a ≡ Some x → x.task ≡ None → Agrees now s →
-      Begun (FlushingFor None) a s now (record x { task = Some (Flush, table (Flushing serves now.most)) })
+      slice_get now.actors a ≡ Some x → x.task ≡ None → AreAmongOthers now.actors → Agrees now s →
+      Begun (commit_there false) a s now (record x { task = Some (Flush, table (Flushing serves now.most)) })
+  pub suspend : (now : Situation) (a : ℕ) (x : Actor) (looks : List OBlock) (seen' : List Bool) (s : World) →
+      slice_get now.actors a ≡ Some x → AreAtRest now.actors → Agrees now s →
+      Begun (commit_there true) a s now (record x { task = Some (Suspend, table (Suspending looks now.most)); seen = seen' })
 
 -- what a job writes to each of its sectors
 abbrev pub job_content : Job → Content
@@ -125,46 +131,59 @@ turn_of step = Stays
 abbrev pub IsOnlyOf : List Actor → ℕ → Order → Type 0
 IsOnlyOf actors a order = (b : ℕ) (z : Actor) → slice_get actors b ≡ Some z → Contains (held z) order → b ≡ a
 
--- Each step of a flush, with each result that it may have: on the words, on the desk, and on the devices, done or failing.
-pub record FlushStepsFollowed : Type 0 where
-  pub looks : (now : Situation) (a : ℕ) (x : Actor) (plan : Plan) (s : World) →
-      WantsNext now a x s Flush plan (Cell (Look Fail)) →
-      WorldFollows Quietly a s now (stepped_actor now.words Flush plan (Look Fail) x)
-  pub begins : (now : Situation) (nodes allowed : ℕ) (clean : Bool) (a : ℕ) (x : Actor) (plan : Plan) (s : World) →
-      WantsNext now a x s Flush plan (Desk (BeginCommit clean allowed)) → now.committing ≡ false →
-      WorldFollowsBy Begins Quietly a s (record now { committing = true }) (after_step Flush plan (Began nodes) x)
-  pub is_refused : (now : Situation) (allowed : ℕ) (clean : Bool) (refusal : Refusal) (a : ℕ) (x : Actor) (plan : Plan) (s : World) → IsNoBegin refusal →
-      WantsNext now a x s Flush plan (Desk (BeginCommit clean allowed)) →
-      WorldFollows Quietly a s now (after_step Flush plan (Refused refusal) x)
-  pub syncs : (now : Situation) (device : Dev) (a : ℕ) (x : Actor) (plan : Plan) (s : World) → HoldsBlocks device →
-      WantsNext now a x s Flush plan (Device (Sync device)) →
-      WorldFollows Quietly a s (record now { devices = with_device device now.devices (synced (device_in device now.devices)) }) (after_step Flush plan Done x)
-  pub sync_fails : (now : Situation) (device : Dev) (lands : ℕ → Bool) (a : ℕ) (x : Actor) (plan : Plan) (s : World) → HoldsBlocks device →
-      WantsNext now a x s Flush plan (Device (Sync device)) →
-      WorldFollows Quietly a s (record now { devices = with_device device now.devices (synced_where lands (device_in device now.devices)) }) (after_step Flush plan Fault x)
+-- the job of a run that makes such a commit
+abbrev pub commit_job : (clean : Bool) → Job
+commit_job true = Suspend
+commit_job false = Flush
+
+-- Each step of a flush, or of a suspend, which marks its root clean, with each result that it may have: on the words, on the desk, and on the
+-- devices, done or failing.
+pub record CommitStepsFollowed : Type 0 where
+  pub looks : (clean : Bool) (now : Situation) (a : ℕ) (x : Actor) (plan : Plan) (s : World) →
+      WantsNext now a x s (commit_job clean) plan (Cell (Look Fail)) →
+      WorldFollows Quietly a s now (stepped_actor now.words (commit_job clean) plan (Look Fail) x)
+  -- a suspend has seen this then
+  pub sees : (now : Situation) (block : OBlock) (seen' : List Bool) (a : ℕ) (x : Actor) (plan : Plan) (s : World) →
+      WantsNext now a x s Suspend plan (Cell (Look (SealWord block))) →
+      WorldFollows Quietly a s now (record (stepped_actor now.words Suspend plan (Look (SealWord block)) x) { seen = seen' })
+  pub begins : (clean : Bool) (now : Situation) (nodes allowed : ℕ) (marked : Bool) (a : ℕ) (x : Actor) (plan : Plan) (s : World) →
+      WantsNext now a x s (commit_job clean) plan (Desk (BeginCommit marked allowed)) → now.committing ≡ false →
+      WorldFollowsBy (Begins clean) Quietly a s (record now { committing = true }) (after_step (commit_job clean) plan (Began nodes) x)
+  pub is_refused : (clean : Bool) (now : Situation) (allowed : ℕ) (marked : Bool) (refusal : Refusal) (a : ℕ) (x : Actor) (plan : Plan) (s : World) → IsNoBegin refusal →
+      WantsNext now a x s (commit_job clean) plan (Desk (BeginCommit marked allowed)) →
+      WorldFollows Quietly a s now (after_step (commit_job clean) plan (Refused refusal) x)
+  pub syncs : (clean : Bool) (now : Situation) (device : Dev) (a : ℕ) (x : Actor) (plan : Plan) (s : World) → HoldsBlocks device →
+      WantsNext now a x s (commit_job clean) plan (Device (Sync device)) →
+      WorldFollows Quietly a s (record now { devices = with_device device now.devices (synced (device_in device now.devices)) }) (after_step (commit_job clean) plan Done x)
+  pub sync_fails : (clean : Bool) (now : Situation) (device : Dev) (lands : ℕ → Bool) (a : ℕ) (x : Actor) (plan : Plan) (s : World) → HoldsBlocks device →
+      WantsNext now a x s (commit_job clean) plan (Device (Sync device)) →
+      WorldFollows Quietly a s (record now { devices = with_device device now.devices (synced_where lands (device_in device now.devices)) }) (after_step (commit_job clean) plan Fault x)
   -- whatever the step leaves of the metadata
-  pub on_metadata : (now : Situation) (step : DeviceStep) (metadata : List History) (a : ℕ) (x : Actor) (plan : Plan) (s : World) → device_of step ≡ Metadata →
-      WantsNext now a x s Flush plan (Device step) →
-      WorldFollowsBy (turn_of step) Quietly a s (record now { devices = with_device Metadata now.devices metadata }) (after_step Flush plan Done x)
-  pub metadata_fails : (now : Situation) (step : DeviceStep) (metadata : List History) (a : ℕ) (x : Actor) (plan : Plan) (s : World) → device_of step ≡ Metadata →
-      WantsNext now a x s Flush plan (Device step) →
-      (written : Bool) × IsWrittenAfter step s.shared.root_written written × WorldFollowsBy (Puts written) Quietly a s (record now { devices = with_device Metadata now.devices metadata }) (after_step Flush plan Fault x)
-  pub ends : (now : Situation) (a : ℕ) (x : Actor) (plan : Plan) (s : World) →
-      WantsNext now a x s Flush plan (Desk EndCommit) →
-      WorldFollowsBy Ends Quietly a s (record now { committing = false }) (after_step Flush plan Done x)
-  -- an order that waits for it is given up, or none is
-  pub gives_up : (now : Situation) (block : OBlock) (a : ℕ) (x : Actor) (plan : Plan) (c : ℕ) (order : Order) (awaiting' : List Order) (s : World) →
+  pub on_metadata : (clean : Bool) (now : Situation) (step : DeviceStep) (metadata : List History) (a : ℕ) (x : Actor) (plan : Plan) (s : World) → device_of step ≡ Metadata →
+      WantsNext now a x s (commit_job clean) plan (Device step) →
+      WorldFollowsBy (turn_of step) Quietly a s (record now { devices = with_device Metadata now.devices metadata }) (after_step (commit_job clean) plan Done x)
+  pub metadata_fails : (clean : Bool) (now : Situation) (step : DeviceStep) (metadata : List History) (a : ℕ) (x : Actor) (plan : Plan) (s : World) → device_of step ≡ Metadata →
+      WantsNext now a x s (commit_job clean) plan (Device step) →
+      (written : Bool) × IsWrittenAfter step s.shared.root_written written × WorldFollowsBy (Puts written) Quietly a s (record now { devices = with_device Metadata now.devices metadata }) (after_step (commit_job clean) plan Fault x)
+  pub ends : (clean : Bool) (now : Situation) (a : ℕ) (x : Actor) (plan : Plan) (s : World) →
+      WantsNext now a x s (commit_job clean) plan (Desk EndCommit) →
+      WorldFollowsBy Ends Quietly a s (record now { committing = false }) (after_step (commit_job clean) plan Done x)
+  -- an order that waits for a flush is given up, where nobody suspends; or none is
+  pub gives_up : (now : Situation) (block : OBlock) (a : ℕ) (x : Actor) (plan : Plan) (c : ℕ) (order : Order) (awaiting' : List Order) (s : World) → AreAmongOthers now.actors →
       WantsNext now a x s Flush plan (Desk (ReleaseOrder block)) → slice_get now.orders c ≡ Some (Some order) → IsOnlyOf now.actors a order →
       WorldFollowsBy (GivesUp c) Releases a s (record now { orders = slice_set now.orders c None }) (record (after_step Flush plan Done x) { awaiting = awaiting' })
-  pub releases : (now : Situation) (block : OBlock) (a : ℕ) (x : Actor) (plan : Plan) (s : World) →
-      WantsNext now a x s Flush plan (Desk (ReleaseOrder block)) →
-      WorldFollows Quietly a s now (after_step Flush plan Done x)
-  pub fails : (now : Situation) (failures suspensions : ℕ) (a : ℕ) (x : Actor) (plan : Plan) (s : World) → now.words.fail ≡ fail_word failures suspensions →
-      WantsNext now a x s Flush plan (Cell SetFailed) →
-      WorldFollows Quietly a s (record now { words = words_after now.words SetFailed }) (stepped_actor now.words Flush plan SetFailed x)
-  pub answers : (now : Situation) (answer : Answer) (a : ℕ) (x : Actor) (plan : Plan) (orders' awaiting' : List Order) (s : World) →
-      WantsNext now a x s Flush plan (End answer) → ((o : Order) → Contains (held x) o → Contains (orders' ++ awaiting') o) →
-      WorldFollows (Answers (FlushingFor None) answer) a s now (record x { task = None; orders = orders'; awaiting = awaiting' })
+  pub releases : (clean : Bool) (now : Situation) (block : OBlock) (a : ℕ) (x : Actor) (plan : Plan) (s : World) →
+      WantsNext now a x s (commit_job clean) plan (Desk (ReleaseOrder block)) →
+      WorldFollows Quietly a s now (after_step (commit_job clean) plan Done x)
+  pub fails : (clean : Bool) (now : Situation) (failures suspensions : ℕ) (a : ℕ) (x : Actor) (plan : Plan) (s : World) → now.words.fail ≡ fail_word failures suspensions →
+      WantsNext now a x s (commit_job clean) plan (Cell SetFailed) →
+      WorldFollows Quietly a s (record now { words = words_after now.words SetFailed }) (stepped_actor now.words (commit_job clean) plan SetFailed x)
+  pub suspends : (now : Situation) (failures suspensions : ℕ) (a : ℕ) (x : Actor) (plan : Plan) (s : World) → now.words.fail ≡ fail_word failures suspensions →
+      WantsNext now a x s Suspend plan (Cell SetSuspended) →
+      WorldFollows Quietly a s (record now { words = words_after now.words SetSuspended }) (stepped_actor now.words Suspend plan SetSuspended x)
+  pub answers : (clean : Bool) (now : Situation) (answer : Answer) (a : ℕ) (x : Actor) (plan : Plan) (orders' awaiting' : List Order) (s : World) →
+      WantsNext now a x s (commit_job clean) plan (End answer) → ((o : Order) → Contains (held x) o → Contains (orders' ++ awaiting') o) →
+      WorldFollows (Answers (commit_there clean) answer) a s now (record x { task = None; orders = orders'; awaiting = awaiting' })
 
 -- a target that was just made over empty devices of these sizes, with so many actors who have nothing to do, and no order
 abbrev pub CanAgree : Type 0

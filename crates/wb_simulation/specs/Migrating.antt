@@ -25,6 +25,7 @@ use Rattle.wb_devices.specs.Moving.{device_in}
 use Rattle.wb_promise.specs.declared.job.Job.{Job}
 use Rattle.wb_promise.specs.declared.job.Job.TheVariants.{Migrate}
 use Rattle.wb_promise.specs.States.{Actor, with_device}
+use Rattle.wb_simulation.specs.Actors.{AreAmongOthers}
 use Rattle.wb_simulation.specs.Telling.{Resumes, Carries, Rests}
 use Rattle.wb_simulation.specs.Laws.{WantsNext, stepped_actor, after_step, IsOnlyOf}
 use Rattle.wb_words.specs.Rule.{LockRule}
@@ -111,13 +112,13 @@ pub record MigrationsFollowed : Type 0 where
   -- under an order that is given
   pub starts : (now : Situation) (a : ℕ) (x : Actor) (migration : Migration) (block : OBlock) (c : CBlock) (next : Option ℕ) (order : Order) (cut : List Extent) (s : World) →
       slice_get now.actors a ≡ Some x → x.task ≡ None → x.card.hold ≡ Nothing → 0 < now.size → c.0 < 2 ^ 32 → IsCutInto (whole_block now.size block) cut → slice_get now.orders c.0 ≡ Some None → IsOrderFor migration block next order → order_there s.shared.mapping c.0 order ≡ order_of_block block c next → IsUngiven s.shared.mapping now.orders (order_of_block block c next) → ((b : ℕ) → next ≡ Some b → s.shared.mapping b ≡ None) →
-      MayBeGiven migration block.0 c.0 s.shared → Agrees now s →
+      MayBeGiven migration block.0 c.0 s.shared → AreAmongOthers now.actors → Agrees now s →
       WorldFollowsBy (given_by migration c.0) Resumes a s (record now { orders = slice_set now.orders c.0 (Some order) })
       (record x { task = Some (Migrate migration block, migrates now.size migration block cut); orders = order ∷ x.orders })
   -- under one that lives and is its actor's alone
   pub again : (now : Situation) (a : ℕ) (x : Actor) (migration : Migration) (block : OBlock) (c : CBlock) (next : Option ℕ) (order : Order) (cut : List Extent) (s : World) →
       slice_get now.actors a ≡ Some x → x.task ≡ None → x.card.hold ≡ Nothing → 0 < now.size → c.0 < 2 ^ 32 → IsCutInto (whole_block now.size block) cut → slice_get now.orders c.0 ≡ Some (Some order) → IsOrderFor migration block next order → order_there s.shared.mapping c.0 order ≡ order_of_block block c next → Contains x.orders order → IsOnlyOf now.actors a order →
-      MayBeKept migration c.0 s.shared → Agrees now s →
+      MayBeKept migration c.0 s.shared → AreAmongOthers now.actors → Agrees now s →
       WorldFollows Resumes a s now (begun_actor (Migrate migration block) (migrates now.size migration block cut) x)
   pub cells : (now : Situation) (blocks : ℕ) (a : ℕ) (x : Actor) (migration : Migration) (block : OBlock) (plan : Plan) (step : CellStep) (s : World) →
       LockRule blocks now.words (cards_of now.actors) → WantsNext now a x s (Migrate migration block) plan (Cell step) → Suits blocks plan x.card → SeesWhere now.words now.orders s.shared.mapping migration block step →

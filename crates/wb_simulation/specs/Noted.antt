@@ -1,16 +1,17 @@
 -- How the two clerks' notes stay alike by what the abstract one is told, and what it says of reads.
-use Rattle.std.specs.Prelude.{false, ◌≡◌, ◌<◌, ◌≤◌, ◌+◌, ◌*◌, ℕ, List, [], ◌∷◌, Option, Some, None, length, map, slice_get}
+use Rattle.std.specs.Prelude.{Bool, false, ◌≡◌, ◌<◌, ◌≤◌, ◌+◌, ◌*◌, ℕ, List, [], ◌∷◌, Option, Some, None, length, map, slice_get}
 use Rattle.wb_types.specs.Extents.{rising}
 use Rattle.wb_types.specs.declared.mode.Mode.{Mode}
 use Rattle.wb_disk.specs.Device.{Content, History, newest, only}
 use Rattle.wb_contents.specs.Devices.{by_block}
 use Rattle.wb_tasks.specs.declared.step.Answer.TheVariants.{Done as Finished, Refused as Refuses}
 use Rattle.wb_types.specs.declared.refusal.Refusal.{Refusal}
-use Rattle.wb_link.specs.Tables.{Job as AbstractJob, Reading, Flushing}
+use Rattle.wb_link.specs.Tables.{Job as AbstractJob, Reading}
 use Rattle.wb_link.specs.World.{World, Shared, Record, AbstractActor, abstract_after_all}
 use Rattle.wb_link.specs.Clerk.{AbstractNotes, abstract_opened}
 use Rattle.wb_link.specs.Openings.{On, abstract_noted, AllEventsRight, emptied}
 use Rattle.wb_refines.specs.Translation.{writing_in}
+use Rattle.wb_refines.specs.Commits.{commit_there}
 use Rattle.wb_promise.specs.declared.job.Job.{Job}
 use Rattle.wb_promise.specs.Clerk.{Notes, Doing, begins, begun, put, nobody, entering, enter_each, write_note, all_raised, greater_of}
 use Rattle.wb_promise.specs.States.{Actor}
@@ -40,10 +41,10 @@ pub record NotesFollowed : Type 0 where
   -- a write's histories and entries are those that the run's clerk notes
   pub write : (block offset count : ℕ) (content : Content) → Kept (Writes block offset count content) (λ size n a y Then. (doing : Doing) → slice_get n.doings a ≡ Some (Some doing) → offset + count ≤ size → block * size + offset + count ≤ length n.histories →
       Then (write_note n a doing (enter_each content (rising (block * size + offset) count) (entering n doing))))
-  -- what a write entered is finished when it is answered done, and what was finished when a flush began is durable then
+  -- what a write entered is finished when it is answered done, and what was finished when a flush or a suspend began is durable then
   pub read_answered : (block : ℕ) (os : List (List ℕ)) → Kept (Answers (Reading false block os) Finished) (λ size n a y Then. Then (put n a None))
   pub write_answered : (mode : Mode) (block : ℕ) (os : List (List ℕ)) (content : Content) → Kept (Answers (writing_in mode block os content) Finished) (λ size n a y Then. (doing : Doing) → slice_get n.doings a ≡ Some (Some doing) → Then (put (record n { finished = all_raised n.finished doing.entered }) a None))
-  pub flush_answered : Kept (Answers (Flushing None) Finished) (λ size n a y Then. (doing : Doing) → slice_get n.doings a ≡ Some (Some doing) → length doing.then_finished ≡ length n.floors → Then (put (record n { floors = greater_of n.floors doing.then_finished }) a None))
+  pub commit_answered : (clean : Bool) → Kept (Answers (commit_there clean) Finished) (λ size n a y Then. (doing : Doing) → slice_get n.doings a ≡ Some (Some doing) → length doing.then_finished ≡ length n.floors → Then (put (record n { floors = greater_of n.floors doing.then_finished }) a None))
   pub refused : (job : AbstractJob) (refusal : Refusal) → Kept (Answers job (Refuses refusal)) (λ size n a y Then. Then (put n a None))
   -- who starts, or starts late, is noted to have entered nothing
   pub starts : (abstract_job : AbstractJob) (job : Job) → Kept (Starts abstract_job) (λ size n a y Then. (was : Option Doing) → slice_get n.doings a ≡ Some was → Then (put n a (Some (begun n job))))

@@ -100,7 +100,7 @@ pub record OpeningsFollowed : Type 0 where
 -- one begins of the desk's mapping, where none does; its root is put, which leads to this state, or fails; and it ends.
 pub record ImagesFollowed : Type 0 where
   pub stay : (geometry : Geometry) (committed : Stored) (later : Option Stored) (old new : List History) (s t : Shared) → ImagesAgree geometry committed later old s → TurnedTo Stays s t → MayBeReadAs geometry committed later new → ImagesAgree geometry committed later new t
-  pub begin : (geometry : Geometry) (committed : Stored) (metadata : List History) (s t : Shared) → ImagesAgree geometry committed None metadata s → TurnedTo Begins s t → ImagesAgree geometry committed None metadata t × (t.running ≡ s.mapping)
+  pub begin : (clean : Bool) (geometry : Geometry) (committed : Stored) (metadata : List History) (s t : Shared) → ImagesAgree geometry committed None metadata s → TurnedTo (Begins clean) s t → ImagesAgree geometry committed None metadata t × (t.running ≡ s.mapping)
   pub put : (geometry : Geometry) (committed state : Stored) (later : Option Stored) (old new : List History) (s t : Shared) → ImagesAgree geometry committed later old s → TurnedTo (Puts true) s t → s.running ≡ locations state → StateTakesClean state s.running_clean → MayBeReadAs geometry committed (Some state) new →
       ImagesAgree geometry committed (Some state) new t
   pub put_none : (geometry : Geometry) (committed : Stored) (written : Bool) (later : Option Stored) (old new : List History) (s t : Shared) → ImagesAgree geometry committed later old s → TurnedTo (Puts written) s t → MayBeReadAs geometry committed None new → ImagesAgree geometry committed None new t

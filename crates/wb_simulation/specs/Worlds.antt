@@ -1,5 +1,5 @@
 -- When a state of a run, where a target stands, is a state of the abstract world; and when what happens there is a run of that world.
-use Rattle.std.specs.Prelude.{◌≡◌, ◌≢◌, ◌⊎◌, ℕ, Bool, true, false, List, [], Option, Some, None, length, replicate, slice_get, slice_set}
+use Rattle.std.specs.Prelude.{cond, ◌≡◌, ◌≢◌, ◌⊎◌, ℕ, Bool, true, false, List, [], Option, Some, None, length, replicate, slice_get, slice_set}
 use Rattle.wb_types.specs.declared.mode.Mode.{Mode}
 use Rattle.wb_types.specs.declared.mode.Mode.TheVariants.{Passthrough}
 use Rattle.wb_disk.specs.Device.{Content, History}
@@ -77,12 +77,12 @@ pub record Agrees (now : Situation) (s : World) : Type 0 where
   pub each : (a : ℕ) (x : Actor) (y : AbstractActor) → slice_get now.actors a ≡ Some x → slice_get s.actors a ≡ Some y → StandsFor now.size now.most now.words x y
   pub orders_agree : OrdersAgree now.size now.words now.orders now.actors s
 
--- What comes of the desk and of the images that the metadata stand for: they stay; a commit begins, from the desk's mapping; its root is
--- written, or not; it ends; a cache block is reserved for an order; an order ends by an entry of the mapping that comes, or by one that goes;
+-- What comes of the desk and of the images that the metadata stand for: they stay; a commit begins, from the desk's mapping, whose root is to be
+-- marked clean or not; its root is written, or not; it ends; a cache block is reserved for an order; an order ends by an entry of the mapping that comes, or by one that goes;
 -- it is given up.
 pub data Turn : Type 0 where
   Stays : Turn
-  Begins : Turn
+  Begins : (clean : Bool) → Turn
   Puts : (written : Bool) → Turn
   Ends : Turn
   Reserves : (cache : ℕ) → Turn
@@ -90,8 +90,13 @@ pub data Turn : Type 0 where
   Unmaps : (block cache : ℕ) (next : Option ℕ) → Turn
   GivesUp : (cache : ℕ) → Turn
 
+-- which blocks an opening of a commit that begins now takes as clean: under a root that is marked so those whose seals are
+abbrev pub clean_by : (marked : Bool) → Shared → ℕ → Bool
+clean_by true s = λ block. cond (s.seals block).dirty false true
+clean_by false s = λ block. false
+
 abbrev pub TurnedTo : Turn → (s t : Shared) → Type 0
-TurnedTo Begins s t = (t.committed ≡ s.committed) × (t.running ≡ s.mapping) × (t.root_written ≡ s.root_written) × (t.committed_clean ≡ s.committed_clean) × (t.running_clean ≡ (λ block. false))
+TurnedTo (Begins clean) s t = (t.committed ≡ s.committed) × (t.running ≡ s.mapping) × (t.root_written ≡ s.root_written) × (t.committed_clean ≡ s.committed_clean) × (t.running_clean ≡ clean_by clean s)
 TurnedTo (Puts written) s t = (t.committed ≡ s.committed) × (t.running ≡ s.running) × (t.root_written ≡ written) × (t.committed_clean ≡ s.committed_clean) × (t.running_clean ≡ s.running_clean)
 TurnedTo Ends s t = (t.committed ≡ s.running) × (t.root_written ≡ false) × (t.committed_clean ≡ s.running_clean)
 TurnedTo turn s t = (t.committed ≡ s.committed) × (t.running ≡ s.running) × (t.root_written ≡ s.root_written) × (t.committed_clean ≡ s.committed_clean) × (t.running_clean ≡ s.running_clean)
@@ -104,7 +109,7 @@ mapping_by turn s = s.mapping
 
 -- and the state of each cache block
 abbrev pub blocks_by : Turn → Shared → ℕ → Block
-blocks_by Begins s = λ c. block_begun (s.blocks c)
+blocks_by (Begins clean) s = λ c. block_begun (s.blocks c)
 blocks_by Ends s = λ c. block_ended (s.blocks c)
 blocks_by (Reserves cache) s = changed s.blocks cache Reserved
 blocks_by (Maps block cache) s = changed s.blocks cache Mapped

@@ -4,7 +4,7 @@ ghost use Rattle.wb_simulation.specs.Noted.{NotesFollowed};
 ghost use Rattle.wb_simulation.specs.Opened.{OpenedFollowed};
 ghost use Rattle.wb_simulation.specs.Sites.{ImagesFollowed, OpeningsFollowed};
 ghost use Rattle.wb_simulation.specs.Migrating.{MigrationsFollowed};
-ghost use Rattle.wb_simulation.specs.Laws.{AnswersFollowed, CanAgree, CellStepsFollowed, ExtentStepsFollowed, FlushStepsFollowed, StartsFollowed};
+ghost use Rattle.wb_simulation.specs.Laws.{AnswersFollowed, CanAgree, CellStepsFollowed, ExtentStepsFollowed, CommitStepsFollowed, StartsFollowed};
 
 /// Each step of a read or a write on the shared words is some records of the abstract world, which stands for the whole state of the
 /// run before them and after them: devices, words, the desk's commit and every actor.
@@ -17,16 +17,16 @@ pub fn extent_steps_are_followed()
     ensures { ExtentStepsFollowed }
 {}
 
-/// So are starts of reads, writes and flushes, and answers of reads and writes.
+/// So are starts of reads, writes, flushes and suspends, and answers of reads and writes.
 pub fn starts_and_answers_are_followed()
     ensures starts { StartsFollowed }
     ensures answers { AnswersFollowed }
 {}
 
-/// So is each step of a flush: its looks, the commit that it leads, or that is refused to it, its syncs and its steps on the metadata,
-/// done or failing, an order that it gives up, which lies aside there, and its answer.
-pub fn flush_steps_are_followed()
-    ensures { FlushStepsFollowed }
+/// So is each step of a flush or of a suspend: its looks, the commit that it leads, or that is refused to it, its syncs and its steps on the
+/// metadata, done or failing, an order that a flush gives up, which lies aside there, the bit that a suspend sets, and its answer.
+pub fn commit_steps_are_followed()
+    ensures { CommitStepsFollowed }
 {}
 
 /// So is a promotion, a demotion or a write-back, also under a replacement: its start under an order that is given or lives already, each
@@ -52,7 +52,7 @@ pub fn images_are_followed()
 {}
 
 /// The notes of a run's clerk are those of the abstract world's, by block and offset: what is told of each of these steps keeps them so,
-/// with what a write enters and finishes, what a flush makes durable and what an opening begins with; and what a read is given is the
+/// with what a write enters and finishes, what a flush or a suspend makes durable and what an opening begins with; and what a read is given is the
 /// last entry of each of its sectors' histories, where the abstract world's records are right.
 pub fn notes_are_followed()
     ensures { NotesFollowed }

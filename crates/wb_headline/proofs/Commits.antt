@@ -1,0 +1,703 @@
+-- Each step of a flush, or of a suspend, with each result that it may have, is followed.
+use Rattle.std.proofs.Common.{◌≡◌, ◌≢◌, ◌∙◌, ◌≤◌, ◌&&◌, ◌==◌, ◌⊎◌, inl, inr, ℕ, Bool, true, false, if◌then◌else◌, List, [], ◌∷◌, ◌++◌, Option, Some, None, refl, sym, ap, subst, arith, length, slice_get, slice_set, Contains, ◌+◌, ◌/◌}
+use Rattle.std.proofs.lemmas.List.{length-set}
+use Rattle.std.proofs.lemmas.List.Elements.{Contains-append_cases, Contains-append_left, Contains-append_right}
+use Rattle.wb_types.specs.declared.number.OBlock.{OBlock}
+use Rattle.wb_types.specs.declared.geometry.Geometry.{Geometry}
+use Rattle.wb_types.specs.declared.number.Place.{Place}
+use Rattle.wb_types.specs.declared.mode.Mode.{Mode}
+use Rattle.wb_types.specs.declared.mode.Dev.{Dev}
+use Rattle.wb_types.specs.declared.mode.Dev.TheVariants.{Metadata, Cache, Origin}
+use Rattle.wb_types.specs.declared.refusal.Refusal.{Refusal}
+use Rattle.wb_types.specs.declared.refusal.Refusal.TheVariants.{Busy, Memory, GenerationEnd}
+use Rattle.wb_disk.specs.Device.{Content as Bytes, History, synced}
+use Rattle.wb_disk.specs.Failing.{synced_where, lands}
+use Rattle.wb_words.specs.Rule.{LockRule}
+use Rattle.wb_words.specs.SharedWords.{Words, word_at, place_in}
+use Rattle.wb_words.specs.Effects.{result_of, words_after}
+use Rattle.wb_words.specs.declared.step.CellStep.{CellStep}
+use Rattle.wb_words.specs.declared.step.CellStep.TheVariants.{Look, SetFailed, SetSuspended}
+use Rattle.wb_words.specs.declared.word.Word.TheVariants.{Fail, Seal as SealWord}
+use Rattle.wb_format.specs.declared.node.Node.{Node}
+use Rattle.wb_tree.specs.declared.image.Image.{Image}
+use Rattle.wb_tree.specs.Mapping.{Mapping}
+use Rattle.wb_meta.specs.Representing.{Stored}
+use Rattle.wb_meta.specs.Steps.{DoesStep, FailsStep, steps_after, after_node, coming_step}
+use Rattle.wb_meta.specs.Commits.{HasFailed}
+use Rattle.wb_meta.specs.declared.commit_steps.CommitSteps.{CommitSteps}
+use Rattle.wb_meta.specs.declared.commit_steps.CommitSteps.TheVariants.{NodesWritten, NodesSynced, RootWritten, Done as Committed}
+use Rattle.wb_meta.proofs.Stepping.{fails as step_fails}
+use Rattle.wb_policy.specs.declared.order.Order.{Order}
+use Rattle.wb_desk.specs.Desks.{DeskState}
+use Rattle.wb_desk.specs.Calls.{released}
+use Rattle.wb_desk.specs.Commits.{IsBeginRefused, commit_begun, commit_ended}
+use Rattle.wb_tasks.specs.Plan.{Plan, want, after, got_of, device_of}
+use Rattle.wb_tasks.specs.Tables.{TaskJob}
+use Rattle.wb_tasks.specs.Ready.{HoldsBlocks, Suits, IsOwnStep}
+use Rattle.wb_tasks.specs.declared.step.Answer.{Answer}
+use Rattle.wb_tasks.specs.declared.step.Answer.TheVariants.{Done as Finished, Refused as Refuses}
+use Rattle.wb_tasks.specs.declared.step.DeviceStep.{DeviceStep}
+use Rattle.wb_tasks.specs.declared.step.DeviceStep.TheVariants.{Read as ReadExtent, Sync, WriteNode, WriteRoot, ReadMetadata}
+use Rattle.wb_tasks.specs.declared.step.DeskStep.TheVariants.{BeginCommit, EndCommit, ReleaseOrder}
+use Rattle.wb_tasks.specs.declared.step.Want.{Want}
+use Rattle.wb_tasks.specs.declared.step.Want.TheVariants.{Cell, Device, Desk, End}
+use Rattle.wb_tasks.specs.declared.step.Got.{Got}
+use Rattle.wb_tasks.specs.declared.step.Got.TheVariants.{Done, Fault, Began, Refused as GotRefused}
+use Rattle.wb_devices.specs.declared.devices.Devices.{Devices}
+use Rattle.wb_devices.specs.declared.running.RunningCommit.{RunningCommit}
+use Rattle.wb_devices.specs.Moving.{device_in}
+use Rattle.wb_devices.specs.Committing.{is_coming, is_committed}
+use Rattle.wb_stage.specs.Asking.{DidRelease, HasBegunWith, IsGivenUp, ended}
+use Rattle.wb_meta.specs.Roots.{MayBeReadAs, Commit}
+use Rattle.wb_meta.proofs.Leading.{after_failure, after_failed_node}
+use Rattle.wb_promise.specs.declared.job.Job.{Job}
+use Rattle.wb_promise.specs.declared.job.Job.TheVariants.{Flush, Suspend}
+use Rattle.wb_promise.specs.States.{Shape, State, Actor, Target, Stands, with_device}
+use Rattle.wb_promise.specs.Effects.{actor_then, awaiting_then, buffer_then, seen_then, dropped, orders_then, device_done, device_failed, stepped, led}
+use Rattle.wb_runs.specs.Holding.{cards_of, AllSuited}
+use Rattle.wb_promise.specs.Clerk.{Notes, Doing, noted_step, device_note, failing, put, finished_note, made_durable}
+use Rattle.wb_runs.proofs.Desks.{given_up_stands}
+use Rattle.wb_runs.proofs.Owning.{Owned}
+use Rattle.wb_runs.proofs.Ordering.{held_of}
+use Rattle.wb_runs.proofs.Images.{Images, later_of, one_image}
+use Rattle.wb_runs.proofs.Underway.{Underway, Readable, images_of, is_written, led_on, sync_does, sync_fails as commit_sync_fails, put_fails, IsPut}
+use Rattle.wb_runs.proofs.Metadata.{MetadataKept, AtDesk, Leading, Quiet, begins_over, begin_may, ends_over, kept_readable}
+use Rattle.wb_link.specs.World.{World, Shared, abstract_after_all}
+use Rattle.wb_refines.specs.Commits.{IsNoBegin, IsWrittenAfter, commit_task, commit_there}
+use Rattle.wb_simulation.specs.Actors.{IsCommitAt, AreAmongOthers}
+use Rattle.wb_simulation.proofs.Leading.{doing_as}
+use Rattle.wb_simulation.proofs.Followed.{doing_of}
+use Rattle.wb_simulation.specs.Noting.{NotesAgree}
+use Rattle.wb_simulation.specs.Noted.{told}
+use Rattle.wb_simulation.specs.Sites.{ImagesAgree, IsRunning, locations, StateTakesClean}
+use Rattle.wb_simulation.specs.Telling.{Quietly, Releases, Answers}
+use Rattle.wb_simulation.specs.Worlds.{Situation, TurnedTo, DeskTurnedTo, Turn, Stays, Begins, Puts, Ends, GivesUp, WorldFollowsBy, WorldFollows}
+use Rattle.wb_simulation.specs.Laws.{WantsNext, commit_job, stepped_actor, after_step, turn_of}
+use Rattle.wb_simulation.proofs.Commits.{commit_steps_followed}
+use Rattle.wb_simulation.proofs.Noted.{notes_followed}
+use Rattle.wb_simulation.proofs.Opening.{images_followed}
+use Rattle.wb_headline.specs.Desks.{DeskAgrees, live_orders}
+use Rattle.wb_headline.proofs.Desking.{desk_stays, desk_begins, desk_ends, desk_releases}
+use Rattle.wb_headline.proofs.Following.{situation, size, most, Followed, Goes}
+use Rattle.wb_headline.proofs.Rooted.{same_one}
+use Rattle.wb_headline.proofs.Suspends.{AllSeen, Saw, marked_places, saw_all, takes_seen, takes_none}
+use Rattle.std.proofs.lemmas.Bool.{cases_eq}
+use Rattle.wb_simulation.specs.Opened.{located}
+use Rattle.wb_headline.proofs.Keeping.{KeepingAt, saw_now, all_told}
+use Rattle.wb_simulation.specs.Actors.{IsOfCommit, IsAmongOthers}
+use Rattle.wb_simulation.proofs.Followed.{begins_by}
+use Rattle.wb_stage.specs.Seen.{seen_with}
+use Rattle.wb_promise.specs.Headline.{place_of}
+use Rattle.wb_promise.specs.Sealed.{number_of}
+use Rattle.wb_format.specs.declared.root.Root.{Root}
+use Rattle.wb_refines.specs.Models.{WordsAgree}
+use Rattle.wb_simulation.specs.Worlds.{clean_by}
+use Rattle.wb_headline.proofs.Seeing.{orders_set, slot_there, slot_within}
+use Rattle.wb_headline.proofs.Orders.{found_of, none_dropped}
+use Rattle.wb_headline.proofs.Targets.{landed_or, standing, actor_is, beside, failing_same, noted_within, leads_on, stays_on}
+use Rattle.wb_disk.specs.Crash.{Choice}
+use Rattle.wb_tasks.proofs.Readiness.{is_own_step}
+use Rattle.wb_stage.specs.Stages.{is_all_done}
+use Rattle.wb_promise.specs.Happenings.{Chosen, Plain, Puts, Commits, Asks, Gives, Falters, MayFailAt, DoesPut, DoesSync, FailsPut, FailsSync, sector_put}
+use Rattle.wb_promise.specs.Headline.{shown}
+use Rattle.wb_types.proofs.Truth.{and_true}
+use Rattle.wb_runs.proofs.Stepping.{data_device}
+
+-- ---- the commit, by itself
+
+-- a step that is not the root's leaves the root written or not
+written_before : (image : Image) (steps : CommitSteps) (step : DeviceStep) → is_coming image steps step ≡ true → (step ≢ WriteRoot) → is_written (steps_after image steps) ≡ true → is_written steps ≡ true
+written_before image (NodesWritten count) step e n w = by (slice_get image.nodes.items count) w
+  where
+    by : (o : Option (Place × Node)) → is_written (after_node o count) ≡ true → false ≡ true
+    by None w = w
+    by (Some node) w = w
+written_before image NodesSynced WriteRoot e n w = absurd (n refl)
+written_before image NodesSynced step e n w = absurd (cc)
+written_before image RootWritten step e n w = refl
+written_before image Committed step e n w = refl
+
+-- whether the root may have been written once a step failed
+abbrev failed_written : CommitSteps → Bool
+failed_written (NodesWritten count) = false
+failed_written steps = true
+
+-- so it is there
+written_there : (image : Image) (steps : CommitSteps) (step : DeviceStep) (before after : Bool) → is_coming image steps step ≡ true → (is_written steps ≡ true → before ≡ true) → IsWrittenAfter step before after → failed_written steps ≡ true → after ≡ true
+written_there image NodesSynced WriteRoot before after e b w f = w
+written_there image RootWritten (Sync device) before after e b w f = w (b refl)
+written_there image steps step before after e b w f = absurd (cc)
+
+module _ (g : Geometry) (images : Images) (commit : RunningCommit) (of : Commit) (old new : List History) (u : Underway g images commit of old) where
+  -- what is read once a step failed
+  failed_read : FailsStep commit.image commit.steps old new → Readable g (images_of of (failed_written commit.steps)) new
+  failed_read bad = by_steps commit.steps (step_fails of.image of.old.root.geometry.meta_sectors of.before old new commit.steps u.can.places u.come (subst (λ (i : Image). FailsStep i commit.steps old new) (sym u.image) bad))
+    where
+      two : MayBeReadAs of.old.root.geometry of.old (Some of.new) new → Readable g (images_of of true) new
+      two m = record { read = subst (λ (x : Geometry). MayBeReadAs x of.old (Some of.new) new) u.same m }
+
+      by_steps : (steps : CommitSteps) → HasFailed of.image of.before steps new → Readable g (images_of of (failed_written steps)) new
+      by_steps (NodesWritten count) f = record { read = subst (λ (x : Geometry). MayBeReadAs x of.old None new) u.same (after_failed_node of u.can count new f) }
+      by_steps NodesSynced f = two (after_failure of u.can NodesSynced new f)
+      by_steps RootWritten f = two (after_failure of u.can RootWritten new f)
+      by_steps Committed f = absurd f
+
+-- a target's images while a commit is under way
+runs_there : (of : Commit) (written : Bool) (s : Shared) → (written ≡ true → s.root_written ≡ true) → s.running ≡ locations of.new → StateTakesClean of.new s.running_clean → IsRunning (later_of (images_of of written)) s
+runs_there of true s w r c = (w refl, r, c)
+runs_there of false s w r c = tt
+
+-- a step after which who takes it has the orders, the contents and the bits that it had
+abbrev IsStill : Want → Type 0
+IsStill (Cell (Look (SealWord block))) = ⊥
+IsStill (Cell step) = Unit {0}
+IsStill (Device (ReadExtent device e)) = ⊥
+IsStill (Device step) = Unit {0}
+IsStill (Desk (BeginCommit clean most)) = Unit {0}
+IsStill (Desk EndCommit) = Unit {0}
+IsStill next = ⊥
+
+abbrev Still : Devices (List History) → Actor → Job → Want → Got → Type 0
+Still devices x job next got = (orders_then x.orders x.awaiting job next got ≡ x.orders) × (awaiting_then x.orders x.awaiting job next got ≡ x.awaiting) × (buffer_then devices x.buffer next got job ≡ x.buffer) × (seen_then x.seen next got job ≡ x.seen)
+
+still : (devices : Devices (List History)) (x : Actor) (clean : Bool) (next : Want) (got : Got) → IsStill next → Still devices x (commit_job clean) next got
+still devices x clean (Cell (Look (SealWord block))) got k = absurd k
+still devices x true (Cell step) got k = (refl, refl, refl, refl)
+still devices x false (Cell step) got k = (refl, refl, refl, refl)
+still devices x clean (Device (ReadExtent device e)) got k = absurd k
+still devices x true (Device step) got k = (refl, refl, refl, refl)
+still devices x false (Device step) got k = (refl, refl, refl, refl)
+still devices x true (Desk (BeginCommit marked most)) got k = (refl, refl, refl, refl)
+still devices x false (Desk (BeginCommit marked most)) got k = (refl, refl, refl, refl)
+still devices x true (Desk EndCommit) got k = (refl, refl, refl, refl)
+still devices x false (Desk EndCommit) got k = (refl, refl, refl, refl)
+still devices x clean next got k = absurd k
+
+-- nothing is noted of its steps on devices but which have failed
+not_noted : (shape : Shape) (mode : Mode) (m : Notes) (a : ℕ) (doing : Doing) (clean : Bool) (step : DeviceStep) (got : Got) (contents : List Bytes) → device_note shape mode m a doing (commit_job clean) step got contents ≡ m
+not_noted shape mode m a doing true step got contents = refl
+not_noted shape mode m a doing false step got contents = refl
+
+finished_durable : (m : Notes) (a : ℕ) (doing : Doing) (clean : Bool) (shown : List Bytes) → finished_note m a doing (commit_job clean) shown ≡ made_durable m a doing
+finished_durable m a doing true shown = refl
+finished_durable m a doing false shown = refl
+
+-- the bits with which its commit begins
+abbrev marks : (clean : Bool) → List Bool → Option (List Bool)
+marks true seen = Some seen
+marks false seen = None
+
+-- What it stores is of the blocks that the desk maps, and takes those as clean whose seals are, or none.
+begun_places : {P : Type 0} (clean : Bool) (seen : List Bool) (hint_of : P → ℕ → ℕ) (desk : DeskState P) (image : Image) (tree : Mapping) → HasBegunWith hint_of (marks clean seen) desk image (commit_begun desk tree) → located tree.entries ≡ located desk.tree.entries
+begun_places true seen hint_of desk image tree h = ap located (h.image_is.2.same_entries ∙ h.image_is.1.entries) ∙ (λ i b. marked_places (hint_of desk.policy) seen desk.tree.entries 0 b i)
+begun_places false seen hint_of desk image tree h = ap located h.image_is.same_entries
+
+begun_takes : {P : Type 0} (clean : Bool) (seen : List Bool) (hint_of : P → ℕ → ℕ) (desk : DeskState P) (image : Image) (tree : Mapping) (words : Words) (s : Shared) (state : Stored) → HasBegunWith hint_of (marks clean seen) desk image (commit_begun desk tree) →
+    WordsAgree words s → (clean ≡ true → AllSeen words desk.tree.entries seen × ((block : OBlock) → number_of (place_in (word_at words.seals block)) ≡ place_of desk.tree.entries block.0)) → state.root.clean ≡ image.root.clean → state.found.entries ≡ tree.entries → StateTakesClean state (clean_by clean s)
+begun_takes true seen hint_of desk image tree words s state h agree all root entries = takes_seen (hint_of desk.policy) words s desk.tree.entries seen state agree (all refl).1 (all refl).0 (root ∙ h.image_is.2.root_clean) (entries ∙ h.image_is.2.same_entries ∙ h.image_is.1.entries)
+begun_takes false seen hint_of desk image tree words s state h agree all root entries = takes_none state (root ∙ h.image_is.root_clean)
+
+some_is : {X : Type 0} (a b : X) → ◌≡◌ {A = Option X} (Some a) (Some b) → a ≡ b
+some_is a b e = ap (λ o. Rattle.std.proofs.Common.unwrap_or o a) e
+
+module _ (P A : Type 0) (shape : Shape) (images : Images) (t : Target P) (commit : Option RunningCommit) (devices : Devices (List History)) (actors : List Actor) (n : Notes) (known : MetadataKept {P = P} {A = A} shape.geometry images (Stands t) commit devices.metadata)
+    (f : Followed P A shape images (standing P A shape images t commit devices actors n) n) (rule : LockRule shape.geometry.origin_blocks t.words (cards_of actors)) (a : ℕ) (x : Actor) (ex : slice_get actors a ≡ Some x) (clean : Bool) (plan : Plan) (xt : x.task ≡ Some (commit_job clean, plan))
+    (doing : Doing) (noted : slice_get n.doings a ≡ Some (Some doing)) (job_is : doing.job ≡ commit_job clean) where
+  -- where the machine stands
+  abbrev now : Situation
+  now = situation shape t devices actors
+
+  -- so its actor there is to do this next
+  wants : {next : Want} → next ≡ want plan → WantsNext now a x f.site.world (commit_job clean) plan next
+  wants {next} e = record { here = ex; task = xt; asks = sym e; agrees = f.phase.agrees }
+
+  -- its task
+  its_task : (blocks : List OBlock) × (plan.job ≡ commit_task clean blocks (most P A shape))
+  its_task =
+      let b = beside P A shape images t commit devices actors n known f a x ex in
+      let r = doing_as clean (size P A shape) (most P A shape) _ plan x.card b.0 (doing_of (size P A shape) (most P A shape) t.words x b.0 (commit_job clean) plan (f.phase.agrees.each a x b.0 ex b.1) xt) in
+      (r.blocks, r.job)
+
+  abbrev s : Shared
+  s = f.site.world.shared
+
+  -- the actor after such a step
+  goes_still : (next : Want) (got : Got) → IsStill next → actor_then {P = P} {A = A} shape (Stands t) devices x next got ≡ record x { task = Rattle.wb_promise.specs.Effects.task_then (Some (commit_job clean, plan)) next got; card = Rattle.wb_promise.specs.Effects.card_then {P = P} {A = A} shape (Stands t) x.card next }
+  goes_still next got k =
+      let v = still devices x clean next got k in
+      actor_is P A shape (Stands t) devices x (commit_job clean) plan next got xt
+      ∙ (λ i. record { task = Rattle.wb_promise.specs.Effects.task_then (Some (commit_job clean, plan)) next got; card = Rattle.wb_promise.specs.Effects.card_then {P = P} {A = A} shape (Stands t) x.card next; orders = v.0 i; awaiting = v.1 i; buffer = v.2 i; seen = v.3 i })
+
+  -- the state after a step, by this actor
+  abbrev then_is : Target P → Option RunningCommit → Devices (List History) → Want → Got → State P A
+  then_is t' commit' devices' next got = record { devices = devices'; commit = commit'; phase = Stands t'; actors = slice_set actors a (actor_then {P = P} {A = A} shape (Stands t) devices x next got) }
+
+  -- what is noted of a step on a device, and of any other
+  abbrev device_n : DeviceStep → Got → Notes
+  device_n step got = put n a (Some (failing doing step got))
+
+  noted_less : Rattle.std.proofs.Common.◌<◌ a (length n.doings)
+  noted_less = noted_within P A shape images t commit devices actors n known f a x ex
+
+  quiet_notes : {turn : Turn} {mode' : Mode} {words' : Words} {committing' : Bool} {orders' : List (Option Order)} {devices' : Devices (List History)} {y : Actor} (g : WorldFollowsBy turn Quietly a f.site.world (record (situation shape t devices' actors) { mode = mode'; words = words'; committing = committing'; orders = orders' }) y) →
+      NotesAgree (size P A shape) n (abstract_after_all f.site.world g.records) (told f.notes g.records)
+  quiet_notes {turn} {mode'} {words'} {committing'} {orders'} {devices'} {y} g =
+      let b = beside P A shape images t commit devices actors n known f a x ex in
+      notes_followed.quiet turn a f.site.world _ _ g b.0 n f.notes b.1 noted_less f.notes_agree
+
+  -- ---- steps on devices
+
+  module _ (turn : Turn) (step : DeviceStep) (got : Got) (contents : List Bytes) (t' : Target P) (commit' : Option RunningCommit) (devices' : Devices (List History)) (images' : Images) (plain : IsStill (Device step))
+      (g : WorldFollowsBy turn Quietly a f.site.world (situation shape t' devices' actors) (after_step (commit_job clean) plan got x)) where
+    device_notes : NotesAgree (size P A shape) (device_n step got) (abstract_after_all f.site.world g.records) (told f.notes g.records)
+    device_notes = let e = failing_same doing step got in notes_followed.redone (size P A shape) n (abstract_after_all f.site.world g.records) (told f.notes g.records) a doing (failing doing step got) (quiet_notes g) noted e.0 e.1
+
+    on_device : AtDesk shape.geometry images' t'.desk commit' devices'.metadata → DeskAgrees t'.desk (abstract_after_all f.site.world g.records).shared → ImagesAgree shape.geometry images'.committed (later_of images') devices'.metadata (abstract_after_all f.site.world g.records).shared →
+        ((state : Stored) → images'.running ≡ Some state → ((abstract_after_all f.site.world g.records).shared.running ≡ locations state) × StateTakesClean state (abstract_after_all f.site.world g.records).shared.running_clean) → Goes P A shape (then_is t' commit' devices' (Device step) got) (noted_step shape t.desk.mode [] n a (Some (Some doing)) (Device step) got contents)
+    on_device known' desk images_agree running =
+        subst (λ (m : Notes). Goes P A shape (then_is t' commit' devices' (Device step) got) m) (sym (ap (λ (q : Job). device_note shape t.desk.mode (device_n step got) a (failing doing step got) q step got contents) job_is ∙ not_noted shape t.desk.mode (device_n step got) a (failing doing step got) clean step got contents))
+        (subst (λ (y : Actor). Goes P A shape (record { devices = devices'; commit = commit'; phase = Stands t'; actors = slice_set actors a y }) (device_n step got)) (sym (goes_still (Device step) got plain))
+        (leads_on P A shape images t commit devices actors n known f a x ex turn Quietly t' commit' devices' (after_step (commit_job clean) plan got x) (device_n step got) images' (live_orders t'.desk) g device_notes (length-set n.doings a (Some (failing doing step got))) refl known' refl desk images_agree running))
+
+  -- cache and origin are synced, or fail to be
+  module _ (device : Dev) (holds : HoldsBlocks device) (next : Device (Sync device) ≡ want plan) (contents : List Bytes) where
+    synced_so : (got : Got) → (list : List History) → WorldFollows Quietly a f.site.world (situation shape t (with_device device devices list) actors) (after_step (commit_job clean) plan got x) →
+        Goes P A shape (then_is t commit (with_device device devices list) (Device (Sync device)) got) (noted_step shape t.desk.mode [] n a (Some (Some doing)) (Device (Sync device)) got contents)
+    synced_so got list g =
+        let known' = subst (λ (m : List History). AtDesk shape.geometry images t.desk commit m) (sym (data_device device holds devices list)) known in
+        let s' = (abstract_after_all f.site.world g.records).shared in
+        let readable = kept_readable shape.geometry images (with_device device devices list).metadata P A (Stands t) commit known' in
+        on_device Stays (Sync device) got contents t commit (with_device device devices list) images tt g known' (desk_stays P t.desk s s' f.phase.desk t.desk refl refl g.desk.0 g.desk.1)
+        (images_followed.stay shape.geometry images.committed (later_of images) devices.metadata (with_device device devices list).metadata s s' f.phase.images_agree g.turned readable.read) (λ state e. let r = f.phase.running state e in (g.turned.1 ∙ r.0, subst (StateTakesClean state) (sym g.turned.4) r.1))
+
+    syncs : Goes P A shape (then_is t commit (with_device device devices (synced (device_in device devices))) (Device (Sync device)) Done) (noted_step shape t.desk.mode [] n a (Some (Some doing)) (Device (Sync device)) Done contents)
+    syncs = synced_so Done (synced (device_in device devices)) (commit_steps_followed.syncs clean now device a x plan f.site.world holds (wants next))
+
+    sync_fails : (lands : ℕ → Bool) → Goes P A shape (then_is t commit (with_device device devices (synced_where lands (device_in device devices))) (Device (Sync device)) Fault) (noted_step shape t.desk.mode [] n a (Some (Some doing)) (Device (Sync device)) Fault contents)
+    sync_fails lands = synced_so Fault (synced_where lands (device_in device devices)) (commit_steps_followed.sync_fails clean now device lands a x plan f.site.world holds (wants next))
+
+  -- ---- steps of the commit on the metadata
+
+  module _ (step : DeviceStep) (of_metadata : device_of step ≡ Metadata) (next : Device step ≡ want plan) (contents : List Bytes) (c : RunningCommit) (runs : commit ≡ Some c) (coming : is_coming c.image c.steps step ≡ true) (new : List History) where
+    k : AtDesk shape.geometry images t.desk (Some c) devices.metadata
+    k = subst (λ (m : Option RunningCommit). AtDesk shape.geometry images t.desk m devices.metadata) runs known
+
+    l : Leading shape.geometry images t.desk c devices.metadata
+    l = k.stands
+
+    abbrev devices' : Devices (List History)
+    devices' = record devices { metadata = new }
+
+    running_now : images.running ≡ Some l.of.new
+    running_now = ap (λ (i : Images). i.running) l.under.are
+
+    committed_now : l.of.old ≡ images.committed
+    committed_now = ap (λ (i : Images). i.committed) (sym l.under.are)
+
+    -- the root was written there where it was here
+    written_now : is_written c.steps ≡ true → s.root_written ≡ true
+    written_now e = (subst (λ (o : Option Stored). IsRunning o s) (ap later_of l.under.are ∙ ap (λ b. if b then Some l.of.new else None) e) f.phase.images_agree.later_is).0
+
+    abbrev c' : RunningCommit
+    c' = record c { steps = steps_after c.image c.steps }
+
+    -- what comes there of one that was done
+    parts : (v : DeviceStep) → is_coming c.image c.steps v ≡ true → (s' : Shared) → DeskTurnedTo (turn_of v) s s' → TurnedTo (turn_of v) s s' → (s'.mapping ≡ s.mapping) × (s'.blocks ≡ s.blocks) × (s'.committed ≡ s.committed) × (s'.running ≡ s.running) × (is_written (steps_after c.image c.steps) ≡ true → s'.root_written ≡ true) × (s'.committed_clean ≡ s.committed_clean) × (s'.running_clean ≡ s.running_clean)
+    parts WriteRoot coming s' d u = (d.0, d.1, u.0, u.1, λ w. u.2, u.3, u.4)
+    parts v coming s' d u = (d.0, d.1, u.0, u.1, λ w. u.2 ∙ written_now (written_before c.image c.steps v coming (λ e. absurd (cc)) w), u.3, u.4)
+
+    put_done : IsStill (Device step) → DoesStep c.image c.steps devices.metadata new → Goes P A shape (then_is t (led commit Done) devices' (Device step) Done) (noted_step shape t.desk.mode [] n a (Some (Some doing)) (Device step) Done contents)
+    put_done plain does =
+        let g = commit_steps_followed.on_metadata clean now step new a x plan f.site.world of_metadata (wants next) in
+        let s' = (abstract_after_all f.site.world g.records).shared in
+        let so = parts step coming s' g.desk g.turned in
+        let u = led_on shape.geometry images c l.of devices.metadata new l.under does in
+        let same : u.now.committed ≡ images.committed = ap (λ (i : Images). i.committed) u.kept.are ∙ committed_now in
+        let known' : AtDesk shape.geometry u.now t.desk (Some c') new = record { is = k.is; stands = record { of = l.of; under = u.kept; edited = l.edited; entries = l.entries; places = l.places; generation = l.generation; busy = l.busy } } in
+        let readable = kept_readable shape.geometry u.now new P A (Stands t) (Some c') known' in
+        let runs_now = f.phase.running l.of.new running_now in
+        let there : s'.running ≡ locations l.of.new = so.3 ∙ runs_now.0 in
+        let clean_there = subst (StateTakesClean l.of.new) (sym so.6) runs_now.1 in
+        subst (λ (m : Option RunningCommit). Goes P A shape (then_is t m devices' (Device step) Done) (noted_step shape t.desk.mode [] n a (Some (Some doing)) (Device step) Done contents)) (sym (ap (λ (m : Option RunningCommit). led m Done) runs))
+        (on_device (turn_of step) step Done contents t (Some c') devices' u.now plain g known' (desk_stays P t.desk s s' f.phase.desk t.desk refl refl so.0 so.1)
+        (record {
+          read = readable.read;
+          committed_is = so.2 ∙ f.phase.images_agree.committed_is ∙ ap locations (sym same);
+          clean_is = subst (λ (v : Stored). StateTakesClean v s'.committed_clean) (sym same) (subst (StateTakesClean images.committed) (sym so.5) f.phase.images_agree.clean_is);
+          later_is = subst (λ (i : Images). IsRunning (later_of i) s') (sym u.kept.are) (runs_there l.of (is_written (steps_after c.image c.steps)) s' so.4 there clean_there);
+        })
+        (λ state e. let is = some_is l.of.new state (sym (ap (λ (i : Images). i.running) u.kept.are) ∙ e) in (there ∙ ap locations is, subst (λ (v : Stored). StateTakesClean v s'.running_clean) is clean_there)))
+
+    put_failed : IsStill (Device step) → FailsStep c.image c.steps devices.metadata new → Goes P A shape (then_is t (led commit Fault) devices' (Device step) Fault) (noted_step shape t.desk.mode [] n a (Some (Some doing)) (Device step) Fault contents)
+    put_failed plain bad =
+        let fails = commit_steps_followed.metadata_fails clean now step new a x plan f.site.world of_metadata (wants next) in
+        let written = fails.0 in
+        let g = fails.2 in
+        let images' = images_of l.of (failed_written c.steps) in
+        let s' = (abstract_after_all f.site.world g.records).shared in
+        let readable = failed_read shape.geometry images c l.of devices.metadata new l.under bad in
+        let runs_now = f.phase.running l.of.new running_now in
+        let there : s'.running ≡ locations l.of.new = g.turned.1 ∙ runs_now.0 in
+        let clean_there = subst (StateTakesClean l.of.new) (sym g.turned.4) runs_now.1 in
+        subst (λ (m : Option RunningCommit). Goes P A shape (then_is t m devices' (Device step) Fault) (noted_step shape t.desk.mode [] n a (Some (Some doing)) (Device step) Fault contents)) (sym (ap (λ (m : Option RunningCommit). led m Fault) runs))
+        (on_device (Puts written) step Fault contents t None devices' images' plain g (record { is = k.is; stands = inr (record { readable = readable; busy = l.busy }) }) (desk_stays P t.desk s s' f.phase.desk t.desk refl refl g.desk.0 g.desk.1)
+        (record {
+          read = readable.read;
+          committed_is = g.turned.0 ∙ f.phase.images_agree.committed_is ∙ ap locations (sym committed_now);
+          clean_is = subst (λ (v : Stored). StateTakesClean v s'.committed_clean) (sym committed_now) (subst (StateTakesClean images.committed) (sym g.turned.3) f.phase.images_agree.clean_is);
+          later_is = runs_there l.of (failed_written c.steps) s' (λ e. g.turned.2 ∙ written_there c.image c.steps step s.root_written written coming written_now fails.1 e) there clean_there;
+        })
+        (λ state e. let is = some_is l.of.new state e in (there ∙ ap locations is, subst (λ (v : Stored). StateTakesClean v s'.running_clean) is clean_there)))
+
+  -- ---- the desk
+
+  no_begin : (refusal : Refusal) → IsBeginRefused t.desk refusal → IsNoBegin refusal
+  no_begin Busy r = tt
+  no_begin Memory r = tt
+  no_begin GenerationEnd r = tt
+  no_begin refusal r = absurd r
+
+  -- a commit begins, of the desk's mapping
+  begins : (nodes allowed : ℕ) (marked : Bool) (c : RunningCommit) (tree : Mapping) → Desk (BeginCommit marked allowed) ≡ want plan → c.steps ≡ NodesWritten 0 → (hint_of : P → ℕ → ℕ) → HasBegunWith hint_of (marks clean x.seen) t.desk c.image (commit_begun t.desk tree) →
+      (clean ≡ true → AllSeen t.words t.desk.tree.entries x.seen × ((block : OBlock) → number_of (place_in (word_at t.words.seals block)) ≡ place_of t.desk.tree.entries block.0)) →
+      Goes P A shape (then_is (record { words = t.words; desk = commit_begun t.desk tree }) (Some c) devices (Desk (BeginCommit marked allowed)) (Began nodes)) n
+  begins nodes allowed marked c tree next steps hint_of begun all = by_commit commit refl known
+    where
+      idle : t.desk.space.committing ≡ false
+      idle = (begin_may P hint_of (marks clean x.seen) t.desk c.image (commit_begun t.desk tree) begun).idle
+
+      quiet : Quiet shape.geometry images t.desk devices.metadata → AtDesk shape.geometry images t.desk None devices.metadata → Goes P A shape (then_is (record { words = t.words; desk = commit_begun t.desk tree }) (Some c) devices (Desk (BeginCommit marked allowed)) (Began nodes)) n
+      quiet q k =
+          let b = begins_over P shape.geometry images t.desk devices.metadata hint_of (marks clean x.seen) c tree k.is q steps begun in
+          let g = commit_steps_followed.begins clean now nodes allowed marked a x plan f.site.world (wants next) idle in
+          let s' = (abstract_after_all f.site.world g.records).shared in
+          let t' : Target P = record { words = t.words; desk = commit_begun t.desk tree } in
+          let y = after_step (commit_job clean) plan (Began nodes) x in
+          let l = b.kept.0.stands in
+          let one : later_of images ≡ None = ap later_of q.are in
+          let agree : ImagesAgree shape.geometry images.committed None devices.metadata s = subst (λ (o : Option Stored). ImagesAgree shape.geometry images.committed o devices.metadata s) one f.phase.images_agree in
+          let begun_there = images_followed.begin clean shape.geometry images.committed devices.metadata s s' agree g.turned in
+          let same : b.now.committed ≡ images.committed = same_one b.turn images b.now (ap (λ (i : Images). i.running) q.are) b.turned in
+          let later : later_of b.now ≡ None = ap later_of l.under.are ∙ ap (λ (v : CommitSteps). if is_written v then Some l.of.new else None) steps in
+          subst (λ (y : Actor). Goes P A shape (record { devices = devices; commit = Some c; phase = Stands t'; actors = slice_set actors a y }) n) (sym (goes_still (Desk (BeginCommit marked allowed)) (Began nodes) tt))
+          (leads_on P A shape images t commit devices actors n known f a x ex (Begins clean) Quietly t' (Some c) devices y n b.now (live_orders t'.desk) g (quiet_notes g) refl refl b.kept.0 refl (desk_begins P t.desk s s' f.phase.desk tree (begun_places clean x.seen hint_of t.desk c.image tree begun) g.desk.0 g.desk.1) (subst (λ (o : Option Stored). ImagesAgree shape.geometry b.now.committed o devices.metadata s') (sym later) (subst (λ (v : Stored). ImagesAgree shape.geometry v None devices.metadata s') (sym same) begun_there.0)) (λ state e. let is = some_is b.kept.1.0 state (sym b.kept.1.1 ∙ e) in (
+            begun_there.1 ∙ f.phase.desk.mapping ∙ sym (begun_places clean x.seen hint_of t.desk c.image tree begun) ∙ ap (λ es. Rattle.wb_simulation.specs.Opened.located es) (sym b.kept.1.2) ∙ ap locations is,
+            subst (StateTakesClean state) (sym g.turned.4) (begun_takes clean x.seen hint_of t.desk c.image tree t.words s state begun f.phase.agrees.words_agree all
+                (ap (λ (v : Stored). v.root.clean) (sym (some_is l.of.new state (sym (ap (λ (i : Images). i.running) l.under.are) ∙ e))) ∙ ap (λ (r : Root). r.clean) l.under.can.root_is ∙ ap (λ (i : Image). i.root.clean) l.under.image)
+                (ap (λ (v : Stored). v.found.entries) (sym is) ∙ b.kept.1.2)),
+          )))
+
+      by_commit : (o : Option RunningCommit) → commit ≡ o → AtDesk shape.geometry images t.desk commit devices.metadata → Goes P A shape (then_is (record { words = t.words; desk = commit_begun t.desk tree }) (Some c) devices (Desk (BeginCommit marked allowed)) (Began nodes)) n
+      by_commit (Some d) e k = absurd (let k' = subst (λ (m : Option RunningCommit). AtDesk shape.geometry images t.desk m devices.metadata) e k in let busy = k'.stands.busy in let bad : false ≡ true = sym idle ∙ busy in cc)
+      by_commit None e k =
+          let k' = subst (λ (m : Option RunningCommit). AtDesk shape.geometry images t.desk m devices.metadata) e k in
+          elim k'.stands [ inl q ↦ quiet q k' | inr b ↦ absurd (let bad : false ≡ true = sym idle ∙ b.busy in cc) ]
+
+  -- or none begins
+  begin_refused : (refusal : Refusal) (allowed : ℕ) (marked : Bool) → Desk (BeginCommit marked allowed) ≡ want plan → IsBeginRefused t.desk refusal → Goes P A shape (then_is t commit devices (Desk (BeginCommit marked allowed)) (GotRefused refusal)) n
+  begin_refused refusal allowed marked next r =
+      let g = commit_steps_followed.is_refused clean now allowed marked refusal a x plan f.site.world (no_begin refusal r) (wants next) in
+      let y = after_step (commit_job clean) plan (GotRefused refusal) x in
+      subst (λ (y : Actor). Goes P A shape (record { devices = devices; commit = commit; phase = Stands t; actors = slice_set actors a y }) n) (sym (goes_still (Desk (BeginCommit marked allowed)) (GotRefused refusal) tt))
+      (stays_on P A shape images t commit devices actors n known f a x ex Quietly t.words devices y n g (quiet_notes g) refl refl refl)
+
+  -- the commit ends
+  ends : (c : RunningCommit) → commit ≡ Some c → Desk EndCommit ≡ want plan → is_committed c.steps ≡ true → Goes P A shape (then_is (record { words = t.words; desk = ended t.desk }) None devices (Desk EndCommit) Done) n
+  ends c runs next done =
+      let k = subst (λ (m : Option RunningCommit). AtDesk shape.geometry images t.desk m devices.metadata) runs known in
+      let e = ends_over P shape.geometry images t.desk devices.metadata c k done in
+      let g = commit_steps_followed.ends clean now a x plan f.site.world (wants next) in
+      let s' = (abstract_after_all f.site.world g.records).shared in
+      let y = after_step (commit_job clean) plan Done x in
+      let after = commit_ended t.desk in
+      let is : ended t.desk ≡ after = ap (λ (v : Bool). if v then after else t.desk) k.stands.busy in
+      let t' : Target P = record { words = t.words; desk = after } in
+      let known' = subst (λ (d : DeskState P). AtDesk shape.geometry e.now d None devices.metadata) is e.kept.0 in
+      let readable = kept_readable shape.geometry e.now devices.metadata P A (Stands t') None known' in
+      let one : e.now ≡ one_image e.kept.1.0 = e.kept.1.2 in
+      let read = subst (λ (i : Images). MayBeReadAs shape.geometry i.committed (later_of i) devices.metadata) one readable.read in
+      let agree = images_followed.end shape.geometry e.kept.1.0 devices.metadata s s' g.turned (f.phase.running e.kept.1.0 e.kept.1.1).0 (f.phase.running e.kept.1.0 e.kept.1.1).1 read in
+      subst (λ (d : DeskState P). Goes P A shape (then_is (record { words = t.words; desk = d }) None devices (Desk EndCommit) Done) n) (sym is)
+      (subst (λ (y : Actor). Goes P A shape (record { devices = devices; commit = None; phase = Stands t'; actors = slice_set actors a y }) n) (sym (goes_still (Desk EndCommit) Done tt))
+      (leads_on P A shape images t commit devices actors n known f a x ex Ends Quietly t' None devices y n e.now (live_orders t'.desk) g (quiet_notes g) refl refl known' refl (desk_ends P t.desk s s' f.phase.desk g.desk.0 g.desk.1) (subst (λ (i : Images). ImagesAgree shape.geometry i.committed (later_of i) devices.metadata s') (sym one) agree) (λ state r. absurd (let bad : None ≡ Some state = sym (ap (λ (i : Images). i.running) one) ∙ r in cc))))
+
+  -- ---- the shared words, and the answer
+
+  told_so : (step : CellStep) (y : Actor) → actor_then {P = P} {A = A} shape (Stands t) devices x (Cell step) (got_of (result_of t.words step)) ≡ y → WorldFollows Quietly a f.site.world (record now { words = words_after t.words step }) y →
+      Goes P A shape (then_is (record { words = words_after t.words step; desk = t.desk }) commit devices (Cell step) (got_of (result_of t.words step))) n
+  told_so step y is g =
+      subst (λ (y : Actor). Goes P A shape (record { devices = devices; commit = commit; phase = Stands (record { words = words_after t.words step; desk = t.desk }); actors = slice_set actors a y }) n) (sym is)
+      (stays_on P A shape images t commit devices actors n known f a x ex Quietly (words_after t.words step) devices y n g
+      (quiet_notes g) refl refl refl)
+
+  told_still : (step : CellStep) → IsStill (Cell step) → WorldFollows Quietly a f.site.world (record now { words = words_after t.words step }) (stepped_actor t.words (commit_job clean) plan step x) →
+      Goes P A shape (then_is (record { words = words_after t.words step; desk = t.desk }) commit devices (Cell step) (got_of (result_of t.words step))) n
+  told_still step k g = told_so step (stepped_actor t.words (commit_job clean) plan step x) (goes_still (Cell step) (got_of (result_of t.words step)) k) g
+
+  looks_at_fail : Cell (Look Fail) ≡ want plan → Goes P A shape (then_is (record { words = words_after t.words (Look Fail); desk = t.desk }) commit devices (Cell (Look Fail)) (got_of (result_of t.words (Look Fail)))) n
+  looks_at_fail next = told_still (Look Fail) tt (commit_steps_followed.looks clean now a x plan f.site.world (wants next))
+
+  sets_failed : Cell SetFailed ≡ want plan → Goes P A shape (then_is (record { words = words_after t.words SetFailed; desk = t.desk }) commit devices (Cell SetFailed) (got_of (result_of t.words SetFailed))) n
+  sets_failed next = told_still SetFailed tt (commit_steps_followed.fails clean now _ _ a x plan f.site.world rule.logs.fail (wants next))
+
+  answers : (answer : Answer) (shown contents : List Bytes) → End answer ≡ want plan → length doing.then_finished ≡ length n.floors → Goes P A shape (then_is t commit devices (End answer) Done) (noted_step shape t.desk.mode shown n a (Some (Some doing)) (End answer) Done contents)
+  answers answer shown contents next asked = by_answer answer next
+    where
+      b : (y : Rattle.wb_link.specs.World.AbstractActor) × (slice_get f.site.world.actors a ≡ Some y)
+      b = beside P A shape images t commit devices actors n known f a x ex
+
+      orders_over : Answer → List Order
+      orders_over v = orders_then x.orders x.awaiting (commit_job clean) (End v) Done
+
+      awaiting_over : Answer → List Order
+      awaiting_over v = awaiting_then x.orders x.awaiting (commit_job clean) (End v) Done
+
+      over : Answer → Actor
+      over v = record x { task = None; orders = orders_over v; awaiting = awaiting_over v }
+
+      served : (o : Order) → Contains (held_of x) o → Contains ((x.awaiting ++ x.orders) ++ []) o
+      served o h = Contains-append_left (x.awaiting ++ x.orders) [] o (elim (Contains-append_cases x.orders x.awaiting o h) [ inl i ↦ Contains-append_right x.awaiting x.orders o i | inr i ↦ Contains-append_left x.awaiting x.orders o i ])
+
+      -- a flush that is done has served the orders that wait for it
+      has_still : (clean : Bool) (v : Answer) (o : Order) → Contains (held_of x) o → Contains (orders_then x.orders x.awaiting (commit_job clean) (End v) Done ++ awaiting_then x.orders x.awaiting (commit_job clean) (End v) Done) o
+      has_still true Finished o h = h
+      has_still false Finished o h = served o h
+      has_still true (Refuses refusal) o h = h
+      has_still false (Refuses refusal) o h = h
+
+      seen_still : (clean : Bool) (v : Answer) → seen_then x.seen (End v) Done (commit_job clean) ≡ x.seen
+      seen_still true v = refl
+      seen_still false v = refl
+
+      given : (v : Answer) → End v ≡ want plan → WorldFollows (Answers (commit_there clean) v) a f.site.world now (over v)
+      given v e = commit_steps_followed.answers clean now v a x plan (orders_over v) (awaiting_over v) f.site.world (wants e) (has_still clean v)
+
+      finish : (v : Answer) (n' : Notes) (g : WorldFollows (Answers (commit_there clean) v) a f.site.world now (over v)) → NotesAgree (size P A shape) n' (abstract_after_all f.site.world g.records) (told f.notes g.records) → length n'.doings ≡ length n.doings → length n'.histories ≡ length n.histories → Goes P A shape (then_is t commit devices (End v) Done) n'
+      finish v n' g notes d h =
+          subst (λ (y : Actor). Goes P A shape (record { devices = devices; commit = commit; phase = Stands t; actors = slice_set actors a y }) n')
+          (sym (actor_is P A shape (Stands t) devices x (commit_job clean) plan (End v) Done xt ∙ (λ i. record { task = None; card = x.card; orders = orders_over v; awaiting = awaiting_over v; buffer = x.buffer; seen = seen_still clean v i })))
+          (stays_on P A shape images t commit devices actors n known f a x ex (Answers (commit_there clean) v) t.words devices (over v) n' g notes d h refl)
+
+      by_answer : (v : Answer) → End v ≡ want plan → Goes P A shape (then_is t commit devices (End v) Done) (noted_step shape t.desk.mode shown n a (Some (Some doing)) (End v) Done contents)
+      by_answer (Refuses refusal) e =
+          let g = given (Refuses refusal) e in
+          finish (Refuses refusal) (put n a None) g (notes_followed.refused (commit_there clean) refusal Stays a f.site.world _ _ g b.0 n f.notes b.1 noted_less f.notes_agree)
+          (length-set n.doings a None) refl
+      by_answer Finished e =
+          let g = given Finished e in
+          subst (λ (m : Notes). Goes P A shape (then_is t commit devices (End Finished) Done) m) (sym (ap (λ (q : Job). finished_note n a doing q shown) job_is ∙ finished_durable n a doing clean shown))
+          (finish Finished (made_durable n a doing) g
+          (notes_followed.commit_answered clean Stays a f.site.world _ _ g b.0 n f.notes b.1 noted_less f.notes_agree doing noted asked)
+          (length-set n.doings a None) refl)
+
+  -- ---- a step of the commit on the metadata, and its end
+
+  module _ (suits : Suits shape.geometry.origin_blocks plan x.card) where
+    abbrev pub w : State P A
+    w = standing P A shape images t commit devices actors n
+
+    abbrev pub Done_by : Want → Got → List Bytes → Chosen P A → Type 0
+    Done_by next got read chosen = Goes P A shape (stepped shape w a x next got chosen (λ step. device_done (commit_job clean) x.buffer step chosen))
+        (noted_step shape t.desk.mode (shown shape (stepped shape w a x next got chosen (λ step. device_done (commit_job clean) x.buffer step chosen))) n a (Some (Some doing)) next got read)
+
+    abbrev pub Failed_by : Choice → Want → List Bytes → Chosen P A → Type 0
+    Failed_by choice next read chosen = Goes P A shape (stepped shape w a x next Fault chosen (λ step. device_failed (lands (device_of step) choice) (commit_job clean) x.buffer step chosen))
+        (noted_step shape t.desk.mode (shown shape (stepped shape w a x next Fault chosen (λ step. device_failed (lands (device_of step) choice) (commit_job clean) x.buffer step chosen))) n a (Some (Some doing)) next Fault read)
+
+    mine : (next : Want) → next ≡ want plan → IsOwnStep (commit_task clean its_task.0 (most P A shape)) next
+    mine next e = subst (λ (v : Want). IsOwnStep (commit_task clean its_task.0 (most P A shape)) v) (sym e) (subst (λ (q : TaskJob). IsOwnStep q (want plan)) its_task.1 (is_own_step shape.geometry.origin_blocks plan x.card suits))
+
+    -- a step of the commit, done or failing
+    module _ (step : DeviceStep) (of_metadata : device_of step ≡ Metadata) (next : Device step ≡ want plan) (read : List Bytes) where
+      abbrev Put_to : Got → List History → Type 0
+      Put_to got new = Goes P A shape (then_is t (led commit got) (record devices { metadata = new }) (Device step) got) (noted_step shape t.desk.mode [] n a (Some (Some doing)) (Device step) got read)
+
+      by_put : IsStill (Device step) → (chosen : Chosen P A) (o : Option RunningCommit) → commit ≡ o → DoesPut o step devices.metadata chosen → (new : List History) × (chosen ≡ Puts new) × Put_to Done new
+      by_put plain (Puts new) (Some c) runs d = (new, refl, put_done step of_metadata next read c runs (and_true _ _ d.0).0 new plain d.1)
+      by_put plain chosen o runs d = absurd d
+
+      by_put_fault : IsPut step → IsStill (Device step) → (choice : Choice) (chosen : Chosen P A) (o : Option RunningCommit) → commit ≡ o → FailsPut o choice step devices.metadata chosen → (new : List History) × (chosen ≡ Puts new) × Put_to Fault new
+      by_put_fault put plain choice (Puts new) (Some c) runs d =
+          (new, refl, put_failed step of_metadata next read c runs (and_true _ _ d.0).0 new plain (put_fails c.image c.steps step devices.metadata new put d.0 (landed_or (lands Metadata choice (sector_put (coming_step c.image c.steps))) d.1)))
+      by_put_fault put plain choice chosen o runs d = absurd d
+
+    by_sync : (read : List Bytes) (chosen : Chosen P A) (o : Option RunningCommit) → commit ≡ o → DoesSync {P = P} {A = A} (Stands t) o devices.metadata chosen → Device (Sync Metadata) ≡ want plan → Done_by (Device (Sync Metadata)) Done read chosen
+    by_sync read chosen (Some c) runs d e = subst (λ (ch : Chosen P A). Done_by (Device (Sync Metadata)) Done read ch) (sym d.1)
+        (put_done (Sync Metadata) refl e read c runs (and_true _ _ d.0).0 (synced devices.metadata) tt (sync_does c.image c.steps devices.metadata d.0))
+    by_sync read chosen None runs d e = absurd d
+
+    by_sync_fault : (choice : Choice) (read : List Bytes) (o : Option RunningCommit) → commit ≡ o → FailsSync {P = P} {A = A} (Stands t) o devices.metadata → Device (Sync Metadata) ≡ want plan → Failed_by choice (Device (Sync Metadata)) read Plain
+    by_sync_fault choice read (Some c) runs d e = put_failed (Sync Metadata) refl e read c runs (and_true _ _ d.0).0 (synced_where (lands Metadata choice) devices.metadata) tt (commit_sync_fails c.image c.steps (lands Metadata choice) devices.metadata d.0)
+    by_sync_fault choice read None runs d e = absurd d
+
+    by_end : (read : List Bytes) (o : Option RunningCommit) → commit ≡ o → is_all_done o ≡ true → Desk EndCommit ≡ want plan → (chosen : Chosen P A) → Done_by (Desk EndCommit) Done read chosen
+    by_end read (Some c) runs d e chosen = ends c runs e d
+    by_end read None runs d e chosen = absurd (cc)
+
+module _ (P A : Type 0) (shape : Shape) (images : Images) (t : Target P) (commit : Option RunningCommit) (devices : Devices (List History)) (actors : List Actor) (n : Notes) (known : MetadataKept {P = P} {A = A} shape.geometry images (Stands t) commit devices.metadata)
+    (f : Followed P A shape images (standing P A shape images t commit devices actors n) n) (rule : LockRule shape.geometry.origin_blocks t.words (cards_of actors)) (all_suited : AllSuited shape.geometry.origin_blocks actors) (k : KeepingAt t actors) (a : ℕ) (x : Actor) (ex : slice_get actors a ≡ Some x) (plan : Plan)
+    (doing : Doing) (noted : slice_get n.doings a ≡ Some (Some doing)) (suits : Suits shape.geometry.origin_blocks plan x.card) where
+  -- ---- orders that a flush gives up
+
+  gives_up : (xt : x.task ≡ Some (Flush, plan)) → doing.job ≡ Flush → (block : OBlock) (new : DeskState P) → Desk (ReleaseOrder block) ≡ want plan → DidRelease x.awaiting block t.desk new →
+      Goes P A shape (record { devices = devices; commit = commit; phase = Stands (record { words = t.words; desk = new }); actors = slice_set actors a (actor_then {P = P} {A = A} shape (Stands t) devices x (Desk (ReleaseOrder block)) Done) }) n
+  gives_up xt job_is block new next did =
+      subst (λ (v : Actor). Goes P A shape (record { devices = devices; commit = commit; phase = Stands (record { words = t.words; desk = new }); actors = slice_set actors a v }) n) (sym (actor_is P A shape (Stands t) devices x Flush plan (Desk (ReleaseOrder block)) Done xt))
+      (by_order (Rattle.wb_stage.specs.Asking.order_of block x.awaiting) refl did)
+    where
+      owned : Owned t.desk actors
+      owned = k.owned
+
+      wanted : WantsNext (situation shape t devices actors) a x f.site.world Flush plan (Desk (ReleaseOrder block))
+      wanted = record { here = ex; task = xt; asks = sym next; agrees = f.phase.agrees }
+
+      -- nobody suspends while it is at work
+      among : AreAmongOthers actors
+      among c z ez = elim (k.alone c z ez) [
+        | inl o ↦ o
+        | inr rest ↦ elim (cases_eq a c) [
+          | inl same ↦ (let both : Some z ≡ Some x = sym ez ∙ ap (slice_get actors) (sym same) ∙ ex in let is : z ≡ x = cc in subst (λ (v : Actor). IsAmongOthers v.task) (sym is) (subst IsAmongOthers (sym xt) tt))
+          | inr away ↦ absurd (let bad : None ≡ Some (Flush, plan) = sym (rest a x away ex) ∙ xt in cc)
+        ]
+      ]
+
+      To : DeskState P → Type 0
+      To d = Goes P A shape (record { devices = devices; commit = commit; phase = Stands (record { words = t.words; desk = d }); actors = slice_set actors a (record x { task = Some (Flush, after plan Done); awaiting = dropped block x.awaiting }) }) n
+
+      by_order : (o : Option Order) → Rattle.wb_stage.specs.Asking.order_of block x.awaiting ≡ o → IsGivenUp o t.desk new → To new
+      by_order None e d =
+          let g = commit_steps_followed.releases false (situation shape t devices actors) block a x plan f.site.world wanted in
+          subst To (sym d) (subst (λ (os : List Order). Goes P A shape (record { devices = devices; commit = commit; phase = Stands t; actors = slice_set actors a (record x { task = Some (Flush, after plan Done); awaiting = os }) }) n) (sym (none_dropped block x.awaiting e))
+          (stays_on P A shape images t commit devices actors n known f a x ex Quietly t.words devices (after_step Flush plan Done x) n g (quiet_notes P A shape images t commit devices actors n known f rule a x ex false plan xt doing noted job_is g) refl refl refl))
+      by_order (Some order) e d =
+          let y : Actor = record x { task = Some (Flush, after plan Done); awaiting = dropped block x.awaiting } in
+          let mine = found_of block x.awaiting order e in
+          let had = Contains-append_right x.orders x.awaiting order mine.0 in
+          let l = owned.live a x order ex had in
+          let is : new ≡ released t.desk l.cache = d.0 l in
+          let here : slice_get (live_orders t.desk) l.cache.0 ≡ Some (Some order) = slot_there t.desk.orders.slots l.cache.0 l.live l.there ∙ ap (λ (q : Order). Some (Some q)) l.same in
+          let inside = slot_within t.desk.orders.slots l.cache.0 l.live l.there in
+          let many_slots = known.is.kept.slots in
+          let many_blocks = known.is.kept.blocks in
+          let b = beside P A shape images t commit devices actors n known f a x ex in
+          let g = commit_steps_followed.gives_up (situation shape t devices actors) block a x plan l.cache.0 order (dropped block x.awaiting) f.site.world among wanted here
+          (λ c z ez h. owned.one c a z x order ez ex h had) in
+          let s' = (abstract_after_all f.site.world g.records).shared in
+          let readable = kept_readable shape.geometry images devices.metadata P A (Stands t) commit known in
+          subst To (sym is) (leads_on P A shape images t commit devices actors n known f a x ex (GivesUp l.cache.0) Releases (record { words = t.words; desk = released t.desk l.cache }) commit devices y n images (slice_set (live_orders t.desk) l.cache.0 None) g
+          (notes_followed.released (GivesUp l.cache.0) a f.site.world _ _ g b.0 n f.notes b.1 (noted_within P A shape images t commit devices actors n known f a x ex) f.notes_agree)
+          refl refl (subst (λ (v : DeskState P). AtDesk shape.geometry images v commit devices.metadata) is (given_up_stands P shape.geometry images t.desk commit devices.metadata new order known d))
+          (sym (orders_set t.desk.orders.slots l.cache.0 None)) (desk_releases P t.desk f.site.world.shared s' f.phase.desk l.cache (omega (arith, inside, many_slots, many_blocks)) g.desk.0 g.desk.1)
+          (images_followed.stay shape.geometry images.committed (later_of images) devices.metadata devices.metadata f.site.world.shared s' f.phase.images_agree g.turned readable.read) (λ state e. let r = f.phase.running state e in (g.turned.1 ∙ r.0, subst (StateTakesClean state) (sym g.turned.4) r.1)))
+
+  -- ---- what a suspend sees, and the bit that it sets
+
+  sees : (xt : x.task ≡ Some (Suspend, plan)) → doing.job ≡ Suspend → (block : OBlock) → Cell (Look (SealWord block)) ≡ want plan →
+      Goes P A shape (record { devices = devices; commit = commit; phase = Stands t; actors = slice_set actors a (actor_then {P = P} {A = A} shape (Stands t) devices x (Cell (Look (SealWord block))) (got_of (result_of t.words (Look (SealWord block))))) }) n
+  sees xt job_is block next =
+      let seen' = seen_with (word_at t.words.seals block) x.seen in
+      told_so P A shape images t commit devices actors n known f rule a x ex true plan xt doing noted job_is (Look (SealWord block)) (record (stepped_actor t.words Suspend plan (Look (SealWord block)) x) { seen = seen' })
+      (actor_is P A shape (Stands t) devices x Suspend plan (Cell (Look (SealWord block))) (got_of (result_of t.words (Look (SealWord block)))) xt)
+      (commit_steps_followed.sees (situation shape t devices actors) block seen' a x plan f.site.world (record { here = ex; task = xt; asks = sym next; agrees = f.phase.agrees }))
+
+  sets_suspended : (xt : x.task ≡ Some (Suspend, plan)) → doing.job ≡ Suspend → Cell SetSuspended ≡ want plan →
+      Goes P A shape (record { devices = devices; commit = commit; phase = Stands (record { words = words_after t.words SetSuspended; desk = t.desk }); actors = slice_set actors a (actor_then {P = P} {A = A} shape (Stands t) devices x (Cell SetSuspended) (got_of (result_of t.words SetSuspended))) }) n
+  sets_suspended xt job_is next =
+      told_still P A shape images t commit devices actors n known f rule a x ex true plan xt doing noted job_is SetSuspended tt
+      (commit_steps_followed.suspends (situation shape t devices actors) _ _ a x plan f.site.world rule.logs.fail (record { here = ex; task = xt; asks = sym next; agrees = f.phase.agrees }))
+
+  -- once it asks for its commit it has seen all, and the seals tell
+  has_seen : (xt : x.task ≡ Some (Suspend, plan)) → (marked : Bool) (allowed : ℕ) → Desk (BeginCommit marked allowed) ≡ want plan → AllSeen t.words t.desk.tree.entries x.seen × ((block : OBlock) → number_of (place_in (word_at t.words.seals block)) ≡ place_of t.desk.tree.entries block.0)
+  has_seen xt marked allowed next =
+      let first = begins_by plan (Desk (BeginCommit marked allowed)) (sym next) (λ v q. absurd (cc)) in
+      let b = beside P A shape images t commit devices actors n known f a x ex in
+      let r : IsCommitAt (size P A shape) (most P A shape) _ true plan b.0 = doing_of (size P A shape) (most P A shape) t.words x b.0 Suspend plan (f.phase.agrees.each a x b.0 ex b.1) xt in
+      let none = (subst (λ (ws : List Want). IsOfCommit true (most P A shape) ws) first.1 r.steps).2 in (
+        saw_all t.words t.desk.tree.entries x.seen marked allowed first.0 none (subst (λ (ws : List Want). Saw t.words t.desk.tree.entries x.seen ws) first.1 (saw_now P A shape images t commit devices actors n known f rule all_suited k a x ex Suspend plan xt refl)),
+        all_told P A shape images t commit devices actors n known f rule all_suited k a x ex Suspend plan xt refl (Desk (BeginCommit marked allowed)) next (λ b p d q. absurd (cc)),
+      )
+
+  -- ---- any step
+
+  abbrev Any_done : (clean : Bool) → x.task ≡ Some (commit_job clean, plan) → doing.job ≡ commit_job clean → Want → Got → List Bytes → Chosen P A → Type 0
+  Any_done clean xt job_is next got read chosen = Done_by P A shape images t commit devices actors n known f rule a x ex clean plan xt doing noted job_is suits next got read chosen
+
+  -- what a suspend meets as a flush does
+  abbrev IsCommon : Want → Type 0
+  IsCommon (Cell step) = Unit {0}
+  IsCommon (Device step) = Unit {0}
+  IsCommon (Desk EndCommit) = Unit {0}
+  IsCommon (End answer) = Unit {0}
+  IsCommon next = ⊥
+
+  abbrev Gives_as : Job → Want → Got → List Bytes → Chosen P A → Type 0
+  Gives_as job next got read chosen = Gives shape (standing P A shape images t commit devices actors n) x job next got read chosen
+
+  as_flush : (clean : Bool) (next : Want) (got : Got) (read : List Bytes) (chosen : Chosen P A) → IsCommon next → Gives_as (commit_job clean) next got read chosen → Gives_as Flush next got read chosen
+  as_flush false next got read chosen common g = g
+  as_flush true (Cell step) got read chosen common g = g
+  as_flush true (Device (Sync Metadata)) got read chosen common g = g
+  as_flush true (Device step) got read chosen common g = g
+  as_flush true (Desk EndCommit) got read chosen common g = g
+  as_flush true (End Finished) got read chosen common g = g
+  as_flush true (End answer) got read chosen common g = g
+  as_flush true next got read chosen common g = absurd common
+
+  pub commit_steps : (clean : Bool) (xt : x.task ≡ Some (commit_job clean, plan)) (job_is : doing.job ≡ commit_job clean) (next : Want) (got : Got) (read : List Bytes) (chosen : Chosen P A) → length doing.then_finished ≡ length n.floors → next ≡ want plan →
+      Gives shape (standing P A shape images t commit devices actors n) x (commit_job clean) next got read chosen → Any_done clean xt job_is next got read chosen
+  commit_steps clean xt job_is (Cell (Look Fail)) got read chosen asked e g =
+      let h = as_flush clean (Cell (Look Fail)) got read chosen tt g in
+      subst (λ (v : Got). Any_done clean xt job_is (Cell (Look Fail)) v read chosen) (sym h.1) (looks_at_fail P A shape images t commit devices actors n known f rule a x ex clean plan xt doing noted job_is e)
+  commit_steps clean xt job_is (Cell SetFailed) got read chosen asked e g =
+      let h = as_flush clean (Cell SetFailed) got read chosen tt g in
+      subst (λ (v : Got). Any_done clean xt job_is (Cell SetFailed) v read chosen) (sym h.1) (sets_failed P A shape images t commit devices actors n known f rule a x ex clean plan xt doing noted job_is e)
+  commit_steps true xt job_is (Cell (Look (SealWord block))) got read chosen asked e g = subst (λ (v : Got). Any_done true xt job_is (Cell (Look (SealWord block))) v read chosen) (sym g.1) (sees xt job_is block e)
+  commit_steps true xt job_is (Cell SetSuspended) got read chosen asked e g = subst (λ (v : Got). Any_done true xt job_is (Cell SetSuspended) v read chosen) (sym g.1) (sets_suspended xt job_is e)
+  commit_steps true xt job_is (Cell step) got read chosen asked e g = absurd (mine P A shape images t commit devices actors n known f rule a x ex true plan xt doing noted job_is suits (Cell step) e)
+  commit_steps false xt job_is (Cell step) got read chosen asked e g = absurd (mine P A shape images t commit devices actors n known f rule a x ex false plan xt doing noted job_is suits (Cell step) e)
+  commit_steps clean xt job_is (Device (Sync Cache)) got read chosen asked e g =
+      let h = as_flush clean (Device (Sync Cache)) got read chosen tt g in
+      subst (λ (v : Got). Any_done clean xt job_is (Device (Sync Cache)) v read chosen) (sym h.1) (syncs P A shape images t commit devices actors n known f rule a x ex clean plan xt doing noted job_is Cache tt e read)
+  commit_steps clean xt job_is (Device (Sync Origin)) got read chosen asked e g =
+      let h = as_flush clean (Device (Sync Origin)) got read chosen tt g in
+      subst (λ (v : Got). Any_done clean xt job_is (Device (Sync Origin)) v read chosen) (sym h.1) (syncs P A shape images t commit devices actors n known f rule a x ex clean plan xt doing noted job_is Origin tt e read)
+  commit_steps clean xt job_is (Device (Sync Metadata)) got read chosen asked e g =
+      let h = as_flush clean (Device (Sync Metadata)) got read chosen tt g in
+      subst (λ (v : Got). Any_done clean xt job_is (Device (Sync Metadata)) v read chosen) (sym h.1) (by_sync P A shape images t commit devices actors n known f rule a x ex clean plan xt doing noted job_is suits read chosen commit refl h.2 e)
+  commit_steps clean xt job_is (Device (WriteNode k)) got read chosen asked e g =
+      let h = as_flush clean (Device (WriteNode k)) got read chosen tt g in
+      let p = by_put P A shape images t commit devices actors n known f rule a x ex clean plan xt doing noted job_is suits (WriteNode k) refl e read tt chosen commit refl h.2 in
+      subst (λ (v : Got). Any_done clean xt job_is (Device (WriteNode k)) v read chosen) (sym h.1) (subst (λ (c : Chosen P A). Any_done clean xt job_is (Device (WriteNode k)) Done read c) (sym p.1) p.2)
+  commit_steps clean xt job_is (Device WriteRoot) got read chosen asked e g =
+      let h = as_flush clean (Device WriteRoot) got read chosen tt g in
+      let p = by_put P A shape images t commit devices actors n known f rule a x ex clean plan xt doing noted job_is suits WriteRoot refl e read tt chosen commit refl h.2 in
+      subst (λ (v : Got). Any_done clean xt job_is (Device WriteRoot) v read chosen) (sym h.1) (subst (λ (c : Chosen P A). Any_done clean xt job_is (Device WriteRoot) Done read c) (sym p.1) p.2)
+  commit_steps true xt job_is (Desk (BeginCommit marked allowed)) (Began nodes) read (Commits c tree) asked e g = begins P A shape images t commit devices actors n known f rule a x ex true plan xt doing noted job_is nodes allowed marked c tree e g.2.2 g.2.3.0 g.2.3.1 (λ q. has_seen xt marked allowed e)
+  commit_steps false xt job_is (Desk (BeginCommit marked allowed)) (Began nodes) read (Commits c tree) asked e g = begins P A shape images t commit devices actors n known f rule a x ex false plan xt doing noted job_is nodes allowed marked c tree e g.2.2 g.2.3.0 g.2.3.1 (λ q. absurd (cc))
+  commit_steps clean xt job_is (Desk (BeginCommit marked allowed)) (GotRefused refusal) read Plain asked e g = begin_refused P A shape images t commit devices actors n known f rule a x ex clean plan xt doing noted job_is refusal allowed marked e g.2
+  commit_steps clean xt job_is (Desk (BeginCommit marked allowed)) got read chosen asked e g = absurd g.2
+  commit_steps clean xt job_is (Desk EndCommit) got read chosen asked e g =
+      let h = as_flush clean (Desk EndCommit) got read chosen tt g in
+      subst (λ (v : Got). Any_done clean xt job_is (Desk EndCommit) v read chosen) (sym h.1) (by_end P A shape images t commit devices actors n known f rule a x ex clean plan xt doing noted job_is suits read commit refl h.2 e chosen)
+  commit_steps clean xt job_is (End answer) got read chosen asked e g =
+      let h = as_flush clean (End answer) got read chosen tt g in
+      subst (λ (v : Got). Any_done clean xt job_is (End answer) v read chosen) (sym h.1) (subst (λ (c : Chosen P A). Any_done clean xt job_is (End answer) Done read c) (sym h.0.1) (answers P A shape images t commit devices actors n known f rule a x ex clean plan xt doing noted job_is answer _ read e asked))
+  commit_steps true xt job_is (Device (ReadMetadata k)) got read chosen asked e g = absurd (mine P A shape images t commit devices actors n known f rule a x ex true plan xt doing noted job_is suits (Device (ReadMetadata k)) e)
+  commit_steps false xt job_is (Device (ReadMetadata k)) got read chosen asked e g = absurd (mine P A shape images t commit devices actors n known f rule a x ex false plan xt doing noted job_is suits (Device (ReadMetadata k)) e)
+  commit_steps false xt job_is (Desk (ReleaseOrder b)) got read (Asks new) asked e g = subst (λ (v : Got). Any_done false xt job_is (Desk (ReleaseOrder b)) v read (Asks new)) (sym g.1) (gives_up xt job_is b new e g.2)
+  commit_steps false xt job_is (Desk (ReleaseOrder b)) got read chosen asked e g = absurd g.2
+  commit_steps true xt job_is next got read chosen asked e g = absurd g
+  commit_steps false xt job_is next got read chosen asked e g = absurd g
+
+  abbrev Any_failed : (clean : Bool) → x.task ≡ Some (commit_job clean, plan) → doing.job ≡ commit_job clean → Choice → Want → List Bytes → Chosen P A → Type 0
+  Any_failed clean xt job_is choice next read chosen = Failed_by P A shape images t commit devices actors n known f rule a x ex clean plan xt doing noted job_is suits choice next read chosen
+
+  pub commit_faults : (clean : Bool) (xt : x.task ≡ Some (commit_job clean, plan)) (job_is : doing.job ≡ commit_job clean) (choice : Choice) (next : Want) (read : List Bytes) (chosen : Chosen P A) → next ≡ want plan → MayFailAt devices choice next → Falters (standing P A shape images t commit devices actors n) choice next chosen → Any_failed clean xt job_is choice next read chosen
+  commit_faults clean xt job_is choice (Device (Sync Cache)) read chosen e m g = sync_fails P A shape images t commit devices actors n known f rule a x ex clean plan xt doing noted job_is Cache tt e read (lands Cache choice)
+  commit_faults clean xt job_is choice (Device (Sync Origin)) read chosen e m g = sync_fails P A shape images t commit devices actors n known f rule a x ex clean plan xt doing noted job_is Origin tt e read (lands Origin choice)
+  commit_faults clean xt job_is choice (Device (Sync Metadata)) read chosen e m g = subst (λ (c : Chosen P A). Any_failed clean xt job_is choice (Device (Sync Metadata)) read c) (sym g.0) (by_sync_fault P A shape images t commit devices actors n known f rule a x ex clean plan xt doing noted job_is suits choice read commit refl g.1 e)
+  commit_faults clean xt job_is choice (Device (WriteNode k)) read chosen e m g = (let p = by_put_fault P A shape images t commit devices actors n known f rule a x ex clean plan xt doing noted job_is suits (WriteNode k) refl e read tt tt choice chosen commit refl g in subst (λ (c : Chosen P A). Any_failed clean xt job_is choice (Device (WriteNode k)) read c) (sym p.1) p.2)
+  commit_faults clean xt job_is choice (Device WriteRoot) read chosen e m g = (let p = by_put_fault P A shape images t commit devices actors n known f rule a x ex clean plan xt doing noted job_is suits WriteRoot refl e read tt tt choice chosen commit refl g in subst (λ (c : Chosen P A). Any_failed clean xt job_is choice (Device WriteRoot) read c) (sym p.1) p.2)
+  commit_faults true xt job_is choice (Device step) read chosen e m g = absurd (mine P A shape images t commit devices actors n known f rule a x ex true plan xt doing noted job_is suits (Device step) e)
+  commit_faults false xt job_is choice (Device step) read chosen e m g = absurd (mine P A shape images t commit devices actors n known f rule a x ex false plan xt doing noted job_is suits (Device step) e)
+  commit_faults clean xt job_is choice next read chosen e m g = absurd m

@@ -1,0 +1,165 @@
+-- Each step of a flush, or of a suspend, is followed, whatever it comes to.
+use Rattle.std.proofs.Common.{Contains, ◌++◌, ◌≡◌, ◌∙◌, ◌⊎◌, inl, inr, ℕ, Bool, true, false, List, [], ◌∷◌, Some, None, refl, sym, ap, subst, slice_get, slice_set}
+use Rattle.wb_types.specs.declared.mode.Dev.TheVariants.{Metadata}
+use Rattle.wb_disk.specs.Device.{synced}
+use Rattle.wb_disk.specs.Failing.{synced_where}
+use Rattle.wb_words.specs.SharedWords.{flag}
+use Rattle.wb_words.specs.Effects.{words_after}
+use Rattle.wb_words.specs.declared.step.CellStep.TheVariants.{Look, SetFailed, SetSuspended}
+use Rattle.wb_words.specs.declared.word.Word.TheVariants.{Fail, Seal as SealWord}
+use Rattle.wb_policy.specs.declared.order.Order.{Order}
+use Rattle.wb_tasks.specs.Plan.{Plan, want, table}
+use Rattle.wb_tasks.specs.declared.step.Answer.{Answer}
+use Rattle.wb_tasks.specs.declared.step.DeviceStep.TheVariants.{Sync}
+use Rattle.wb_tasks.specs.declared.step.DeskStep.TheVariants.{BeginCommit, EndCommit, ReleaseOrder}
+use Rattle.wb_tasks.specs.declared.step.Want.{Want}
+use Rattle.wb_tasks.specs.declared.step.Want.TheVariants.{Cell, Device, Desk, End}
+use Rattle.wb_tasks.specs.declared.step.Got.TheVariants.{Done, Fault, Began, Refused}
+use Rattle.wb_devices.specs.Moving.{device_in}
+use Rattle.wb_link.specs.World.{World, Nothing, AbstractActor}
+use Rattle.wb_refines.specs.Commits.{IsCommitting, IsToBegin, IsWrittenAfter, committing, commit_task, commit_there}
+use Rattle.wb_promise.specs.declared.job.Job.TheVariants.{Flush, Suspend}
+use Rattle.wb_promise.specs.States.{Actor, with_device}
+use Rattle.wb_simulation.specs.Actors.{IsLate, IsCommitAt, IsLeading, IsOfCommit, LeadsAt, StandsFor}
+use Rattle.wb_link.specs.Tables.{Job as AbstractJob}
+use Rattle.wb_refines.specs.Translation.{job_for}
+use Rattle.wb_refines.proofs.Committing.{job_is}
+use Rattle.wb_simulation.specs.Telling.{Quietly, Answers, AnswersSo, Releases}
+use Rattle.wb_simulation.specs.Worlds.{Situation, Begins, Puts, Ends, GivesUp, WorldFollowsBy, WorldFollows}
+use Rattle.wb_simulation.specs.Laws.{WantsNext, CommitStepsFollowed, commit_job, after_step, turn_of, stepped_actor}
+use Rattle.wb_types.specs.declared.number.OBlock.{OBlock}
+use Rattle.wb_simulation.specs.Carried.{held}
+use Rattle.wb_simulation.proofs.Among.{own_there}
+use Rattle.wb_simulation.proofs.Followed.{doing_of, first, answers_by, IsWithin}
+use Rattle.wb_simulation.proofs.Ending.{IsNothingLeft, late_over, answers}
+use Rattle.wb_simulation.proofs.Telling.{answers_at, late_answers_so}
+use Rattle.wb_simulation.proofs.Leading.{by_commit, doing_as}
+use Rattle.wb_simulation.proofs.Committing.{leading, syncs, sync_falls, metadata_done, metadata_failed, is_on_metadata, is_refused, begins, ends, releases, gives_up, fails, sees, suspends, looks, late_looks}
+
+module _ (clean : Bool) (now : Situation) (a : ℕ) (x : Actor) (plan : Plan) (s : World) (next : Want) (wants : WantsNext now a x s (commit_job clean) plan next) where
+  its : (y : AbstractActor) × (slice_get s.actors a ≡ Some y) × StandsFor now.size now.most now.words x y
+  its = own_there now s wants.agrees a x wants.here
+
+  abbrev y : AbstractActor
+  y = its.0
+
+  f : IsCommitAt now.size now.most its.2.failed clean plan its.0
+  f = doing_as clean now.size now.most its.2.failed plan x.card its.0 (doing_of now.size now.most now.words x its.0 (commit_job clean) plan its.2 wants.task)
+
+  abbrev blocks : List OBlock
+  blocks = f.blocks
+
+  -- what is left of it
+  abbrev left : List Want → Plan
+  left steps = committing clean blocks now.most steps plan.answer
+
+  -- what holds of what is left, with this step next, holds of it
+  at_commit : IsWithin next → (P : Plan → Type 0) → ((later : List Want) (leads : Bool) → LeadsAt leads (next ∷ later) → IsOfCommit clean now.most (next ∷ later) → IsCommitting now.size [] (left (next ∷ later)) leads y → P (left (next ∷ later))) → P plan
+  at_commit within P h = by_commit now.size now.most its.2.failed clean plan next y wants.asks within f P h
+
+  -- where it leads no commit
+  not_leading : (next : Want) (later : List Want) (leads : Bool) → leads ≡ false → IsCommitting now.size [] (left (next ∷ later)) leads y → IsCommitting now.size [] (left (next ∷ later)) false y
+  not_leading next later leads l is = subst (λ (b : Bool). IsCommitting now.size [] (left (next ∷ later)) b y) l is
+
+  -- it asks for a commit
+  at_begin : (allowed : ℕ) (marked : Bool) → want plan ≡ Desk (BeginCommit marked allowed) → (P : Plan → Type 0) → (IsCommitting now.size [] (left (Desk (BeginCommit clean now.most) ∷ [])) false y → P (left (Desk (BeginCommit clean now.most) ∷ []))) → P plan
+  at_begin allowed marked e P h = by_commit now.size now.most its.2.failed clean plan (Desk (BeginCommit marked allowed)) y e tt f P (λ later leads l o is.
+      let same : left (Desk (BeginCommit clean now.most) ∷ []) ≡ left (Desk (BeginCommit marked allowed) ∷ later) = (λ i. left (Desk (BeginCommit (sym o.0 i) (sym o.1 i)) ∷ sym o.2 i)) in
+      subst P same (h (subst (λ (p : Plan). IsCommitting now.size [] p false y) (sym same) (not_leading (Desk (BeginCommit marked allowed)) later leads l is))))
+
+  -- it has this alone to do on the words before it answers
+  at_last : (step : Want) → want plan ≡ step → IsWithin step → ((later : List Want) → IsOfCommit clean now.most (step ∷ later) → later ≡ []) → (P : Plan → Type 0) → ((leads : Bool) → LeadsAt leads (step ∷ []) → IsCommitting now.size [] (left (step ∷ [])) leads y → P (left (step ∷ []))) → P plan
+  at_last step e within last P h = by_commit now.size now.most its.2.failed clean plan step y e within f P (λ later leads l o is.
+      subst (λ (ws : List Want). LeadsAt leads (step ∷ ws) → IsCommitting now.size [] (left (step ∷ ws)) leads y → P (left (step ∷ ws))) (sym (last later o)) (h leads) l is)
+
+  look : want plan ≡ Cell (Look Fail) → WorldFollows Quietly a s now (stepped_actor now.words (commit_job clean) plan (Look Fail) x)
+  look e = first plan (commit_task clean blocks now.most) (Cell (Look Fail)) f.job e (λ p. IsOfCommit clean now.most p.steps → At p → WorldFollows Quietly a s now (stepped_actor now.words (commit_job clean) p (Look Fail) x)) (λ later k o at. by later o at) (λ k q. absurd (cc)) f.steps f.at
+    where
+      At : Plan → Type 0
+      At p = IsLeading now.size its.2.failed p y ⊎ IsLate its.2.failed p y
+
+      by : (later : List Want) → IsToBegin clean now.most later → At (left (Cell (Look Fail) ∷ later)) → WorldFollows Quietly a s now (stepped_actor now.words (commit_job clean) (left (Cell (Look Fail) ∷ later)) (Look Fail) x)
+      by later o (inl l) = looks now clean blocks a x s y wants.here its.1 wants.agrees later plan.answer o (not_leading (Cell (Look Fail)) later l.leads l.at l.is)
+      by later o (inr l) = late_looks now clean blocks a x s y wants.here its.1 wants.agrees later plan.answer its.2 l
+
+  -- it answers; one that leads a commit still has failed
+  answered : (orders' awaiting' : List Order) → ((o : Order) → Contains (held x) o → Contains (orders' ++ awaiting') o) → (answer : Answer) → want plan ≡ End answer → WorldFollows (Answers (commit_there clean) answer) a s now (record x { task = None; orders = orders'; awaiting = awaiting' })
+  answered orders' awaiting' keeps answer e = answers_by plan (commit_task clean blocks now.most) answer f.job e (λ later k. no_end clean later (subst (λ (us : List Want). IsOfCommit clean now.most us) k f.steps)) (λ p. IsLeading now.size its.2.failed p y ⊎ IsLate its.2.failed p y → Goal) by f.at
+    where
+      p : Plan
+      p = committing clean blocks now.most [] answer
+
+      no_end : (clean : Bool) (later : List Want) → IsOfCommit clean now.most (End answer ∷ later) → ⊥
+      no_end true later o = o
+      no_end false later o = o
+
+      Goal : Type 0
+      Goal = WorldFollows (Answers (commit_there clean) answer) a s now (record x { task = None; orders = orders'; awaiting = awaiting' })
+
+      told_so : AnswersSo (job_for now.size [] (commit_task clean blocks now.most)) answer y.task → AnswersSo (commit_there clean) answer y.task
+      told_so t = subst (λ (j : AbstractJob). AnswersSo j answer y.task) (job_is now.size [] clean blocks now.most) t
+
+      by : IsLeading now.size its.2.failed p y ⊎ IsLate its.2.failed p y → Goal
+      by (inl l) = answers now a x s y wants.here its.1 wants.agrees its.2 orders' awaiting' keeps (Answers (commit_there clean) answer) (told_so (answers_at now.size [] (commit_task clean blocks now.most) answer y (ap (λ (v : AbstractActor). v.task) l.is.is)), refl)
+          (record { steps = subst (λ (v : AbstractActor). IsNothingLeft v.task) (sym l.is.is) refl; free = by_lead l.leads refl })
+        where
+          by_lead : (b : Bool) → l.leads ≡ b → ((y.held ≡ Nothing) × (y.leads ≡ false)) ⊎ (flag now.words.fail ≡ true)
+          by_lead false k = inl (ap (λ (v : AbstractActor). v.held) l.is.is, ap (λ (v : AbstractActor). v.leads) l.is.is ∙ k)
+          by_lead true k = inr (its.2.has_failed (l.has_failed k refl))
+      by (inr l) = answers now a x s y wants.here its.1 wants.agrees its.2 orders' awaiting' keeps (Answers (commit_there clean) answer) (late_answers_so (commit_there clean) its.2.failed p answer y refl (λ t. never_begun clean (ap (λ (q : Plan). q.steps) t)) l, refl) (late_over now.words its.2.failed its.2.has_failed p y l)
+        where
+          never_begun : (clean : Bool) → [] ≡ (table (commit_task clean blocks now.most)).steps → ⊥
+          never_begun true t = absurd (cc)
+          never_begun false t = absurd (cc)
+
+pub commit_steps_followed : CommitStepsFollowed
+commit_steps_followed = record {
+  looks = λ clean now a x plan s wants. look clean now a x plan s _ wants wants.asks;
+  sees = λ now block seen' a x plan s wants.
+      let u = its true now a x plan s _ wants in let n = blocks true now a x plan s _ wants in
+      at_commit true now a x plan s _ wants tt (λ p. WorldFollows Quietly a s now (record (stepped_actor now.words Suspend p (Look (SealWord block)) x) { seen = seen' }))
+      (λ later leads l o is. sees now n a x s u.0 wants.here u.1 wants.agrees block seen' later plan.answer o.1 (not_leading true now a x plan s _ wants (Cell (Look (SealWord block))) later leads l is));
+  begins = λ clean now nodes allowed marked a x plan s wants idle.
+      let u = its clean now a x plan s _ wants in let n = blocks clean now a x plan s _ wants in
+      at_begin clean now a x plan s _ wants allowed marked wants.asks (λ p. WorldFollowsBy (Begins clean) Quietly a s (record now { committing = true }) (after_step (commit_job clean) p (Began nodes) x)) (λ is. begins now clean n a x s u.0 wants.here u.1 wants.agrees nodes plan.answer idle is);
+  is_refused = λ clean now allowed marked refusal a x plan s no wants.
+      let u = its clean now a x plan s _ wants in let n = blocks clean now a x plan s _ wants in
+      at_begin clean now a x plan s _ wants allowed marked wants.asks (λ p. WorldFollows Quietly a s now (after_step (commit_job clean) p (Refused refusal) x)) (λ is. is_refused now clean n a x s u.0 wants.here u.1 wants.agrees refusal plan.answer no is);
+  syncs = λ clean now device a x plan s h wants.
+      let u = its clean now a x plan s _ wants in let n = blocks clean now a x plan s _ wants in
+      at_commit clean now a x plan s _ wants tt (λ p. WorldFollows Quietly a s (record now { devices = with_device device now.devices (synced (device_in device now.devices)) }) (after_step (commit_job clean) p Done x))
+      (λ later leads l o is. syncs now clean n a x s u.0 wants.here u.1 wants.agrees device h later plan.answer o (leading now clean n a x s u.0 wants.here u.1 wants.agrees (Device (Sync device)) later plan.answer leads l is));
+  sync_fails = λ clean now device lands a x plan s h wants.
+      let u = its clean now a x plan s _ wants in let n = blocks clean now a x plan s _ wants in
+      at_commit clean now a x plan s _ wants tt (λ p. WorldFollows Quietly a s (record now { devices = with_device device now.devices (synced_where lands (device_in device now.devices)) }) (after_step (commit_job clean) p Fault x))
+      (λ later leads l o is. sync_falls now clean n a x s u.0 wants.here u.1 wants.agrees lands device h later plan.answer (leading now clean n a x s u.0 wants.here u.1 wants.agrees (Device (Sync device)) later plan.answer leads l is));
+  on_metadata = λ clean now step metadata a x plan s d wants.
+      let u = its clean now a x plan s _ wants in let n = blocks clean now a x plan s _ wants in
+      at_commit clean now a x plan s _ wants tt (λ p. WorldFollowsBy (turn_of step) Quietly a s (record now { devices = with_device Metadata now.devices metadata }) (after_step (commit_job clean) p Done x))
+      (λ later leads l o is. metadata_done now clean n a x s u.0 wants.here u.1 wants.agrees metadata step later plan.answer d o (leading now clean n a x s u.0 wants.here u.1 wants.agrees (Device step) later plan.answer leads l is));
+  metadata_fails = λ clean now step metadata a x plan s d wants.
+      let u = its clean now a x plan s _ wants in let n = blocks clean now a x plan s _ wants in
+      at_commit clean now a x plan s _ wants tt (λ p. (written : Bool) × IsWrittenAfter step s.shared.root_written written × WorldFollowsBy (Puts written) Quietly a s (record now { devices = with_device Metadata now.devices metadata }) (after_step (commit_job clean) p Fault x))
+      (λ later leads l o is. metadata_failed now clean n a x s u.0 wants.here u.1 wants.agrees metadata step later plan.answer (is_on_metadata now clean n a x s u.0 wants.here u.1 wants.agrees step later d o) (leading now clean n a x s u.0 wants.here u.1 wants.agrees (Device step) later plan.answer leads l is));
+  ends = λ clean now a x plan s wants.
+      let u = its clean now a x plan s _ wants in let n = blocks clean now a x plan s _ wants in
+      at_commit clean now a x plan s _ wants tt (λ p. WorldFollowsBy Ends Quietly a s (record now { committing = false }) (after_step (commit_job clean) p Done x))
+      (λ later leads l o is. ends now clean n a x s u.0 wants.here u.1 wants.agrees later plan.answer o (leading now clean n a x s u.0 wants.here u.1 wants.agrees (Desk EndCommit) later plan.answer leads l is));
+  releases = λ clean now block a x plan s wants.
+      let u = its clean now a x plan s _ wants in let n = blocks clean now a x plan s _ wants in
+      at_commit clean now a x plan s _ wants tt (λ p. WorldFollows Quietly a s now (after_step (commit_job clean) p Done x))
+      (λ later leads l o is. releases now clean n a x s u.0 wants.here u.1 wants.agrees block later plan.answer o (not_leading clean now a x plan s _ wants (Desk (ReleaseOrder block)) later leads l is));
+  gives_up = λ now block a x plan c order awaiting' s among wants slot only.
+      let u = its false now a x plan s _ wants in let n = blocks false now a x plan s _ wants in
+      at_commit false now a x plan s _ wants tt (λ p. WorldFollowsBy (GivesUp c) Releases a s (record now { orders = slice_set now.orders c None }) (record (after_step Flush p Done x) { awaiting = awaiting' }))
+      (λ later leads l o is. gives_up now n a x s u.0 wants.here u.1 wants.agrees block later plan.answer o.1 (not_leading false now a x plan s _ wants (Desk (ReleaseOrder block)) later leads l is) c order awaiting' among slot only);
+  fails = λ clean now failures suspensions a x plan s w wants.
+      let u = its clean now a x plan s _ wants in let n = blocks clean now a x plan s _ wants in
+      at_last clean now a x plan s _ wants (Cell SetFailed) wants.asks tt (λ later o. o) (λ p. WorldFollows Quietly a s (record now { words = words_after now.words SetFailed }) (stepped_actor now.words (commit_job clean) p SetFailed x))
+      (λ leads l is. fails now clean n a x s u.0 wants.here u.1 wants.agrees failures suspensions plan.answer w (leading now clean n a x s u.0 wants.here u.1 wants.agrees (Cell SetFailed) [] plan.answer leads l is));
+  suspends = λ now failures suspensions a x plan s w wants.
+      let u = its true now a x plan s _ wants in let n = blocks true now a x plan s _ wants in
+      at_last true now a x plan s _ wants (Cell SetSuspended) wants.asks tt (λ later o. o.1) (λ p. WorldFollows Quietly a s (record now { words = words_after now.words SetSuspended }) (stepped_actor now.words Suspend p SetSuspended x))
+      (λ leads l is. suspends now n a x s u.0 wants.here u.1 wants.agrees failures suspensions plan.answer w (not_leading true now a x plan s _ wants (Cell SetSuspended) [] leads l is));
+  answers = λ clean now answer a x plan orders' awaiting' s wants keeps. answered clean now a x plan s _ wants orders' awaiting' keeps answer wants.asks;
+}
