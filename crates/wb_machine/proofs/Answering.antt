@@ -2,7 +2,6 @@
 use Rattle.std.proofs.Common.{◌≡◌, ◌<◌, ℕ, true, List, [], Option, Some, None, refl, sym, ap, subst, ◌∙◌, length, length-set, replicate, slice_set}
 use Rattle.wb_policy.specs.declared.quiet.Quiet.{Quiet}
 use Rattle.std.specs.declared.alloc.Global.{Global}
-use Rattle.wb_types.specs.Limits.{node_count}
 use Rattle.wb_types.specs.declared.geometry.Geometry.{Geometry}
 use Rattle.wb_types.specs.declared.refusal.Refusal.{Refusal}
 use Rattle.wb_disk.specs.Memory.{Memory}
@@ -65,7 +64,7 @@ module _ (g : Geometry) (n : ℕ) (devices : Devices Memory) (o : Opener) (made 
 
   -- with nothing to do, and this card
   abbrev rested : Actor
-  rested = record { task = None; card = card; orders = []; awaiting = []; buffer = [] }
+  rested = record { task = None; card = card; orders = []; awaiting = []; buffer = []; seen = [] }
 
   actors : IsMade g n o.asked made → with_cards made.members.items made.target.crew.cards ≡ slice_set (actors_of n (Underway o)) o.asked.actor rested
   actors is = ap (λ (ms : List Member). with_cards ms made.target.crew.cards) is.members_are ∙ ap (λ (cs : List Card). with_cards (replicate n free) cs) is.cards_are
@@ -107,7 +106,7 @@ answers_done g n devices o h next done (Some made) made_is is =
     subst (Answers g n devices o) (sym stood) (record {
       happens = subst (λ (w : Want). Happens (shape_of g n) (state_of n devices (Underway o)) (Step o.asked.actor) (Stepped w Done) [] (state_of n devices (Standing made.target made.members))) (sym next) (opened g n devices o made h next made_is is done);
       is_there = (ap length is.cards_are ∙ length-set (replicate n blank_card) o.asked.actor _ ∙ length_replicate n blank_card, ap length is.members_are ∙ length_replicate n free);
-      so = record { blocks = is.blocks_are; failed = is.failed_is; sizes = sizes g n o.asked made is; roomy = subst (λ (ms : List Member). AllRoomy (node_count g.cache_blocks) ms) (sym is.members_are) (roomy_free (node_count g.cache_blocks) n) };
+      so = record { blocks = is.blocks_are; failed = is.failed_is; sizes = sizes g n o.asked made is; roomy = subst (λ (ms : List Member). AllRoomy g.cache_blocks ms) (sym is.members_are) (roomy_free g.cache_blocks n) };
     })
 
 answers_refused : (g : Geometry) (n : ℕ) (devices : Devices Memory) (o : Opener) → o.asked.actor < n → (refusal : Refusal) → want o.task ≡ End (Refuses refusal) → Answers g n devices o (answered (Underway o))

@@ -38,15 +38,15 @@ use Rattle.wb_devices.specs.declared.devices.Devices.{Devices}
 use Rattle.wb_devices.specs.declared.running.RunningCommit.{RunningCommit}
 use Rattle.wb_devices.specs.Committing.{is_coming}
 use Rattle.wb_devices.specs.Moving.{device_in}
-use Rattle.wb_stage.specs.Asking.{DidMap, DidUnmap, HasBegun, ended, DidRelease}
-use Rattle.wb_stage.specs.Stages.{DidAsk, EndsWith, is_all_done}
+use Rattle.wb_stage.specs.Asking.{DidMap, DidUnmap, HasBegunWith, ended, DidRelease}
+use Rattle.wb_stage.specs.Stages.{DidAsk, DidBeginWith, EndsWith, IsServed, is_all_done}
 use Rattle.wb_promise.specs.declared.job.Job.{Job}
-use Rattle.wb_promise.specs.declared.job.Job.TheVariants.{Read, Write, Flush, Open, Migrate, Replace}
+use Rattle.wb_promise.specs.declared.job.Job.TheVariants.{Read, Write, Flush, Suspend, Open, Migrate, Replace}
 use Rattle.wb_promise.specs.States.{Shape, Actor, Stands, Target as RunTarget, with_device}
 use Rattle.wb_promise.specs.Happenings.{Plain, Commits, Asks, AreWhole, DoesSync, FailsSync, Gives}
 use Rattle.wb_promise.specs.Effects.{contents_for, led}
 use Rattle.wb_machine.specs.declared.target.Target.{Target}
-use Rattle.wb_machine.specs.Serving.{Allows, IsAskable, ComesNext, DoesOn, FailsAt, IsDoable, IsPossible, IsPut, MayBePut, Performs, PutsSector, DeskWasAsked, WasPut, IsCopy, Migrates, chosen_at, commit_by, noted_read, over, stood, target_told, GivesUp}
+use Rattle.wb_machine.specs.Serving.{Allows, DidAskFor, IsAskable, ComesNext, DoesOn, FailsAt, IsDoable, IsPossible, IsPut, MayBePut, Performs, PutsSector, DeskWasAsked, WasPut, IsCopy, Migrates, chosen_at, commit_by, noted_read, over, stood, target_told, GivesUp, is_clean}
 use Rattle.wb_policy.specs.declared.order.Order.{Order}
 
 -- ---- devices
@@ -100,6 +100,7 @@ module _ (devices : Devices (List History)) (commit : Option RunningCommit) (dev
     did_read (Replace old new) device e read can many each d c = absurd can.0
     did_read (Write extent content) device e read can many each d c = absurd can.0
     did_read Flush device e read can many each d c = absurd can.0
+    did_read Suspend device e read can many each d c = absurd can.0
     did_read (Open mode) device e read can many each d c = absurd can.0
 
     pub did_write : (job : Job) (device : Dev) (e : Extent) → IsDoable devices commit job (WriteExtent device e) →
@@ -109,6 +110,7 @@ module _ (devices : Devices (List History)) (commit : Option RunningCommit) (dev
     did_write (Migrate migration block) device e can d c = record { gives = λ shape t actors x. (can.1, (refl, refl), refl, can.2); copies = tt; devices_are = d; commit_is = c }
     did_write (Replace old new) device e can d c = absurd can.0
     did_write Flush device e can d c = absurd can.0
+    did_write Suspend device e can d c = absurd can.0
     did_write (Open mode) device e can d c = absurd can.0
 
   syncs_so : (commit : Option RunningCommit) → ComesNext commit (Sync Metadata) devices.metadata → (t : RunTarget Quiet) → DoesSync {P = Quiet} {A = Global} (Stands t) commit devices.metadata Plain
@@ -121,18 +123,21 @@ module _ (devices : Devices (List History)) (commit : Option RunningCommit) (dev
     did_sync (Read extent) Metadata read can r d c = record { gives = λ shape t actors x. (r, refl, syncs_so commit can t); copies = tt; devices_are = d; commit_is = c }
     did_sync (Write extent content) Metadata read can r d c = record { gives = λ shape t actors x. (r, refl, syncs_so commit can t); copies = tt; devices_are = d; commit_is = c }
     did_sync Flush Metadata read can r d c = record { gives = λ shape t actors x. (r, refl, syncs_so commit can t); copies = tt; devices_are = d; commit_is = c }
+    did_sync Suspend Metadata read can r d c = record { gives = λ shape t actors x. (r, refl, syncs_so commit can t); copies = tt; devices_are = d; commit_is = c }
     did_sync (Open mode) Metadata read can r d c = record { gives = λ shape t actors x. (r, refl, syncs_so commit can t); copies = tt; devices_are = d; commit_is = c }
     did_sync (Migrate migration block) Metadata read can r d c = record { gives = λ shape t actors x. (r, refl, syncs_so commit can t); copies = tt; devices_are = d; commit_is = c }
     did_sync (Replace old new) Metadata read can r d c = record { gives = λ shape t actors x. (r, refl, syncs_so commit can t); copies = tt; devices_are = d; commit_is = c }
     did_sync (Read extent) Cache read can r d c = record { gives = λ shape t actors x. ((r, refl), refl); copies = tt; devices_are = d; commit_is = c }
     did_sync (Write extent content) Cache read can r d c = record { gives = λ shape t actors x. ((r, refl), refl); copies = tt; devices_are = d; commit_is = c }
     did_sync Flush Cache read can r d c = record { gives = λ shape t actors x. ((r, refl), refl); copies = tt; devices_are = d; commit_is = c }
+    did_sync Suspend Cache read can r d c = record { gives = λ shape t actors x. ((r, refl), refl); copies = tt; devices_are = d; commit_is = c }
     did_sync (Open mode) Cache read can r d c = record { gives = λ shape t actors x. ((r, refl), refl); copies = tt; devices_are = d; commit_is = c }
     did_sync (Migrate migration block) Cache read can r d c = record { gives = λ shape t actors x. ((r, refl), refl); copies = tt; devices_are = d; commit_is = c }
     did_sync (Replace old new) Cache read can r d c = record { gives = λ shape t actors x. ((r, refl), refl); copies = tt; devices_are = d; commit_is = c }
     did_sync (Read extent) Origin read can r d c = record { gives = λ shape t actors x. ((r, refl), refl); copies = tt; devices_are = d; commit_is = c }
     did_sync (Write extent content) Origin read can r d c = record { gives = λ shape t actors x. ((r, refl), refl); copies = tt; devices_are = d; commit_is = c }
     did_sync Flush Origin read can r d c = record { gives = λ shape t actors x. ((r, refl), refl); copies = tt; devices_are = d; commit_is = c }
+    did_sync Suspend Origin read can r d c = record { gives = λ shape t actors x. ((r, refl), refl); copies = tt; devices_are = d; commit_is = c }
     did_sync (Open mode) Origin read can r d c = record { gives = λ shape t actors x. ((r, refl), refl); copies = tt; devices_are = d; commit_is = c }
     did_sync (Migrate migration block) Origin read can r d c = record { gives = λ shape t actors x. ((r, refl), refl); copies = tt; devices_are = d; commit_is = c }
     did_sync (Replace old new) Origin read can r d c = record { gives = λ shape t actors x. ((r, refl), refl); copies = tt; devices_are = d; commit_is = c }
@@ -142,12 +147,14 @@ module _ (devices : Devices (List History)) (commit : Option RunningCommit) (dev
     did_put (Read extent) (WriteNode number) read put r p d c = record { gives = λ shape t actors x. (r, refl, p); copies = tt; devices_are = d; commit_is = c }
     did_put (Write extent content) (WriteNode number) read put r p d c = record { gives = λ shape t actors x. (r, refl, p); copies = tt; devices_are = d; commit_is = c }
     did_put Flush (WriteNode number) read put r p d c = record { gives = λ shape t actors x. (r, refl, p); copies = tt; devices_are = d; commit_is = c }
+    did_put Suspend (WriteNode number) read put r p d c = record { gives = λ shape t actors x. (r, refl, p); copies = tt; devices_are = d; commit_is = c }
     did_put (Open mode) (WriteNode number) read put r p d c = record { gives = λ shape t actors x. (r, refl, p); copies = tt; devices_are = d; commit_is = c }
     did_put (Migrate migration block) (WriteNode number) read put r p d c = record { gives = λ shape t actors x. (r, refl, p); copies = tt; devices_are = d; commit_is = c }
     did_put (Replace old new) (WriteNode number) read put r p d c = record { gives = λ shape t actors x. (r, refl, p); copies = tt; devices_are = d; commit_is = c }
     did_put (Read extent) WriteRoot read put r p d c = record { gives = λ shape t actors x. (r, refl, p); copies = tt; devices_are = d; commit_is = c }
     did_put (Write extent content) WriteRoot read put r p d c = record { gives = λ shape t actors x. (r, refl, p); copies = tt; devices_are = d; commit_is = c }
     did_put Flush WriteRoot read put r p d c = record { gives = λ shape t actors x. (r, refl, p); copies = tt; devices_are = d; commit_is = c }
+    did_put Suspend WriteRoot read put r p d c = record { gives = λ shape t actors x. (r, refl, p); copies = tt; devices_are = d; commit_is = c }
     did_put (Open mode) WriteRoot read put r p d c = record { gives = λ shape t actors x. (r, refl, p); copies = tt; devices_are = d; commit_is = c }
     did_put (Migrate migration block) WriteRoot read put r p d c = record { gives = λ shape t actors x. (r, refl, p); copies = tt; devices_are = d; commit_is = c }
     did_put (Replace old new) WriteRoot read put r p d c = record { gives = λ shape t actors x. (r, refl, p); copies = tt; devices_are = d; commit_is = c }
@@ -203,94 +210,179 @@ puts_sector image steps step b p e = absurd p
 
 -- ---- the desk
 
-module _ (desk : DeskState Quiet) (commit : Option RunningCommit) (desk' : DeskState Quiet) (commit' : Option RunningCommit) where
-  pub did_begin : (held : List Order) (job : Job) (clean : Bool) (most nodes : ℕ) (running : RunningCommit) → clean ≡ false → nodes ≤ most → nodes ≡ length running.image.nodes.items → running.steps ≡ NodesWritten 0 → HasBegun desk running.image desk' → AreWhole running.image → commit' ≡ Some running →
-      DeskWasAsked desk commit job held (BeginCommit clean most) (Began nodes) desk' commit'
-  did_begin held job clean most nodes running n few many steps begun whole c =
-      let same : HasBegun desk running.image (commit_begun desk desk'.tree) = subst (λ (d : DeskState Quiet). HasBegun desk running.image d) begun.state begun in
-      record { chosen = Commits running desk'.tree; gives = λ shape devices words actors x own. by_job same shape devices words actors x job; desk_is = begun.state; commit_is = c }
-    where
-      by_job : HasBegun desk running.image (commit_begun desk desk'.tree) → (shape : Shape) (devices : Devices (List History)) (words : Words) (actors : List Actor) (x : Actor) (job : Job) → Gives shape (stood devices commit (record { words = words; desk = desk }) actors) x job (Desk (BeginCommit clean most)) (Began nodes) [] (Commits running desk'.tree)
-      by_job h shape devices words actors x (Read extent) = (refl, n, (few, many, steps, h, whole))
-      by_job h shape devices words actors x (Write extent content) = (refl, n, (few, many, steps, h, whole))
-      by_job h shape devices words actors x Flush = (refl, n, (few, many, steps, h, whole))
-      by_job h shape devices words actors x (Open mode) = (refl, n, (few, many, steps, h, whole))
-      by_job h shape devices words actors x (Migrate migration block) = (refl, n, (few, many, steps, h, whole))
-      by_job h shape devices words actors x (Replace old new) = (refl, n, (few, many, steps, h, whole))
+-- the dirty bits with which a commit begins for a job that has seen these
+abbrev bits_of : Job → List Bool → Option (List Bool)
+bits_of Suspend seen = Some seen
+bits_of job seen = None
 
-  pub did_refuse : (held : List Order) (job : Job) (clean : Bool) (most : ℕ) (refusal : Refusal) → clean ≡ false → IsBeginRefused desk refusal → desk' ≡ desk → commit' ≡ commit → DeskWasAsked desk commit job held (BeginCommit clean most) (GotRefused refusal) desk' commit'
-  did_refuse held job clean most refusal n refused d c = record { chosen = Plain; gives = λ shape devices words actors x own. by_job shape devices words actors x job; desk_is = d; commit_is = c }
-    where
-      by_job : (shape : Shape) (devices : Devices (List History)) (words : Words) (actors : List Actor) (x : Actor) (job : Job) → Gives shape (stood devices commit (record { words = words; desk = desk }) actors) x job (Desk (BeginCommit clean most)) (GotRefused refusal) [] Plain
-      by_job shape devices words actors x (Read extent) = (refl, n, refused)
-      by_job shape devices words actors x (Write extent content) = (refl, n, refused)
-      by_job shape devices words actors x Flush = (refl, n, refused)
-      by_job shape devices words actors x (Open mode) = (refl, n, refused)
-      by_job shape devices words actors x (Migrate migration block) = (refl, n, refused)
-      by_job shape devices words actors x (Replace old new) = (refl, n, refused)
+no_bits : (job : Job) (seen : List Bool) → (job ≡ Suspend → ⊥) → bits_of job seen ≡ None
+no_bits (Read extent) seen n = refl
+no_bits (Write extent content) seen n = refl
+no_bits Flush seen n = refl
+no_bits Suspend seen n = absurd (n refl)
+no_bits (Open mode) seen n = refl
+no_bits (Migrate migration block) seen n = refl
+no_bits (Replace old new) seen n = refl
 
-  pub did_end : (held : List Order) (job : Job) → is_all_done commit ≡ true → desk' ≡ ended desk → commit' ≡ None → DeskWasAsked desk commit job held EndCommit Done desk' commit'
-  did_end held job done d c = record { chosen = Plain; gives = λ shape devices words actors x own. by_job shape devices words actors x job; desk_is = d; commit_is = c }
+-- no commit is clean that does not begin for a suspend
+not_clean : (job : Job) → (job ≡ Suspend → ⊥) → true ≡ is_clean job → ⊥
+not_clean (Read extent) n e = cc
+not_clean (Write extent content) n e = cc
+not_clean Flush n e = cc
+not_clean Suspend n e = n refl
+not_clean (Open mode) n e = cc
+not_clean (Migrate migration block) n e = cc
+not_clean (Replace old new) n e = cc
+
+-- what any other job asks for is served without bits
+pub served : (commit : Option RunningCommit) (job : Job) (step : DeskStep) → (job ≡ Suspend → ⊥) → IsAskable commit job step → IsServed (Desk step)
+served commit job (BeginCommit true most) n askable = not_clean job n askable
+served commit job (BeginCommit false most) n askable = tt
+served commit job (Map block place) n askable = tt
+served commit job (Unmap block) n askable = tt
+served commit job (ReleaseOrder block) n askable = tt
+served commit job EndCommit n askable = tt
+
+begun_state : (desk desk' : DeskState Quiet) (image : Image) (hint_of : Quiet → ℕ → ℕ) (bits : Option (List Bool)) → HasBegunWith hint_of bits desk image desk' → desk' ≡ commit_begun desk desk'.tree
+begun_state desk desk' image hint_of None begun = begun.state
+begun_state desk desk' image hint_of (Some seen) begun = begun.state
+
+module _ (desk : DeskState Quiet) (commit : Option RunningCommit) (desk' : DeskState Quiet) (commit' : Option RunningCommit) (held : List Order) (seen : List Bool) where
+  -- one call of the desk for any other job
+  pub asked_plainly : (with_entry : Quiet → ℕ → ℕ → Quiet) (without_entry : Quiet → ℕ → Quiet) (job : Job) (step : DeskStep) (got : Got) → (job ≡ Suspend → ⊥) → DidAsk with_entry without_entry held step got desk commit desk' commit' → DidAskFor job held seen step got desk commit desk' commit'
+  asked_plainly enters leaves (Read extent) step got n did = (enters, leaves, did)
+  asked_plainly enters leaves (Write extent content) step got n did = (enters, leaves, did)
+  asked_plainly enters leaves Flush step got n did = (enters, leaves, did)
+  asked_plainly enters leaves Suspend step got n did = absurd (n refl)
+  asked_plainly enters leaves (Open mode) step got n did = (enters, leaves, did)
+  asked_plainly enters leaves (Migrate migration block) step got n did = (enters, leaves, did)
+  asked_plainly enters leaves (Replace old new) step got n did = (enters, leaves, did)
+
+  -- and for a suspend, whose commit begins or ends
+  pub suspend_begins : (step : DeskStep) (clean : Bool) (most : ℕ) (got : Got) → step ≡ BeginCommit clean most → DidBeginWith (λ policy block. 0) (Some seen) most got desk commit desk' commit' → DidAskFor Suspend held seen step got desk commit desk' commit'
+  suspend_begins step clean most got e did = subst (λ (s : DeskStep). DidAskFor Suspend held seen s got desk commit desk' commit') (sym e) (λ policy block. 0, did)
+
+  pub suspend_ends : (with_entry : Quiet → ℕ → ℕ → Quiet) (without_entry : Quiet → ℕ → Quiet) (step : DeskStep) (got : Got) → step ≡ EndCommit → DidAsk with_entry without_entry held step got desk commit desk' commit' → DidAskFor Suspend held seen step got desk commit desk' commit'
+  suspend_ends enters leaves step got e did =
+      let at_end = subst (λ (s : DeskStep). DidAsk enters leaves held s got desk commit desk' commit') e did in
+      subst (λ (s : DeskStep). DidAskFor Suspend held seen s got desk commit desk' commit') (sym e) (enters, leaves, at_end)
+
+  did_begin : (job : Job) (clean : Bool) (most nodes : ℕ) (running : RunningCommit) → clean ≡ is_clean job → nodes ≤ most → nodes ≡ length running.image.nodes.items → running.steps ≡ NodesWritten 0 → (hint_of : Quiet → ℕ → ℕ) → HasBegunWith hint_of (bits_of job seen) desk running.image desk' → AreWhole running.image → commit' ≡ Some running →
+      DeskWasAsked desk commit job held seen (BeginCommit clean most) (Began nodes) desk' commit'
+  did_begin job clean most nodes running n few many steps hint_of begun whole c =
+      let state = begun_state desk desk' running.image hint_of (bits_of job seen) begun in
+      let same : HasBegunWith hint_of (bits_of job seen) desk running.image (commit_begun desk desk'.tree) = subst (λ (d : DeskState Quiet). HasBegunWith hint_of (bits_of job seen) desk running.image d) state begun in
+      record { chosen = Commits running desk'.tree; gives = λ shape devices words actors x own. by_job job n same shape devices words actors x own.1; desk_is = state; commit_is = c }
+    where
+      by_job : (job : Job) → clean ≡ is_clean job → HasBegunWith hint_of (bits_of job seen) desk running.image (commit_begun desk desk'.tree) → (shape : Shape) (devices : Devices (List History)) (words : Words) (actors : List Actor) (x : Actor) → x.seen ≡ seen → Gives shape (stood devices commit (record { words = words; desk = desk }) actors) x job (Desk (BeginCommit clean most)) (Began nodes) [] (Commits running desk'.tree)
+      by_job (Read extent) n h shape devices words actors x own = (refl, n, (few, many, steps, (hint_of, h), whole))
+      by_job (Write extent content) n h shape devices words actors x own = (refl, n, (few, many, steps, (hint_of, h), whole))
+      by_job Flush n h shape devices words actors x own = (refl, n, (few, many, steps, (hint_of, h), whole))
+      by_job Suspend n h shape devices words actors x own = (refl, n, (few, many, steps, (hint_of, subst (λ (bits : List Bool). HasBegunWith hint_of (Some bits) desk running.image (commit_begun desk desk'.tree)) (sym own) h), whole))
+      by_job (Open mode) n h shape devices words actors x own = (refl, n, (few, many, steps, (hint_of, h), whole))
+      by_job (Migrate migration block) n h shape devices words actors x own = (refl, n, (few, many, steps, (hint_of, h), whole))
+      by_job (Replace old new) n h shape devices words actors x own = (refl, n, (few, many, steps, (hint_of, h), whole))
+
+  did_refuse : (job : Job) (clean : Bool) (most : ℕ) (refusal : Refusal) → clean ≡ is_clean job → IsBeginRefused desk refusal → desk' ≡ desk → commit' ≡ commit → DeskWasAsked desk commit job held seen (BeginCommit clean most) (GotRefused refusal) desk' commit'
+  did_refuse job clean most refusal n refused d c = record { chosen = Plain; gives = λ shape devices words actors x own. by_job job n shape devices words actors x; desk_is = d; commit_is = c }
+    where
+      by_job : (job : Job) → clean ≡ is_clean job → (shape : Shape) (devices : Devices (List History)) (words : Words) (actors : List Actor) (x : Actor) → Gives shape (stood devices commit (record { words = words; desk = desk }) actors) x job (Desk (BeginCommit clean most)) (GotRefused refusal) [] Plain
+      by_job (Read extent) n shape devices words actors x = (refl, n, refused)
+      by_job (Write extent content) n shape devices words actors x = (refl, n, refused)
+      by_job Flush n shape devices words actors x = (refl, n, refused)
+      by_job Suspend n shape devices words actors x = (refl, n, refused)
+      by_job (Open mode) n shape devices words actors x = (refl, n, refused)
+      by_job (Migrate migration block) n shape devices words actors x = (refl, n, refused)
+      by_job (Replace old new) n shape devices words actors x = (refl, n, refused)
+
+  did_end : (job : Job) → is_all_done commit ≡ true → desk' ≡ ended desk → commit' ≡ None → DeskWasAsked desk commit job held seen EndCommit Done desk' commit'
+  did_end job done d c = record { chosen = Plain; gives = λ shape devices words actors x own. by_job shape devices words actors x job; desk_is = d; commit_is = c }
     where
       by_job : (shape : Shape) (devices : Devices (List History)) (words : Words) (actors : List Actor) (x : Actor) (job : Job) → Gives shape (stood devices commit (record { words = words; desk = desk }) actors) x job (Desk EndCommit) Done [] Plain
       by_job shape devices words actors x (Read extent) = ((refl, refl), refl, done)
       by_job shape devices words actors x (Write extent content) = ((refl, refl), refl, done)
       by_job shape devices words actors x Flush = ((refl, refl), refl, done)
+      by_job shape devices words actors x Suspend = ((refl, refl), refl, done)
       by_job shape devices words actors x (Open mode) = ((refl, refl), refl, done)
       by_job shape devices words actors x (Migrate migration block) = ((refl, refl), refl, done)
       by_job shape devices words actors x (Replace old new) = ((refl, refl), refl, done)
 
+  ends : (job : Job) → is_all_done commit ≡ true → EndsWith (is_all_done commit) desk commit desk' commit' → DeskWasAsked desk commit job held seen EndCommit Done desk' commit'
+  ends job done did =
+      let all : EndsWith true desk commit desk' commit' = subst (λ (t : Bool). EndsWith t desk commit desk' commit') done did in
+      did_end job done all.0 all.1
+
   -- a migration's block is mapped, or there is no memory for that
-  pub did_map : (held : List Order) (with_entry : Quiet → ℕ → ℕ → Quiet) (job : Job) (b : OBlock) (c : CBlock) (got : Got) → Migrates job → Fits (Desk (Map b c)) got → DidMap with_entry b c got desk desk' → commit' ≡ commit → DeskWasAsked desk commit job held (Map b c) got desk' commit'
-  did_map held with_entry (Migrate migration block) b c Done m f did k = record {
+  did_map : (with_entry : Quiet → ℕ → ℕ → Quiet) (job : Job) (b : OBlock) (c : CBlock) (got : Got) → Migrates job → Fits (Desk (Map b c)) got → DidMap with_entry b c got desk desk' → commit' ≡ commit → DeskWasAsked desk commit job held seen (Map b c) got desk' commit'
+  did_map with_entry (Migrate migration block) b c Done m f did k = record {
     chosen = Asks desk';
     gives = λ shape devices words actors x own. (refl, (did.0, did.1.0, did.1.1 ∙ ap (λ (p : Quiet). mapped desk c desk'.tree p) (sym (ap (λ (d : DeskState Quiet). d.policy) did.1.1))));
     desk_is = refl;
     commit_is = k;
   }
-  did_map held with_entry (Migrate migration block) b c (GotRefused Memory) m f did k = record { chosen = Plain; gives = λ shape devices words actors x own. (refl, refl); desk_is = did; commit_is = k }
-  did_map held with_entry (Migrate migration block) b c (GotRefused refusal) m f did k = absurd f
-  did_map held with_entry (Migrate migration block) b c got m f did k = absurd did
-  did_map held with_entry job b c got m f did k = absurd m
+  did_map with_entry (Migrate migration block) b c (GotRefused Memory) m f did k = record { chosen = Plain; gives = λ shape devices words actors x own. (refl, refl); desk_is = did; commit_is = k }
+  did_map with_entry (Migrate migration block) b c (GotRefused refusal) m f did k = absurd f
+  did_map with_entry (Migrate migration block) b c got m f did k = absurd did
+  did_map with_entry job b c got m f did k = absurd m
 
   -- or it is unmapped, where the desk has it and its order lets it go
-  pub did_unmap : (held : List Order) (without_entry : Quiet → ℕ → Quiet) (job : Job) (b : OBlock) → Migrates job → DidUnmap without_entry b desk desk' → commit' ≡ commit → DeskWasAsked desk commit job held (Unmap b) Done desk' commit'
-  did_unmap held without_entry (Migrate migration block) b m did k = record { chosen = Asks desk'; gives = λ shape devices words actors x own. (refl, refl, (λ may. left may (did.0 may), did.1)); desk_is = refl; commit_is = k }
+  did_unmap : (without_entry : Quiet → ℕ → Quiet) (job : Job) (b : OBlock) → Migrates job → DidUnmap without_entry b desk desk' → commit' ≡ commit → DeskWasAsked desk commit job held seen (Unmap b) Done desk' commit'
+  did_unmap without_entry (Migrate migration block) b m did k = record { chosen = Asks desk'; gives = λ shape devices words actors x own. (refl, refl, (λ may. left may (did.0 may), did.1)); desk_is = refl; commit_is = k }
     where
       left : (may : MayUnmap desk b) → HasLeft without_entry desk b may.cache desk' → HasLeft (λ policy block. desk'.policy) desk b may.cache desk'
       left may l = (l.0, l.1 ∙ ap (λ (p : Quiet). unmapped desk may.cache desk'.tree p) (sym (ap (λ (d : DeskState Quiet). d.policy) l.1)))
-  did_unmap held without_entry job b m did k = absurd m
+  did_unmap without_entry job b m did k = absurd m
 
   -- or an order of those that the job may give up is
-  pub did_release : (held : List Order) (job : Job) (b : OBlock) → GivesUp job → DidRelease held b desk desk' → commit' ≡ commit → DeskWasAsked desk commit job held (ReleaseOrder b) Done desk' commit'
-  did_release held (Migrate migration block) b m up k = record { chosen = Asks desk'; gives = λ shape devices words actors x own. (refl, refl, subst (λ (os : List Order). DidRelease os b desk desk') (sym own) up); desk_is = refl; commit_is = k }
-  did_release held Flush b m up k = record { chosen = Asks desk'; gives = λ shape devices words actors x own. (refl, refl, subst (λ (os : List Order). DidRelease os b desk desk') (sym own) up); desk_is = refl; commit_is = k }
-  did_release held job b m up k = absurd m
+  did_release : (job : Job) (b : OBlock) → GivesUp job → DidRelease held b desk desk' → commit' ≡ commit → DeskWasAsked desk commit job held seen (ReleaseOrder b) Done desk' commit'
+  did_release (Migrate migration block) b m up k = record { chosen = Asks desk'; gives = λ shape devices words actors x own. (refl, refl, subst (λ (os : List Order). DidRelease os b desk desk') (sym own.0) up); desk_is = refl; commit_is = k }
+  did_release Flush b m up k = record { chosen = Asks desk'; gives = λ shape devices words actors x own. (refl, refl, subst (λ (os : List Order). DidRelease os b desk desk') (sym own.0) up); desk_is = refl; commit_is = k }
+  did_release job b m up k = absurd m
 
   -- so it is with whatever the desk was asked
-  pub did_ask : (with_entry : Quiet → ℕ → ℕ → Quiet) (without_entry : Quiet → ℕ → Quiet) (held : List Order) (job : Job) (step : DeskStep) (got : Got) → IsAskable commit job step → Allows (node_count desk.geometry.cache_blocks) (Desk step) → Fits (Desk step) got →
-      ((nodes : ℕ) (running : RunningCommit) → got ≡ Began nodes → commit' ≡ Some running → AreWhole running.image) → DidAsk with_entry without_entry held step got desk commit desk' commit' → DeskWasAsked desk commit job held step got desk' commit'
-  did_ask enters leaves held job (Map b c) got askable enough fits whole did = did_map held enters job b c got askable fits did.0 did.1
-  did_ask enters leaves held job (Unmap b) Done askable enough fits whole did = did_unmap held leaves job b askable did.0 did.1
-  did_ask enters leaves held job (ReleaseOrder b) Done askable enough fits whole did = did_release held job b askable did.0 did.1
-  did_ask enters leaves held job EndCommit Done askable enough fits whole did =
-      let ends : EndsWith true desk commit desk' commit' = subst (λ (t : Bool). EndsWith t desk commit desk' commit') askable did in
-      did_end held job askable ends.0 ends.1
-  did_ask enters leaves held job (BeginCommit clean most) (Began nodes) askable enough fits whole did = did_begin held job clean most nodes did.0 askable fits did.3 did.2 did.4 (whole nodes did.0 refl did.1) did.1
-  did_ask enters leaves held job (BeginCommit clean most) (GotRefused refusal) askable enough fits whole did = did_refuse held job clean most refusal askable (did.1.1 enough) did.1.0 did.0
-  did_ask enters leaves held job step got askable enough fits whole did = absurd fits
+  did_plainly : (with_entry : Quiet → ℕ → ℕ → Quiet) (without_entry : Quiet → ℕ → Quiet) (job : Job) (step : DeskStep) (got : Got) → (job ≡ Suspend → ⊥) → IsAskable commit job step → Allows (node_count desk.geometry.cache_blocks) (Desk step) → Fits (Desk step) got →
+      ((nodes : ℕ) (running : RunningCommit) → got ≡ Began nodes → commit' ≡ Some running → AreWhole running.image) → DidAsk with_entry without_entry held step got desk commit desk' commit' → DeskWasAsked desk commit job held seen step got desk' commit'
+  did_plainly enters leaves job (Map b c) got n askable enough fits whole did = did_map enters job b c got askable fits did.0 did.1
+  did_plainly enters leaves job (Unmap b) Done n askable enough fits whole did = did_unmap leaves job b askable did.0 did.1
+  did_plainly enters leaves job (ReleaseOrder b) Done n askable enough fits whole did = did_release job b askable did.0 did.1
+  did_plainly enters leaves job EndCommit Done n askable enough fits whole did = ends job askable did
+  did_plainly enters leaves job (BeginCommit clean most) (Began nodes) n askable enough fits whole did =
+      did_begin job clean most nodes did.0 askable fits did.3 did.2 (λ policy block. 0) (subst (λ (bits : Option (List Bool)). HasBegunWith (λ policy block. 0) bits desk did.0.image desk') (sym (no_bits job seen n)) did.4) (whole nodes did.0 refl did.1) did.1
+  did_plainly enters leaves job (BeginCommit clean most) (GotRefused refusal) n askable enough fits whole did = did_refuse job clean most refusal askable (did.1.1 enough) did.1.0 did.0
+  did_plainly enters leaves job step got n askable enough fits whole did = absurd fits
+
+  did_suspend : (step : DeskStep) (got : Got) → IsAskable commit Suspend step → Allows (node_count desk.geometry.cache_blocks) (Desk step) → Fits (Desk step) got →
+      ((nodes : ℕ) (running : RunningCommit) → got ≡ Began nodes → commit' ≡ Some running → AreWhole running.image) → DidAskFor Suspend held seen step got desk commit desk' commit' → DeskWasAsked desk commit Suspend held seen step got desk' commit'
+  did_suspend (BeginCommit clean most) (Began nodes) askable enough fits whole did = did_begin Suspend clean most nodes did.1.0 askable fits did.1.3 did.1.2 did.0 did.1.4 (whole nodes did.1.0 refl did.1.1) did.1.1
+  did_suspend (BeginCommit clean most) (GotRefused refusal) askable enough fits whole did = did_refuse Suspend clean most refusal askable (did.1.1.1 enough) did.1.1.0 did.1.0
+  did_suspend EndCommit Done askable enough fits whole did = ends Suspend askable did.2
+  did_suspend (Map b c) got askable enough fits whole did = absurd askable
+  did_suspend (Unmap b) got askable enough fits whole did = absurd askable
+  did_suspend (ReleaseOrder b) got askable enough fits whole did = absurd askable
+  did_suspend step got askable enough fits whole did = absurd fits
+
+  pub did_ask : (job : Job) (step : DeskStep) (got : Got) → IsAskable commit job step → Allows (node_count desk.geometry.cache_blocks) (Desk step) → Fits (Desk step) got →
+      ((nodes : ℕ) (running : RunningCommit) → got ≡ Began nodes → commit' ≡ Some running → AreWhole running.image) → DidAskFor job held seen step got desk commit desk' commit' → DeskWasAsked desk commit job held seen step got desk' commit'
+  did_ask (Read extent) step got askable enough fits whole did = did_plainly did.0 did.1 (Read extent) step got (λ e. cc) askable enough fits whole did.2
+  did_ask (Write extent content) step got askable enough fits whole did = did_plainly did.0 did.1 (Write extent content) step got (λ e. cc) askable enough fits whole did.2
+  did_ask Flush step got askable enough fits whole did = did_plainly did.0 did.1 Flush step got (λ e. cc) askable enough fits whole did.2
+  did_ask Suspend step got askable enough fits whole did = did_suspend step got askable enough fits whole did
+  did_ask (Open mode) step got askable enough fits whole did = did_plainly did.0 did.1 (Open mode) step got (λ e. cc) askable enough fits whole did.2
+  did_ask (Migrate migration block) step got askable enough fits whole did = did_plainly did.0 did.1 (Migrate migration block) step got (λ e. cc) askable enough fits whole did.2
+  did_ask (Replace old new) step got askable enough fits whole did = did_plainly did.0 did.1 (Replace old new) step got (λ e. cc) askable enough fits whole did.2
 
 -- ---- an actor
 
-module _ (devices : Devices (List History)) (old : Target) (a : ℕ) (held : List Order) (buffer : List Bytes) (devices' : Devices (List History)) (new : Target) where
+module _ (devices : Devices (List History)) (old : Target) (a : ℕ) (held : List Order) (seen : List Bool) (buffer : List Bytes) (devices' : Devices (List History)) (new : Target) where
   pub performs_word : (job : Job) (step : CellStep) (got : Got) (read : List Bytes) → got ≡ got_of (result_of old.crew.words step) → read ≡ [] → devices' ≡ devices → new.crew ≡ crew_after old.crew a step → new.desk ≡ old.desk → new.commit ≡ old.commit → new.failed ≡ flag new.crew.words.fail →
-      Performs devices old a job held buffer (Cell step) got read devices' new
+      Performs devices old a job held seen buffer (Cell step) got read devices' new
   performs_word job step got read g r d w k c f = record { chosen = Plain; gives = λ shape actors x own. by_job shape actors x job; copies = no_copy job; leads = record { devices_are = d; crew_is = w; desk_is = k; commit_is = c; failed_is = f } }
     where
       no_copy : (job : Job) → IsCopy devices job (Cell step) read
       no_copy (Read extent) = tt
       no_copy (Write extent content) = tt
       no_copy Flush = tt
+      no_copy Suspend = tt
       no_copy (Open mode) = tt
       no_copy (Migrate migration block) = tt
       no_copy (Replace old new) = tt
@@ -299,17 +391,19 @@ module _ (devices : Devices (List History)) (old : Target) (a : ℕ) (held : Lis
       by_job shape actors x (Read extent) = ((r, refl), g)
       by_job shape actors x (Write extent content) = ((r, refl), g)
       by_job shape actors x Flush = ((r, refl), g)
+      by_job shape actors x Suspend = ((r, refl), g)
       by_job shape actors x (Open mode) = ((r, refl), g)
       by_job shape actors x (Migrate migration block) = ((r, refl), g)
       by_job shape actors x (Replace old new) = ((r, refl), g)
 
-  pub performs_end : (job : Job) (answer : Answer) (read : List Bytes) → IsPossible devices old.commit job (End answer) → read ≡ [] → devices' ≡ devices → new ≡ old → old.failed ≡ flag old.crew.words.fail → Performs devices old a job held buffer (End answer) Done read devices' new
+  pub performs_end : (job : Job) (answer : Answer) (read : List Bytes) → IsPossible devices old.commit job (End answer) → read ≡ [] → devices' ≡ devices → new ≡ old → old.failed ≡ flag old.crew.words.fail → Performs devices old a job held seen buffer (End answer) Done read devices' new
   performs_end job answer read can r d n f = rw n (record { chosen = Plain; gives = λ shape actors x own. by_job shape actors x job answer can; copies = no_copy job; leads = record { devices_are = d; crew_is = refl; desk_is = refl; commit_is = refl; failed_is = f } })
     where
       no_copy : (job : Job) → IsCopy devices job (End answer) read
       no_copy (Read extent) = tt
       no_copy (Write extent content) = tt
       no_copy Flush = tt
+      no_copy Suspend = tt
       no_copy (Open mode) = tt
       no_copy (Migrate migration block) = tt
       no_copy (Replace old new) = tt
@@ -318,12 +412,13 @@ module _ (devices : Devices (List History)) (old : Target) (a : ℕ) (held : Lis
       by_job shape actors x (Read extent) answer can = ((r, refl), refl)
       by_job shape actors x (Write extent content) answer can = ((r, refl), refl)
       by_job shape actors x Flush answer can = ((r, refl), refl)
+      by_job shape actors x Suspend answer can = ((r, refl), refl)
       by_job shape actors x (Migrate migration block) answer can = ((r, refl), refl)
       by_job shape actors x (Replace old new) answer can = ((r, refl), refl)
       by_job shape actors x (Open mode) Finished can = absurd (can tt)
       by_job shape actors x (Open mode) (Refuses refusal) can = ((r, refl), refl)
 
-  pub performs_device : (job : Job) (step : DeviceStep) (read : List Bytes) (commit' : Option RunningCommit) → DoesOn devices old.commit job buffer step read devices' commit' → new ≡ record old { commit = commit' } → old.failed ≡ flag old.crew.words.fail → Performs devices old a job held buffer (Device step) Done read devices' new
+  pub performs_device : (job : Job) (step : DeviceStep) (read : List Bytes) (commit' : Option RunningCommit) → DoesOn devices old.commit job buffer step read devices' commit' → new ≡ record old { commit = commit' } → old.failed ≡ flag old.crew.words.fail → Performs devices old a job held seen buffer (Device step) Done read devices' new
   performs_device job step read commit' does n f = rw n (record {
     chosen = chosen_at step devices';
     gives = λ shape actors x own. does.gives shape (target_told old) actors x;
@@ -331,8 +426,8 @@ module _ (devices : Devices (List History)) (old : Target) (a : ℕ) (held : Lis
     leads = record { devices_are = does.devices_are; crew_is = refl; desk_is = refl; commit_is = does.commit_is; failed_is = f };
   })
 
-  pub performs_desk : (job : Job) (step : DeskStep) (got : Got) (read : List Bytes) (desk' : DeskState Quiet) (commit' : Option RunningCommit) → DeskWasAsked old.desk old.commit job held step got desk' commit' → read ≡ [] → devices' ≡ devices →
-      new.crew ≡ old.crew → new.failed ≡ old.failed → new.desk ≡ desk' → new.commit ≡ commit' → old.failed ≡ flag old.crew.words.fail → Performs devices old a job held buffer (Desk step) got read devices' new
+  pub performs_desk : (job : Job) (step : DeskStep) (got : Got) (read : List Bytes) (desk' : DeskState Quiet) (commit' : Option RunningCommit) → DeskWasAsked old.desk old.commit job held seen step got desk' commit' → read ≡ [] → devices' ≡ devices →
+      new.crew ≡ old.crew → new.failed ≡ old.failed → new.desk ≡ desk' → new.commit ≡ commit' → old.failed ≡ flag old.crew.words.fail → Performs devices old a job held seen buffer (Desk step) got read devices' new
   performs_desk job step got read desk' commit' asked r d w b k c f = rw r (record {
     chosen = asked.chosen;
     gives = λ shape actors x own. subst (λ (none : List Bytes). Gives shape (over devices old actors) x job (Desk step) got none asked.chosen) (nothing job) (asked.gives shape devices old.crew.words actors x own);
@@ -344,6 +439,7 @@ module _ (devices : Devices (List History)) (old : Target) (a : ℕ) (held : Lis
       nothing (Read extent) = refl
       nothing (Write extent content) = refl
       nothing Flush = refl
+      nothing Suspend = refl
       nothing (Open mode) = refl
       nothing (Migrate migration block) = refl
       nothing (Replace old new) = refl
@@ -352,6 +448,7 @@ module _ (devices : Devices (List History)) (old : Target) (a : ℕ) (held : Lis
       no_copy (Read extent) = tt
       no_copy (Write extent content) = tt
       no_copy Flush = tt
+      no_copy Suspend = tt
       no_copy (Open mode) = tt
       no_copy (Migrate migration block) = tt
       no_copy (Replace old new) = tt

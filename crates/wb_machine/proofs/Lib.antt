@@ -16,4 +16,6 @@ pub mod Flags
 mod Orders
 mod Stepped
 mod Kept
+mod Mapped
+pub mod Suspends
 pub mod Performed

@@ -1,12 +1,15 @@
 -- Members and their cards.
-use Rattle.std.proofs.Common.{◌≡◌, ◌≤◌, ℕ, zero, suc, true, false, List, [], ◌∷◌, Option, Some, None, refl, ap, ◌∙◌, arith, slice_get, slice_set, slice_index_or, length, replicate, is_some}
+use Rattle.std.proofs.Common.{◌≡◌, ◌≤◌, ◌||◌, inl, inr, ℕ, zero, suc, Bool, true, false, List, [], ◌∷◌, Option, Some, None, refl, sym, ap, ◌∙◌, arith, slice_get, slice_set, slice_index_or, length, replicate, is_some}
+use Rattle.std.specs.List.{list_any}
+use Rattle.std.proofs.lemmas.Bool.{cases_Bool, or_cases}
 use Rattle.wb_words.specs.declared.card.Card.{Card}
 use Rattle.wb_words.specs.Cards.{blank_card}
 use Rattle.wb_tasks.specs.Plan.{Plan}
 use Rattle.wb_promise.specs.declared.job.Job.{Job}
+use Rattle.wb_promise.specs.declared.job.Job.TheVariants.{Read, Write, Flush, Suspend, Open, Migrate, Replace}
 use Rattle.wb_promise.specs.States.{Actor, resting}
 use Rattle.wb_promise.specs.Happenings.{OfSome}
-use Rattle.wb_machine.specs.Members.{Member, free, seat, with_cards as seated, works_there}
+use Rattle.wb_machine.specs.Members.{Member, free, is_at_work, is_suspend, is_to_suspend, seat, suspends, with_cards as seated, works_there}
 use Rattle.wb_contents.proofs.Lists.{set_same}
 
 -- what was lent out and comes back as it was
@@ -50,9 +53,9 @@ set_task (n ∷ ms) (d ∷ cs) zero m = refl
 set_task (n ∷ ms) (d ∷ cs) (suc a) m = ap (λ xs. seat n d ∷ xs) (set_task ms cs a m)
 
 -- where nobody is at anything, one with this card rests beside others that have none
-pub all_free : (n a : ℕ) (card : Card) → seated (replicate n free) (slice_set (replicate n blank_card) a card) ≡ slice_set (replicate n resting) a (record { task = None; card = card; orders = []; awaiting = []; buffer = [] })
+pub all_free : (n a : ℕ) (card : Card) → seated (replicate n free) (slice_set (replicate n blank_card) a card) ≡ slice_set (replicate n resting) a (record { task = None; card = card; orders = []; awaiting = []; buffer = []; seen = [] })
 all_free zero a card = refl
-all_free (suc n) zero card = ap (λ xs. record { task = None; card = card; orders = []; awaiting = []; buffer = [] } ∷ xs) (none_set n)
+all_free (suc n) zero card = ap (λ xs. record { task = None; card = card; orders = []; awaiting = []; buffer = []; seen = [] } ∷ xs) (none_set n)
   where
     none_set : (k : ℕ) → seated (replicate k free) (replicate k blank_card) ≡ replicate k resting
     none_set zero = refl
@@ -74,7 +77,7 @@ idle_there (m ∷ ms) [] a P e h = h
 idle_there (m ∷ ms) (c ∷ cs) zero P e h = works_not m P e h
 idle_there (m ∷ ms) (c ∷ cs) (suc a) P e h = idle_there ms cs a P e h
 
-works_so : (m : Member) → is_some m.task ≡ true → OfSome m.task (λ doing. Unit {0})
+pub works_so : (m : Member) → is_some m.task ≡ true → OfSome m.task (λ doing. Unit {0})
 works_so m e = by_task m.task e
   where
     by_task : (t : Option (Job × Plan)) → is_some t ≡ true → OfSome t (λ doing. Unit {0})
@@ -86,3 +89,62 @@ busy_there [] cards a l e = absurd (cc)
 busy_there (m ∷ ms) [] a l e = absurd (omega arith)
 busy_there (m ∷ ms) (c ∷ cs) zero l e = works_so m e
 busy_there (m ∷ ms) (c ∷ cs) (suc a) l e = busy_there ms cs a (omega arith) e
+
+-- ---- one of all
+
+-- one of whom the test says so is there, and is at what it tells of
+pub some_at : (test : Member → Bool) (P : Job × Plan → Type 0) → ((m : Member) → test m ≡ true → OfSome m.task P) → (members : List Member) (cards : List Card) → length members ≤ length cards → list_any test members ≡ true
+    → (a : ℕ) × OfSome (slice_get (seated members cards) a) (λ (x : Actor). OfSome x.task P)
+some_at test P tells [] cards l e = absurd (cc)
+some_at test P tells (m ∷ ms) [] l e = absurd (omega arith)
+some_at test P tells (m ∷ ms) (c ∷ cs) l e = elim (or_cases (test m) (list_any test ms) e) [
+  | inl here ↦ (0, tells m here)
+  | inr later ↦ let there = some_at test P tells ms cs (omega arith) later in (suc there.0, there.1)
+]
+
+or_late : (b c : Bool) → c ≡ true → b || c ≡ true
+or_late true c e = refl
+or_late false c e = e
+
+-- and where it says so of none nobody is
+pub none_at : (test : Member → Bool) (P : Job × Plan → Type 0) → ((m : Member) → OfSome m.task P → test m ≡ true) → (members : List Member) (cards : List Card) (a : ℕ) → list_any test members ≡ false
+    → OfSome (slice_get (seated members cards) a) (λ (x : Actor). OfSome x.task P) → ⊥
+none_at test P tells [] cards a e h = h
+none_at test P tells (m ∷ ms) [] a e h = h
+none_at test P tells (m ∷ ms) (c ∷ cs) zero e h = let bad : true ≡ false = sym (ap (λ (b : Bool). b || list_any test ms) (tells m h)) ∙ e in cc
+none_at test P tells (m ∷ ms) (c ∷ cs) (suc a) e h = elim (cases_Bool (list_any test ms)) [
+  | inl later ↦ absurd (let bad : true ≡ false = sym (or_late (test m) (list_any test ms) later) ∙ e in cc)
+  | inr none ↦ none_at test P tells ms cs a none h
+]
+
+-- ---- who is at something, and who suspends
+
+pub works_told : (m : Member) → OfSome m.task (λ doing. Unit {0}) → is_at_work m ≡ true
+works_told m h = by_task m.task h
+  where
+    by_task : (t : Option (Job × Plan)) → OfSome t (λ doing. Unit {0}) → is_some t ≡ true
+    by_task None h = absurd h
+    by_task (Some doing) h = refl
+
+pub suspends_told : (m : Member) → OfSome m.task (λ doing. doing.0 ≡ Suspend) → suspends m ≡ true
+suspends_told m h = by_task m.task h
+  where
+    by_task : (t : Option (Job × Plan)) → OfSome t (λ doing. doing.0 ≡ Suspend) → is_to_suspend t ≡ true
+    by_task None h = absurd h
+    by_task (Some doing) h = ap is_suspend h
+
+pub suspends_so : (m : Member) → suspends m ≡ true → OfSome m.task (λ doing. doing.0 ≡ Suspend)
+suspends_so m e = by_task m.task e
+  where
+    by_job : (job : Job) → is_suspend job ≡ true → job ≡ Suspend
+    by_job (Read extent) e = absurd (cc)
+    by_job (Write extent content) e = absurd (cc)
+    by_job Flush e = absurd (cc)
+    by_job Suspend e = refl
+    by_job (Open mode) e = absurd (cc)
+    by_job (Migrate migration block) e = absurd (cc)
+    by_job (Replace old new) e = absurd (cc)
+
+    by_task : (t : Option (Job × Plan)) → is_to_suspend t ≡ true → OfSome t (λ doing. doing.0 ≡ Suspend)
+    by_task None e = absurd (cc)
+    by_task (Some doing) e = by_job doing.0 e

@@ -1,7 +1,7 @@
 -- What an event does to an opening is what wb_promise says.
 use Rattle.std.proofs.Common.{◌≡◌, ◌≢◌, ◌≤◌, ◌<◌, ◌⊎◌, not, inl, inr, ℕ, zero, suc, Bool, true, false, List, [], ◌∷◌, Option, Some, None, refl, sym, ap, subst, ◌∙◌, arith, slice_get, slice_set, length, length-set, replicate}
 use Rattle.std.proofs.lemmas.Option.{slice_get_past}
-use Rattle.std.proofs.lemmas.Bool.{eqb-false, eqb-true}
+use Rattle.std.proofs.lemmas.Bool.{cases_eq, eqb-false, eqb-true}
 use Rattle.std.specs.Bool.{OnTrue, OnFalse}
 use Rattle.std.specs.declared.alloc.Global.{Global}
 use Rattle.wb_types.specs.declared.geometry.Geometry.{Geometry}
@@ -31,21 +31,22 @@ use Rattle.wb_devices.specs.Committing.{goes_on}
 use Rattle.wb_devices.specs.Moving.{device_in}
 use Rattle.wb_devices.specs.declared.running.RunningCommit.{RunningCommit}
 use Rattle.wb_promise.specs.declared.job.Job.{Job}
-use Rattle.wb_promise.specs.declared.job.Job.TheVariants.{Open}
+use Rattle.wb_promise.specs.declared.job.Job.TheVariants.{Open, Suspend}
 use Rattle.wb_promise.specs.declared.event.Event.{Event}
 use Rattle.wb_promise.specs.declared.event.Event.TheVariants.{Start, Step, FaultStep, Stop}
 use Rattle.wb_promise.specs.declared.event.What.{What}
 use Rattle.wb_promise.specs.declared.event.What.TheVariants.{Skipped, Started, Stepped, Stopped}
 use Rattle.wb_promise.specs.States.{Shape, Actor, Opens, OfTarget, OfReading, resting, with_device}
-use Rattle.wb_promise.specs.Happenings.{Chosen, Plain, Begins, Reaches, Puts, LandedOr, sector_put, OfSome, DoesNotApply, DoesRead, MayStop}
+use Rattle.wb_promise.specs.Happenings.{Chosen, Plain, Begins, Reaches, Puts, LandedOr, sector_put, OfSome, DoesNotApply, DoesRead, IsSuspending, MayStop}
 use Rattle.wb_promise.specs.Effects.{after_what, all_crashed, all_resting, job_of, stepped, with_actor, device_done, device_failed, went}
 use Rattle.wb_machine.specs.declared.opener.Opener.{Opener}
 use Rattle.wb_machine.specs.declared.phase.Phase.{Phase}
 use Rattle.wb_machine.specs.declared.phase.Phase.TheVariants.{Closed, Underway, Standing}
-use Rattle.wb_machine.specs.Life.{Now, Happens, FailsOn, IsThere, device_step_of, actors_of, contents_of, has_task, is_sound, opened_in, opening_actor, phase_of, reading_synced, reading_failed, stands, state_of, wants_target}
+use Rattle.wb_machine.specs.Life.{Now, Happens, FailsOn, IsThere, device_step_of, actors_of, contents_of, has_task, is_sound, is_suspending, opened_in, opening_actor, phase_of, reading_synced, reading_failed, stands, state_of, wants_target}
 use Rattle.wb_machine.specs.Making.{reading_of}
 use Rattle.wb_machine.specs.Standing.{StandsSo}
-use Rattle.wb_machine.proofs.Members.{busy_there, idle_there, length_seated}
+use Rattle.wb_machine.specs.Members.{suspends}
+use Rattle.wb_machine.proofs.Members.{busy_there, idle_there, length_seated, none_at, some_at, suspends_so, suspends_told}
 use Rattle.wb_contents.proofs.Lists.{set_there, set_other, set_twice, replicated_there, there_is}
 
 -- ---- lists of one actor that opens, beside others that rest
@@ -132,11 +133,29 @@ busy_starts devices n (Underway o) a job h e =
     inr (inl (subst (λ k. OfSome (slice_get (actors_of n (Underway o)) k) (λ (x : Actor). OfSome x.task (λ doing. Unit {0}))) same (busy n o (λ doing. Unit {0}) h tt)))
 busy_starts devices n (Standing t members) a job h e = inr (inl (busy_there members.items t.crew.cards a (let l = h.0 in let k = h.1 in omega (arith, l, k)) e))
 
+-- while somebody suspends the target nothing starts
+pub suspended_starts : (devices : Devices Memory) (n : ℕ) (o : Phase) (a : ℕ) (job : Job) → IsThere n o → is_suspending o ≡ true → DoesNotApply (state_of n devices o) (Start a job)
+suspended_starts devices n Closed a job h e = absurd (cc)
+suspended_starts devices n (Underway o) a job h e = absurd (cc)
+suspended_starts devices n (Standing t members) a job h e = inr (inr (inl (some_at suspends (λ doing. doing.0 ≡ Suspend) suspends_so members.items t.crew.cards (let l = h.0 in let k = h.1 in omega (arith, l, k)) e)))
+
+-- where none of the members does, nobody does
+pub nobody_suspends : (devices : Devices Memory) (n : ℕ) (o : Phase) → IsThere n o → is_suspending o ≡ false → IsSuspending (state_of n devices o) → ⊥
+nobody_suspends devices n Closed h e s = rests n s.0 (λ doing. doing.0 ≡ Suspend) s.1
+nobody_suspends devices n (Underway o) h e s = elim (cases_eq o.asked.actor s.0) [
+  | inl same ↦
+      let there = subst (λ (k : ℕ). OfSome (slice_get (actors_of n (Underway o)) k) (λ (x : Actor). OfSome x.task (λ doing. doing.0 ≡ Suspend))) (sym same) s.1 in
+      let opens : Open o.asked.mode ≡ Suspend = only_busy n o (λ doing. doing.0 ≡ Suspend) h there in
+      absurd (cc)
+  | inr other ↦ idle_beside n o s.0 (λ doing. doing.0 ≡ Suspend) other s.1
+]
+nobody_suspends devices n (Standing t members) h e s = none_at suspends (λ doing. doing.0 ≡ Suspend) suspends_told members.items t.crew.cards s.0 e s.1
+
 -- no other job starts where no target stands
 pub no_target : (devices : Devices Memory) (n : ℕ) (o : Phase) (a : ℕ) (job : Job) → stands o ≡ false → wants_target job ≡ true → DoesNotApply (state_of n devices o) (Start a job)
 no_target devices n o a (Open mode) e f = absurd (cc)
-no_target devices n Closed a job e f = inr (inr (λ t. t))
-no_target devices n (Underway o) a job e f = inr (inr (λ t. t))
+no_target devices n Closed a job e f = inr (inr (inr (λ t. t)))
+no_target devices n (Underway o) a job e f = inr (inr (inr (λ t. t)))
 no_target devices n (Standing t members) a job e f = absurd (cc)
 
 begun_state : (n : ℕ) (devices : Devices Memory) (o : Phase) → IsThere n o → (a : ℕ) (mode : Mode) (plan : Plan) (new : Opener) → new.asked ≡ record { actor = a; mode = mode } → new.task ≡ plan → reading_of new ≡ None → new.opening.commit ≡ None →
@@ -149,7 +168,7 @@ no_standing g n Closed mode other s f (inl t) = t
 no_standing g n (Underway o) mode other s f (inl t) = t
 no_standing g n (Standing x members) mode other s f (inl t) = has_not x.failed f (s.failed ∙ ap flag t)
 
-module _ (shape : Shape) (devices : Devices Memory) (n : ℕ) (o : Phase) (is_there : IsThere n o) (so : StandsSo shape.geometry n o) (a : ℕ) (h : a < n) (i : has_task a o ≡ false) (calm : is_sound o ≡ false) where
+module _ (shape : Shape) (devices : Devices Memory) (n : ℕ) (o : Phase) (is_there : IsThere n o) (so : StandsSo shape.geometry n o) (a : ℕ) (h : a < n) (i : has_task a o ≡ false) (alone : is_suspending o ≡ false) (calm : is_sound o ≡ false) where
   -- an opening in any mode but passthrough
   starts_in : (mode : Mode) (what : What) (new : Opener) → mode ≢ Passthrough → new.asked ≡ record { actor = a; mode = mode } → new.task ≡ table (Opening shape.geometry.meta_sectors) → reading_of new ≡ None → new.opening.commit ≡ None → what ≡ Started →
       Happens shape (state_of n devices o) (Start a (Open mode)) what [] (state_of n devices (Underway new))
@@ -169,7 +188,8 @@ module _ (shape : Shape) (devices : Devices Memory) (n : ℕ) (o : Phase) (is_th
       applies : DoesNotApply (state_of n devices o) (Start a (Open mode)) → ⊥
       applies (inl none) = let inside = within n o is_there a h in let is = inside.1 in absurd (cc)
       applies (inr (inl t)) = idle n o a (λ doing. Unit {0}) i t
-      applies (inr (inr p)) = no_standing shape.geometry n o mode other so calm p
+      applies (inr (inr (inl s))) = nobody_suspends devices n o is_there alone s
+      applies (inr (inr (inr p))) = no_standing shape.geometry n o mode other so calm p
 
   pub starts : (job : Job) (mode : Mode) (what : What) (new : Opener) → opened_in job ≡ Some mode → new.asked ≡ record { actor = a; mode = mode } → new.task ≡ table (Opening shape.geometry.meta_sectors) → reading_of new ≡ None → new.opening.commit ≡ None → what ≡ Started →
       Happens shape (state_of n devices o) (Start a job) what [] (state_of n devices (Underway new))

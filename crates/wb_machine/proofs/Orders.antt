@@ -11,7 +11,7 @@ use Rattle.wb_tasks.specs.Plan.{Plan, table}
 use Rattle.wb_tasks.specs.Tables.{whole_block}
 use Rattle.wb_tasks.specs.declared.step.Migration.TheVariants.{Demote}
 use Rattle.wb_promise.specs.declared.job.Job.{Job}
-use Rattle.wb_promise.specs.declared.job.Job.TheVariants.{Read, Write, Flush, Open, Migrate, Replace}
+use Rattle.wb_promise.specs.declared.job.Job.TheVariants.{Read, Write, Flush, Suspend, Open, Migrate, Replace}
 use Rattle.wb_promise.specs.declared.event.What.{What}
 use Rattle.wb_promise.specs.declared.event.What.TheVariants.{Refused, Started}
 use Rattle.wb_promise.specs.States.{Shape, block_size}
@@ -19,7 +19,7 @@ use Rattle.wb_types.specs.declared.number.OBlock.{OBlock}
 use Rattle.wb_stage.specs.Asking.{is_of}
 use Rattle.wb_promise.specs.Effects.{dropped, replacing}
 use Rattle.wb_promise.specs.Happenings.{Plain, Cut, Orders, job_refusal, order_for, task_job, KeepsReplacement, begun_as}
-use Rattle.wb_machine.specs.Life.{wants_target}
+use Rattle.wb_machine.specs.Life.{starts_beside}
 use Rattle.wb_machine.specs.Members.{Member}
 use Rattle.wb_machine.specs.Serving.{GetsJob, Starts, StartsIf, TakesOrder, cut_for, GetsOrder, is_ordered, order_by}
 use Rattle.wb_policy.specs.declared.order.Order.TheVariants.{Replace as ReplaceOrder}
@@ -52,6 +52,7 @@ pub refused_request : (shape : Shape) (desk : DeskState Quiet) (m : Member) (job
 refused_request shape desk m (Read extent) refusal e = record { chosen = Plain; gives = λ words card. e; leaves = (refl, refl) }
 refused_request shape desk m (Write extent content) refusal e = record { chosen = Plain; gives = λ words card. e; leaves = (refl, refl) }
 refused_request shape desk m Flush refusal e = absurd (cc)
+refused_request shape desk m Suspend refusal e = absurd (cc)
 refused_request shape desk m (Open mode) refusal e = absurd (cc)
 refused_request shape desk m (Migrate migration block) refusal e = absurd (cc)
 refused_request shape desk m (Replace old new) refusal e = absurd (cc)
@@ -63,21 +64,23 @@ refused_busy shape desk m (Replace old new) desk' m' e t = record { chosen = Pla
 refused_busy shape desk m (Read extent) desk' m' e t = absurd (cc)
 refused_busy shape desk m (Write extent content) desk' m' e t = absurd (cc)
 refused_busy shape desk m Flush desk' m' e t = absurd (cc)
+refused_busy shape desk m Suspend desk' m' e t = absurd (cc)
 refused_busy shape desk m (Open mode) desk' m' e t = absurd (cc)
 
 -- who has this task then
 abbrev pub tasked : Member → Job → Plan → Member
-tasked m job plan = record { task = Some (job, plan); orders = m.orders; awaiting = m.awaiting; buffer = m.buffer }
+tasked m job plan = record { task = Some (job, plan); orders = m.orders; awaiting = m.awaiting; buffer = m.buffer; seen = m.seen }
 
 -- the task of a job that starts over this desk, by who has these orders
 abbrev pub begins : Shape → DeskState Quiet → Member → Job → Plan
-begins shape desk m job = table (task_job shape desk.mode m.awaiting job (cut_for shape job))
+begins shape desk m job = table (task_job shape desk.mode m.awaiting job (cut_for shape job) [])
 
 -- a job that needs no order starts
-pub started_request : (shape : Shape) (desk : DeskState Quiet) (m : Member) (job : Job) (plan : Plan) → wants_target job ≡ true → is_ordered job ≡ false → job_refusal shape job ≡ None → plan ≡ begins shape desk m job → GetsJob shape desk m job Started desk (tasked m (begun_as job) plan)
+pub started_request : (shape : Shape) (desk : DeskState Quiet) (m : Member) (job : Job) (plan : Plan) → starts_beside job ≡ true → is_ordered job ≡ false → job_refusal shape job ≡ None → plan ≡ begins shape desk m job → GetsJob shape desk m job Started desk (tasked m (begun_as job) plan)
 started_request shape desk m (Read extent) plan w o r p = record { chosen = Cut (cut_for shape (Read extent)); gives = λ words card. (r, pieces_cut 1 extent (omega arith)); leaves = (refl, ap (λ (x : Plan). tasked m (Read extent) x) p) }
 started_request shape desk m (Write extent content) plan w o r p = record { chosen = Cut (cut_for shape (Write extent content)); gives = λ words card. (r, pieces_cut 1 extent (omega arith)); leaves = (refl, ap (λ (x : Plan). tasked m (Write extent content) x) p) }
 started_request shape desk m Flush plan w o r p = record { chosen = Plain; gives = λ words card. tt; leaves = (refl, ap (λ (x : Plan). tasked m Flush x) p) }
+started_request shape desk m Suspend plan w o r p = absurd (cc)
 started_request shape desk m (Open mode) plan w o r p = absurd (cc)
 started_request shape desk m (Migrate migration block) plan w o r p = absurd (cc)
 started_request shape desk m (Replace old new) plan w o r p = absurd (cc)
@@ -124,6 +127,7 @@ started_ordered shape desk m (Replace old new) desk' m' plan e t p = elim t [
 started_ordered shape desk m (Read extent) desk' m' plan e t p = absurd (cc)
 started_ordered shape desk m (Write extent content) desk' m' plan e t p = absurd (cc)
 started_ordered shape desk m Flush desk' m' plan e t p = absurd (cc)
+started_ordered shape desk m Suspend desk' m' plan e t p = absurd (cc)
 started_ordered shape desk m (Open mode) desk' m' plan e t p = absurd (cc)
 
 -- ---- who takes an order

@@ -21,7 +21,7 @@ use Rattle.wb_devices.specs.declared.devices.Devices.{Devices}
 use Rattle.wb_devices.specs.declared.running.RunningCommit.{RunningCommit}
 use Rattle.wb_devices.specs.Moving.{device_in}
 use Rattle.wb_promise.specs.declared.job.Job.{Job}
-use Rattle.wb_promise.specs.declared.job.Job.TheVariants.{Read, Write, Flush, Open, Migrate, Replace}
+use Rattle.wb_promise.specs.declared.job.Job.TheVariants.{Read, Write, Flush, Suspend, Open, Migrate, Replace}
 use Rattle.wb_promise.specs.States.{Shape, Actor, Stands, Target as RunTarget}
 use Rattle.wb_promise.specs.Happenings.{Chosen, Puts, Opened, OfSome, DoesOpen, DoesPut, DoesSync, Gives}
 use Rattle.wb_runs.specs.Holding.{AreUsedRightly}
@@ -35,7 +35,7 @@ use Rattle.wb_machine.specs.Serving.{AllCan, CanStep, ComesNext, IsAskable, IsDo
 third : {A B C : Type 0} → A × B × C → C
 third p = p.2
 
-is_inside : {X : Type 0} (xs : List X) (i : ℕ) (x : X) → slice_get xs i ≡ Some x → i < length xs
+pub is_inside : {X : Type 0} (xs : List X) (i : ℕ) (x : X) → slice_get xs i ≡ Some x → i < length xs
 is_inside [] i x e = absurd (cc)
 is_inside (z ∷ xs) zero x e = omega arith
 is_inside (z ∷ xs) (suc i) x e = let later = is_inside xs i x e in omega (arith, later)
@@ -70,6 +70,7 @@ module _ (shape : Shape) (devices : Devices (List History)) (commit : Option Run
   reads (Read extent) device e g = (tt, g.0, λ l. extent_inside (device_in device devices) read e g.3 g.4 l)
   reads (Write extent content) device e g = absurd g
   reads Flush device e g = absurd g
+  reads Suspend device e g = absurd g
   reads (Open mode) device e g = absurd g
   reads (Migrate migration block) device e g = (tt, g.0, g.3)
   reads (Replace old new) device e g = absurd g
@@ -78,6 +79,7 @@ module _ (shape : Shape) (devices : Devices (List History)) (commit : Option Run
   writes (Read extent) device e g = absurd g
   writes (Write extent content) device e g = (tt, g.0, g.3)
   writes Flush device e g = absurd g
+  writes Suspend device e g = absurd g
   writes (Open mode) device e g = absurd g
   writes (Migrate migration block) device e g = (tt, g.0, g.3)
   writes (Replace old new) device e g = absurd g
@@ -86,6 +88,7 @@ module _ (shape : Shape) (devices : Devices (List History)) (commit : Option Run
   syncs (Read extent) g = syncs_next t commit devices.metadata chosen g.2
   syncs (Write extent content) g = syncs_next t commit devices.metadata chosen g.2
   syncs Flush g = syncs_next t commit devices.metadata chosen g.2
+  syncs Suspend g = syncs_next t commit devices.metadata chosen g.2
   syncs (Open mode) g = syncs_next t commit devices.metadata chosen g.2
   syncs (Migrate migration block) g = syncs_next t commit devices.metadata chosen g.2
   syncs (Replace old new) g = syncs_next t commit devices.metadata chosen g.2
@@ -94,6 +97,7 @@ module _ (shape : Shape) (devices : Devices (List History)) (commit : Option Run
   writes_node (Read extent) number g = puts_next commit (WriteNode number) devices.metadata chosen g.2
   writes_node (Write extent content) number g = puts_next commit (WriteNode number) devices.metadata chosen g.2
   writes_node Flush number g = puts_next commit (WriteNode number) devices.metadata chosen g.2
+  writes_node Suspend number g = puts_next commit (WriteNode number) devices.metadata chosen g.2
   writes_node (Open mode) number g = puts_next commit (WriteNode number) devices.metadata chosen g.2
   writes_node (Migrate migration block) number g = puts_next commit (WriteNode number) devices.metadata chosen g.2
   writes_node (Replace old new) number g = puts_next commit (WriteNode number) devices.metadata chosen g.2
@@ -102,6 +106,7 @@ module _ (shape : Shape) (devices : Devices (List History)) (commit : Option Run
   writes_root (Read extent) g = puts_next commit WriteRoot devices.metadata chosen g.2
   writes_root (Write extent content) g = puts_next commit WriteRoot devices.metadata chosen g.2
   writes_root Flush g = puts_next commit WriteRoot devices.metadata chosen g.2
+  writes_root Suspend g = puts_next commit WriteRoot devices.metadata chosen g.2
   writes_root (Open mode) g = puts_next commit WriteRoot devices.metadata chosen g.2
   writes_root (Migrate migration block) g = puts_next commit WriteRoot devices.metadata chosen g.2
   writes_root (Replace old new) g = puts_next commit WriteRoot devices.metadata chosen g.2
@@ -110,6 +115,7 @@ module _ (shape : Shape) (devices : Devices (List History)) (commit : Option Run
   reads_metadata (Read extent) left g = g.2
   reads_metadata (Write extent content) left g = g.2
   reads_metadata Flush left g = g.2
+  reads_metadata Suspend left g = g.2
   reads_metadata (Open mode) left g = g.2
   reads_metadata (Migrate migration block) left g = g.2
   reads_metadata (Replace old new) left g = g.2
@@ -118,12 +124,14 @@ module _ (shape : Shape) (devices : Devices (List History)) (commit : Option Run
   asks (Read extent) (BeginCommit clean most) g = g.1
   asks (Write extent content) (BeginCommit clean most) g = g.1
   asks Flush (BeginCommit clean most) g = g.1
+  asks Suspend (BeginCommit clean most) g = g.1
   asks (Open mode) (BeginCommit clean most) g = g.1
   asks (Migrate migration block) (BeginCommit clean most) g = g.1
   asks (Replace old new) (BeginCommit clean most) g = g.1
   asks (Read extent) EndCommit g = g.2
   asks (Write extent content) EndCommit g = g.2
   asks Flush EndCommit g = g.2
+  asks Suspend EndCommit g = g.2
   asks (Open mode) EndCommit g = g.2
   asks (Migrate migration block) EndCommit g = g.2
   asks (Replace old new) EndCommit g = g.2
@@ -134,6 +142,7 @@ module _ (shape : Shape) (devices : Devices (List History)) (commit : Option Run
   asks (Read extent) step g = absurd g
   asks (Write extent content) step g = absurd g
   asks Flush step g = absurd g
+  asks Suspend step g = absurd g
   asks (Open mode) step g = absurd g
   asks (Replace old new) step g = absurd g
 
@@ -141,6 +150,7 @@ module _ (shape : Shape) (devices : Devices (List History)) (commit : Option Run
   ends (Read extent) g = λ o. o
   ends (Write extent content) g = λ o. o
   ends Flush g = λ o. o
+  ends Suspend g = λ o. o
   ends (Migrate migration block) g = λ o. o
   ends (Replace old new) g = λ o. o
   ends (Open mode) g = λ o. opens_nobody t commit chosen (third g)

@@ -1,15 +1,18 @@
 -- What an event does over a target that stands is what wb_promise says.
-use Rattle.std.proofs.Common.{◌≡◌, ◌≤◌, inl, inr, ℕ, zero, suc, Bool, true, false, List, [], ◌∷◌, Option, Some, None, refl, sym, ap, subst, ◌∙◌, if◌then◌else◌, slice_get, slice_set, slice_index_or, length, length-set, replicate, is_none}
+use Rattle.std.proofs.Common.{◌≡◌, ◌≤◌, inl, inr, ℕ, zero, suc, Bool, true, false, List, [], ◌∷◌, Option, Some, None, refl, sym, ap, subst, ◌∙◌, if◌then◌else◌, slice_get, slice_set, slice_index_or, length, length-set, replicate, is_none, arith}
 use Rattle.std.specs.declared.alloc.Global.{Global}
 use Rattle.wb_types.specs.Limits.{node_count}
 use Rattle.wb_types.specs.declared.mode.Dev.TheVariants.{Metadata, Cache, Origin}
 use Rattle.wb_types.specs.declared.number.OBlock.{OBlock}
 use Rattle.wb_types.specs.declared.number.CBlock.{CBlock}
+use Rattle.wb_types.specs.declared.mode.Mode.{Mode}
 use Rattle.wb_disk.specs.Device.{Content as Bytes, History}
 use Rattle.wb_disk.specs.Crash.{Choice}
 use Rattle.wb_words.specs.Cards.{blank_card}
 use Rattle.wb_words.specs.Effects.{card_after}
-use Rattle.wb_words.specs.SharedWords.{Words, flag}
+use Rattle.wb_words.specs.SharedWords.{Words, dirty_in, flag, place_in}
+use Rattle.wb_words.specs.declared.word.Word.TheVariants.{Seal as SealWord}
+use Rattle.wb_words.specs.declared.step.CellStep.TheVariants.{Look}
 use Rattle.wb_words.specs.declared.card.Card.{Card}
 use Rattle.wb_cells.specs.Crews.{CrewState}
 use Rattle.wb_policy.specs.declared.order.Order.{Order}
@@ -17,7 +20,7 @@ use Rattle.wb_policy.specs.declared.quiet.Quiet.{Quiet}
 use Rattle.wb_desk.specs.Commits.{commit_ended}
 use Rattle.wb_desk.specs.Desks.{DeskState}
 use Rattle.wb_tasks.specs.Tables.{TaskJob}
-use Rattle.wb_tasks.specs.Plan.{Plan, table, want}
+use Rattle.wb_tasks.specs.Plan.{Plan, after, want}
 use Rattle.wb_tasks.proofs.Readiness.{job_stays}
 use Rattle.wb_tasks.specs.declared.step.DeviceStep.{DeviceStep}
 use Rattle.wb_tasks.specs.declared.step.DeviceStep.TheVariants.{Read as ReadExtent, Write as WriteExtent, Sync, ReadMetadata, WriteNode, WriteRoot}
@@ -25,27 +28,28 @@ use Rattle.wb_tasks.specs.declared.step.DeskStep.TheVariants.{Map, Unmap, Releas
 use Rattle.wb_tasks.specs.declared.step.Want.{Want}
 use Rattle.wb_tasks.specs.declared.step.Want.TheVariants.{Cell, Device, Desk, End}
 use Rattle.wb_tasks.specs.declared.step.Got.{Got}
-use Rattle.wb_tasks.specs.declared.step.Got.TheVariants.{Done, Fault, Refused as GotRefused}
+use Rattle.wb_tasks.specs.declared.step.Got.TheVariants.{Done, Fault, Refused as GotRefused, Word}
 use Rattle.wb_devices.specs.declared.devices.Devices.{Devices}
 use Rattle.wb_devices.specs.declared.running.RunningCommit.{RunningCommit}
 use Rattle.wb_promise.specs.declared.job.Job.{Job}
-use Rattle.wb_promise.specs.declared.job.Job.TheVariants.{Read, Write, Flush, Open, Migrate, Replace}
+use Rattle.wb_promise.specs.declared.job.Job.TheVariants.{Read, Write, Flush, Suspend, Open, Migrate, Replace}
 use Rattle.wb_promise.specs.declared.event.Event.TheVariants.{Start, Step, FaultStep}
 use Rattle.wb_promise.specs.declared.event.What.{What}
 use Rattle.wb_promise.specs.declared.event.What.TheVariants.{Skipped, Refused, Started, Stepped, Stopped}
 use Rattle.wb_promise.specs.States.{Shape, Actor, Stands, Phase, Target as RunTarget}
-use Rattle.wb_promise.specs.Happenings.{Chosen, Plain, Cut, Orders, Begins, Reaches, Puts, Commits, Asks, Opened, OfSome, DoesNotApply, DoesMap, DoesRelease, DoesUnmap, Gives, Falters, MayFailAt, StartGives, task_job, begun_as}
-use Rattle.wb_promise.specs.Effects.{after_what, asked_desk, begun_desk, card_then, commit_then, cut_of, desk_then, devices_then, given, job_of, phase_given, task_then, went, words_then}
+use Rattle.wb_promise.specs.Happenings.{Chosen, Plain, Cut, Orders, Looks, Begins, Reaches, Puts, Commits, Asks, Opened, OfSome, DoesNotApply, DoesMap, DoesRelease, DoesUnmap, Gives, Falters, IsSuspending, MayFailAt, StartGives, StartsAs}
+use Rattle.wb_promise.specs.Effects.{after_what, asked_desk, begun_desk, card_then, commit_then, desk_then, devices_then, given, job_of, phase_given, seen_then, task_then, went, words_then}
 use Rattle.wb_runs.proofs.Desks.{is_live, is_unmappable}
 use Rattle.wb_machine.specs.declared.target.Target.{Target}
-use Rattle.wb_machine.specs.Life.{Now, Happens, wants_target}
-use Rattle.wb_machine.specs.Members.{Member, free, seat, with_cards}
-use Rattle.wb_machine.specs.Serving.{MemberFails, FailsOrRests, GetsJob, IsPassed, Leads, LeavesStarted, NothingFails, Starts, StartsIf, Steps, MemberSteps, chosen_at, commit_by, crew_then, desk_given, done_by, failed_by, member_then, noted_read, over, stood, target_told}
-use Rattle.wb_machine.specs.Standing.{AllRoomy, AllowsImages, IsRoomy}
+use Rattle.wb_machine.specs.Life.{Now, Happens, starts_beside, wants_target}
+use Rattle.wb_machine.specs.Members.{HasBits, Member, free, seat, with_cards}
+use Rattle.wb_machine.specs.Serving.{member_given, MemberFails, FailsOrRests, GetsJob, IsPassed, Leads, LeavesStarted, NothingFails, Starts, StartsIf, Steps, MemberSteps, chosen_at, commit_by, crew_then, desk_given, done_by, failed_by, member_then, noted_read, over, stood, target_told}
+use Rattle.wb_machine.specs.Standing.{AllRoomy, AllowsImages, HasRoom, IsRoomy}
 use Rattle.wb_machine.proofs.Members.{seat_at, set_both, set_task, somebody}
-use Rattle.wb_machine.proofs.Openings.{passes}
+use Rattle.wb_machine.proofs.Openings.{length_replicate, passes}
 use Rattle.wb_machine.proofs.Possible.{has_task, the_task}
 use Rattle.wb_stage.specs.Asking.{IsGivenUp, order_of}
+use Rattle.wb_stage.specs.Seen.{seen_after, seen_at}
 use Rattle.wb_contents.proofs.Lists.{set_same}
 
 -- ---- an actor that is not there, or is at nothing
@@ -55,26 +59,49 @@ nobody_there actors a P e h = subst (λ (o : Option Actor). OfSome o P) e h
 
 -- ---- a start over a target
 
--- a job is in its place over a target, for who is at nothing
-in_place : (devices : Devices (List History)) (t : Target) (actors : List Actor) (a : ℕ) (job : Job) (x : Actor) → wants_target job ≡ true → slice_get actors a ≡ Some x → x.task ≡ None → DoesNotApply (over devices t actors) (Start a job) → ⊥
-in_place devices t actors a job x w at e (inl none) = absurd (let some = at in cc)
-in_place devices t actors a job x w at e (inr (inl h)) = subst (λ (o : Option (Job × Plan)). OfSome o (λ d. Unit {0})) e (subst (λ (o : Option Actor). OfSome o (λ (y : Actor). OfSome y.task (λ d. Unit {0}))) at h)
-in_place devices t actors a (Read extent) x w at e (inr (inr f)) = f tt
-in_place devices t actors a (Write extent content) x w at e (inr (inr f)) = f tt
-in_place devices t actors a Flush x w at e (inr (inr f)) = f tt
-in_place devices t actors a (Open mode) x w at e (inr (inr f)) = absurd (cc)
-in_place devices t actors a (Migrate migration block) x w at e (inr (inr f)) = f tt
-in_place devices t actors a (Replace old new) x w at e (inr (inr f)) = f tt
+-- a job is in its place over a target that nobody suspends, for who is at nothing
+pub in_place : (devices : Devices (List History)) (t : Target) (actors : List Actor) (a : ℕ) (job : Job) (x : Actor) → wants_target job ≡ true → (IsSuspending (over devices t actors) → ⊥) → slice_get actors a ≡ Some x → x.task ≡ None → DoesNotApply (over devices t actors) (Start a job) → ⊥
+in_place devices t actors a job x w alone at e (inl none) = absurd (let some = at in cc)
+in_place devices t actors a job x w alone at e (inr (inl h)) = subst (λ (o : Option (Job × Plan)). OfSome o (λ d. Unit {0})) e (subst (λ (o : Option Actor). OfSome o (λ (y : Actor). OfSome y.task (λ d. Unit {0}))) at h)
+in_place devices t actors a job x w alone at e (inr (inr (inl s))) = alone s
+in_place devices t actors a (Read extent) x w alone at e (inr (inr (inr f))) = f tt
+in_place devices t actors a (Write extent content) x w alone at e (inr (inr (inr f))) = f tt
+in_place devices t actors a Flush x w alone at e (inr (inr (inr f))) = f tt
+in_place devices t actors a Suspend x w alone at e (inr (inr (inr f))) = f tt
+in_place devices t actors a (Open mode) x w alone at e (inr (inr (inr f))) = absurd (cc)
+in_place devices t actors a (Migrate migration block) x w alone at e (inr (inr (inr f))) = f tt
+in_place devices t actors a (Replace old new) x w alone at e (inr (inr (inr f))) = f tt
+
+-- a job that starts whatever the others are at is one of a target, and starts so
+of_target : (job : Job) → starts_beside job ≡ true → wants_target job ≡ true
+of_target (Read extent) b = refl
+of_target (Write extent content) b = refl
+of_target Flush b = refl
+of_target Suspend b = refl
+of_target (Open mode) b = absurd (cc)
+of_target (Migrate migration block) b = refl
+of_target (Replace old new) b = refl
+
+starts_as : (shape : Shape) (w : Now) (a : ℕ) (job : Job) (what : What) (chosen : Chosen Quiet Global) → starts_beside job ≡ true → StartGives shape w.phase (slice_get w.actors a) job what chosen → StartsAs shape w a job what chosen
+starts_as shape w a (Read extent) what chosen b g = g
+starts_as shape w a (Write extent content) what chosen b g = g
+starts_as shape w a Flush what chosen b g = g
+starts_as shape w a Suspend what chosen b g = absurd (cc)
+starts_as shape w a (Open mode) what chosen b g = absurd (cc)
+starts_as shape w a (Migrate migration block) what chosen b g = g
+starts_as shape w a (Replace old new) what chosen b g = g
 
 -- the desk that an order leaves
 phase_so : (words : Words) (desk : DeskState Quiet) (job : Job) (chosen : Chosen Quiet Global) → Stands (record { words = words; desk = desk_given desk job chosen }) ≡ phase_given {P = Quiet} {A = Global} (Stands (record { words = words; desk = desk })) job chosen
 phase_so words desk (Read extent) chosen = refl
 phase_so words desk (Write extent content) chosen = refl
 phase_so words desk Flush chosen = refl
+phase_so words desk Suspend chosen = refl
 phase_so words desk (Open mode) chosen = refl
 phase_so words desk (Migrate migration block) Plain = refl
 phase_so words desk (Migrate migration block) (Cut cut) = refl
 phase_so words desk (Migrate migration block) (Orders cut cache) = refl
+phase_so words desk (Migrate migration block) (Looks blocks) = refl
 phase_so words desk (Migrate migration block) (Begins now) = refl
 phase_so words desk (Migrate migration block) (Reaches now commit) = refl
 phase_so words desk (Migrate migration block) (Puts new) = refl
@@ -84,6 +111,7 @@ phase_so words desk (Migrate migration block) (Opened policy) = refl
 phase_so words desk (Replace old new) Plain = refl
 phase_so words desk (Replace old new) (Cut cut) = refl
 phase_so words desk (Replace old new) (Orders cut cache) = refl
+phase_so words desk (Replace old new) (Looks blocks) = refl
 phase_so words desk (Replace old new) (Begins now) = refl
 phase_so words desk (Replace old new) (Reaches now commit) = refl
 phase_so words desk (Replace old new) (Puts metadata) = refl
@@ -92,11 +120,12 @@ phase_so words desk (Replace old new) (Asks asked) = refl
 phase_so words desk (Replace old new) (Opened policy) = refl
 
 -- a job that is no opening clears nothing
-given_so : (shape : Shape) (devices : Devices (List History)) (t : Target) (actors : List Actor) (a : ℕ) (x : Actor) (job : Job) (chosen : Chosen Quiet Global) → wants_target job ≡ true → slice_get actors a ≡ Some x →
+pub given_so : (shape : Shape) (devices : Devices (List History)) (t : Target) (actors : List Actor) (a : ℕ) (x : Actor) (job : Job) (chosen : Chosen Quiet Global) → wants_target job ≡ true → slice_get actors a ≡ Some x →
     over devices (record t { desk = desk_given t.desk job chosen }) (slice_set actors a (given {P = Quiet} {A = Global} shape t.desk.mode x job chosen)) ≡ after_what shape (over devices t actors) (Start a job) Started chosen
 given_so shape devices t actors a x (Read extent) chosen w at = rw at refl
 given_so shape devices t actors a x (Write extent content) chosen w at = rw at refl
 given_so shape devices t actors a x Flush chosen w at = rw at refl
+given_so shape devices t actors a x Suspend chosen w at = rw at refl
 given_so shape devices t actors a x (Open mode) chosen w at = absurd (cc)
 given_so shape devices t actors a x (Migrate migration block) chosen w at = rw at (ap (λ (p : Phase Quiet Global). record { devices = devices; commit = t.commit; phase = p; actors = slice_set actors a (given {P = Quiet} {A = Global} shape t.desk.mode x (Migrate migration block) chosen) })
     (phase_so t.crew.words t.desk (Migrate migration block) chosen))
@@ -134,25 +163,28 @@ module _ (shape : Shape) (devices : Devices (List History)) (t : Target) (member
   -- ---- a start
 
   -- a start that is not skipped
-  job_starts : (job : Job) (what : What) (desk' : DeskState Quiet) → wants_target job ≡ true → m.task ≡ None → GetsJob shape t.desk m job what desk' new →
+  job_starts : (job : Job) (what : What) (desk' : DeskState Quiet) → starts_beside job ≡ true → (IsSuspending before → ⊥) → m.task ≡ None → GetsJob shape t.desk m job what desk' new →
       Happens shape before (Start a job) what [] (over devices (record t { desk = desk' }) (with_cards (slice_set members a new) t.crew.cards))
-  job_starts job what desk' w e g = by_what what g.gives g.leaves
+  job_starts job what desk' b alone e g = by_what what g.gives g.leaves
     where
       applies : DoesNotApply before (Start a job) → ⊥
-      applies = in_place devices t actors a job x w at e
+      applies = in_place devices t actors a job x (of_target job b) alone at e
+
+      starts : (what : What) → ((words : Words) (card : Card) → StartGives shape (Stands (record { words = words; desk = t.desk })) (Some (seat m card)) job what g.chosen) → StartsAs shape before a job what g.chosen
+      starts what gives = starts_as shape before a job what g.chosen b (subst (λ (o : Option Actor). StartGives shape before.phase o job what g.chosen) (sym at) (gives t.crew.words x.card))
 
       by_what : (what : What) → ((words : Words) (card : Card) → StartGives shape (Stands (record { words = words; desk = t.desk })) (Some (seat m card)) job what g.chosen) → LeavesStarted shape t.desk m job what g.chosen desk' new →
           Happens shape before (Start a job) what [] (over devices (record t { desk = desk' }) (with_cards (slice_set members a new) t.crew.cards))
       by_what Started gives leaves = record {
         chosen = g.chosen;
-        may = (refl, applies, subst (λ (o : Option Actor). StartGives shape before.phase o job Started g.chosen) (sym at) (gives t.crew.words x.card));
+        may = (refl, applies, starts Started gives);
         leads = ap (λ (d : DeskState Quiet). over devices (record t { desk = d }) (with_cards (slice_set members a new) t.crew.cards)) leaves.0
             ∙ ap (λ xs. over devices (record t { desk = desk_given t.desk job g.chosen }) xs) (set_task members t.crew.cards a new ∙ ap (λ (v : Member). slice_set actors a (seat_at v t.crew.cards a)) leaves.1)
-            ∙ given_so shape devices t actors a x job g.chosen w at;
+            ∙ given_so shape devices t actors a x job g.chosen (of_target job b) at;
       }
       by_what (Refused refusal) gives leaves = record {
         chosen = g.chosen;
-        may = (refl, applies, subst (λ (o : Option Actor). StartGives shape before.phase o job (Refused refusal) g.chosen) (sym at) (gives t.crew.words x.card));
+        may = (refl, applies, starts (Refused refusal) gives);
         leads = ap (λ (d : DeskState Quiet). over devices (record t { desk = d }) (with_cards (slice_set members a new) t.crew.cards)) leaves.0 ∙ stays leaves.1;
       }
       by_what Skipped gives leaves = absurd leaves
@@ -163,13 +195,13 @@ module _ (shape : Shape) (devices : Devices (List History)) (t : Target) (member
   passed_so : (job : Job) (what : What) (desk' : DeskState Quiet) → DoesNotApply before (Start a job) → IsPassed t.desk m what desk' new → Happens shape before (Start a job) what [] (over devices (record t { desk = desk' }) (with_cards (slice_set members a new) t.crew.cards))
   passed_so job what desk' d p = rw (ap (λ (k : DeskState Quiet). over devices (record t { desk = k }) (with_cards (slice_set members a new) t.crew.cards)) p.desk_is ∙ stays p.member_is) (passes shape before (Start a job) what d p.what_is)
 
-  pub start_happens : (job : Job) (what : What) (desk' : DeskState Quiet) → wants_target job ≡ true → Starts shape t.desk m job what desk' new →
+  pub start_happens : (job : Job) (what : What) (desk' : DeskState Quiet) → starts_beside job ≡ true → (IsSuspending before → ⊥) → Starts shape t.desk m job what desk' new →
       Happens shape before (Start a job) what [] (over devices (record t { desk = desk' }) (with_cards (slice_set members a new) t.crew.cards))
-  start_happens job what desk' w s = by_task m.task refl s
+  start_happens job what desk' b alone s = by_task m.task refl s
     where
       by_task : (o : Option (Job × Plan)) → m.task ≡ o → StartsIf (is_none o) shape t.desk m job what desk' new →
           Happens shape before (Start a job) what [] (over devices (record t { desk = desk' }) (with_cards (slice_set members a new) t.crew.cards))
-      by_task None e s = job_starts job what desk' w e s
+      by_task None e s = job_starts job what desk' b alone e s
       by_task (Some doing) e s = passed_so job what desk' (inr (inl (works doing e (λ y d. Unit {0}) tt))) s
 
   -- ---- a step
@@ -225,7 +257,7 @@ module _ (shape : Shape) (devices : Devices (List History)) (t : Target) (member
       by_task None e s = rw (s.devices_are, s.target_is, s.read_is, stays s.member_is) (passes shape before (Step a) what (λ h. idles e (λ d. Unit {0}) h) s.what_is)
       by_task (Some doing) e s = rw (s.what_is, s.read_is) (record {
         chosen = s.performs.chosen;
-        may = works_at doing e (λ y job plan. (want doing.1 ≡ want plan) × Gives shape before y job (want doing.1) s.got (noted_read doing.0 (want doing.1) s.given) s.performs.chosen) (refl, s.performs.gives shape actors x refl);
+        may = works_at doing e (λ y job plan. (want doing.1 ≡ want plan) × Gives shape before y job (want doing.1) s.got (noted_read doing.0 (want doing.1) s.given) s.performs.chosen) (refl, s.performs.gives shape actors x (refl, refl));
         leads = went_on doing (want doing.1) s.got s.performs.chosen (λ job buffer. done_by job buffer s.performs.chosen) devices' t' e s.performs.leads s.member_is;
       })
 
@@ -300,17 +332,20 @@ module _ (shape : Shape) (devices : Devices (List History)) (commit : Option Run
   desk_sizes (Read extent) (Desk (Map b c)) g = absurd g
   desk_sizes (Write extent content) (Desk (Map b c)) g = absurd g
   desk_sizes Flush (Desk (Map b c)) g = absurd g
+  desk_sizes Suspend (Desk (Map b c)) g = absurd g
   desk_sizes (Open mode) (Desk (Map b c)) g = absurd g
   desk_sizes (Replace old new) (Desk (Map b c)) g = absurd g
   desk_sizes (Migrate migration block) (Desk (Unmap b)) g = unmap_sizes t.desk b chosen g.2
   desk_sizes (Read extent) (Desk (Unmap b)) g = absurd g
   desk_sizes (Write extent content) (Desk (Unmap b)) g = absurd g
   desk_sizes Flush (Desk (Unmap b)) g = absurd g
+  desk_sizes Suspend (Desk (Unmap b)) g = absurd g
   desk_sizes (Open mode) (Desk (Unmap b)) g = absurd g
   desk_sizes (Replace old new) (Desk (Unmap b)) g = absurd g
   desk_sizes (Migrate migration block) (Desk (ReleaseOrder b)) g = release_sizes t.desk actor.orders b chosen g.2
   desk_sizes (Read extent) (Desk (ReleaseOrder b)) g = absurd g
   desk_sizes (Write extent content) (Desk (ReleaseOrder b)) g = absurd g
+  desk_sizes Suspend (Desk (ReleaseOrder b)) g = absurd g
   desk_sizes Flush (Desk (ReleaseOrder b)) g = release_sizes t.desk actor.awaiting b chosen g.2
   desk_sizes (Open mode) (Desk (ReleaseOrder b)) g = absurd g
   desk_sizes (Replace old new) (Desk (ReleaseOrder b)) g = absurd g
@@ -341,7 +376,7 @@ step_keeps devices t a m what read devices' t' m' f s = by_task m.task s
           cards = ap (λ (c : CrewState). length c.cards) leads.crew_is ∙ like.1;
           failed = leads.failed_is;
           sizes = ap (λ (d : DeskState Quiet). d.geometry) leads.desk_is
-              ∙ desk_sizes some_shape devices t.commit (target_told t) [] (seat m blank_card) s.got (noted_read doing.0 (want doing.1) s.given) s.performs.chosen doing.0 (want doing.1) (s.performs.gives some_shape [] (seat m blank_card) refl);
+              ∙ desk_sizes some_shape devices t.commit (target_told t) [] (seat m blank_card) s.got (noted_read doing.0 (want doing.1) s.given) s.performs.chosen doing.0 (want doing.1) (s.performs.gives some_shape [] (seat m blank_card) (refl, refl));
         }
 
 -- a start keeps the desk's geometry
@@ -352,6 +387,7 @@ start_sizes shape desk m job what desk' m' s = by_test (is_none m.task) s
     given_sizes (Migrate migration block) (Orders cut cache) = refl
     given_sizes (Migrate migration block) Plain = refl
     given_sizes (Migrate migration block) (Cut cut) = refl
+    given_sizes (Migrate migration block) (Looks blocks) = refl
     given_sizes (Migrate migration block) (Begins now) = refl
     given_sizes (Migrate migration block) (Reaches now commit) = refl
     given_sizes (Migrate migration block) (Puts new) = refl
@@ -361,6 +397,7 @@ start_sizes shape desk m job what desk' m' s = by_test (is_none m.task) s
     given_sizes (Replace old new) (Orders cut cache) = refl
     given_sizes (Replace old new) Plain = refl
     given_sizes (Replace old new) (Cut cut) = refl
+    given_sizes (Replace old new) (Looks blocks) = refl
     given_sizes (Replace old new) (Begins now) = refl
     given_sizes (Replace old new) (Reaches now commit) = refl
     given_sizes (Replace old new) (Puts metadata) = refl
@@ -370,6 +407,7 @@ start_sizes shape desk m job what desk' m' s = by_test (is_none m.task) s
     given_sizes (Read extent) chosen = refl
     given_sizes (Write extent content) chosen = refl
     given_sizes Flush chosen = refl
+    given_sizes Suspend chosen = refl
     given_sizes (Open mode) chosen = refl
 
     by_what : (what : What) (chosen : Chosen Quiet Global) → LeavesStarted shape desk m job what chosen desk' m' → desk'.geometry ≡ desk.geometry
@@ -381,59 +419,89 @@ start_sizes shape desk m job what desk' m' s = by_test (is_none m.task) s
     by_test true g = by_what what g.chosen g.leaves
     by_test false p = ap (λ (k : DeskState Quiet). k.geometry) p.desk_is
 
--- ---- flushes allow as many nodes as an image may have
+-- ---- who commits allows as many nodes as an image may have, and who suspends has a bit for each cache block
 
-roomy_then : (nodes : ℕ) (doing : Job × Plan) (next : Want) (got : Got) → IsRoomy nodes (Some doing) → IsRoomy nodes (task_then (Some doing) next got)
-roomy_then nodes doing (Cell step) got r = subst (λ (job : TaskJob). AllowsImages nodes job) (sym (job_stays doing.1 got)) r
-roomy_then nodes doing (Device step) got r = subst (λ (job : TaskJob). AllowsImages nodes job) (sym (job_stays doing.1 got)) r
-roomy_then nodes doing (Desk step) got r = subst (λ (job : TaskJob). AllowsImages nodes job) (sym (job_stays doing.1 got)) r
-roomy_then nodes doing (End answer) got r = tt
+allowed_then : (nodes : ℕ) (doing : Job × Plan) (got : Got) → AllowsImages nodes doing.1.job → AllowsImages nodes (after doing.1 got).job
+allowed_then nodes doing got r = subst (λ (job : TaskJob). AllowsImages nodes job) (sym (job_stays doing.1 got)) r
 
-pub step_roomy : (nodes : ℕ) (devices : Devices (List History)) (t : Target) (a : ℕ) (m : Member) (what : What) (read : List Bytes) (devices' : Devices (List History)) (t' : Target) (m' : Member) → IsRoomy nodes m.task → Steps devices t a m what read devices' t' m' → IsRoomy nodes m'.task
-step_roomy nodes devices t a m what read devices' t' m' r s = by_task m.task refl s
+room_then : (cache_blocks : ℕ) (seen : List Bool) (doing : Job × Plan) (next : Want) (got : Got) → HasRoom cache_blocks seen (Some doing) → HasRoom cache_blocks seen (task_then (Some doing) next got)
+room_then cache_blocks seen doing (Cell step) got r = (allowed_then (node_count cache_blocks) doing got r.0, r.1)
+room_then cache_blocks seen doing (Device step) got r = (allowed_then (node_count cache_blocks) doing got r.0, r.1)
+room_then cache_blocks seen doing (Desk step) got r = (allowed_then (node_count cache_blocks) doing got r.0, r.1)
+room_then cache_blocks seen doing (End answer) got r = tt
+
+-- as many bits are there whatever was seen
+as_many_at : (place : Option CBlock) (dirty : Bool) (seen : List Bool) → length (seen_at place dirty seen) ≡ length seen
+as_many_at None dirty seen = refl
+as_many_at (Some c) dirty seen = length-set seen c.0 dirty
+
+as_many_seen : (next : Want) (got : Got) (seen : List Bool) → length (seen_after next got seen) ≡ length seen
+as_many_seen (Cell (Look (SealWord block))) (Word seal) seen = as_many_at (place_in seal) (dirty_in seal) seen
+as_many_seen next got seen = refl
+
+bits_then : (cache_blocks : ℕ) (seen : List Bool) (next : Want) (got : Got) (job : Job) → HasBits cache_blocks seen job → HasBits cache_blocks (seen_then seen next got job) job
+bits_then cache_blocks seen next got (Read extent) h = tt
+bits_then cache_blocks seen next got (Write extent content) h = tt
+bits_then cache_blocks seen next got Flush h = tt
+bits_then cache_blocks seen next got Suspend h = as_many_seen next got seen ∙ h
+bits_then cache_blocks seen next got (Open mode) h = tt
+bits_then cache_blocks seen next got (Migrate migration block) h = tt
+bits_then cache_blocks seen next got (Replace old new) h = tt
+
+-- so it is after a step of who is at a task
+roomy_then : (cache_blocks : ℕ) (devices : Devices (List History)) (m : Member) (doing : Job × Plan) (next : Want) (got : Got) → m.task ≡ Some doing → IsRoomy cache_blocks m → IsRoomy cache_blocks (member_then devices m next got)
+roomy_then cache_blocks devices m doing next got e r =
+    let was = subst (λ (k : Option (Job × Plan)). HasRoom cache_blocks m.seen k) e r in
+    subst (λ (k : Option (Job × Plan)). HasRoom cache_blocks (seen_then m.seen next got (job_of k)) (task_then k next got)) (sym e)
+    (room_then cache_blocks (seen_then m.seen next got doing.0) doing next got (was.0, bits_then cache_blocks m.seen next got doing.0 was.1))
+
+pub step_roomy : (cache_blocks : ℕ) (devices : Devices (List History)) (t : Target) (a : ℕ) (m : Member) (what : What) (read : List Bytes) (devices' : Devices (List History)) (t' : Target) (m' : Member) → IsRoomy cache_blocks m → Steps devices t a m what read devices' t' m' → IsRoomy cache_blocks m'
+step_roomy cache_blocks devices t a m what read devices' t' m' r s = by_task m.task refl s
   where
-    by_task : (o : Option (Job × Plan)) → m.task ≡ o → MemberSteps devices t a m o what read devices' t' m' → IsRoomy nodes m'.task
-    by_task None e s = subst (λ (v : Member). IsRoomy nodes v.task) (sym s.member_is) r
-    by_task (Some doing) e s = subst (λ (v : Member). IsRoomy nodes v.task) (sym s.member_is)
-        (subst (λ (k : Option (Job × Plan)). IsRoomy nodes (task_then k (want doing.1) s.got)) (sym e) (roomy_then nodes doing (want doing.1) s.got (subst (λ (k : Option (Job × Plan)). IsRoomy nodes k) e r)))
+    by_task : (o : Option (Job × Plan)) → m.task ≡ o → MemberSteps devices t a m o what read devices' t' m' → IsRoomy cache_blocks m'
+    by_task None e s = subst (λ (v : Member). IsRoomy cache_blocks v) (sym s.member_is) r
+    by_task (Some doing) e s = subst (λ (v : Member). IsRoomy cache_blocks v) (sym s.member_is) (roomy_then cache_blocks devices m doing (want doing.1) s.got e r)
 
-pub fault_roomy : (nodes : ℕ) (choice : Choice) (devices : Devices (List History)) (commit : Option RunningCommit) (m : Member) (what : What) (devices' : Devices (List History)) (commit' : Option RunningCommit) (m' : Member) → IsRoomy nodes m.task → FailsOrRests choice devices commit m what devices' commit' m' → IsRoomy nodes m'.task
-fault_roomy nodes choice devices commit m what devices' commit' m' r f = by_task m.task refl f
+pub fault_roomy : (cache_blocks : ℕ) (choice : Choice) (devices : Devices (List History)) (commit : Option RunningCommit) (m : Member) (what : What) (devices' : Devices (List History)) (commit' : Option RunningCommit) (m' : Member) → IsRoomy cache_blocks m → FailsOrRests choice devices commit m what devices' commit' m' → IsRoomy cache_blocks m'
+fault_roomy cache_blocks choice devices commit m what devices' commit' m' r f = by_task m.task refl f
   where
-    by_task : (o : Option (Job × Plan)) → m.task ≡ o → MemberFails choice devices commit m o what devices' commit' m' → IsRoomy nodes m'.task
-    by_task None e f = subst (λ (v : Member). IsRoomy nodes v.task) (sym f.member_is) r
-    by_task (Some doing) e (inl f) = subst (λ (v : Member). IsRoomy nodes v.task) (sym f.member_is)
-        (subst (λ (k : Option (Job × Plan)). IsRoomy nodes (task_then k (want doing.1) Fault)) (sym e) (roomy_then nodes doing (want doing.1) Fault (subst (λ (k : Option (Job × Plan)). IsRoomy nodes k) e r)))
-    by_task (Some doing) e (inr f) = subst (λ (v : Member). IsRoomy nodes v.task) (sym f.0.member_is) r
+    by_task : (o : Option (Job × Plan)) → m.task ≡ o → MemberFails choice devices commit m o what devices' commit' m' → IsRoomy cache_blocks m'
+    by_task None e f = subst (λ (v : Member). IsRoomy cache_blocks v) (sym f.member_is) r
+    by_task (Some doing) e (inl f) = subst (λ (v : Member). IsRoomy cache_blocks v) (sym f.member_is) (roomy_then cache_blocks devices m doing (want doing.1) Fault e r)
+    by_task (Some doing) e (inr f) = subst (λ (v : Member). IsRoomy cache_blocks v) (sym f.0.member_is) r
 
-pub start_roomy : (shape : Shape) (nodes : ℕ) (desk : DeskState Quiet) (m : Member) (job : Job) (what : What) (desk' : DeskState Quiet) (m' : Member) → nodes ≤ node_count shape.geometry.cache_blocks → IsRoomy nodes m.task → Starts shape desk m job what desk' m' → IsRoomy nodes m'.task
-start_roomy shape nodes desk m job what desk' m' l r s = by_test (is_none m.task) s
+no_more : (n : ℕ) → n ≤ n
+no_more n = omega arith
+
+pub given_roomy : (shape : Shape) (mode : Mode) (m : Member) (job : Job) (chosen : Chosen Quiet Global) → IsRoomy shape.geometry.cache_blocks (member_given shape mode m job chosen)
+given_roomy shape mode m (Read extent) chosen = (tt, tt)
+given_roomy shape mode m (Write extent content) chosen = (tt, tt)
+given_roomy shape mode m Flush chosen = (no_more (node_count shape.geometry.cache_blocks), tt)
+given_roomy shape mode m Suspend chosen = (no_more (node_count shape.geometry.cache_blocks), length_replicate shape.geometry.cache_blocks false)
+given_roomy shape mode m (Open opened_in) chosen = (tt, tt)
+given_roomy shape mode m (Migrate migration block) chosen = (tt, tt)
+given_roomy shape mode m (Replace old new) chosen = (tt, tt)
+
+pub start_roomy : (shape : Shape) (desk : DeskState Quiet) (m : Member) (job : Job) (what : What) (desk' : DeskState Quiet) (m' : Member) → IsRoomy shape.geometry.cache_blocks m → Starts shape desk m job what desk' m' → IsRoomy shape.geometry.cache_blocks m'
+start_roomy shape desk m job what desk' m' r s = by_test (is_none m.task) s
   where
-    by_job : (job : Job) (chosen : Chosen Quiet Global) → IsRoomy nodes (Some (begun_as job, table (task_job shape desk.mode m.awaiting job (cut_of chosen))))
-    by_job (Read extent) chosen = tt
-    by_job (Write extent content) chosen = tt
-    by_job Flush chosen = l
-    by_job (Open mode) chosen = tt
-    by_job (Migrate migration block) chosen = tt
-    by_job (Replace old new) chosen = tt
-
-    by_what : (what : What) (chosen : Chosen Quiet Global) → LeavesStarted shape desk m job what chosen desk' m' → IsRoomy nodes m'.task
-    by_what Started chosen l = subst (λ (v : Member). IsRoomy nodes v.task) (sym l.1) (by_job job chosen)
-    by_what (Refused refusal) chosen l = subst (λ (v : Member). IsRoomy nodes v.task) (sym l.1) r
+    by_what : (what : What) (chosen : Chosen Quiet Global) → LeavesStarted shape desk m job what chosen desk' m' → IsRoomy shape.geometry.cache_blocks m'
+    by_what Started chosen l = subst (λ (v : Member). IsRoomy shape.geometry.cache_blocks v) (sym l.1) (given_roomy shape desk.mode m job chosen)
+    by_what (Refused refusal) chosen l = subst (λ (v : Member). IsRoomy shape.geometry.cache_blocks v) (sym l.1) r
     by_what what chosen l = absurd l
 
-    by_test : (b : Bool) → StartsIf b shape desk m job what desk' m' → IsRoomy nodes m'.task
+    by_test : (b : Bool) → StartsIf b shape desk m job what desk' m' → IsRoomy shape.geometry.cache_blocks m'
     by_test true g = by_what what g.chosen g.leaves
-    by_test false p = subst (λ (v : Member). IsRoomy nodes v.task) (sym p.member_is) r
+    by_test false p = subst (λ (v : Member). IsRoomy shape.geometry.cache_blocks v) (sym p.member_is) r
 
-pub roomy_set : (nodes : ℕ) (members : List Member) (a : ℕ) (m : Member) → AllRoomy nodes members → IsRoomy nodes m.task → AllRoomy nodes (slice_set members a m)
-roomy_set nodes [] a m all r b x e = absurd (cc)
-roomy_set nodes (y ∷ ys) zero m all r zero x e = let same : m ≡ x = cc in subst (λ (v : Member). IsRoomy nodes v.task) same r
-roomy_set nodes (y ∷ ys) zero m all r (suc b) x e = all (suc b) x e
-roomy_set nodes (y ∷ ys) (suc a) m all r zero x e = all zero x e
-roomy_set nodes (y ∷ ys) (suc a) m all r (suc b) x e = roomy_set nodes ys a m (λ c z h. all (suc c) z h) r b x e
+pub roomy_set : (cache_blocks : ℕ) (members : List Member) (a : ℕ) (m : Member) → AllRoomy cache_blocks members → IsRoomy cache_blocks m → AllRoomy cache_blocks (slice_set members a m)
+roomy_set cache_blocks [] a m all r b x e = absurd (cc)
+roomy_set cache_blocks (y ∷ ys) zero m all r zero x e = let same : m ≡ x = cc in subst (λ (v : Member). IsRoomy cache_blocks v) same r
+roomy_set cache_blocks (y ∷ ys) zero m all r (suc b) x e = all (suc b) x e
+roomy_set cache_blocks (y ∷ ys) (suc a) m all r zero x e = all zero x e
+roomy_set cache_blocks (y ∷ ys) (suc a) m all r (suc b) x e = roomy_set cache_blocks ys a m (λ c z h. all (suc c) z h) r b x e
 
-pub roomy_free : (nodes n : ℕ) → AllRoomy nodes (replicate n free)
-roomy_free nodes zero b x e = absurd (cc)
-roomy_free nodes (suc n) zero x e = let same : free ≡ x = cc in subst (λ (v : Member). IsRoomy nodes v.task) same tt
-roomy_free nodes (suc n) (suc b) x e = roomy_free nodes n b x e
+pub roomy_free : (cache_blocks n : ℕ) → AllRoomy cache_blocks (replicate n free)
+roomy_free cache_blocks zero b x e = absurd (cc)
+roomy_free cache_blocks (suc n) zero x e = let same : free ≡ x = cc in subst (λ (v : Member). IsRoomy cache_blocks v) same tt
+roomy_free cache_blocks (suc n) (suc b) x e = roomy_free cache_blocks n b x e

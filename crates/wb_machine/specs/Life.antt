@@ -30,7 +30,7 @@ use Rattle.wb_tasks.specs.declared.step.Want.{Want}
 use Rattle.wb_tasks.specs.declared.step.Want.TheVariants.{Device, End}
 use Rattle.wb_tasks.specs.declared.step.Answer.TheVariants.{Done as Finished}
 use Rattle.wb_promise.specs.declared.job.Job.{Job}
-use Rattle.wb_promise.specs.declared.job.Job.TheVariants.{Open}
+use Rattle.wb_promise.specs.declared.job.Job.TheVariants.{Open, Suspend}
 use Rattle.wb_promise.specs.declared.event.Event.{Event}
 use Rattle.wb_promise.specs.declared.event.What.{What}
 use Rattle.wb_promise.specs.declared.event.Record.{Record}
@@ -41,7 +41,7 @@ use Rattle.wb_machine.specs.declared.making.Made.{Made}
 use Rattle.wb_machine.specs.declared.phase.Phase.{Phase}
 use Rattle.wb_machine.specs.declared.phase.Phase.TheVariants.{Closed, Underway, Standing}
 use Rattle.wb_machine.specs.Making.{reading_of}
-use Rattle.wb_machine.specs.Members.{with_cards, works_there}
+use Rattle.wb_machine.specs.Members.{somebody_suspends, with_cards, works_there}
 
 -- The policy of its targets orders nothing.
 abbrev pub Now : Type 0
@@ -67,7 +67,7 @@ contents_of devices = record { metadata = devices.metadata.contents; cache = dev
 
 -- who opens in this mode, with this left of the opening
 abbrev pub opening_actor : Mode → Plan → Actor
-opening_actor mode plan = record { task = Some (Open mode, plan); card = blank_card; orders = []; awaiting = []; buffer = [] }
+opening_actor mode plan = record { task = Some (Open mode, plan); card = blank_card; orders = []; awaiting = []; buffer = []; seen = [] }
 
 -- Beside who opens nobody is at anything. Over a target each is at what its member is at, and has a card.
 abbrev pub actors_of : ℕ → Phase → List Actor
@@ -110,6 +110,11 @@ has_task a Closed = false
 has_task a (Underway opener) = opener.asked.actor == a
 has_task a (Standing target members) = works_there members.items a
 
+-- somebody suspends the target that stands
+abbrev pub is_suspending : Phase → Bool
+is_suspending (Standing target members) = somebody_suspends members.items
+is_suspending phase = false
+
 -- a target stands
 abbrev pub stands : Phase → Bool
 stands (Standing target members) = true
@@ -130,6 +135,12 @@ opened_in job = None
 abbrev pub wants_target : Job → Bool
 wants_target (Open mode) = false
 wants_target job = true
+
+-- one that starts whatever the others are at
+abbrev pub starts_beside : Job → Bool
+starts_beside (Open mode) = false
+starts_beside Suspend = false
+starts_beside job = true
 
 -- Once the metadata are durable a reading of them begins; once the root is that was written, what was read stays. Where they are
 -- not, it is over.

@@ -1,7 +1,8 @@
 -- What a start or a step of an actor does over a target that stands.
-use Rattle.std.specs.Prelude.{◌≡◌, ◌≤◌, ◌+◌, ◌⊎◌, ℕ, Bool, true, false, if◌then◌else◌, length, List, [], ◌∷◌, Option, Some, None, is_none, is_some, slice_get, IfSome}
+use Rattle.std.specs.Prelude.{◌≡◌, ◌≤◌, ◌+◌, ◌⊎◌, ℕ, Bool, true, false, if◌then◌else◌, length, List, [], ◌∷◌, Option, Some, None, is_none, is_some, slice_get, slice_set, IfSome}
 use Rattle.std.specs.declared.alloc.Global.{Global}
 use Rattle.wb_types.specs.Extents.{pieces}
+use Rattle.wb_types.specs.declared.entry.Entry.{Entry}
 use Rattle.wb_types.specs.declared.extent.Extent.{Extent}
 use Rattle.wb_types.specs.declared.geometry.Geometry.{Geometry}
 use Rattle.wb_types.specs.declared.mode.Mode.{Mode}
@@ -37,25 +38,27 @@ use Rattle.wb_policy.specs.declared.order.Order.{Order}
 use Rattle.wb_policy.specs.declared.order.Order.TheVariants.{Replace as ReplaceOrder}
 use Rattle.wb_tasks.specs.Tables.{whole_block}
 use Rattle.wb_types.specs.declared.number.CBlock.{CBlock}
+use Rattle.wb_types.specs.declared.number.OBlock.{OBlock}
+use Rattle.wb_types.specs.declared.refusal.Refusal.TheVariants.{Busy}
 use Rattle.wb_words.specs.declared.card.Card.{Card}
 use Rattle.wb_devices.specs.declared.devices.Devices.{Devices}
 use Rattle.wb_devices.specs.declared.running.RunningCommit.{RunningCommit}
 use Rattle.wb_devices.specs.Committing.{goes_on}
 use Rattle.wb_devices.specs.Moving.{device_in}
 use Rattle.wb_promise.specs.declared.job.Job.{Job}
-use Rattle.wb_promise.specs.declared.job.Job.TheVariants.{Read, Write, Flush, Open, Migrate, Replace}
+use Rattle.wb_promise.specs.declared.job.Job.TheVariants.{Read, Write, Flush, Suspend, Open, Migrate, Replace}
 use Rattle.wb_promise.specs.declared.event.What.{What}
 use Rattle.wb_promise.specs.declared.event.What.TheVariants.{Skipped, Refused, Started, Stepped}
-use Rattle.wb_stage.specs.Stages.{is_all_done}
+use Rattle.wb_stage.specs.Stages.{DidAsk, DidBeginWith, is_all_done}
 use Rattle.wb_promise.specs.States.{Shape, Actor, Stands, Gone, Target as RunTarget, block_size}
-use Rattle.wb_promise.specs.Happenings.{Chosen, Plain, Orders, Puts, DoesPut, FailsPut, Gives, IsNextOf, MayFailAt, Falters, KeepsMigration, KeepsReplacement, StartGives, begun_as, extent_of, order_for, task_job, sector_put}
+use Rattle.wb_promise.specs.Happenings.{Chosen, Plain, Orders, Looks, Puts, AreMapped, DoesPut, FailsPut, Gives, IsNextOf, MayFailAt, Falters, KeepsMigration, KeepsReplacement, StartGives, begun_as, extent_of, order_for, task_job, sector_put}
 use Rattle.wb_runs.specs.Holding.{AllSuited}
-use Rattle.wb_promise.specs.Effects.{buffer_then, commit_then, contents_at, contents_for, cut_of, desk_then, device_done, device_failed, devices_then, job_of, awaiting_then, orders_given, orders_then, task_then}
+use Rattle.wb_promise.specs.Effects.{buffer_then, commit_then, contents_at, contents_for, cut_of, desk_then, device_done, device_failed, devices_then, job_of, looks_of, awaiting_then, orders_given, orders_then, seen_then, task_then, unseen}
 use Rattle.wb_machine.specs.declared.phase.Phase.{Phase}
 use Rattle.wb_machine.specs.declared.phase.Phase.TheVariants.{Standing}
 use Rattle.wb_machine.specs.declared.target.Target.{Target}
 use Rattle.wb_machine.specs.Life.{Now, contents_of}
-use Rattle.wb_machine.specs.Members.{Member, seat, with_cards}
+use Rattle.wb_machine.specs.Members.{Member, seat, somebody_works, with_cards, works_there}
 
 -- ---- starts
 
@@ -91,7 +94,13 @@ desk_given desk job chosen = desk
 
 -- what is at this job from now on, over a target of this mode
 abbrev pub member_given : Shape → Mode → Member → Job → Chosen Quiet Global → Member
-member_given shape mode m job chosen = record { task = Some (begun_as job, table (task_job shape mode m.awaiting job (cut_of chosen))); orders = orders_given m.orders job chosen; awaiting = m.awaiting; buffer = m.buffer }
+member_given shape mode m job chosen = record {
+  task = Some (begun_as job, table (task_job shape mode m.awaiting job (cut_of chosen) (looks_of chosen)));
+  orders = orders_given m.orders job chosen;
+  awaiting = m.awaiting;
+  buffer = m.buffer;
+  seen = unseen shape job m.seen;
+}
 
 -- What a start that is not skipped leaves of the desk and of who starts: an order may be given.
 abbrev pub LeavesStarted : Shape → DeskState Quiet → Member → Job → What → Chosen Quiet Global → DeskState Quiet → Member → Type 0
@@ -119,6 +128,20 @@ StartsIf false shape desk m job what desk' m' = IsPassed desk m what desk' m'
 abbrev pub Starts : Shape → DeskState Quiet → Member → Job → What → DeskState Quiet → Member → Type 0
 Starts shape desk m job what desk' m' = StartsIf (is_none m.task) shape desk m job what desk' m'
 
+-- the block of an entry, if there is one
+abbrev pub block_in : Option Entry → List OBlock
+block_in None = []
+block_in (Some entry) = entry.origin ∷ []
+
+-- What the start of a suspend comes to where nobody suspends the target: it is skipped where who starts it is at something, refused where another
+-- is, and begins else to look at what is mapped, having seen nothing.
+abbrev pub StartsSuspend : Shape → DeskState Quiet → List Member → ℕ → What → List Member → Type 0
+StartsSuspend shape desk members a Skipped members' = (works_there members a ≡ true) × (members' ≡ members)
+StartsSuspend shape desk members a (Refused Busy) members' = (works_there members a ≡ false) × (somebody_works members ≡ true) × (members' ≡ members)
+StartsSuspend shape desk members a Started members' = (somebody_works members ≡ false) × ((looks : List OBlock) × AreMapped desk looks
+    × ((m : Member) × (slice_get members a ≡ Some m) × (members' ≡ slice_set members a (member_given shape desk.mode m Suspend (Looks looks)))))
+StartsSuspend shape desk members a what members' = ⊥
+
 -- An order is given, and taken as the newest; or it may not be given, whatever cache block it took.
 abbrev pub GetsOrder : DeskState Quiet → Member → Order → Bool → DeskState Quiet → Member → Type 0
 GetsOrder desk m order true desk' m' = (cache : CBlock) × MayReserve desk cache order × (desk' ≡ reserved desk cache order false) × (m' ≡ record m { orders = order ∷ m.orders })
@@ -135,9 +158,9 @@ abbrev pub may_give_up : Job → (orders awaiting : List Order) → List Order
 may_give_up Flush orders awaiting = awaiting
 may_give_up job orders awaiting = orders
 
--- an actor at this job has these to give up
-abbrev pub HasToGiveUp : Job → Actor → List Order → Type 0
-HasToGiveUp job x held = may_give_up job x.orders x.awaiting ≡ held
+-- an actor at this job has these to give up, and has seen this of the copies in the cache
+abbrev pub HasAtHand : Job → Actor → List Order → List Bool → Type 0
+HasAtHand job x held seen = (may_give_up job x.orders x.awaiting ≡ held) × (x.seen ≡ seen)
 
 -- ---- steps
 
@@ -223,10 +246,15 @@ IsDoable devices commit job (WriteNode number) = ComesNext commit (WriteNode num
 IsDoable devices commit job WriteRoot = ComesNext commit WriteRoot devices.metadata
 IsDoable devices commit job (ReadMetadata left) = ⊥
 
--- the desk can be asked for it: a commit begins that is not clean, or ends once all of it was done; a migration's block is mapped or
--- unmapped, or its order given up
+-- the root of a commit that begins for a job is marked clean
+abbrev pub is_clean : Job → Bool
+is_clean Suspend = true
+is_clean job = false
+
+-- the desk can be asked for it: a commit begins that is clean for a suspend alone, or ends once all of it was done; a migration's block is
+-- mapped or unmapped, or its order given up
 abbrev pub IsAskable : Option RunningCommit → Job → DeskStep → Type 0
-IsAskable commit job (BeginCommit clean most) = clean ≡ false
+IsAskable commit job (BeginCommit clean most) = clean ≡ is_clean job
 IsAskable commit job EndCommit = is_all_done commit ≡ true
 IsAskable commit job (Map block place) = Migrates job
 IsAskable commit job (Unmap block) = Migrates job
@@ -330,10 +358,15 @@ pub record FailsAt (choice : Choice) (devices : Devices (List History)) (commit 
   pub devices_are : devices' ≡ devices_then (failed_by choice job buffer (chosen_at step devices')) devices (Device step)
   pub commit_is : commit' ≡ commit_by commit (Device step) Fault (chosen_at step devices')
 
--- What the desk gives that is asked for a job, which may give up one of these orders, and what that makes of it and of the commit.
-pub record DeskWasAsked (desk : DeskState Quiet) (commit : Option RunningCommit) (job : Job) (held : List Order) (step : DeskStep) (got : Got) (desk' : DeskState Quiet) (commit' : Option RunningCommit) : Type 0 where
+-- One call of the desk for a job: a suspend's commit begins with what it has seen.
+abbrev pub DidAskFor : Job → (held : List Order) (seen : List Bool) → DeskStep → Got → DeskState Quiet → Option RunningCommit → DeskState Quiet → Option RunningCommit → Type 0
+DidAskFor Suspend held seen (BeginCommit clean most) got desk commit desk' commit' = (hint_of : Quiet → ℕ → ℕ) × DidBeginWith hint_of (Some seen) most got desk commit desk' commit'
+DidAskFor job held seen step got desk commit desk' commit' = (with_entry : Quiet → ℕ → ℕ → Quiet) × (without_entry : Quiet → ℕ → Quiet) × DidAsk with_entry without_entry held step got desk commit desk' commit'
+
+-- What the desk gives that is asked for a job, which may give up one of these orders and has seen this, and what that makes of it and of the commit.
+pub record DeskWasAsked (desk : DeskState Quiet) (commit : Option RunningCommit) (job : Job) (held : List Order) (seen : List Bool) (step : DeskStep) (got : Got) (desk' : DeskState Quiet) (commit' : Option RunningCommit) : Type 0 where
   pub chosen : Chosen Quiet Global
-  pub gives : (shape : Shape) (devices : Devices (List History)) (words : Words) (actors : List Actor) (x : Actor) → HasToGiveUp job x held → Gives shape (stood devices commit (record { words = words; desk = desk }) actors) x job (Desk step) got [] chosen
+  pub gives : (shape : Shape) (devices : Devices (List History)) (words : Words) (actors : List Actor) (x : Actor) → HasAtHand job x held seen → Gives shape (stood devices commit (record { words = words; desk = desk }) actors) x job (Desk step) got [] chosen
   pub desk_is : desk' ≡ desk_then desk (Desk step) chosen
   pub commit_is : commit' ≡ commit_by commit (Desk step) got chosen
 
@@ -347,10 +380,10 @@ pub record Leads (change : DeviceStep → List History → List History) (device
   pub commit_is : new.commit ≡ commit_by old.commit next got chosen
   pub failed_is : new.failed ≡ flag new.crew.words.fail
 
--- One step of the actor a on a job, which may give up one of these orders, from the devices and the target before to those after.
-pub record Performs (devices : Devices (List History)) (old : Target) (a : ℕ) (job : Job) (held : List Order) (buffer : List Bytes) (next : Want) (got : Got) (read : List Bytes) (devices' : Devices (List History)) (new : Target) : Type 0 where
+-- One step of the actor a on a job, which may give up one of these orders and has seen this, from the devices and the target before to those after.
+pub record Performs (devices : Devices (List History)) (old : Target) (a : ℕ) (job : Job) (held : List Order) (seen : List Bool) (buffer : List Bytes) (next : Want) (got : Got) (read : List Bytes) (devices' : Devices (List History)) (new : Target) : Type 0 where
   pub chosen : Chosen Quiet Global
-  pub gives : (shape : Shape) (actors : List Actor) (x : Actor) → HasToGiveUp job x held → Gives shape (over devices old actors) x job next got (noted_read job next read) chosen
+  pub gives : (shape : Shape) (actors : List Actor) (x : Actor) → HasAtHand job x held seen → Gives shape (over devices old actors) x job next got (noted_read job next read) chosen
   pub copies : IsCopy devices job next read
   pub leads : Leads (done_by job buffer chosen) devices old a next got chosen devices' new
 
@@ -363,6 +396,7 @@ member_then devices m next got = record {
   orders = orders_then m.orders m.awaiting (job_of m.task) next got;
   awaiting = awaiting_then m.orders m.awaiting (job_of m.task) next got;
   buffer = buffer_then devices m.buffer next got (job_of m.task);
+  seen = seen_then m.seen next got (job_of m.task);
 }
 
 -- this may be the result of the next step of a task, if there is one
@@ -384,7 +418,7 @@ pub record StepsOn (devices : Devices (List History)) (old : Target) (a : ℕ) (
   pub given : List Bytes
   pub what_is : what ≡ Stepped (want plan) got
   pub read_is : read ≡ noted_read job (want plan) given
-  pub performs : Performs devices old a job (may_give_up job m.orders m.awaiting) m.buffer (want plan) got given devices' new
+  pub performs : Performs devices old a job (may_give_up job m.orders m.awaiting) m.seen m.buffer (want plan) got given devices' new
   pub member_is : m' ≡ member_then devices m (want plan) got
 
 abbrev pub MemberSteps : Devices (List History) → Target → ℕ → Member → Option (Job × Plan) → What → List Bytes → Devices (List History) → Target → Member → Type 0

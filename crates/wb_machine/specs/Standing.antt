@@ -1,5 +1,5 @@
 -- Where an opening of the machine stands in its table, and how far its reading has come there.
-use Rattle.std.specs.Prelude.{◌≡◌, ◌≤◌, ◌+◌, ℕ, List, Option, Some, None, length, slice_get}
+use Rattle.std.specs.Prelude.{◌≡◌, ◌≤◌, ◌+◌, ℕ, Bool, List, Option, Some, None, length, slice_get}
 use Rattle.std.specs.declared.alloc.Global.{Global}
 use Rattle.wb_types.specs.Limits.{node_count}
 use Rattle.wb_types.specs.declared.geometry.Geometry.{Geometry}
@@ -11,14 +11,14 @@ use Rattle.wb_meta.specs.declared.commit_steps.CommitSteps.TheVariants.{NodesSyn
 use Rattle.wb_meta.specs.declared.read_steps.ReadSteps.{ReadSteps}
 use Rattle.wb_meta.specs.declared.read_steps.ReadSteps.TheVariants.{Done as AllRead}
 use Rattle.wb_meta.specs.declared.read_steps.State.{State}
-use Rattle.wb_tasks.specs.Tables.{TaskJob, Flushing, Opening as OpeningJob}
+use Rattle.wb_tasks.specs.Tables.{TaskJob, Flushing, Suspending, Opening as OpeningJob}
 use Rattle.wb_tasks.specs.Plan.{Plan}
 use Rattle.wb_tasks.specs.Points.{OpenPoint, AtFirst, AtCache, AtOrigin, AtRead, AtRoot, AtRootSync, AtEnd, AtRefusal, open_left, open_answer}
 use Rattle.wb_devices.specs.declared.devices.Devices.{Devices}
 use Rattle.wb_devices.specs.declared.running.RunningCommit.{RunningCommit}
 use Rattle.wb_words.specs.SharedWords.{flag}
 use Rattle.wb_promise.specs.declared.job.Job.{Job}
-use Rattle.wb_machine.specs.Members.{Member}
+use Rattle.wb_machine.specs.Members.{Member, HasBits}
 use Rattle.wb_machine.specs.declared.asked.Asked.{Asked}
 use Rattle.wb_machine.specs.declared.making.Made.{Made}
 use Rattle.wb_machine.specs.declared.opener.Opener.{Opener}
@@ -73,25 +73,30 @@ pub record StandsAt (g : Geometry) (actors : ℕ) (o : Opener) : Type 0 where
   pub come : HasComeTo g point (reading_of o) o.opening.commit
   pub made : HasMadeThere g actors point o.asked o.made
 
--- a flush allows as many nodes as an image may have
+-- a flush or a suspend allows as many nodes as an image may have
 abbrev pub AllowsImages : ℕ → TaskJob → Type 0
 AllowsImages nodes (Flushing serves most) = nodes ≤ most
+AllowsImages nodes (Suspending looks most) = nodes ≤ most
 AllowsImages nodes job = Unit {0}
 
-abbrev pub IsRoomy : ℕ → Option (Job × Plan) → Type 0
-IsRoomy nodes None = Unit {0}
-IsRoomy nodes (Some doing) = AllowsImages nodes doing.1.job
+-- and a suspend has a bit for each of so many cache blocks
+abbrev pub HasRoom : ℕ → List Bool → Option (Job × Plan) → Type 0
+HasRoom cache_blocks seen None = Unit {0}
+HasRoom cache_blocks seen (Some doing) = AllowsImages (node_count cache_blocks) doing.1.job × HasBits cache_blocks seen doing.0
+
+abbrev pub IsRoomy : ℕ → Member → Type 0
+IsRoomy cache_blocks m = HasRoom cache_blocks m.seen m.task
 
 abbrev pub AllRoomy : ℕ → List Member → Type 0
-AllRoomy nodes members = (a : ℕ) (m : Member) → slice_get members a ≡ Some m → IsRoomy nodes m.task
+AllRoomy cache_blocks members = (a : ℕ) (m : Member) → slice_get members a ≡ Some m → IsRoomy cache_blocks m
 
 -- A target has as many words as the origin has blocks, knows whether it has failed, and its desk is of this geometry; whoever
--- flushes over it allows as many nodes as an image may have.
+-- flushes or suspends it allows as many nodes as an image may have, and a suspend has a bit for each cache block.
 pub record IsWholeTarget (g : Geometry) (target : Target) (members : List Member) : Type 0 where
   pub blocks : target.crew.blocks ≡ g.origin_blocks
   pub failed : target.failed ≡ flag target.crew.words.fail
   pub sizes : target.desk.geometry ≡ g
-  pub roomy : AllRoomy (node_count g.cache_blocks) members
+  pub roomy : AllRoomy g.cache_blocks members
 
 abbrev pub StandsSo : Geometry → ℕ → Phase → Type 0
 StandsSo g actors Closed = Unit {0}

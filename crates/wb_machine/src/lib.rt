@@ -1,7 +1,8 @@
 //! A cache over three devices in memory that runs by events, one atomic step at a time: what happens in it is what the
 //! definitions of wb_promise allow.
 //!
-//! Openings start in write-back and in write-through. Over a target that was opened reads, writes, flushes, promotions, demotions, write-backs and replacements run.
+//! Openings start in write-back and in write-through. Over a target that was opened reads, writes, flushes, promotions, demotions, write-backs,
+//! replacements and suspends run.
 #![tactic(auto)]
 
 mod asked;
@@ -22,6 +23,7 @@ mod serving;
 mod starting;
 mod stepping;
 mod stopping;
+mod suspending;
 mod target;
 mod trace;
 mod viewing;

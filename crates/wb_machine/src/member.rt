@@ -1,17 +1,20 @@
 //! What an actor is at over a target that stands, and its steps.
 
-ghost use Rattle.std.specs.Prelude.{◌≡◌, ◌<◌, length, true, is_some, IfOk, IfErr, OnErr};
-ghost use Rattle.wb_types.specs.Limits.{node_count};
+ghost use Rattle.std.specs.Prelude.{◌≡◌, ◌<◌, List, length, true, is_some, IfOk, IfErr, OnOk, OnErr};
+ghost use Rattle.wb_types.specs.declared.number.OBlock.{OBlock as OBlockValue};
 ghost use Rattle.wb_types.specs.declared.refusal.Refusal.TheVariants.{Memory};
 ghost use Rattle.wb_words.specs.SharedWords.{flag};
 ghost use Rattle.wb_cells.specs.Crews.{card_of};
 ghost use Rattle.wb_runs.specs.Holding.{TaskSuits};
 ghost use Rattle.wb_machine.specs.declared.machine.TheConstants.{ACTORS};
-ghost use Rattle.wb_machine.specs.Life.{contents_of, shape_of, wants_target};
-ghost use Rattle.wb_machine.specs.Members.{free};
-ghost use Rattle.wb_promise.specs.Effects.{task_then};
+ghost use Rattle.wb_machine.specs.Life.{contents_of, shape_of, starts_beside};
+ghost use Rattle.wb_machine.specs.Members.{free, suspends};
+ghost use Rattle.wb_promise.specs.declared.job.Job.TheVariants.{Suspend};
+ghost use Rattle.wb_promise.specs.Happenings.{AreMapped, Looks};
+ghost use Rattle.wb_promise.specs.Effects.{job_of, seen_then, task_then};
+ghost use Rattle.wb_stage.specs.Seen.{seen_after};
 ghost use Rattle.wb_machine.specs.Keeping.{IsLeftBy};
-ghost use Rattle.wb_machine.specs.Serving.{CanStep, ResultComes, FailsOrRests, GetsOrder, Starts, Steps, TakesOrder, may_give_up, is_copied, is_ordered};
+ghost use Rattle.wb_machine.specs.Serving.{CanStep, ResultComes, FailsOrRests, GetsOrder, Starts, Steps, TakesOrder, may_give_up, is_copied, is_ordered, member_given};
 ghost use Rattle.wb_machine.specs.Standing.{IsRoomy};
 
 use crate::keeping::{
@@ -20,6 +23,7 @@ use crate::keeping::{
 use crate::moving::fail_step;
 use crate::outcome::Outcome;
 use crate::requests::{begun_as, is_ordered, order_for, refusal_of, task_of};
+use crate::suspending::{mapped_blocks, no_bits};
 use crate::target::Target;
 use crate::work::Work;
 use std::alloc::Global;
@@ -27,19 +31,23 @@ use std::marker::Model;
 use wb_desk::Desk;
 use wb_devices::{Devices, RunningCommit};
 use wb_disk::{CrashChoice, MemDisk};
+use wb_flow::CommitTask;
 use wb_policy::{Order, Quiet};
 use wb_promise::{Job, What};
-use wb_tasks::{DeviceStep, Got, Task, Want};
+use wb_stage::seen;
+use wb_tasks::{CellStep, DeviceStep, Got, Task, Want};
 use wb_types::{Content, Geometry, Refusal};
+use wb_words::Word;
 
 /// What an actor is at: its job and what is left of its task, if it has one; the orders that it has, the newest first, and those of
-/// replacements whose block has left, which wait for a flush of it; and what its migration has read last, which it writes next. What it
-/// knows of the shared words is on its card in the crew.
+/// replacements whose block has left, which wait for a flush of it; what its migration has read last, which it writes next; and for each
+/// cache block whether its suspend has seen its copy dirty. What it knows of the shared words is on its card in the crew.
 pub struct Member {
     task: Option<(Job, Work)>,
     orders: Vec<Order>,
     awaiting: Vec<Order>,
     buffer: Vec<Content>,
+    seen: Vec<bool>,
 }
 
 impl Drop for Member {
@@ -49,11 +57,13 @@ impl Drop for Member {
             orders,
             awaiting,
             buffer,
+            seen,
         } = self;
         drop(task);
         drop(orders);
         drop(awaiting);
         drop(buffer);
+        drop(seen);
     }
 }
 
@@ -62,7 +72,7 @@ impl Model for Member {
 
     ghost Value = { MemberValue };
 
-    ghost view = { λ m. record { task = m.task; orders = m.orders.items; awaiting = m.awaiting.items; buffer = m.buffer.items } };
+    ghost view = { λ m. record { task = m.task; orders = m.orders.items; awaiting = m.awaiting.items; buffer = m.buffer.items; seen = m.seen.items } };
 }
 
 impl Member {
@@ -75,6 +85,7 @@ impl Member {
             orders: Vec::new(alloc),
             awaiting: Vec::new(alloc),
             buffer: Vec::new(alloc),
+            seen: Vec::new(alloc),
         }
     }
 
@@ -85,7 +96,14 @@ impl Member {
         self.task.is_some()
     }
 
-    /// Gets a job, if it has none and the job may be started. Each of its steps on a device takes one sector. A migration or replacement
+    /// Whether it suspends the target.
+    pub(crate) fn is_suspending(&self) -> bool
+        ensures { result ≡ suspends self.now }
+    {
+        matches!(self.task, Some((Job::Suspend, _)))
+    }
+
+    /// Gets a job other than a suspend, if it has none and the job may be started. Each of its steps on a device takes one sector. A migration or replacement
     /// starts under an order that it has, or under one that the desk gives; it is refused as busy where it gives none. A flush serves
     /// the replacements that wait for it. `Memory` where there is none for the order, or for the list of what is served; then nothing
     /// has changed.
@@ -96,7 +114,7 @@ impl Member {
         desk: &mut Desk<Quiet>,
         job: &Job,
     ) -> Result<What, Refusal>
-        requires { wants_target job.now ≡ true }
+        requires { starts_beside job.now ≡ true }
         ensures ok { IfOk result (λ what. Starts (shape_of geometry.now ACTORS) desk.old self.old job.now what desk.new self.new) }
         ensures err { OnErr result ((desk.new ≡ desk.old) × (self.new ≡ self.old)) }
         ensures refusal { IfErr result (λ refusal. refusal ≡ Memory) }
@@ -117,6 +135,26 @@ impl Member {
         }
         self.task = Some((begun_as(job), task));
         Ok(What::Started)
+    }
+
+    /// Begins to suspend the target over this desk: it is to look at what is mapped, and has seen nothing. `Memory` where there is none for the
+    /// list of that, or for what it is to see; then nothing has changed.
+    pub(crate) fn suspend(
+        &mut self,
+        alloc: Global,
+        geometry: &Geometry,
+        desk: &Desk<Quiet>,
+    ) -> Result<(), Refusal>
+        ensures ok { OnOk result ((looks : List OBlockValue) × AreMapped desk.now looks × (self.new ≡ member_given (shape_of geometry.now ACTORS) desk.now.mode self.old Suspend (Looks looks))) }
+        ensures err { OnErr result (self.new ≡ self.old) }
+        ensures refusal { IfErr result (λ refusal. refusal ≡ Memory) }
+    {
+        let looks = mapped_blocks(alloc, desk)?;
+        let bits = no_bits(alloc, geometry.cache_blocks)?;
+        let task = CommitTask::suspend(looks, geometry.node_count());
+        self.task = Some((Job::Suspend, Work::commits(task)));
+        self.seen = bits;
+        Ok(())
     }
 
     /// Whether it has an order under which the job may start, given now where it had none. `Memory` where there is no room for it; then
@@ -175,7 +213,7 @@ impl Member {
         requires failed { target.old.failed ≡ flag target.old.crew.words.fail }
         requires suits { TaskSuits target.old.crew.blocks (card_of target.old.crew number) self.old.task }
         requires can { CanStep (contents_of devices.old) target.old.commit self.old.task }
-        requires roomy { IsRoomy (node_count target.old.desk.geometry.cache_blocks) self.old.task }
+        requires roomy { IsRoomy target.old.desk.geometry.cache_blocks self.old }
         ensures ok { IfOk result (λ done. Steps (contents_of devices.old) target.old number self.old done.what done.read.items (contents_of devices.new) target.new self.new) }
         ensures size { length devices.new.metadata.contents ≡ length devices.old.metadata.contents }
         ensures err { OnErr result ((contents_of devices.new ≡ contents_of devices.old) × (target.new ≡ target.old) × (self.new ≡ self.old)) }
@@ -191,8 +229,10 @@ impl Member {
         let orders_then = orders_after(alloc, orders, awaiting, job, want)?;
         let awaiting_then = awaiting_after(alloc, orders, awaiting, job, want)?;
         let held = held_for(job, orders, awaiting);
+        let seen = self.seen.as_slice();
         let buffer = self.buffer.as_slice();
-        let (got, read) = target.perform(number, alloc, devices, job, held, buffer, want)?;
+        let (got, read) = target.perform(number, alloc, devices, job, held, seen, buffer, want)?;
+        self.see(want, got);
         self.go_on(want, got);
         self.change_orders(got, orders_then, awaiting_then);
         let what = What::Stepped(want, got);
@@ -203,6 +243,20 @@ impl Member {
         Ok(Outcome { what, read })
     }
 
+    /// What a step of a suspend shows of a seal is noted.
+    fn see(&mut self, want: Want, got: Got)
+        ensures task { self.new.task ≡ self.old.task }
+        ensures orders { self.new.orders ≡ self.old.orders }
+        ensures awaiting { self.new.awaiting ≡ self.old.awaiting }
+        ensures buffer { self.new.buffer ≡ self.old.buffer }
+        ensures seen { self.new.seen ≡ seen_then self.old.seen want got (job_of self.old.task) }
+    {
+        let Some((Job::Suspend, _)) = &self.task else {
+            return;
+        };
+        note(self.seen.as_mut_slice(), want, got);
+    }
+
     /// Its task goes on after a step with this result, or has ended.
     fn go_on(&mut self, want: Want, got: Got)
         requires { ResultComes self.old.task want got }
@@ -210,6 +264,7 @@ impl Member {
         ensures orders { self.new.orders ≡ self.old.orders }
         ensures awaiting { self.new.awaiting ≡ self.old.awaiting }
         ensures buffer { self.new.buffer ≡ self.old.buffer }
+        ensures seen { self.new.seen ≡ self.old.seen }
     {
         let Some((_, task)) = &mut self.task else {
             return;
@@ -227,6 +282,7 @@ impl Member {
         ensures orders { IsLeftBy got self.old.orders orders self.new.orders }
         ensures awaiting { IsLeftBy got self.old.awaiting awaiting self.new.awaiting }
         ensures buffer { self.new.buffer ≡ self.old.buffer }
+        ensures seen { self.new.seen ≡ self.old.seen }
     {
         if got != Got::Done {
             return;
@@ -245,6 +301,7 @@ impl Member {
         ensures orders { self.new.orders ≡ self.old.orders }
         ensures awaiting { self.new.awaiting ≡ self.old.awaiting }
         ensures buffer { self.new.buffer ≡ read.items }
+        ensures seen { self.new.seen ≡ self.old.seen }
     {
         self.buffer = read;
     }
@@ -289,6 +346,16 @@ fn is_copied(job: &Job, want: Want) -> bool
         (job, want),
         (Job::Migrate(_, _), Want::Device(DeviceStep::Read(_, _)))
     )
+}
+
+/// Notes what a step showed of a seal.
+fn note(bits: &mut [bool], want: Want, got: Got)
+    ensures { bits.new ≡ seen_after want got bits.old }
+{
+    match (want, got) {
+        (Want::Cell(CellStep::Look(Word::Seal(_))), Got::Word(seal)) => seen::note(bits, seal),
+        _ => {}
+    }
 }
 
 /// The orders of which a step of a job may give one up.

@@ -12,6 +12,7 @@ ghost use Rattle.wb_tasks.specs.Ready.{MayTake};
 ghost use Rattle.wb_tasks.specs.declared.step.Want.TheVariants.{Cell as OnCell};
 ghost use Rattle.wb_machine.specs.Life.{contents_of};
 ghost use Rattle.wb_machine.specs.Serving.{Allows, IsPossible, Performs, sets_bit};
+ghost use Rattle.wb_machine.specs.Members.{HasBits};
 
 use crate::asking::ask;
 use crate::moving::do_step;
@@ -26,7 +27,7 @@ use wb_types::{Content, Refusal};
 use wb_words::CellStep;
 
 impl Target {
-    /// One step of an actor on a job, which may give up one of these orders, what it gave, and what it read. `Memory` where what is read, or what a write adds, wants more
+    /// One step of an actor on a job, which may give up one of these orders and has seen these dirty bits, what it gave, and what it read. `Memory` where what is read, or what a write adds, wants more
     /// than there is; then no content has changed.
     pub(crate) fn perform(
         &mut self,
@@ -35,6 +36,7 @@ impl Target {
         devices: &mut Devices<MemDisk>,
         job: &Job,
         held: &[Order],
+        seen: &[bool],
         buffer: &[Content],
         want: Want,
     ) -> Result<(Got, Vec<Content>), Refusal>
@@ -43,7 +45,8 @@ impl Target {
         requires ready { MayTake self.old.crew.blocks (card_of self.old.crew actor) want }
         requires possible { IsPossible (contents_of devices.old) self.old.commit job.now want }
         requires enough { Allows (node_count self.old.desk.geometry.cache_blocks) want }
-        ensures ok { IfOk result (λ given. Performs (contents_of devices.old) self.old actor job.now held.now buffer.now want given.0 given.1.items (contents_of devices.new) self.new) }
+        requires bits { HasBits self.old.desk.geometry.cache_blocks seen.now job.now }
+        ensures ok { IfOk result (λ given. Performs (contents_of devices.old) self.old actor job.now held.now seen.now buffer.now want given.0 given.1.items (contents_of devices.new) self.new) }
         ensures kind { IfOk result (λ given. IsStep want → Fits want given.0) }
         ensures size { length devices.new.metadata.contents ≡ length devices.old.metadata.contents }
         ensures err { OnErr result ((contents_of devices.new ≡ contents_of devices.old) × (self.new ≡ self.old)) }
@@ -56,7 +59,15 @@ impl Target {
                 Ok((Got::Done, read))
             }
             Want::Desk(step) => {
-                let got = ask(alloc, &mut self.desk, &mut self.commit, job, held, step);
+                let got = ask(
+                    alloc,
+                    &mut self.desk,
+                    &mut self.commit,
+                    job,
+                    held,
+                    seen,
+                    step,
+                );
                 Ok((got, Vec::new(alloc)))
             }
             Want::End(_) => Ok((Got::Done, Vec::new(alloc))),

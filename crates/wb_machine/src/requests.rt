@@ -1,6 +1,6 @@
 //! Whether a job over a target may be started, and the tasks of reads, writes, flushes and migrations.
 
-ghost use Rattle.std.specs.Prelude.{◌≡◌, ◌/◌, None, true, IfOk, IfErr};
+ghost use Rattle.std.specs.Prelude.{◌≡◌, ◌/◌, [], None, true, IfOk, IfErr};
 ghost use Rattle.wb_types.specs.declared.refusal.Refusal.TheVariants.{Memory};
 ghost use Rattle.wb_types.specs.Extents.{pieces};
 ghost use Rattle.wb_tasks.specs.Plan.{table};
@@ -8,7 +8,7 @@ ghost use Rattle.wb_tasks.specs.Phases.{job_on_block};
 ghost use Rattle.wb_tasks.specs.Tables.{OnBlock, Migrating, whole_block};
 ghost use Rattle.wb_promise.specs.Happenings.{begun_as, block_range, extent_refusal, job_refusal, migrated_range, order_for, task_job};
 ghost use Rattle.wb_machine.specs.declared.machine.TheConstants.{ACTORS};
-ghost use Rattle.wb_machine.specs.Life.{shape_of, wants_target};
+ghost use Rattle.wb_machine.specs.Life.{shape_of, starts_beside};
 ghost use Rattle.wb_machine.specs.Serving.{cut_for, is_ordered};
 
 use crate::keeping::blocks_left;
@@ -28,6 +28,7 @@ pub(crate) fn refusal_of(geometry: &Geometry, job: &Job) -> Option<Refusal>
         Job::Read(extent) => extent_refusal(geometry, *extent),
         Job::Write(extent, _) => extent_refusal(geometry, *extent),
         Job::Flush => None,
+        Job::Suspend => None,
         Job::Open(_) => None,
         Job::Migrate(_, _) => None,
         Job::Replace(_, _) => None,
@@ -82,7 +83,7 @@ pub(crate) fn order_for(migration: Migration, block: OBlock) -> Order
     }
 }
 
-/// The task of a job that may be started over a target of this mode, by an actor of whom these orders wait for a flush: of a read's, write's or migration's steps on
+/// The task of a job that may be started over a target of this mode whatever the others are at, by an actor of whom these orders wait for a flush: of a read's, write's or migration's steps on
 /// a device each takes one sector, and a flush serves those orders and allows as many nodes as an image may have. `Memory` where there
 /// is none for the list of what it serves.
 pub(crate) fn task_of(
@@ -92,9 +93,9 @@ pub(crate) fn task_of(
     awaiting: &[Order],
     job: &Job,
 ) -> Result<Work, Refusal>
-    requires over { wants_target job.now ≡ true }
+    requires beside { starts_beside job.now ≡ true }
     requires may_start { job_refusal (shape_of geometry.now ACTORS) job.now ≡ None }
-    ensures task { IfOk result (λ task. task ≡ table (task_job (shape_of geometry.now ACTORS) mode awaiting.now job.now (cut_for (shape_of geometry.now ACTORS) job.now))) }
+    ensures task { IfOk result (λ task. task ≡ table (task_job (shape_of geometry.now ACTORS) mode awaiting.now job.now (cut_for (shape_of geometry.now ACTORS) job.now) [])) }
     ensures refusal { IfErr result (λ refusal. refusal ≡ Memory) }
 {
     match job {
@@ -108,11 +109,11 @@ pub(crate) fn task_of(
         }
         Job::Flush => {
             let serves = blocks_left(alloc, awaiting)?;
-            Ok(Work::flushes(CommitTask::flush(serves, geometry.node_count())))
+            Ok(Work::commits(CommitTask::flush(serves, geometry.node_count())))
         }
         Job::Migrate(migration, block) => Ok(migrates(geometry, *migration, *block)),
         Job::Replace(old, _) => Ok(migrates(geometry, Migration::Demote, *old)),
-        Job::Open(_) => unreachable!(),
+        Job::Suspend | Job::Open(_) => unreachable!(),
     }
 }
 

@@ -5,7 +5,7 @@ ghost use Rattle.wb_types.specs.declared.refusal.Refusal.TheVariants.{Memory};
 ghost use Rattle.wb_promise.specs.declared.event.Event.TheVariants.{Start, Step, FaultStep};
 ghost use Rattle.wb_machine.specs.declared.machine.TheConstants.{ACTORS};
 ghost use Rattle.wb_machine.specs.declared.phase.Phase.TheVariants.{Standing};
-ghost use Rattle.wb_machine.specs.Life.{Happens, IsThere, contents_of, shape_of, state_of, wants_target};
+ghost use Rattle.wb_machine.specs.Life.{Happens, IsThere, contents_of, shape_of, starts_beside, state_of, wants_target};
 ghost use Rattle.wb_machine.specs.Serving.{IsPhaseServed};
 ghost use Rattle.wb_machine.specs.Standing.{IsSoundPhase};
 
@@ -14,6 +14,7 @@ use crate::outcome::Outcome;
 use crate::phase::Phase;
 use crate::starting::open;
 use crate::stepping::{fail_opening, step_opening};
+use crate::suspending::{is_somebody_suspending, suspend};
 use crate::target::Target;
 use std::alloc::Global;
 use wb_devices::Devices;
@@ -69,7 +70,7 @@ fn start_there(
     start_over(geometry, alloc, devices, target, members, actor, job)
 }
 
-/// The same over a target that stands.
+/// The same over a target that stands: while somebody suspends it nothing starts.
 fn start_over(
     geometry: &Geometry,
     alloc: Global,
@@ -92,9 +93,22 @@ fn start_over(
     if actor >= members.len() {
         return Ok(What::Skipped);
     }
+    if is_somebody_suspending(members.as_slice()) {
+        return Ok(What::Skipped);
+    }
+    if !starts_beside(job) {
+        return suspend(geometry, alloc, &target.desk, members, actor);
+    }
     let member = &mut members[actor];
     let what = member.start(alloc, geometry, &mut target.desk, job)?;
     Ok(what)
+}
+
+/// Whether the job starts whatever the others are at: of those over a target a suspend alone does not.
+fn starts_beside(job: &Job) -> bool
+    ensures { result ≡ starts_beside job.now }
+{
+    !matches!(job, Job::Suspend | Job::Open(_))
 }
 
 /// Whether the job is one of a target that stands.

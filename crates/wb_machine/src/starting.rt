@@ -12,6 +12,7 @@ use crate::machine::ACTORS;
 use crate::member::Member;
 use crate::opener::Opener;
 use crate::phase::{Phase, put};
+use crate::suspending::is_suspending;
 use std::alloc::Global;
 use wb_devices::{Devices, Opening};
 use wb_disk::MemDisk;
@@ -20,7 +21,7 @@ use wb_promise::{Job, What};
 use wb_types::{Geometry, Mode};
 
 /// An actor gets an opening, if it has no task. It starts in write-back and in write-through, and what another actor was opening is given
-/// up; over a target that stands it starts once that has failed, and ends it and what everybody was at.
+/// up; over a target that stands it starts once that has failed and while nobody suspends it, and ends it and what everybody was at.
 pub(crate) fn open(
     geometry: &Geometry,
     alloc: Global,
@@ -37,6 +38,9 @@ pub(crate) fn open(
     ensures does { Happens (shape_of geometry.now ACTORS) (state_of ACTORS devices.now phase.old) (Start actor job.now) result [] (state_of ACTORS devices.now phase.new) }
 {
     if actor >= ACTORS || is_busy(phase, actor) {
+        return What::Skipped;
+    }
+    if is_suspending(phase) {
         return What::Skipped;
     }
     let Some(mode) = opened_in(job) else {

@@ -10,10 +10,10 @@ use wb_tasks::{BlockTask, Got, Steps, Task, Want};
 #[derive(Drop)]
 enum Kind {
     OnBlock(BlockTask),
-    Flushes(CommitTask),
+    Commits(CommitTask),
 }
 
-/// What is left of a read, a write, a flush or a migration.
+/// What is left of a read, a write, a flush, a suspend or a migration.
 #[derive(Drop)]
 pub struct Work {
     kind: Kind,
@@ -39,12 +39,12 @@ impl Work {
         }
     }
 
-    /// A flush.
-    pub(crate) fn flushes(task: CommitTask) -> Work
+    /// A flush or a suspend.
+    pub(crate) fn commits(task: CommitTask) -> Work
         ensures { result ≡ task }
     {
         Work {
-            kind: Kind::Flushes(task),
+            kind: Kind::Commits(task),
         }
     }
 
@@ -54,7 +54,7 @@ impl Work {
     {
         match &self.kind {
             Kind::OnBlock(task) => task.want(),
-            Kind::Flushes(task) => task.want(),
+            Kind::Commits(task) => task.want(),
         }
     }
 }
@@ -65,7 +65,7 @@ impl Task for Work {
     fn next(&mut self, got: Got) -> Want {
         match &mut self.kind {
             Kind::OnBlock(task) => task.next(got),
-            Kind::Flushes(task) => task.next(got),
+            Kind::Commits(task) => task.next(got),
         }
     }
 }

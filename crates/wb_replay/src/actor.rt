@@ -8,7 +8,7 @@ use wb_types::Content;
 pub(crate) enum Given {
     Read,
     Open,
-    /// A write, a flush or a migration.
+    /// A write, a flush, a suspend or a migration.
     Other,
 }
 

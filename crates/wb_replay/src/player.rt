@@ -219,6 +219,7 @@ fn job_of(task: Task) -> (Given, u64, Job) {
             Job::Write(Extent { first, count }, [fill; SECTOR_BYTES]),
         ),
         Task::Flush => (Given::Other, 0, Job::Flush),
+        Task::Suspend => (Given::Other, 0, Job::Suspend),
         Task::Promote { block, cache } => (
             Given::Other,
             0,

@@ -8,6 +8,7 @@ mod promotions;
 mod replacements;
 mod requests;
 mod runs;
+mod suspends;
 mod views;
 
 use self::demotions::DEMOTIONS;
@@ -18,6 +19,7 @@ use self::promotions::PROMOTIONS;
 use self::replacements::REPLACEMENTS;
 use self::requests::{FAILED_REQUESTS, REQUESTS, WRITE_AND_READ, WRITTEN_AND_GIVEN};
 use self::runs::ran;
+use self::suspends::SUSPENDS;
 use self::views::VIEWS;
 use std::alloc::Global;
 use std::test::Fail;
@@ -68,6 +70,7 @@ fn event_of(alloc: Global, act: Act) -> Result<Event, Refusal> {
         Act::Write(actor, sectors) => Ok(Event::Start(actor, write(sectors, 7))),
         Act::WriteOf(actor, sectors, byte) => Ok(Event::Start(actor, write(sectors, byte))),
         Act::Flush(actor) => Ok(Event::Start(actor, Job::Flush)),
+        Act::Suspend(actor) => Ok(Event::Start(actor, Job::Suspend)),
         Act::Promote(actor, block, cache) => Ok(Event::Start(
             actor,
             Job::Migrate(Migration::Promote(cache), block),
@@ -293,6 +296,11 @@ fn a_read_is_given_what_was_written(rt: HostRuntime) -> Result<(), Fail> {
 #[test]
 fn flushes_go_as_their_rows_say(rt: HostRuntime) -> Result<(), Fail> {
     compare(rt.alloc(), &FLUSHES)
+}
+
+#[test]
+fn suspends_go_as_their_rows_say(rt: HostRuntime) -> Result<(), Fail> {
+    compare(rt.alloc(), &SUSPENDS)
 }
 
 #[test]

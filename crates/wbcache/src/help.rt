@@ -72,6 +72,9 @@ writethrough; in passthrough no opening starts. The other lines:
                 once A has done that, its next flush, and then promote X C
                 These four are refused as busy where they may not start, kept
                 where they are busy later, and then started again by the same line
+  start A suspend       make all durable, store what is dirty, and end this life:
+                refused as busy where anybody has a task; nothing starts before
+                its answer, and only an opening is done behind it
   step A [M]    M of its steps, 1 by default, fewer where it answers
   end A         its steps up to its answer
   fault A old, fault A new   its next step, one on a device, fails, and what it

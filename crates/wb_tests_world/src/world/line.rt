@@ -17,6 +17,7 @@ pub enum Act {
     /// This one is of another byte.
     WriteOf(usize, Extent, u8),
     Flush(usize),
+    Suspend(usize),
     /// A block is promoted into a cache block.
     Promote(usize, OBlock, CBlock),
     Demote(usize, OBlock),

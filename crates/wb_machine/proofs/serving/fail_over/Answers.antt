@@ -1,6 +1,5 @@
 use Rattle.std.proofs.Common.{◌∙◌, ap, arith, length-set, refl}
 use Rattle.std.proofs.lemmas.Option.{slice_get_past, slice_get_read}
-use Rattle.wb_types.specs.Limits.{node_count}
 use Rattle.wb_promise.specs.declared.event.Event.TheVariants.{FaultStep}
 use Rattle.wb_machine.specs.declared.machine.TheConstants.{ACTORS}
 use Rattle.wb_machine.specs.declared.phase.Phase.TheVariants.{Standing}
@@ -46,7 +45,7 @@ returns-clause-sound c =
     let members = c.args.members.now in
     let target = c.args.target.now in
     let m = c.index_mut-member.result.now in
-    let nodes = node_count c.args.geometry.now.cache_blocks in
+    let cache_blocks = c.args.geometry.now.cache_blocks in
     let here = slice_get_read members.items c.len.result c.args.actor m (omega (arith, members.ok)) (omega arith) c.index_mut-member.ensures.value in
     let stands = c.requires.sound.stands in
     record {
@@ -55,8 +54,8 @@ returns-clause-sound c =
         blocks = stands.blocks;
         failed = stands.failed;
         sizes = stands.sizes;
-        roomy = roomy_set nodes members.items c.args.actor c.falter.new.self stands.roomy
-            (fault_roomy nodes c.args.choice.now (contents_of c.args.devices.now) target.commit m c.in_ok-what.what (contents_of c.falter.new.devices) c.falter.new.commit c.falter.new.self (stands.roomy c.args.actor m here) c.in_ok-what.ensures.ok);
+        roomy = roomy_set cache_blocks members.items c.args.actor c.falter.new.self stands.roomy
+            (fault_roomy cache_blocks c.args.choice.now (contents_of c.args.devices.now) target.commit m c.in_ok-what.what (contents_of c.falter.new.devices) c.falter.new.commit c.falter.new.self (stands.roomy c.args.actor m here) c.in_ok-what.ensures.ok);
       };
     }
 

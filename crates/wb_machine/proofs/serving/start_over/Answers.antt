@@ -1,14 +1,17 @@
-use Rattle.std.proofs.Common.{◌∙◌, ap, arith, inl, length-set, refl}
+use Rattle.std.proofs.Common.{◌≡◌, ◌∙◌, List, ap, arith, inl, length, length-set, refl, subst, sym}
 use Rattle.std.proofs.lemmas.Option.{slice_get_past, slice_get_read}
-use Rattle.wb_types.specs.Limits.{node_count}
 use Rattle.wb_desk.specs.Desks.{DeskState}
 use Rattle.wb_policy.specs.declared.quiet.Quiet.{Quiet}
 use Rattle.wb_promise.specs.declared.event.Event.TheVariants.{Start}
 use Rattle.wb_machine.specs.declared.machine.TheConstants.{ACTORS}
 use Rattle.wb_machine.specs.declared.phase.Phase.TheVariants.{Standing}
 use Rattle.wb_machine.specs.Life.{contents_of, shape_of, state_of}
+use Rattle.wb_machine.specs.Members.{Member, somebody_suspends}
+use Rattle.wb_machine.specs.Standing.{AllRoomy}
+use Rattle.wb_machine.proofs.Kept.{if_ok}
+use Rattle.wb_machine.proofs.Suspends.{either, suspend_happens, suspend_length, suspend_roomy}
 use Rattle.wb_machine.proofs.Members.{absent, put_back}
-use Rattle.wb_machine.proofs.Openings.{passes}
+use Rattle.wb_machine.proofs.Openings.{nobody_suspends, passes, suspended_starts}
 use Rattle.wb_machine.proofs.Served.{roomy_set, start_happens, start_roomy, start_sizes}
 use Rattle.wb_machine.proofs.serving.start_over.Goals as goal
 use Rattle.wb_types.proofs.Truth.{on_err}
@@ -19,6 +22,50 @@ returns-then-actor-len-clause-ok c =
     passes (shape_of c.args.geometry.now ACTORS) (state_of ACTORS c.args.devices.now (Standing c.args.target.now members)) (Start c.args.actor c.args.job.now) _
     (inl (absent members.items c.args.target.now.crew.cards c.args.actor (slice_get_past members.items c.args.actor (omega (arith, members.ok))))) refl
 
+pub returns-then-is_somebody_suspending-clause-ok : goal.returns-then-is_somebody_suspending-clause-ok
+returns-then-is_somebody_suspending-clause-ok c =
+    let members = c.args.members.now in
+    let phase = Standing c.args.target.now members in
+    passes (shape_of c.args.geometry.now ACTORS) (state_of ACTORS c.args.devices.now phase) (Start c.args.actor c.args.job.now) _
+    (suspended_starts c.args.devices.now ACTORS phase c.args.actor c.args.job.now c.requires.there (sym (ap somebody_suspends c.as_slice.ensures.value) ∙ sym c.is_somebody_suspending.ensures ∙ c.if-is_somebody_suspending.true)) refl
+
+pub returns-then-not-starts_beside-clause-ok : goal.returns-then-not-starts_beside-clause-ok
+returns-then-not-starts_beside-clause-ok c =
+    let members = c.args.members.now in
+    let target = c.args.target.now in
+    let many = c.requires.there in
+    let calm = nobody_suspends c.args.devices.now ACTORS (Standing target members) many (sym (ap somebody_suspends c.as_slice.ensures.value) ∙ sym c.is_somebody_suspending.ensures ∙ c.if-is_somebody_suspending.false) in
+    if_ok c.suspend.result _ _
+    (λ what s. suspend_happens (shape_of c.args.geometry.now ACTORS) (contents_of c.args.devices.now) target members.items (omega (arith, many.0, many.1)) c.args.actor c.args.job.now c.requires.over (sym c.starts_beside.ensures ∙ c.if-not-starts_beside.true)
+    (omega (arith, members.ok)) calm what c.suspend.new.members.items s)
+    c.suspend.ensures.ok
+
+pub returns-then-not-starts_beside-clause-there : goal.returns-then-not-starts_beside-clause-there
+returns-then-not-starts_beside-clause-there c =
+    let target = c.args.target.now in
+    let members = c.args.members.now in
+    let as_many = either c.suspend.result _ _ (length c.suspend.new.members.items ≡ length members.items)
+    (λ what s. suspend_length (shape_of c.args.geometry.now ACTORS) target.desk members.items c.args.actor what c.suspend.new.members.items s) (λ same. ap length same) c.suspend.ensures.ok c.suspend.ensures.err in
+    (c.requires.there.0, as_many ∙ c.requires.there.1)
+
+pub returns-then-not-starts_beside-clause-sound : goal.returns-then-not-starts_beside-clause-sound
+returns-then-not-starts_beside-clause-sound c =
+    let target = c.args.target.now in
+    let members = c.args.members.now in
+    let g = c.args.geometry.now in
+    let stands = c.requires.sound.stands in
+    record {
+      whole = c.requires.sound.whole;
+      stands = record {
+        blocks = stands.blocks;
+        failed = stands.failed;
+        sizes = stands.sizes;
+        roomy = either c.suspend.result _ _ (AllRoomy g.cache_blocks c.suspend.new.members.items)
+            (λ what s. suspend_roomy (shape_of g ACTORS) target.desk members.items c.args.actor what c.suspend.new.members.items stands.roomy s)
+            (λ same. subst (λ (ms : List Member). AllRoomy g.cache_blocks ms) (sym same) stands.roomy) c.suspend.ensures.ok c.suspend.ensures.err;
+      };
+    }
+
 pub returns-clause-ok : goal.returns-clause-ok
 returns-clause-ok c =
     let members = c.args.members.now in
@@ -26,7 +73,7 @@ returns-clause-ok c =
     let many = c.requires.there in
     let here = slice_get_read members.items c.len.result c.args.actor m (omega (arith, members.ok)) (omega arith) c.index_mut-member.ensures.value in
     start_happens (shape_of c.args.geometry.now ACTORS) (contents_of c.args.devices.now) c.args.target.now members.items c.args.actor m c.start.new.self here (omega (arith, many.0, many.1))
-    c.args.job.now c.in_ok-what.what c.start.new.desk c.requires.over c.in_ok-what.ensures.ok
+    c.args.job.now c.in_ok-what.what c.start.new.desk (sym c.starts_beside.ensures ∙ c.if-not-starts_beside.false) (nobody_suspends c.args.devices.now ACTORS (Standing c.args.target.now members) many (sym (ap somebody_suspends c.as_slice.ensures.value) ∙ sym c.is_somebody_suspending.ensures ∙ c.if-is_somebody_suspending.false)) c.in_ok-what.ensures.ok
 
 pub returns-clause-there : goal.returns-clause-there
 returns-clause-there c = (c.requires.there.0, length-set c.args.members.now.items c.args.actor c.start.new.self ∙ c.requires.there.1)
@@ -45,8 +92,8 @@ returns-clause-sound c =
         blocks = stands.blocks;
         failed = stands.failed;
         sizes = start_sizes (shape_of g ACTORS) target.desk m c.args.job.now c.in_ok-what.what c.start.new.desk c.start.new.self c.in_ok-what.ensures.ok ∙ stands.sizes;
-        roomy = roomy_set (node_count g.cache_blocks) members.items c.args.actor c.start.new.self stands.roomy
-            (start_roomy (shape_of g ACTORS) (node_count g.cache_blocks) target.desk m c.args.job.now c.in_ok-what.what c.start.new.desk c.start.new.self (omega arith) (stands.roomy c.args.actor m here) c.in_ok-what.ensures.ok);
+        roomy = roomy_set g.cache_blocks members.items c.args.actor c.start.new.self stands.roomy
+            (start_roomy (shape_of g ACTORS) target.desk m c.args.job.now c.in_ok-what.what c.start.new.desk c.start.new.self (stands.roomy c.args.actor m here) c.in_ok-what.ensures.ok);
       };
     }
 

@@ -4,7 +4,7 @@ use Rattle.wb_promise.specs.Happenings.{DoesNotApply}
 use Rattle.wb_machine.specs.declared.machine.TheConstants.{ACTORS}
 use Rattle.wb_machine.specs.Life.{shape_of, state_of}
 use Rattle.wb_tasks.specs.Points.{AtFirst}
-use Rattle.wb_machine.proofs.Openings.{nobody_starts, busy_starts, passes, starts}
+use Rattle.wb_machine.proofs.Openings.{nobody_starts, busy_starts, passes, starts, suspended_starts}
 use Rattle.wb_machine.proofs.starting.open.Goals as goal
 use Rattle.wb_machine.proofs.starting.open.Goals.{then-actor-ge-ACTORS-via-then-actor-ge-ACTORS, then-actor-ge-ACTORS-via-else-actor-ge-ACTORS+then-is_busy}
 
@@ -17,10 +17,16 @@ returns-then-actor-ge-ACTORS-clause-does c =
     ] in
     passes shape (state_of ACTORS c.args.devices.now c.args.phase.now) (Start c.args.actor c.args.job.now) _ does_not refl
 
+pub returns-then-is_suspending-clause-does : goal.returns-then-is_suspending-clause-does
+returns-then-is_suspending-clause-does c =
+    let shape = shape_of c.args.geometry.now ACTORS in
+    passes shape (state_of ACTORS c.args.devices.now c.args.phase.now) (Start c.args.actor c.args.job.now) _
+    (suspended_starts c.args.devices.now ACTORS c.args.phase.now c.args.actor c.args.job.now c.requires.there (sym c.is_suspending.ensures ∙ c.if-is_suspending.true)) refl
+
 pub returns-clause-does : goal.returns-clause-does
 returns-clause-does c =
     let shape = shape_of c.args.geometry.now ACTORS in
-    rw c.put.ensures (starts shape c.args.devices.now ACTORS c.args.phase.now c.requires.there c.requires.sound.stands c.args.actor (omega (arith, c.if-actor-ge-ACTORS.false)) (sym c.is_busy.ensures ∙ c.if-is_busy.false) (sym c.is_sound.ensures ∙ c.if-is_sound.false)
+    rw c.put.ensures (starts shape c.args.devices.now ACTORS c.args.phase.now c.requires.there c.requires.sound.stands c.args.actor (omega (arith, c.if-actor-ge-ACTORS.false)) (sym c.is_busy.ensures ∙ c.if-is_busy.false) (sym c.is_suspending.ensures ∙ c.if-is_suspending.false) (sym c.is_sound.ensures ∙ c.if-is_sound.false)
     c.args.job.now c.in-Some.mode _ (record { asked = record { actor = c.args.actor; mode = c.in-Some.mode }; task = c.reading.result; opening = record { geometry = c.args.geometry.now; alloc = c.args.alloc; reading = None; commit = None }; made = None })
     (sym c.opened_in.ensures ∙ c.in-Some.is) refl c.reading.ensures refl refl refl)
 

@@ -1,4 +1,4 @@
-use Rattle.std.proofs.Common.{◌≡◌, ◌∙◌, Bool, None, ap, sym, subst, List}
+use Rattle.std.proofs.Common.{◌≡◌, ◌∙◌, Bool, None, ap, sym, subst, List, []}
 use Rattle.wb_types.specs.declared.mode.Mode.{Mode}
 use Rattle.wb_types.specs.declared.refusal.Refusal.TheVariants.{Busy}
 use Rattle.wb_promise.specs.declared.event.What.TheVariants.{Refused, Started}
@@ -41,8 +41,8 @@ returns-clause-ok c =
     let job = c.args.job.now in
     let desk = c.args.desk.now in
     let plan = c.in_ok-task.task in
-    let begins = c.in_ok-task.ensures.task ∙ ap (λ (os : List Order). table (task_job shape c.mode-mode.result os job (cut_for shape job))) (c.as_slice.ensures.value ∙ ap (λ (v : Member). v.awaiting) c.self.view_is)
-    ∙ ap (λ (x : Mode). table (task_job shape x m.awaiting job (cut_for shape job))) c.mode-mode.ensures in
+    let begins = c.in_ok-task.ensures.task ∙ ap (λ (os : List Order). table (task_job shape c.mode-mode.result os job (cut_for shape job) [])) (c.as_slice.ensures.value ∙ ap (λ (v : Member). v.awaiting) c.self.view_is)
+    ∙ ap (λ (x : Mode). table (task_job shape x m.awaiting job (cut_for shape job) [])) c.mode-mode.ensures in
     subst (λ (v : Member). Starts shape desk m job Started c.if-is_ordered.desk v) (sym (ap (λ (v : Member). tasked v c.begun_as.result plan) c.self-2.view_is))
     (subst (λ (j : Job). Starts shape desk m job Started c.if-is_ordered.desk (tasked c.if-is_ordered.self j plan)) (sym c.begun_as.ensures)
     (elim c.if-is_ordered.branch [
