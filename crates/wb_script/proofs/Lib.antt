@@ -2,3 +2,4 @@ pub mod Pieces
 pub mod Ranges
 pub mod Showing
 pub mod Laid
+pub mod FirstLine

@@ -1,6 +1,7 @@
 pub mod Line
 pub mod Request
 pub mod Fill
+pub mod FirstLine
 pub mod Exit
 pub mod Leading
 pub mod Joining

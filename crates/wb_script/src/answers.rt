@@ -140,6 +140,7 @@ fn go_through<R: Wait, C: Served, P: Paced>(
 }
 
 /// Does so in one block, which is the last or not.
+#[inline(always)]
 #[tactic(auto, using(crate::proofs::Ranges::not_refused))]
 fn do_part<R: Wait, C: Served>(
     rt: &R,
@@ -161,7 +162,7 @@ fn do_part<R: Wait, C: Served>(
         Deed::Show => {
             room.make(part.count)?;
             client.read(rt, at, room.contents.as_mut_slice())?;
-            show(part.first, room.contents.as_slice(), text)?;
+            show(part.first, room.contents.as_slice(), &mut room.lines, text)?;
         }
         Deed::FillDurably(fill) if is_last => {
             room.fill(part.count, fill)?;
@@ -191,7 +192,7 @@ fn try_read<C: Served>(
     room.make(count)?;
     client.try_read(at, room.contents.as_mut_slice())?;
     let Sector(first) = at;
-    show(first, room.contents.as_slice(), text)?;
+    show(first, room.contents.as_slice(), &mut room.lines, text)?;
     Ok(())
 }
 

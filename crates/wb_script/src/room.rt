@@ -2,17 +2,19 @@
 
 ghost use Rattle.std.specs.Prelude.{◌≡◌, IfErr, OnOk, length, replicate};
 
+use crate::shown::LINES;
 use std::alloc::Global;
 use wb_types::{Content, Refusal, SECTOR_BYTES};
 
 /// Room for so many sectors is kept from one line to the next: 128 KiB.
 const MOST_KEPT: usize = 256;
 
-/// The sectors of a part, on their way to a client or from it.
+/// The sectors of a part, on their way to a client or from it, and where their lines are laid.
 #[derive(Drop)]
 pub struct Room {
     alloc: Global,
     pub contents: Vec<Content>,
+    pub lines: [u8; LINES],
 }
 
 impl Room {
@@ -21,6 +23,7 @@ impl Room {
         Room {
             alloc,
             contents: Vec::new(alloc),
+            lines: [0; LINES],
         }
     }
 
@@ -29,7 +32,9 @@ impl Room {
         ensures many { OnOk result (length self.new.contents.items ≡ count) }
         ensures refused { IfErr result (λ refusal. refusal ≡ Refusal.Memory) }
     {
-        self.contents.resize(count as usize, [0; SECTOR_BYTES])?;
+        if self.contents.len() as u64 != count {
+            self.contents.resize(count as usize, [0; SECTOR_BYTES])?;
+        }
         Ok(())
     }
 
@@ -39,8 +44,8 @@ impl Room {
         ensures many { OnOk result (length self.new.contents.items ≡ count) }
         ensures refused { IfErr result (λ refusal. refusal ≡ Refusal.Memory) }
     {
-        self.contents.clear();
-        self.contents.resize(count as usize, [fill; SECTOR_BYTES])?;
+        self.make(count)?;
+        fill_each(self.contents.as_mut_slice(), fill);
         Ok(())
     }
 
@@ -49,5 +54,14 @@ impl Room {
         if self.contents.capacity() > MOST_KEPT {
             self.contents = Vec::new(self.alloc);
         }
+    }
+}
+
+/// Fills each of these sectors with a byte.
+fn fill_each(contents: &mut [Content], fill: u8)
+    ensures { contents.new ≡ replicate (length contents.old) (replicate 512 fill) }
+{
+    for content in contents.iter_mut() {
+        *content = [fill; SECTOR_BYTES];
     }
 }

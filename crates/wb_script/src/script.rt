@@ -80,7 +80,7 @@ struct Script<'s, I, W, E> {
     reader: &'s mut I,
     writer: &'s mut W,
     progress: Progress<'s, E>,
-    /// The line that was read last, and its answer.
+    /// The line that was read last, where it was waited for or is a message; and what the last one is answered.
     line: Vec<u8>,
     text: String,
     room: Room,
@@ -443,12 +443,16 @@ fn tell<I, W: Write, E>(
 fn next_line<I: Ahead, W: Write, E>(
     script: &mut Script<'_, I, W, E>,
 ) -> Result<Option<Line>, StreamFailed> {
-    if !script.reader.has_line() {
-        see_out(script.writer)?;
-    }
     script.number = script.number.saturating_add(1);
     script.text.clear();
-    match next_input(script.reader, &mut script.line)? {
+    let input = match input_ahead(script.reader, &mut script.line) {
+        Some(input) => input,
+        None => {
+            see_out(script.writer)?;
+            next_input(script.reader, &mut script.line)?
+        }
+    };
+    match input {
         Input::Says(line) => Ok(Some(line)),
         Input::TooLong => {
             tell(script, Err(Refusal::Memory))?;
@@ -474,6 +478,29 @@ enum Input {
     End,
 }
 
+/// Reads the next line where it was read ahead: a message alone is copied, since its text is needed later.
+fn input_ahead<I: Ahead>(reader: &mut I, copy: &mut Vec<u8>) -> Option<Input> {
+    let line = reader.line_ahead()?;
+    let count = line.len();
+    if count as u64 >= MOST_OF_A_LINE {
+        return None;
+    }
+    let input = match read_line(line) {
+        Some(Line::Message) => {
+            copy.clear();
+            match copy.extend_from_slice(line) {
+                Ok(()) => Input::Says(Line::Message),
+                Err(_) => Input::TooLong,
+            }
+        }
+        Some(said) => Input::Says(said),
+        None => Input::Bad,
+    };
+    reader.consume(count + 1);
+    Some(input)
+}
+
+/// Reads the next line, which may have to be waited for.
 fn next_input<I: Ahead>(reader: &mut I, line: &mut Vec<u8>) -> Result<Input, StreamFailed> {
     line.clear();
     match reader.take(MOST_OF_A_LINE).read_until(b'\n', line) {

@@ -12,24 +12,31 @@ use std::str;
 use wb_types::Content;
 
 /// How many lines are made at a time.
-const GROUP: usize = 16;
+const GROUP: usize = 64;
 
 /// Room for them: a line takes 20 digits, a space, five letters and a break at most.
-const ROOM: usize = 27 * GROUP;
+pub const LINES: usize = 27 * GROUP;
 
-/// Adds a line `<sector> <fill>` for each of these sectors, from `first` on. An error where there is no memory; then some of the lines may
-/// have been added.
-pub fn show(first: u64, contents: &[Content], text: &mut String) -> Result<(), AllocError>
+/// The hexadecimal digits, lower case.
+const DIGITS: [u8; 16] = *b"0123456789abcdef";
+
+/// Adds a line `<sector> <fill>` for each of these sectors, from `first` on, that are laid where there is room for some at a time. An error
+/// where there is no memory; then some of the lines may have been added.
+pub fn show(
+    first: u64,
+    contents: &[Content],
+    room: &mut [u8; LINES],
+    text: &mut String,
+) -> Result<(), AllocError>
     requires numbered { first + length contents.now < 2 ^ 64 }
     ensures shown { OnOk result ((lines : List ℕ) × AreLinesOf lines first contents.now × (string_bytes text.new ≡ string_bytes text.old ++ lines)) }
 {
-    let mut lines = [0; ROOM];
     let mut sector = first;
     let mut rest = contents;
     while !rest.is_empty() {
         let (group, after) = rest.split_at(rest.len().min(GROUP));
-        let start = lay(sector, group, &mut lines);
-        text.push_str(text_of(&lines[start..]))?;
+        let start = lay(sector, group, room);
+        text.push_str(text_of(&room[start..]))?;
         sector += group.len() as u64;
         rest = after;
     }
@@ -42,10 +49,8 @@ fn text_of(bytes: &[u8]) -> &str
     requires { IsAscii bytes.now }
     ensures { result.now ≡ bytes.now }
 {
-    match str::from_utf8(bytes) {
-        Ok(text) => text,
-        Err(_) => unreachable!(),
-    }
+    // Its requirement is proved here, so that nothing has to be looked at.
+    unsafe { str::from_utf8_unchecked(bytes) }
 }
 
 /// Lays the lines of so many sectors, so that they end with the bytes, and says where they begin.
@@ -123,9 +128,5 @@ fn digit_of(digit: u8) -> u8
     ensures value { result ≡ digit_char digit }
     ensures ascii { result < 128 }
 {
-    if digit < 10 {
-        b'0' + digit
-    } else {
-        b'a' - 10 + digit
-    }
+    DIGITS[digit as usize]
 }
